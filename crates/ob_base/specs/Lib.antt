@@ -1,0 +1,3 @@
+pub mod Attrs
+pub mod Handle
+pub mod Status
