@@ -1,0 +1,13 @@
+pub mod Components
+pub mod Unique
+pub mod Walk
+pub mod SoundPaths
+pub mod Lookup
+pub mod Computed
+pub mod Onward
+pub mod Finds
+pub mod Splits
+pub mod Earliest
+pub mod Settled
+pub mod Soundness
+pub mod Steps

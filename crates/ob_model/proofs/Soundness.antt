@@ -1,0 +1,265 @@
+-- The opening state is sound, and what keeps a state so: settling, a new object, an open with its
+-- grant, and a close.
+use Rattle.std.proofs.Common.{◌≡◌, ℕ, ◌<◌, ◌==◌, Bool, true, false, not, if◌then◌else◌, List, [], ◌∷◌, length, get_or, map, find, All, Option, None, Some, MatchOption, option_map, is_some, refl, ap, ◌∙◌, eq-eqb}
+use Rattle.std.specs.List.{list_any}
+use Rattle.std.specs.Option.{option_map_or, option_or}
+use Rattle.std.proofs.lemmas.Bool.{or_right}
+use Rattle.std.proofs.lemmas.List.Elements.{All-nil, All-from_recursion, All-push, All-weaker, All-filter}
+use Rattle.std.proofs.lemmas.List.Folds.{find-append, list_any_at}
+use Rattle.ob_base.specs.Attrs.{has_flag, permanent_flag, exclusive_flag}
+use Rattle.ob_model.specs.declared.state.Body.{Body}
+use Rattle.ob_model.specs.declared.state.Body.TheVariants.{Directory, Link, Other}
+use Rattle.ob_model.specs.declared.state.Object.{Object}
+use Rattle.ob_model.specs.declared.state.Row.{Row}
+use Rattle.ob_model.specs.declared.state.Held.{Held}
+use Rattle.ob_model.specs.declared.state.Process.{Process}
+use Rattle.ob_model.specs.State.{State, root_id, global_id, object_of, is_directory, is_directory_body}
+use Rattle.ob_model.specs.Opening.{opening}
+use Rattle.ob_model.specs.Procedures.{Procedures, Reason}
+use Rattle.ob_model.specs.Settle.{is_kept, has_name, is_mapped, settle}
+use Rattle.ob_model.specs.Grants.{opened_body, opened_object, with_open, with_handle}
+use Rattle.ob_model.specs.Closing.{is_handle, closed_body, closed_object, closed_handle}
+use Rattle.ob_model.specs.Step.{created}
+use Rattle.ob_model.specs.Sound.{IsSound, IsDirectory, Stands, HasSoundMap}
+use Rattle.ob_model.proofs.Finds.{find-map, All-kept}
+use Rattle.ob_model.proofs.Settled.{is_directory-settle, stands-settle, alive_from_handle, alive_from_map, alive_from_row, rows_are_names}
+
+-- whether what is found is a directory
+abbrev pub is_directory_object : {F I : Type 0} → Option (Object F I) → Bool
+is_directory_object found = option_map_or is_directory_body (option_map (λ x. x.body) found) false
+
+-- a change of objects that leaves their numbers, and which are directories
+module _ {F I : Type 0} (f : Object F I → Object F I) (same_id : (x : Object F I) → (f x).id ≡ x.id) (same_body : (x : Object F I) → is_directory_body (f x).body ≡ is_directory_body x.body) where
+  pub find_id-map : (o : ℕ) (xs : List (Object F I)) → find (λ x. x.id == o) (map f xs) ≡ option_map f (find (λ x. x.id == o) xs)
+  find_id-map o xs = find-map (λ x. x.id == o) f (λ x. ap (λ n. n == o) (same_id x)) xs
+
+  pub is_directory-map : (o : ℕ) (xs : List (Object F I)) → is_directory_object (find (λ x. x.id == o) (map f xs)) ≡ is_directory_object (find (λ x. x.id == o) xs)
+  is_directory-map o xs = rw (find_id-map o xs) (go (find (λ x. x.id == o) xs))
+    where
+      go : (found : Option (Object F I)) → is_directory_object (option_map f found) ≡ is_directory_object found
+      go None = refl
+      go (Some x) = same_body x
+
+  pub stands-map : (o : ℕ) (xs : List (Object F I)) → is_some (find (λ x. x.id == o) (map f xs)) ≡ is_some (find (λ x. x.id == o) xs)
+  stands-map o xs = rw (find_id-map o xs) (go (find (λ x. x.id == o) xs))
+    where
+      go : (found : Option (Object F I)) → is_some (option_map f found) ≡ is_some found
+      go None = refl
+      go (Some x) = refl
+
+module _ {K T F I : Type 0} (g : Procedures K T F I) where
+  opened_object-id : (set : T) (o : ℕ) (reason : Reason) (x : Object F I) → (opened_object g set o reason x).id ≡ x.id
+  opened_object-id set o reason x = elim (x.id == o) as (λ b. (if b then record x { body = opened_body g set x.body reason } else x).id ≡ x.id) [ true ↦ refl | false ↦ refl ]
+
+  opened_body-is_directory : (set : T) (reason : Reason) (body : Body F I) → is_directory_body (opened_body g set body reason) ≡ is_directory_body body
+  opened_body-is_directory set reason Directory = refl
+  opened_body-is_directory set reason (Link target) = refl
+  opened_body-is_directory set reason (Other face inner) = refl
+
+  opened_object-is_directory : (set : T) (o : ℕ) (reason : Reason) (x : Object F I) → is_directory_body (opened_object g set o reason x).body ≡ is_directory_body x.body
+  opened_object-is_directory set o reason x =
+      elim (x.id == o) as (λ b. is_directory_body (if b then record x { body = opened_body g set x.body reason } else x).body ≡ is_directory_body x.body)
+      [ true ↦ opened_body-is_directory set reason x.body | false ↦ refl ]
+
+  closed_object-id : (set : T) (o left total : ℕ) (x : Object F I) → (closed_object g set o left total x).id ≡ x.id
+  closed_object-id set o left total x = elim (x.id == o) as (λ b. (if b then record x { body = closed_body g set left total x.body } else x).id ≡ x.id) [ true ↦ refl | false ↦ refl ]
+
+  closed_body-is_directory : (set : T) (left total : ℕ) (body : Body F I) → is_directory_body (closed_body g set left total body) ≡ is_directory_body body
+  closed_body-is_directory set left total Directory = refl
+  closed_body-is_directory set left total (Link target) = refl
+  closed_body-is_directory set left total (Other face inner) = refl
+
+  closed_object-is_directory : (set : T) (o left total : ℕ) (x : Object F I) → is_directory_body (closed_object g set o left total x).body ≡ is_directory_body x.body
+  closed_object-is_directory set o left total x =
+      elim (x.id == o) as (λ b. is_directory_body (if b then record x { body = closed_body g set left total x.body } else x).body ≡ is_directory_body x.body)
+      [ true ↦ closed_body-is_directory set left total x.body | false ↦ refl ]
+
+  -- an open leaves which objects are directories, whatever its object is
+  pub is_directory-opened : (s : State K T F I) (o m : ℕ) (reason : Reason) → is_directory (with_open g s o reason) m ≡ is_directory s m
+  is_directory-opened s o m reason =
+      is_directory-map (opened_object g s.set o reason) (opened_object-id s.set o reason) (opened_object-is_directory s.set o reason) m s.objects
+
+  -- and so does a close
+  pub is_directory-closed : (s : State K T F I) (h : Held) (m : ℕ) → is_directory (closed_handle g s h) m ≡ is_directory s m
+  is_directory-closed s h m = is_directory-map (closed_object g s.set h.object _ _) (closed_object-id s.set h.object _ _) (closed_object-is_directory s.set h.object _ _) m s.objects
+
+  -- the root is a directory after settling where it was one before
+  pub root_stands : (s : State K T F I) → is_directory (settle g s) root_id ≡ is_directory s root_id
+  root_stands s = is_directory-settle g s root_id refl
+
+  -- after an open and its grant
+  pub opened_root : (s : State K T F I) (p value o : ℕ) (reason : Reason) (inherit : Bool)
+      → is_directory (with_handle (with_open g s o reason) p value o inherit) root_id ≡ is_directory s root_id
+  opened_root s p value o reason inherit = is_directory-opened s o root_id reason
+
+  -- and after a close
+  pub closed_root : (s : State K T F I) (h : Held) → is_directory (closed_handle g s h) root_id ≡ is_directory s root_id
+  closed_root s h = is_directory-closed s h root_id
+
+-- what is found and is a directory is found before what comes behind
+is_directory_object-or : {F I : Type 0} (found other : Option (Object F I)) → is_directory_object found ≡ true → is_directory_object (option_or found other) ≡ true
+is_directory_object-or None other h = cc
+is_directory_object-or (Some x) other h = h
+
+module _ {K T F I : Type 0} where
+  -- a new object leaves each directory one
+  pub is_directory-created : (s : State K T F I) (p d : ℕ) (c : List ℕ) (body : Body F I) (attrs value m : ℕ)
+      → is_directory s m ≡ true → is_directory (created s p d c body attrs value) m ≡ true
+  is_directory-created s p d c body attrs value m h =
+      rw (find-append (λ x. x.id == m) s.objects (record { id = s.next_id; body = body; permanent = has_flag permanent_flag attrs; exclusive = has_flag exclusive_flag attrs } ∷ []))
+      (is_directory_object-or (object_of s m) _ h)
+
+  -- the root is a directory after a create where it was one before
+  pub created_root : (s : State K T F I) (p d : ℕ) (c : List ℕ) (body : Body F I) (attrs value : ℕ)
+      → is_directory s root_id ≡ true → is_directory (created s p d c body attrs value) root_id ≡ true
+  created_root s p d c body attrs value h = is_directory-created s p d c body attrs value root_id h
+
+-- what is found is found before what comes behind, and else what comes behind is
+is_some-or_left : {F I : Type 0} (found other : Option (Object F I)) → is_some found ≡ true → is_some (option_or found other) ≡ true
+is_some-or_left None other h = cc
+is_some-or_left (Some x) other h = refl
+
+is_some-or_right : {F I : Type 0} (found other : Option (Object F I)) → is_some other ≡ true → is_some (option_or found other) ≡ true
+is_some-or_right None other h = h
+is_some-or_right (Some x) other h = refl
+
+-- a directory stands
+stands_from_directory_object : {F I : Type 0} (found : Option (Object F I)) → is_directory_object found ≡ true → is_some found ≡ true
+stands_from_directory_object None h = cc
+stands_from_directory_object (Some x) h = refl
+
+module _ {K T F I : Type 0} where
+  pub stands_from_is_directory : (s : State K T F I) (o : ℕ) → IsDirectory s o → Stands s o
+  stands_from_is_directory s o h = stands_from_directory_object (object_of s o) h
+
+  -- the opening state is sound: the first two objects are directories, and each row names one of the six
+  pub opening_sound : (set : T) → IsSound (opening {K = K} {F = F} {I = I} set)
+  opening_sound set =
+      let s : State K T F I = opening set in
+      record {
+        root = refl;
+        global = refl;
+        maps = All-from_recursion (HasSoundMap s) s.processes (tt, tt);
+        rows = All-from_recursion (λ r. Stands s r.object) s.rows (refl, (refl, (refl, (refl, (refl, tt)))));
+        handles = All-nil (λ h. Stands s h.object);
+      }
+
+  -- a map directory that stays a directory
+  sound_map : (s t : State K T F I) (x : Process) → ((d : ℕ) → x.map ≡ Some d → IsDirectory s d → IsDirectory t d) → HasSoundMap s x → HasSoundMap t x
+  sound_map s t x stays h = go x.map refl h
+    where
+      go : (o : Option ℕ) → x.map ≡ o → MatchOption o (Unit {0}) (IsDirectory s) → MatchOption o (Unit {0}) (IsDirectory t)
+      go None e h = tt
+      go (Some d) e h = stays d e h
+
+  -- a process's map directory is one
+  is_mapped_at : (s : State K T F I) (k : ℕ) (x : Process) (o : ℕ) → k < length s.processes → (get_or s.processes k x).map ≡ Some o → is_mapped s o ≡ true
+  is_mapped_at s k x o within e =
+      let some : list_any (λ p. option_map_or (λ d. d == o) p.map false) s.processes ≡ true =
+      list_any_at (λ p. option_map_or (λ d. d == o) p.map false) s.processes k x within (rw e (eq-eqb o o refl)) in
+      or_right (o == global_id) _ some
+
+  -- what each map, row and handle names stays where all that stands does
+  sound_maps : (s t : State K T F I) → ((o : ℕ) → IsDirectory s o → IsDirectory t o) → (xs : List Process) → All (HasSoundMap s) xs → All (HasSoundMap t) xs
+  sound_maps s t stays xs each = All-weaker (HasSoundMap s) (HasSoundMap t) (λ x h. sound_map s t x (λ d e. stays d) h) xs each
+
+  sound_rows : (s t : State K T F I) → ((o : ℕ) → Stands s o → Stands t o) → (xs : List Row) → All (λ r. Stands s r.object) xs → All (λ r. Stands t r.object) xs
+  sound_rows s t stays xs each = All-weaker (λ r. Stands s r.object) (λ r. Stands t r.object) (λ r h. stays r.object h) xs each
+
+  sound_handles : (s t : State K T F I) → ((o : ℕ) → Stands s o → Stands t o) → (xs : List Held) → All (λ h. Stands s h.object) xs → All (λ h. Stands t h.object) xs
+  sound_handles s t stays xs each = All-weaker (λ h. Stands s h.object) (λ h. Stands t h.object) (λ h k. stays h.object k) xs each
+
+  -- a new object leaves what stands, and stands itself
+  pub stands-created : (s : State K T F I) (p d : ℕ) (c : List ℕ) (body : Body F I) (attrs value m : ℕ) → Stands s m → Stands (created s p d c body attrs value) m
+  stands-created s p d c body attrs value m h =
+      rw (find-append (λ x. x.id == m) s.objects (record { id = s.next_id; body = body; permanent = has_flag permanent_flag attrs; exclusive = has_flag exclusive_flag attrs } ∷ []))
+      (is_some-or_left (object_of s m) _ h)
+
+  pub new_stands : (s : State K T F I) (p d : ℕ) (c : List ℕ) (body : Body F I) (attrs value : ℕ) → Stands (created s p d c body attrs value) s.next_id
+  new_stands s p d c body attrs value =
+      rw (find-append (λ x. x.id == s.next_id) s.objects (record { id = s.next_id; body = body; permanent = has_flag permanent_flag attrs; exclusive = has_flag exclusive_flag attrs } ∷ []))
+      (is_some-or_right (object_of s s.next_id) _ (rw (eq-eqb s.next_id s.next_id refl) refl))
+
+  -- a create leaves a sound state
+  pub created_sound : (s : State K T F I) (p d : ℕ) (c : List ℕ) (body : Body F I) (attrs value : ℕ) → IsSound s → IsSound (created s p d c body attrs value)
+  created_sound s p d c body attrs value sound =
+      let t = created s p d c body attrs value in
+      let new : Stands t s.next_id = new_stands s p d c body attrs value in
+      record {
+        root = is_directory-created s p d c body attrs value root_id sound.root;
+        global = is_directory-created s p d c body attrs value global_id sound.global;
+        maps = sound_maps s t (λ o h. is_directory-created s p d c body attrs value o h) s.processes sound.maps;
+        rows = All-push (λ r. Stands t r.object) s.rows _ (sound_rows s t (λ o h. stands-created s p d c body attrs value o h) s.rows sound.rows) new;
+        handles = All-push (λ h. Stands t h.object) s.handles _ (sound_handles s t (λ o h. stands-created s p d c body attrs value o h) s.handles sound.handles) new;
+      }
+
+  -- a handle of an object that stands leaves a sound state
+  pub handle_sound : (s : State K T F I) (p value o : ℕ) (inherit : Bool) → IsSound s → Stands s o → IsSound (with_handle s p value o inherit)
+  handle_sound s p value o inherit sound stands = record {
+    root = sound.root;
+    global = sound.global;
+    maps = sound.maps;
+    rows = sound.rows;
+    handles = All-push (λ h. Stands s h.object) s.handles _ sound.handles stands;
+  }
+
+module _ {K T F I : Type 0} (g : Procedures K T F I) where
+  -- an open leaves what stands
+  pub stands-opened : (s : State K T F I) (o m : ℕ) (reason : Reason) → is_some (object_of (with_open g s o reason) m) ≡ is_some (object_of s m)
+  stands-opened s o m reason =
+      stands-map (opened_object g s.set o reason) (opened_object-id g s.set o reason) (opened_object-is_directory g s.set o reason) m s.objects
+
+  -- and so does a close
+  pub stands-closed : (s : State K T F I) (h : Held) (m : ℕ) → is_some (object_of (closed_handle g s h) m) ≡ is_some (object_of s m)
+  stands-closed s h m = stands-map (closed_object g s.set h.object _ _) (closed_object-id g s.set h.object _ _) (closed_object-is_directory g s.set h.object _ _) m s.objects
+
+  -- settling leaves a sound state
+  pub settled_sound : (s : State K T F I) → IsSound s → IsSound (settle g s)
+  settled_sound s sound = record {
+    root = root_stands g s ∙ sound.root;
+    global = is_directory-settle g s global_id (alive_from_map s global_id refl) ∙ sound.global;
+    maps = λ k d within.
+        sound_map s (settle g s) (get_or s.processes k d)
+        (λ o e is_dir. is_directory-settle g s o (alive_from_map s o (is_mapped_at s k d o within e)) ∙ is_dir)
+        (sound.maps k d within);
+    rows = All-kept (is_kept s) (λ r. Stands s r.object × (has_name s r.object ≡ true)) (λ r. Stands (settle g s) r.object)
+        (λ r kept h. stands-settle g s r.object (alive_from_row s r kept h.1) h.0) s.rows
+        (λ k d within. (sound.rows k d within, rows_are_names s k d within));
+    handles = λ k d within.
+        stands-settle g s (get_or s.handles k d).object
+        (alive_from_handle s (get_or s.handles k d).object
+        (list_any_at (λ h. h.object == (get_or s.handles k d).object) s.handles k d within (eq-eqb (get_or s.handles k d).object (get_or s.handles k d).object refl)))
+        (sound.handles k d within);
+  }
+
+  -- an open leaves a sound state, whatever its object is
+  pub opened_sound : (s : State K T F I) (o : ℕ) (reason : Reason) → IsSound s → IsSound (with_open g s o reason)
+  opened_sound s o reason sound =
+      let t = with_open g s o reason in
+      let stays = λ (m : ℕ) (h : Stands s m). stands-opened s o m reason ∙ h in
+      record {
+        root = is_directory-opened g s o root_id reason ∙ sound.root;
+        global = is_directory-opened g s o global_id reason ∙ sound.global;
+        maps = sound_maps s t (λ m h. is_directory-opened g s o m reason ∙ h) s.processes sound.maps;
+        rows = sound_rows s t stays s.rows sound.rows;
+        handles = sound_handles s t stays s.handles sound.handles;
+      }
+
+  -- an open and a grant of an object that stands leave a sound state
+  pub granted_sound : (s : State K T F I) (p value o : ℕ) (reason : Reason) (inherit : Bool)
+      → IsSound s → Stands s o → IsSound (with_handle (with_open g s o reason) p value o inherit)
+  granted_sound s p value o reason inherit sound stands =
+      handle_sound (with_open g s o reason) p value o inherit (opened_sound s o reason sound) (stands-opened s o o reason ∙ stands)
+
+  -- a close leaves a sound state
+  pub closed_sound : (s : State K T F I) (h : Held) → IsSound s → IsSound (closed_handle g s h)
+  closed_sound s h sound =
+      let t = closed_handle g s h in
+      let stays = λ (m : ℕ) (k : Stands s m). stands-closed s h m ∙ k in
+      record {
+        root = closed_root g s h ∙ sound.root;
+        global = is_directory-closed g s h global_id ∙ sound.global;
+        maps = sound_maps s t (λ m k. is_directory-closed g s h m ∙ k) s.processes sound.maps;
+        rows = sound_rows s t stays s.rows sound.rows;
+        handles = All-filter (λ x. not (is_handle h.process h.value x)) (λ x. Stands t x.object) s.handles (sound_handles s t stays s.handles sound.handles);
+      }

@@ -1,0 +1,276 @@
+-- Worked examples: what the definitions say of small namespaces, each the opening state with some
+-- objects and rows more. The law functions in src/examples.rt prove them.
+--
+-- Source: this profile.
+use Rattle.std.specs.Prelude.{◌≡◌, ℕ, zero, suc, ◌+◌, ◌==◌, true, false, List, [], ◌∷◌, ◌++◌, length, drop, None, Some, codes}
+use Rattle.ob_base.specs.declared.status.Status.TheVariants.{ObjectNameInvalid, ObjectPathNotFound, ObjectNameNotFound, ObjectTypeMismatch, ObjectPathSyntaxBad, ReparseLimit}
+use Rattle.ob_model.specs.declared.state.Body.TheVariants.{Directory, Link, Other}
+use Rattle.ob_model.specs.declared.state.Object.{Object}
+use Rattle.ob_model.specs.declared.state.Row.{Row}
+use Rattle.ob_model.specs.Names.{separator, same_name, IsSplit, substituted}
+use Rattle.ob_model.specs.State.{State, object_of, global_id}
+use Rattle.ob_model.specs.Opening.{opening, standing, root_row}
+use Rattle.ob_model.specs.Paths.{origin_of, InDirectory, ViewOf}
+use Rattle.ob_model.specs.Procedures.{Procedures, Front}
+use Rattle.ob_model.specs.Looks.{Look, At, Vacant, Parse, Refused, Mode, most_reparses, LooksUp}
+use Rattle.ob_model.specs.Settle.{settle, has_name}
+
+-- ---- the set of types, the states and the modes
+
+-- a set of types whose kinds, values, faces and inner values are numbers. A face is its kind, kind
+-- 1 parses, and its parse uses all of a rest
+abbrev pub numbers : Procedures ℕ ℕ ℕ ℕ
+numbers = record {
+  type_name = λ kind. codes "Number";
+  kind_of = λ face. face;
+  same_kind = λ a b. a == b;
+  parses = λ kind. kind == 1;
+  same_face = λ a b. a == b;
+  refuses_to_make = λ kind args. None;
+  made = λ kind args. (kind, 0);
+  parsed = λ face rest. Front (length rest) 0 0;
+  refuses_to_open = λ set inner reason. None;
+  opened = λ set inner reason. (set, inner);
+  closed = λ set inner process_left left. (set, inner);
+  deleted = λ set inner. set;
+}
+
+-- the states of that set, and their objects
+abbrev pub Numbers : Type 0
+Numbers = State ℕ ℕ ℕ ℕ
+
+abbrev pub Thing : Type 0
+Thing = Object ℕ ℕ
+
+-- the opening state with these objects and these rows more, numbered on from its own
+abbrev pub opening_with : List Thing → List Row → Numbers
+opening_with objects rows =
+    let start = opening {K = ℕ} {T = ℕ} {F = ℕ} {I = ℕ} 0 in
+    record start {
+      objects = start.objects ++ objects;
+      rows = start.rows ++ rows;
+      next_id = start.next_id + length objects;
+      next_stamp = start.next_stamp + length rows;
+    }
+
+-- a link with this target
+abbrev pub link_to : ℕ → List ℕ → Thing
+link_to o target = standing o (Link target)
+
+-- a row of another directory than the root
+abbrev pub row_in : ℕ → ℕ → List ℕ → ℕ → Row
+row_in directory stamp name o = record { stamp = stamp; directory = directory; name = name; object = o }
+
+-- a name is opened as it is written or with case folded, its last component is opened as a link, or
+-- an object of that name is created
+abbrev pub opens : Mode
+opens = record { create = false; fold = false; follow = true }
+
+abbrev pub opens_folded : Mode
+opens_folded = record { create = false; fold = true; follow = true }
+
+abbrev pub opens_link : Mode
+opens_link = record { create = false; fold = false; follow = false }
+
+abbrev pub creates : Mode
+creates = record { create = true; fold = false; follow = true }
+
+-- process 1 looks an absolute name up with this end
+abbrev pub EndsAt : Numbers → Mode → List ℕ → Look → Type 0
+EndsAt s mode name look = LooksUp numbers s 1 mode None name look
+
+-- ---- names
+
+-- `Foo` and `FOO` are equal without case and differ with it; `[` is not `{` in either way
+abbrev pub NamesWithAndWithoutCase : Type 0
+NamesWithAndWithoutCase =
+    (same_name true (codes "Foo") (codes "FOO") ≡ true) × (same_name false (codes "Foo") (codes "FOO") ≡ false)
+    × (same_name true (codes "[") (codes "{") ≡ false) × (same_name false (codes "[") (codes "{") ≡ false)
+
+-- `\Device\Disk\` is split behind each of its components, and its last rest is `\`
+abbrev pub TextsInComponents : Type 0
+TextsInComponents =
+    IsSplit (codes "\\Device\\Disk\\") [] (codes "\\Device\\Disk\\")
+    × IsSplit (codes "\\Device\\Disk\\") (codes "Device" ∷ []) (codes "\\Disk\\")
+    × IsSplit (codes "\\Device\\Disk\\") (codes "Device" ∷ codes "Disk" ∷ []) (codes "\\")
+
+-- of two separators that meet one is dropped
+abbrev pub SeparatorsThatMeet : Type 0
+SeparatorsThatMeet =
+    (substituted (codes "\\A\\") (codes "\\B") ≡ codes "\\A\\B") × (substituted (codes "\\A") (codes "\\B") ≡ codes "\\A\\B")
+    × (substituted (codes "\\A\\") [] ≡ codes "\\A\\")
+
+-- ---- lookups in directories
+
+-- object 7 is `\Device\Disk`, an object of the set that doesn't parse
+abbrev pub with_disk : Numbers
+with_disk = opening_with (standing 7 (Other 0 0) ∷ []) (row_in 4 6 (codes "Disk") 7 ∷ [])
+
+-- the root, a directory and an object in it are found, by a name from the root or relative to a
+-- directory
+abbrev pub NamesThatAreFound : Type 0
+NamesThatAreFound =
+    EndsAt with_disk opens (codes "\\") (At 1) × EndsAt with_disk opens (codes "\\Device") (At 4)
+    × EndsAt with_disk opens (codes "\\Device\\Disk") (At 7) × LooksUp numbers with_disk 1 opens (Some 4) (codes "Disk") (At 7)
+
+-- a component that names nothing is refused by whether it is the last; the last one is a place for
+-- a create. An object that is no directory has nothing behind it
+abbrev pub NamesThatAreMissing : Type 0
+NamesThatAreMissing =
+    EndsAt with_disk opens (codes "\\Missing\\Disk") (Refused ObjectPathNotFound)
+    × EndsAt with_disk opens (codes "\\Device\\Missing") (Refused ObjectNameNotFound)
+    × EndsAt with_disk creates (codes "\\Device\\Missing") (Vacant 4 (codes "Missing"))
+    × EndsAt with_disk opens (codes "\\Device\\Disk\\Part") (Refused ObjectTypeMismatch)
+
+-- an empty component is refused, at the end and in the middle, and so is a name with no separator
+-- in front
+abbrev pub NamesThatAreInvalid : Type 0
+NamesThatAreInvalid =
+    EndsAt with_disk opens (codes "\\Device\\") (Refused ObjectNameInvalid)
+    × EndsAt with_disk opens (codes "\\Device\\\\Disk") (Refused ObjectNameInvalid)
+    × EndsAt with_disk opens (codes "Device") (Refused ObjectPathSyntaxBad)
+
+-- objects 7 and 8 are `\Foo` and `\FOO`, and `\FOO` was inserted first
+abbrev pub with_two_spellings : Numbers
+with_two_spellings = opening_with (standing 7 Directory ∷ standing 8 Directory ∷ []) (root_row 6 (codes "FOO") 8 ∷ root_row 7 (codes "Foo") 7 ∷ [])
+
+-- of two names that are equal without case the one inserted first is found; with case each is
+abbrev pub FirstInsertedIsFound : Type 0
+FirstInsertedIsFound =
+    EndsAt with_two_spellings opens_folded (codes "\\foo") (At 8) × EndsAt with_two_spellings opens_folded (codes "\\Foo") (At 8)
+    × EndsAt with_two_spellings opens (codes "\\Foo") (At 7) × EndsAt with_two_spellings opens (codes "\\foo") (Refused ObjectNameNotFound)
+
+-- object 7 is `\Volume`, an object of the set that parses
+abbrev pub with_volume : Numbers
+with_volume = opening_with (standing 7 (Other 1 0) ∷ []) (root_row 6 (codes "Volume") 7 ∷ [])
+
+-- an open hands what follows a parsing object to its parse, separators and all; a create never
+-- parses
+abbrev pub RestIsParsed : Type 0
+RestIsParsed =
+    EndsAt with_volume opens (codes "\\Volume\\a\\\\b") (Parse 7 (codes "\\a\\\\b") most_reparses) × EndsAt with_volume opens (codes "\\Volume") (Parse 7 [] most_reparses)
+    × EndsAt with_volume creates (codes "\\Volume") (At 7) × EndsAt with_volume creates (codes "\\Volume\\a") (Refused ObjectTypeMismatch)
+
+-- ---- lookups through links
+
+-- beside `\Device\Disk`, `\Link` leads to `\Device`, `\Self` to itself, and the target of `\Bad` is
+-- no absolute name
+abbrev pub with_links : Numbers
+with_links =
+    opening_with (standing 7 (Other 0 0) ∷ link_to 8 (codes "\\Device") ∷ link_to 9 (codes "\\Self") ∷ link_to 10 (codes "Device") ∷ [])
+    (row_in 4 6 (codes "Disk") 7 ∷ root_row 7 (codes "Link") 8 ∷ root_row 8 (codes "Self") 9 ∷ root_row 9 (codes "Bad") 10 ∷ [])
+
+-- a link is followed, and the rest behind it is kept; `\DosDevices` leads to `\??`
+abbrev pub LinkIsFollowed : Type 0
+LinkIsFollowed =
+    EndsAt with_links opens (codes "\\Link\\Disk") (At 7) × EndsAt with_links opens (codes "\\Link") (At 4)
+    × EndsAt with_links creates (codes "\\Link\\New") (Vacant 4 (codes "New")) × EndsAt with_links opens (codes "\\DosDevices") (At global_id)
+
+-- a link is what is named where the last component isn't followed, and in a create, but not where
+-- more of the name is left
+abbrev pub LinkIsOpened : Type 0
+LinkIsOpened =
+    EndsAt with_links opens_link (codes "\\Link") (At 8) × EndsAt with_links creates (codes "\\Link") (At 8)
+    × EndsAt with_links opens_link (codes "\\Link\\Disk") (At 7)
+
+-- a link that leads to itself ends at the limit
+abbrev pub LinkToItself : Type 0
+LinkToItself = EndsAt with_links opens (codes "\\Self") (Refused ReparseLimit) × EndsAt with_links opens_link (codes "\\Self") (At 9)
+
+-- a target that is no absolute name is refused once it is followed
+abbrev pub TargetIsNoAbsoluteName : Type 0
+TargetIsNoAbsoluteName = EndsAt with_links opens (codes "\\Bad") (Refused ObjectPathSyntaxBad) × EndsAt with_links opens_link (codes "\\Bad") (At 10)
+
+-- `\K` leads to `\A\`, and object 8 is `\A\B`
+abbrev pub with_separator_at_end : Numbers
+with_separator_at_end =
+    opening_with (standing 7 Directory ∷ standing 8 Directory ∷ link_to 9 (codes "\\A\\") ∷ [])
+    (root_row 6 (codes "A") 7 ∷ row_in 7 7 (codes "B") 8 ∷ root_row 8 (codes "K") 9 ∷ [])
+
+-- a target that ends in a separator: a rest takes that one for its own, and alone the target has an
+-- empty last component
+abbrev pub TargetEndsInSeparator : Type 0
+TargetEndsInSeparator =
+    EndsAt with_separator_at_end opens (codes "\\K\\B") (At 8) × EndsAt with_separator_at_end opens (codes "\\K") (Refused ObjectNameInvalid)
+
+-- the name of link k of a chain, one byte, and the links 0 to k - 1 with their rows: link 0 leads to
+-- `\Device`, and each other one to the one before it
+abbrev pub chain_name : ℕ → List ℕ
+chain_name k = separator ∷ (48 + k) ∷ []
+
+abbrev pub chain_target : ℕ → List ℕ
+chain_target zero = codes "\\Device"
+chain_target (suc k) = chain_name k
+
+abbrev pub chain_links : ℕ → List Thing
+chain_links zero = []
+chain_links (suc k) = chain_links k ++ link_to (7 + k) (chain_target k) ∷ []
+
+abbrev pub chain_rows : ℕ → List Row
+chain_rows zero = []
+chain_rows (suc k) = chain_rows k ++ root_row (6 + k) (drop 1 (chain_name k)) (7 + k) ∷ []
+
+abbrev pub with_chain : ℕ → Numbers
+with_chain n = opening_with (chain_links n) (chain_rows n)
+
+-- 32 links are followed to the directory at their end, and one more is one too many
+abbrev pub ChainOfLinks : Type 0
+ChainOfLinks = EndsAt (with_chain 33) opens (chain_name 31) (At 4) × EndsAt (with_chain 33) opens (chain_name 32) (Refused ReparseLimit)
+
+-- ---- the DOS device names
+
+-- process 1 has the local directory 7, process 2 has none. `\??\C:` is object 8 locally and object 9
+-- globally, and `\??\D:` is object 10 globally alone
+abbrev pub with_local : Numbers
+with_local =
+    record (opening_with (standing 7 Directory ∷ standing 8 (Other 0 0) ∷ standing 9 (Other 0 0) ∷ standing 10 (Other 0 0) ∷ [])
+    (row_in 7 6 (codes "C:") 8 ∷ row_in global_id 7 (codes "C:") 9 ∷ row_in global_id 8 (codes "D:") 10 ∷ [])) {
+      processes = record { number = 1; map = Some 7 } ∷ record { number = 2; map = None } ∷ [];
+      next_process = 3;
+    }
+
+-- an open behind `\??` finds the local directory's entry first, and else the global one
+abbrev pub LocalComesFirst : Type 0
+LocalComesFirst =
+    EndsAt with_local opens (codes "\\??\\C:") (At 8) × EndsAt with_local opens (codes "\\??\\D:") (At 10)
+    × EndsAt with_local opens (codes "\\GLOBAL??\\C:") (At 9) × LooksUp numbers with_local 2 opens None (codes "\\??\\C:") (At 9)
+    × EndsAt with_local opens (codes "\\DosDevices\\C:") (At 8)
+
+-- a create right behind `\??` looks in the local directory alone, so it doesn't meet the global entry
+abbrev pub CreateIsLocal : Type 0
+CreateIsLocal =
+    EndsAt with_local creates (codes "\\??\\D:") (Vacant 7 (codes "D:")) × EndsAt with_local creates (codes "\\??\\C:") (At 8)
+    × (origin_of with_local 1 true (codes "\\??\\D:") ≡ Some (InDirectory 7, codes "\\D:"))
+    × (origin_of with_local 1 true (codes "\\??\\D:\\x") ≡ Some (ViewOf 1, codes "\\D:\\x"))
+
+-- ---- what stays
+
+-- object 7 is `\Temporary`, a directory that is not permanent and has no handle; object 8 is
+-- `\Temporary\Held`, not permanent either, with a handle of process 1
+abbrev pub temporary : ℕ → Thing
+temporary o = record { id = o; body = Directory; permanent = false; exclusive = false }
+
+abbrev pub with_held : Numbers
+with_held =
+    record (opening_with (temporary 7 ∷ temporary 8 ∷ []) (root_row 6 (codes "Temporary") 7 ∷ row_in 7 7 (codes "Held") 8 ∷ [])) {
+      handles = record { process = 1; value = 4; object = 8; inherit = false; order = 1 } ∷ [];
+      next_order = 2;
+    }
+
+-- a temporary directory that holds the name of a held object loses its own name and stays; the held
+-- object keeps its name
+abbrev pub HoldsWithoutName : Type 0
+HoldsWithoutName =
+    (has_name (settle numbers with_held) 7 ≡ false) × (object_of (settle numbers with_held) 7 ≡ Some (temporary 7))
+    × (has_name (settle numbers with_held) 8 ≡ true) × (object_of (settle numbers with_held) 8 ≡ Some (temporary 8))
+
+-- without the handle both go
+abbrev pub TemporaryGoes : Type 0
+TemporaryGoes =
+    let left = settle numbers (record with_held { handles = [] }) in
+    (object_of left 8 ≡ None) × (has_name left 8 ≡ false) × (has_name left 7 ≡ false)
+
+module _ (K T F I : Type 0) where
+  -- the opening state is settled, for each set of types
+  abbrev pub OpeningIsSettled : Type 0
+  OpeningIsSettled = (g : Procedures K T F I) (set : T) → settle g (opening set) ≡ opening set

@@ -1,0 +1,102 @@
+-- What shows that the definitions say what they should: the statements of the law functions in
+-- src/laws.rt, which prove them.
+use Rattle.std.specs.Prelude.{◌≡◌, ℕ, ◌+◌, ◌≤◌, Bool, true, false, ◌&&◌, List, [], ◌∷◌, ◌++◌, length, All, Contains, Option, MatchOption, if◌then◌else◌}
+use Rattle.ob_model.specs.declared.state.Row.{Row}
+use Rattle.ob_model.specs.declared.reply.Answer.{Answer}
+use Rattle.ob_model.specs.declared.reply.Event.{Event}
+use Rattle.ob_model.specs.Names.{separator, joined, IsRest, IsSplit, substituted, ends_in_separator, begins_with_separator}
+use Rattle.ob_model.specs.State.{State, root_id, object_of}
+use Rattle.ob_model.specs.Opening.{opening}
+use Rattle.ob_model.specs.Paths.{Origin, found, is_match, IsPath, directory_at}
+use Rattle.ob_model.specs.Procedures.{Procedures}
+use Rattle.ob_model.specs.Looks.{Look, Mode, Looks, LooksUp}
+use Rattle.ob_model.specs.Settle.{settle, has_handle}
+use Rattle.ob_model.specs.Sound.{IsSound, IsDirectory, Stands}
+use Rattle.ob_model.specs.Step.{Step}
+
+-- a text has one split at each length: as many components leave the same components and rest
+abbrev pub SplitIsUnique : Type 0
+SplitIsUnique =
+    (text : List ℕ) (cs ds : List (List ℕ)) (rest others : List ℕ)
+    → IsSplit text cs rest → IsSplit text ds others → length cs ≡ length ds → (cs ≡ ds) × (rest ≡ others)
+
+-- joining the components of a split and the rest gives the text back
+abbrev pub SplitJoinsBack : Type 0
+SplitJoinsBack = (text : List ℕ) (cs : List (List ℕ)) (rest : List ℕ) → IsSplit text cs rest → joined cs ++ rest ≡ text
+
+-- a substitution has the bytes of the target and of the rest, but for the one separator that is
+-- dropped where two meet
+abbrev pub SubstitutedLength : Type 0
+SubstitutedLength =
+    (target rest : List ℕ)
+    → length (substituted target rest) + (if ends_in_separator target && begins_with_separator rest then 1 else 0) ≡ length target + length rest
+
+-- where two separators meet, the target stands whole and the rest lacks its first byte
+abbrev pub SubstitutedDropsOne : Type 0
+SubstitutedDropsOne =
+    (front rest : List ℕ) → substituted (front ++ separator ∷ []) (separator ∷ rest) ≡ front ++ separator ∷ rest
+
+-- what is found is a row of the directory with an equal name, and none of these has a lesser stamp
+pub record IsFoundRow {K T F I : Type 0} (s : State K T F I) (d : ℕ) (c : List ℕ) (fold : Bool) (r : Row) : Type 0 where
+  pub stands : Contains s.rows r
+  pub matches : is_match d c fold r ≡ true
+  pub least : All (λ q. is_match d c fold q ≡ true → r.stamp ≤ q.stamp) s.rows
+
+module _ (K T F I : Type 0) where
+  -- found is the row of least stamp among those whose names are equal, and none where there is none
+  abbrev pub FoundIsLeast : Type 0
+  FoundIsLeast =
+      (s : State K T F I) (d : ℕ) (c : List ℕ) (fold : Bool)
+      → MatchOption (found s d c fold) (All (λ q. is_match d c fold q ≡ false) s.rows) (IsFoundRow s d c fold)
+
+  -- components lead from a place to at most one object
+  abbrev pub PathIsUnique : Type 0
+  PathIsUnique =
+      (s : State K T F I) (place : Origin) (cs : List (List ℕ)) (fold : Bool) (a b : ℕ)
+      → IsPath s place cs fold a → IsPath s place cs fold b → a ≡ b
+
+  -- a lookup has at most one end
+  abbrev pub LookIsUnique : Type 0
+  LookIsUnique =
+      (g : Procedures K T F I) (s : State K T F I) (p : ℕ) (mode : Mode) (n : ℕ) (place : Origin) (text : List ℕ) (a b : Look)
+      → Looks g s p mode n place text a → Looks g s p mode n place text b → a ≡ b
+
+  -- in a sound state a lookup from a place that is a directory, of a text that begins with a
+  -- separator or is empty, has an end
+  abbrev pub LookIsTotal : Type 0
+  LookIsTotal =
+      (g : Procedures K T F I) (s : State K T F I) (p : ℕ) (mode : Mode) (n : ℕ) (place : Origin) (text : List ℕ)
+      → IsSound s → IsDirectory s (directory_at s place) → IsRest text → (look : Look) × Looks g s p mode n place text look
+
+  -- a name is looked up with at most one end
+  abbrev pub NameLookIsUnique : Type 0
+  NameLookIsUnique =
+      (g : Procedures K T F I) (s : State K T F I) (p : ℕ) (mode : Mode) (root : Option ℕ) (name : List ℕ) (a b : Look)
+      → LooksUp g s p mode root name a → LooksUp g s p mode root name b → a ≡ b
+
+  -- in a sound state every name has an end, where the object of its root handle stands
+  abbrev pub NameLookIsTotal : Type 0
+  NameLookIsTotal =
+      (g : Procedures K T F I) (s : State K T F I) (p : ℕ) (mode : Mode) (root : Option ℕ) (name : List ℕ)
+      → IsSound s → MatchOption root (Unit {0}) (Stands s) → (look : Look) × LooksUp g s p mode root name look
+
+  -- settling a settled state changes nothing
+  abbrev pub SettleIsIdempotent : Type 0
+  SettleIsIdempotent = (g : Procedures K T F I) (s : State K T F I) → settle g (settle g s) ≡ settle g s
+
+  -- the root stays, and so does an object with a handle
+  abbrev pub RootStays : Type 0
+  RootStays = (g : Procedures K T F I) (s : State K T F I) → object_of (settle g s) root_id ≡ object_of s root_id
+
+  abbrev pub HeldStays : Type 0
+  HeldStays =
+      (g : Procedures K T F I) (s : State K T F I) (o : ℕ) → has_handle s o ≡ true → object_of (settle g s) o ≡ object_of s o
+
+  -- the opening state is sound, and a step from a sound state leads to a sound one
+  abbrev pub OpeningIsSound : Type 0
+  OpeningIsSound = (set : T) → IsSound (opening {K = K} {F = F} {I = I} set)
+
+  abbrev pub StepStaysSound : Type 0
+  StepStaysSound =
+      (g : Procedures K T F I) (s t : State K T F I) (event : Event) (answer : Answer)
+      → IsSound s → Step g s event answer t → IsSound t

@@ -1,0 +1,17 @@
+pub mod Names
+pub mod State
+pub mod Opening
+pub mod Paths
+pub mod Procedures
+pub mod Looks
+pub mod FirstLooks
+pub mod Settle
+pub mod Grants
+pub mod Enumeration
+pub mod Calls
+pub mod Closing
+pub mod Step
+pub mod Run
+pub mod Sound
+pub mod Laws
+pub mod Examples

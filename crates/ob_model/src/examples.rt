@@ -1,0 +1,125 @@
+//! Worked examples: what the definitions say of small namespaces.
+//!
+//! Each function has an empty body: its contract is a fact about a concrete state, stated in
+//! `specs/Examples.antt`. The states are the opening state with some objects and rows more.
+
+ghost use Rattle.ob_model.specs.Examples.{
+  NamesWithAndWithoutCase,
+  TextsInComponents,
+  SeparatorsThatMeet,
+  NamesThatAreFound,
+  NamesThatAreMissing,
+  NamesThatAreInvalid,
+  FirstInsertedIsFound,
+  RestIsParsed,
+  LinkIsFollowed,
+  LinkIsOpened,
+  LinkToItself,
+  TargetIsNoAbsoluteName,
+  TargetEndsInSeparator,
+  ChainOfLinks,
+  LocalComesFirst,
+  CreateIsLocal,
+  HoldsWithoutName,
+  TemporaryGoes,
+  OpeningIsSettled,
+};
+
+/// `Foo` and `FOO` are equal without case and differ with it; `[` is not `{` in either way.
+pub fn names_with_and_without_case()
+    ensures { NamesWithAndWithoutCase }
+{}
+
+/// `\Device\Disk\` is split behind each of its components, and its last rest is `\`.
+pub fn texts_in_components()
+    ensures { TextsInComponents }
+{}
+
+/// Where a target ends in a separator and the rest begins with one, one of the two is dropped.
+pub fn separators_that_meet()
+    ensures { SeparatorsThatMeet }
+{}
+
+/// The root, `\Device` and `\Device\Disk` are found, and `Disk` relative to `\Device`.
+pub fn names_that_are_found()
+    ensures { NamesThatAreFound }
+{}
+
+/// A component that names nothing is refused as a path in the middle of a name and as a name at its
+/// end, where it is a place for a create. Nothing stands behind an object that is no directory.
+pub fn names_that_are_missing()
+    ensures { NamesThatAreMissing }
+{}
+
+/// An empty component is refused, as in `\Device\` and `\Device\\Disk`, and so is a name that has no
+/// separator in front.
+pub fn names_that_are_invalid()
+    ensures { NamesThatAreInvalid }
+{}
+
+/// Of `\Foo` and `\FOO` the one inserted first is found without case, and each one with it.
+pub fn first_inserted_is_found()
+    ensures { FirstInsertedIsFound }
+{}
+
+/// An open hands what follows a parsing object to its parse, separators and all; a create never
+/// parses.
+pub fn rest_is_parsed()
+    ensures { RestIsParsed }
+{}
+
+/// A link is followed with the rest behind it kept, in an open and in a create.
+pub fn link_is_followed()
+    ensures { LinkIsFollowed }
+{}
+
+/// A link is opened itself where the last component isn't followed.
+pub fn link_is_opened()
+    ensures { LinkIsOpened }
+{}
+
+/// A link that leads to itself ends at the limit of reparses.
+pub fn link_to_itself()
+    ensures { LinkToItself }
+{}
+
+/// A link whose target is no absolute name is refused once it is followed.
+pub fn target_is_no_absolute_name()
+    ensures { TargetIsNoAbsoluteName }
+{}
+
+/// Where `\K` leads to `\A\`, `\K\B` is `\A\B`, and `\K` has an empty last component.
+pub fn target_ends_in_separator()
+    ensures { TargetEndsInSeparator }
+{}
+
+/// A chain of 32 links leads to the directory at its end, and one of 33 to the limit of reparses.
+pub fn chain_of_links()
+    ensures { ChainOfLinks }
+{}
+
+/// An open of `\??\C:` finds the local directory's entry before the global one, and the global one
+/// where the local directory, or the process, has none.
+pub fn local_comes_first()
+    ensures { LocalComesFirst }
+{}
+
+/// A create of `\??\D:` looks in the local directory alone, though `D:` is a global name.
+pub fn create_is_local()
+    ensures { CreateIsLocal }
+{}
+
+/// A temporary directory that holds a held object's name loses its own name in settling, and stays.
+pub fn holds_without_name()
+    ensures { HoldsWithoutName }
+{}
+
+/// Without that handle both names go, and the object.
+pub fn temporary_goes()
+    ensures { TemporaryGoes }
+{}
+
+/// Settling leaves the opening state as it is, for each set of types.
+pub fn opening_is_settled<K, T, F, I>()
+    ensures { OpeningIsSettled K T F I }
+{}

@@ -1,0 +1,101 @@
+//! What shows that the definitions say what they should.
+//!
+//! Each function has an empty body: its contract is a law about the definitions alone, stated in
+//! `specs/Laws.antt`. The type parameters are those of the state: the kinds, the value, the faces
+//! and the inner values of any set of types.
+
+ghost use Rattle.ob_model.specs.Laws.{
+  SplitIsUnique,
+  SplitJoinsBack,
+  SubstitutedLength,
+  SubstitutedDropsOne,
+  FoundIsLeast,
+  PathIsUnique,
+  LookIsUnique,
+  LookIsTotal,
+  NameLookIsUnique,
+  NameLookIsTotal,
+  SettleIsIdempotent,
+  RootStays,
+  HeldStays,
+  OpeningIsSound,
+  StepStaysSound,
+};
+
+/// A text has one split at each length.
+pub fn split_is_unique()
+    ensures { SplitIsUnique }
+{}
+
+/// Joining the components of a split and the rest gives the text back.
+pub fn split_joins_back()
+    ensures { SplitJoinsBack }
+{}
+
+/// A substitution has the bytes of the target and of the rest, but for one separator of two that
+/// meet.
+pub fn substituted_length()
+    ensures { SubstitutedLength }
+{}
+
+/// Where two separators meet, one is dropped.
+pub fn substituted_drops_one()
+    ensures { SubstitutedDropsOne }
+{}
+
+/// Found is the row of least stamp among those whose names are equal, and none where there is none.
+pub fn found_is_least<K, T, F, I>()
+    ensures { FoundIsLeast K T F I }
+{}
+
+/// Components lead from a place to at most one object.
+pub fn path_is_unique<K, T, F, I>()
+    ensures { PathIsUnique K T F I }
+{}
+
+/// A lookup has at most one end, in each state, sound or not, for each process, mode, number of
+/// reparses left, place and text.
+pub fn look_is_unique<K, T, F, I>()
+    ensures { LookIsUnique K T F I }
+{}
+
+/// In a sound state a lookup has an end, from a place that is a directory and of a text that begins
+/// with a separator or is empty.
+pub fn look_is_total<K, T, F, I>()
+    ensures { LookIsTotal K T F I }
+{}
+
+/// A name is looked up with at most one end, in each state, for each process, mode and root handle.
+pub fn name_look_is_unique<K, T, F, I>()
+    ensures { NameLookIsUnique K T F I }
+{}
+
+/// In a sound state every name has an end, where the object of its root handle, if any, is there.
+pub fn name_look_is_total<K, T, F, I>()
+    ensures { NameLookIsTotal K T F I }
+{}
+
+/// Settling a settled state changes nothing.
+pub fn settle_is_idempotent<K, T, F, I>()
+    ensures { SettleIsIdempotent K T F I }
+{}
+
+/// The root always stays.
+pub fn root_stays<K, T, F, I>()
+    ensures { RootStays K T F I }
+{}
+
+/// An object with a handle always stays.
+pub fn held_stays<K, T, F, I>()
+    ensures { HeldStays K T F I }
+{}
+
+/// The opening state is sound.
+pub fn opening_is_sound<K, T, F, I>()
+    ensures { OpeningIsSound K T F I }
+{}
+
+/// A step from a sound state leads to a sound state.
+pub fn step_stays_sound<K, T, F, I>()
+    ensures { StepStaysSound K T F I }
+{}

@@ -1,0 +1,20 @@
+//! The meaning of the namespace: its vocabulary, and the definitions of its abstract machine.
+//!
+//! `src/` has the plain data that commands, replies and states are made of. `specs/` has the
+//! definitions, one file a subject; docs/ARCHITECTURE.md gives their reading order. The crates
+//! above state their contracts by these definitions and by nothing else.
+#![tactic(auto)]
+
+mod bytes;
+mod command;
+pub mod examples;
+pub mod laws;
+mod reply;
+mod state;
+#[cfg(test)]
+mod tests;
+
+pub use bytes::Bytes;
+pub use command::{Command, Place};
+pub use reply::{Answer, Event, Given, Reply};
+pub use state::{Body, Held, Object, Pending, Process, Row, Wanted};

@@ -1,0 +1,31 @@
+//! Each generic law at a concrete set of types, and the bytes.
+
+use crate::{Bytes, examples, laws};
+use std::test::Fail;
+
+#[test]
+fn laws_hold_at_a_concrete_set() {
+    laws::found_is_least::<u8, u16, u32, u64>();
+    laws::path_is_unique::<u8, u16, u32, u64>();
+    laws::look_is_unique::<u8, u16, u32, u64>();
+    laws::look_is_total::<u8, u16, u32, u64>();
+    laws::name_look_is_unique::<u8, u16, u32, u64>();
+    laws::name_look_is_total::<u8, u16, u32, u64>();
+    laws::settle_is_idempotent::<u8, u16, u32, u64>();
+    laws::root_stays::<u8, u16, u32, u64>();
+    laws::held_stays::<u8, u16, u32, u64>();
+    laws::opening_is_sound::<u8, u16, u32, u64>();
+    laws::step_stays_sound::<u8, u16, u32, u64>();
+    examples::opening_is_settled::<u8, u16, u32, u64>();
+}
+
+#[test]
+fn bytes_are_those_handed_in(rt: HostRuntime) -> Result<(), Fail> {
+    for bytes in [b"".as_slice(), b"\\A", b"\x00\xFF"] {
+        let copied = Bytes::from_slice(rt.alloc(), bytes)?;
+        assert_eq!(rt; copied.as_slice(), bytes);
+        let taken = Bytes::new(copied.into_vec());
+        assert_eq!(rt; taken.as_slice(), bytes);
+    }
+    Ok(())
+}
