@@ -1,0 +1,4 @@
+pub mod Separators
+pub mod Folding
+pub mod Splitting
+pub mod Parts
