@@ -1,0 +1,4 @@
+pub mod Namespace
+pub mod Settling
+pub mod Lookup
+pub mod Values

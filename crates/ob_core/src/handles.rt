@@ -1,0 +1,52 @@
+//! The handles of a namespace, as a flat list in the order in which they were opened.
+
+ghost use Rattle.std.specs.Prelude.{◌≡◌, [], filter, not};
+ghost use Rattle.std.specs.Option.{option_and_then, option_copied};
+ghost use Rattle.ob_base.specs.Handle.{key_of};
+ghost use Rattle.ob_model.specs.State.{held_of};
+ghost use Rattle.ob_model.specs.Closing.{is_handle};
+ghost use Rattle.ob_model.specs.Grants.{has_other_holder};
+ghost use Rattle.ob_core.specs.Namespace.{namespace};
+
+use ob_base::{Handle, ObjId, Proc};
+use ob_model::Held;
+
+/// Whether a handle is the one of this process and value.
+fn is_handle(held: &Held, process: Proc, value: Handle) -> bool
+    ensures { result ≡ is_handle process value held.now }
+{
+    held.process == process && held.value == value
+}
+
+/// The handle of this value that a process holds.
+fn held_at(handles: &[Held], process: Proc, value: Handle) -> Option<&Held>
+    ensures { option_copied result ≡ held_of (namespace [] [] handles.now 0 0 0) process value }
+{
+    handles.iter().find(|held| is_handle(held, process, value))
+}
+
+/// The handle that a process names by a value, whose low two bits are ignored.
+pub(crate) fn held_of(handles: &[Held], process: Proc, handle: Handle) -> Option<Held>
+    ensures { result ≡ option_and_then (held_of (namespace [] [] handles.now 0 0 0) process) (key_of handle) }
+{
+    match handle.key() {
+        Some(key) => held_at(handles, process, Handle(key)).copied(),
+        None => None,
+    }
+}
+
+/// Takes a handle away. No memory is taken.
+pub(crate) fn take(handles: &mut Vec<Held>, taken: Held)
+    ensures { handles.new.items ≡ filter (λ h. not (is_handle taken.process taken.value h)) handles.old.items }
+{
+    handles.retain(|held| !is_handle(held, taken.process, taken.value));
+}
+
+/// Whether a process other than this one has a handle to an object.
+pub(crate) fn has_other_holder(handles: &[Held], process: Proc, object: ObjId) -> bool
+    ensures { result ≡ has_other_holder (namespace [] [] handles.now 0 0 0) process object }
+{
+    handles
+        .iter()
+        .any(|held| held.object == object && held.process != process)
+}

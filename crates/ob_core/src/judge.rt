@@ -1,0 +1,69 @@
+//! The refusals of a command that come before its lookup, in their order.
+
+ghost use Rattle.std.specs.Prelude.{◌≡◌, Some, None, MatchResult};
+ghost use Rattle.ob_model.specs.Grants.{first_refusal};
+ghost use Rattle.ob_model.specs.Step.{create_refusals, open_refusals, is_unserved_in_create, is_unserved_in_open};
+
+use ob_base::{Attrs, Handle, Status};
+use ob_names::Name;
+
+/// Whether a create uses flags that aren't served yet.
+fn is_unserved_in_create(attrs: Attrs) -> bool
+    ensures { result ≡ is_unserved_in_create attrs }
+{
+    attrs.is_inherit() || attrs.is_exclusive() || attrs.is_case_insensitive() || attrs.is_open_if()
+}
+
+/// Whether an open uses flags that aren't served yet.
+fn is_unserved_in_open(attrs: Attrs) -> bool
+    ensures { result ≡ is_unserved_in_open attrs }
+{
+    attrs.is_inherit()
+        || attrs.is_exclusive()
+        || attrs.is_case_insensitive()
+        || attrs.is_open_link()
+}
+
+/// The flags of a create by name, or its first refusal, for a process that is live or isn't.
+pub(crate) fn judge_create(
+    live: bool,
+    root: Option<Handle>,
+    name: &[u8],
+    attrs: u32,
+) -> Result<Attrs, Status>
+    ensures { MatchResult result
+        (λ lawful. (lawful ≡ attrs) × (first_refusal (create_refusals live root name.now attrs) ≡ None))
+        (λ status. first_refusal (create_refusals live root name.now attrs) ≡ Some status) }
+{
+    if !live {
+        return Err(Status::ProcessGone);
+    }
+    let lawful = Attrs::check(attrs)?;
+    if is_unserved_in_create(lawful) || root.is_some() {
+        return Err(Status::InvalidParameter);
+    }
+    Name::read(name)?;
+    Ok(lawful)
+}
+
+/// The flags of an open, or its first refusal, for a process that is live or isn't.
+pub(crate) fn judge_open(
+    live: bool,
+    root: Option<Handle>,
+    name: &[u8],
+    attrs: u32,
+) -> Result<Attrs, Status>
+    ensures { MatchResult result
+        (λ lawful. (lawful ≡ attrs) × (first_refusal (open_refusals live root name.now attrs) ≡ None))
+        (λ status. first_refusal (open_refusals live root name.now attrs) ≡ Some status) }
+{
+    if !live {
+        return Err(Status::ProcessGone);
+    }
+    let lawful = Attrs::check(attrs)?;
+    if is_unserved_in_open(lawful) || root.is_some() {
+        return Err(Status::InvalidParameter);
+    }
+    Name::read(name)?;
+    Ok(lawful)
+}
