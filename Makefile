@@ -1,4 +1,19 @@
-# `make test` is the gate: every proof from nothing, the wrong bodies that must be refused, every test.
-.PHONY: test
+# make run    builds what is needed and runs examples/first.ntns, or the script that SCRIPT names
+# make test   the gate: every proof from nothing, the wrong bodies that must be refused, every test
+# make bench  times the built program on generated scripts; it fails nothing
+
+SCRIPT ?= examples/first.ntns
+
+.PHONY: run test bench build
+
+run:
+	@cd crates/ntns && rt run < "$(abspath $(SCRIPT))"
+
 test:
 	rt ci
+
+build:
+	cd crates/ntns && rt run < /dev/null
+
+bench: build
+	bench/lines.sh crates/ntns/out/ntns
