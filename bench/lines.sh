@@ -18,24 +18,26 @@ script() {
     }' > "$folder/$1.ntns"
 }
 
-# the time of one run, in milliseconds
+# the time of the fastest of five runs, in microseconds
 timed() {
     script "$1"
-    before=$(date +%s%N)
-    "$program" < "$folder/$1.ntns" > "$folder/$1.out"
-    after=$(date +%s%N)
+    best=
+    for run in 1 2 3 4 5; do
+        before=$(date +%s%N)
+        "$program" < "$folder/$1.ntns" > "$folder/$1.out"
+        after=$(date +%s%N)
+        took=$(((after - before) / 1000))
+        if [ -z "$best" ] || [ "$took" -lt "$best" ]; then best=$took; fi
+    done
     if grep -qv ': SUCCESS$' "$folder/$1.out"; then
         echo "a line of the script of $1 lines did not succeed" >&2
         exit 1
     fi
-    echo $(((after - before) / 1000000))
+    echo "$best"
 }
 
 short=$(timed 10000)
 long=$(timed 100000)
-echo "10,000 lines: $short ms"
-echo "100,000 lines: $long ms"
-awk -v short="$short" -v long="$long" 'BEGIN {
-    if (short < 1) short = 1
-    printf "ratio: %.1f (to stay under 15)\n", long / short
-}'
+echo "10,000 lines: $short us"
+echo "100,000 lines: $long us"
+awk -v short="$short" -v long="$long" 'BEGIN { printf "ratio: %.1f (to stay under 15)\n", long / short }'

@@ -1,0 +1,4 @@
+pub mod Complaints
+pub mod Faults
+pub mod Serving
+pub mod Words

@@ -1,0 +1,4 @@
+pub mod Perform
+pub mod Plan
+pub mod Refuse
+pub mod Serve

@@ -1,0 +1,10 @@
+pub mod Readers
+pub mod Writers
+pub mod Cuts
+pub mod Spelled
+pub mod Flagged
+pub mod Formed
+pub mod Worded
+pub mod Printed
+pub mod Lined
+pub mod Behind

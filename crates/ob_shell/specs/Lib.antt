@@ -1,0 +1,10 @@
+pub mod Lines
+pub mod Text
+pub mod Flags
+pub mod Grammar
+pub mod Fault
+pub mod Reading
+pub mod Writing
+pub mod Words
+pub mod Shown
+pub mod Running

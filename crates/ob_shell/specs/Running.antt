@@ -1,0 +1,66 @@
+-- How a script is run: one line at a time.
+use Rattle.std.specs.Prelude.{◌≡◌, ℕ, List, [], Option, Some, None, codes}
+use Rattle.ob_model.specs.declared.command.Command.{Command}
+use Rattle.ob_model.specs.declared.reply.Reply.{Reply}
+use Rattle.ob_model.specs.declared.reply.Answer.TheVariants.{Done}
+use Rattle.ob_model.specs.declared.reply.Event.TheVariants.{Start}
+use Rattle.ob_model.specs.Step.{Step}
+use Rattle.ob_core.specs.Namespace.{Namespace, no_types}
+use Rattle.ob_shell.specs.declared.form.Form.{Form}
+use Rattle.ob_shell.specs.declared.form.Form.TheVariants.{Nothing, Asks}
+use Rattle.ob_shell.specs.declared.form.Request.{Request}
+use Rattle.ob_shell.specs.declared.form.Request.TheVariants.{CreateDirectory, OpenDirectory, Close}
+use Rattle.ob_shell.specs.declared.line.Outcome.{Outcome}
+use Rattle.ob_shell.specs.declared.line.Outcome.TheVariants as outcome
+use Rattle.ob_shell.specs.declared.run.Ending.{Ending}
+use Rattle.ob_shell.specs.declared.run.Ending.TheVariants as ending
+use Rattle.ob_shell.specs.Text.{IsText}
+use Rattle.ob_shell.specs.Grammar.{IsLine}
+use Rattle.ob_shell.specs.Words.{Words, process_of}
+use Rattle.ob_shell.specs.Shown.{IsCommand, words_after, output_line, reply_text, PlaysPartTo}
+use Rattle.ob_shell.specs.declared.fault.ShellFault.{ShellFault}
+use Rattle.ob_shell.specs.declared.fault.ShellFault.TheVariants as fault
+
+-- the text of a request, where it has one, is a text
+abbrev pub HasText : Request (List ℕ) → Type 0
+HasText (CreateDirectory text attrs word) = IsText text
+HasText (OpenDirectory text attrs word) = IsText text
+HasText (Close word) = Unit {0}
+
+-- a request of a process was answered by a step of the machine, which left these words and states
+abbrev pub IsAnswered : Request (List ℕ) → ℕ → Words → Namespace → Reply → Words → Namespace → Type 0
+IsAnswered request process words s reply words' s' =
+    (c : Command) × IsCommand request (words process) c × Step no_types s (Start process c) (Done reply) s'
+    × (words' ≡ words_after request process reply words)
+
+-- what became of a line, and what it left
+abbrev pub IsDone : List ℕ → Words → Namespace → Outcome → Words → Namespace → Type 0
+IsDone line words s outcome.Idle words' s' = IsLine line Nothing × (words' ≡ words) × (s' ≡ s)
+IsDone line words s (outcome.Replied reply) words' s' =
+    (process : List ℕ) × (request : Request (List ℕ)) × IsLine line (Asks process request)
+    × IsAnswered request (process_of process) words s reply words' s'
+IsDone line words s outcome.NoLine words' s' = (form : Form (List ℕ)) → ¬ IsLine line form
+IsDone line words s outcome.NoMemory words' s' = (process : List ℕ) × (request : Request (List ℕ)) × IsLine line (Asks process request)
+
+-- what the line of this number prints for it
+abbrev pub outcome_text : ℕ → Outcome → List ℕ
+outcome_text number outcome.Idle = []
+outcome_text number (outcome.Replied reply) = output_line number (reply_text reply)
+outcome_text number outcome.NoLine = output_line number (codes "not a script line")
+outcome_text number outcome.NoMemory = output_line number (codes "want of memory")
+
+-- how it ends the run, where it does
+abbrev pub outcome_end : ℕ → Outcome → Option Ending
+outcome_end number outcome.Idle = None
+outcome_end number (outcome.Replied reply) = None
+outcome_end number outcome.NoLine = Some (ending.BadLine number)
+outcome_end number outcome.NoMemory = Some (ending.NoMemoryAt number)
+
+-- what a writer holds after a fault of a run of the script: a beginning of what lines of it play
+-- after a fault of the writer, and no more than before after want of memory; no other fault comes
+abbrev pub StopsPlaying : List ℕ → ShellFault → Option (List ℕ) → Option (List ℕ) → Type 0
+StopsPlaying script fault.Write old new = PlaysPartTo old new script
+StopsPlaying script fault.Memory old new = new ≡ old
+StopsPlaying script fault.Read old new = ⊥
+StopsPlaying script fault.TooLong old new = ⊥
+StopsPlaying script fault.Mismatch old new = ⊥

@@ -1,0 +1,124 @@
+//! Reading the input whole, with a limit.
+
+ghost use Rattle.std.specs.Prelude.{◌≡◌, ◌+◌, ◌<◌, ◌≤◌, IfOk, IfErr, OnOk, IsErr, IfSome, IsErrOf, length, vec_len};
+ghost use Rattle.ob_shell.specs.Reading.{ReadsWhole, ReadsMore, StopsReading, StopsReadingAfter};
+
+use crate::ShellFault;
+use std::alloc::Global;
+use std::io::Read;
+
+/// How many bytes a script may have: 16,777,216. (this profile)
+pub const SCRIPT_LIMIT: usize = 16_777_216;
+
+// How many bytes are asked of the reader at once.
+const CHUNK: usize = 4096;
+
+/// All bytes that the reader has left, of which there may be up to [`SCRIPT_LIMIT`].
+///
+/// Never more than `SCRIPT_LIMIT + 1` bytes are taken of the reader, and each of its reads is made
+/// once: one that is interrupted is a fault as any other. So it returns whatever the reader does.
+/// The faults are `TooLong`, where the reader gave `SCRIPT_LIMIT + 1` bytes; `Read`, where a read
+/// failed; and `Memory`. After one, the bytes that were taken are lost, and the reader stands
+/// behind them. (this profile)
+pub fn read_script<R: Read>(alloc: Global, reader: &mut R) -> Result<Vec<u8>, ShellFault>
+    // At any reader.
+    ensures within { IfOk result (λ script. vec_len script ≤ SCRIPT_LIMIT) }
+
+    // Where the reader's bytes are known.
+    ensures whole { IfOk result (λ script.
+        ReadsWhole (R.remaining reader.old) (R.remaining reader.new) script.items) }
+    ensures exact { IfOk result (λ script.
+        IfSome (R.remaining reader.old) (λ bytes. script.items ≡ bytes)) }
+    ensures too_long { IsErrOf result ShellFault.TooLong →
+        IfSome (R.remaining reader.old) (λ bytes. SCRIPT_LIMIT < length bytes) }
+    ensures refused { IfSome (R.remaining reader.old) (λ bytes.
+        SCRIPT_LIMIT < length bytes → IsErr result) }
+    ensures fault { IfErr result (λ fault.
+        StopsReading fault (R.remaining reader.old) (R.remaining reader.new)) }
+{
+    let mut script = Vec::new(alloc);
+    loop {
+        match take_more(reader, &mut script) {
+            Ok(0) => return Ok(script),
+            Ok(_) => {}
+            Err(fault) => return Err(fault),
+        }
+    }
+}
+
+// Adds the reader's next bytes to the script, and says how many: none only at the reader's end.
+fn take_more<R: Read>(reader: &mut R, script: &mut Vec<u8>) -> Result<usize, ShellFault>
+    requires { vec_len script.old ≤ SCRIPT_LIMIT }
+    ensures within { OnOk result (vec_len script.new ≤ SCRIPT_LIMIT) }
+    ensures more { IfOk result (ReadsMore (R.remaining reader.old) (R.remaining reader.new)
+        script.old.items script.new.items) }
+    ensures fault { IfErr result (λ fault. StopsReadingAfter (vec_len script.old) fault
+        (R.remaining reader.old) (R.remaining reader.new)) }
+{
+    let mut chunk = [0u8; CHUNK];
+    let left = SCRIPT_LIMIT - script.len();
+    let asked = if left < CHUNK { left + 1 } else { CHUNK };
+    match reader.read(&mut chunk[..asked]) {
+        Err(_) => Err(ShellFault::Read),
+        Ok(count) if left < count => Err(ShellFault::TooLong),
+        Ok(count) => match script.extend_from_slice(&chunk[..count]) {
+            Err(_) => Err(ShellFault::Memory),
+            Ok(()) => Ok(count),
+        },
+    }
+}
+
+#[cfg(test)]
+mod tests {
+    use super::*;
+    use crate::streams::Trickle;
+    use std::io::{ErrorKind, repeat};
+    use std::test::Fail;
+
+    const TEXT: &'static [u8] = b"p1 close a\n# two lines\n";
+
+    #[test]
+    fn reads_what_memory_holds(rt: HostRuntime) -> Result<(), Fail> {
+        let mut bytes = TEXT;
+        let script = read_script(rt.alloc(), &mut bytes)?;
+        assert_eq!(rt; script.as_slice(), TEXT);
+        let mut nothing: &[u8] = b"";
+        let empty = read_script(rt.alloc(), &mut nothing)?;
+        assert_eq!(rt; empty.len(), 0);
+        Ok(())
+    }
+
+    #[test]
+    fn reads_byte_after_byte(rt: HostRuntime) -> Result<(), Fail> {
+        let mut slow = Trickle::new(TEXT, usize::MAX, ErrorKind::Other);
+        let script = read_script(rt.alloc(), &mut slow)?;
+        assert_eq!(rt; script.as_slice(), TEXT);
+        Ok(())
+    }
+
+    #[test]
+    fn one_failed_read_ends_it(rt: HostRuntime) {
+        for kind in [ErrorKind::Other, ErrorKind::Interrupted] {
+            for call in 0..TEXT.len() + 1 {
+                let mut failing = Trickle::new(TEXT, call, kind);
+                let outcome = read_script(rt.alloc(), &mut failing);
+                assert!(rt; matches!(&outcome, Err(ShellFault::Read)), "at call {call}");
+                assert_eq!(rt; failing.rest().len(), TEXT.len() - call.min(TEXT.len()));
+            }
+        }
+    }
+
+    #[test]
+    fn the_limit_is_16_777_216_bytes(rt: HostRuntime) -> Result<(), Fail> {
+        let mut longest = repeat(b'#').take(16_777_216);
+        let script = read_script(rt.alloc(), &mut longest)?;
+        assert_eq!(rt; script.len(), 16_777_216);
+        let mut longer = repeat(b'#').take(16_777_217);
+        let refused = read_script(rt.alloc(), &mut longer);
+        assert!(rt; matches!(&refused, Err(ShellFault::TooLong)));
+        let mut endless = repeat(b'#');
+        let refused = read_script(rt.alloc(), &mut endless);
+        assert!(rt; matches!(&refused, Err(ShellFault::TooLong)));
+        Ok(())
+    }
+}

@@ -1,0 +1,158 @@
+//! The run of a script.
+
+ghost use Rattle.std.specs.Prelude.{◌≡◌, ◌≢◌, ◌<◌, ◌≤◌, ◌∷◌, [], length, IfOk, IfErr, OnOk, OnErr, IsErr, IfSome, IfNone, IsErrOf};
+ghost use Rattle.std.specs.Io.KnownBytes.{Appends};
+ghost use Rattle.ob_shell.specs.Lines.{lines_of};
+ghost use Rattle.ob_shell.specs.Writing.{AppendsFront};
+ghost use Rattle.ob_shell.specs.Shown.{PlaysTo, PlaysPartTo};
+ghost use Rattle.ob_shell.specs.Running.{outcome_text, outcome_end, StopsPlaying};
+
+use crate::fault::ShellFault;
+use crate::line::{Outcome, perform};
+use crate::output::{Line, reply_line, text_line};
+use crate::reading::{SCRIPT_LIMIT, read_script};
+use crate::split::split_at;
+use crate::writing::write_out;
+use ob_core::Core;
+use std::alloc::Global;
+use std::collections::BTreeMap;
+use std::io::{Read, Write};
+
+/// How a run of a script ends that no fault ended. (this profile)
+#[derive(Clone, Copy, PartialEq, Eq, Debug)]
+pub enum Ending {
+    /// Every line was run.
+    Done,
+    /// The line of this number, from 1, is no script line. The lines before it were run.
+    BadLine(u64),
+    /// The command of the line of this number, from 1, found no memory. The lines before it were run.
+    NoMemoryAt(u64),
+}
+
+/// Reads a script, runs it from the opening state and writes its replies, a line each; docs/script.md
+/// has the language.
+///
+/// The script is read whole before its first line runs, and each read and each write is made once.
+/// The faults are `Read`, `TooLong` (more than 16,777,216 bytes) and `Memory`, after which nothing
+/// was written, and `Write`, after which a beginning of the output was written. A command that finds
+/// no memory is no fault: the run ends there with `NoMemoryAt`. The writer is not flushed.
+/// Source: this profile.
+pub fn run_script<R: Read, W: Write>(
+    alloc: Global,
+    reader: &mut R,
+    writer: &mut W,
+) -> Result<Ending, ShellFault>
+    // What was written is what the script plays.
+    ensures played { IfOk result (λ ending. IfSome (R.remaining reader.old) (λ script.
+        PlaysTo (W.contents writer.old) (W.contents writer.new) script ending)) }
+
+    // After a fault of the writer: a beginning of what lines of the script play.
+    ensures part { IsErrOf result ShellFault.Write → IfSome (R.remaining reader.old) (λ script.
+        PlaysPartTo (W.contents writer.old) (W.contents writer.new) script) }
+
+    // After any other fault nothing was written.
+    ensures unwritten { IfErr result (λ fault. fault ≢ ShellFault.Write →
+        W.contents writer.new ≡ W.contents writer.old) }
+
+    // A script that is too long is never run, and no other is called so.
+    ensures too_long { IsErrOf result ShellFault.TooLong → IfSome (R.remaining reader.old) (λ script.
+        SCRIPT_LIMIT < length script) }
+    ensures refused { IfSome (R.remaining reader.old) (λ script.
+        SCRIPT_LIMIT < length script → IsErr result) }
+{
+    match read_script(alloc, reader) {
+        Ok(script) => run_text(alloc, script.as_slice(), writer),
+        Err(fault) => Err(fault),
+    }
+}
+
+// Runs a script that was read.
+fn run_text<W: Write>(alloc: Global, script: &[u8], writer: &mut W) -> Result<Ending, ShellFault>
+    requires { length script.now ≤ SCRIPT_LIMIT }
+    ensures played { IfOk result (λ ending. PlaysTo (W.contents writer.old) (W.contents writer.new) script.now ending) }
+    ensures fault { IfErr result (λ fault. StopsPlaying script.now fault (W.contents writer.old) (W.contents writer.new)) }
+{
+    let mut core = match Core::new(alloc) {
+        Ok(core) => core,
+        Err(_) => return Err(ShellFault::Memory),
+    };
+    let mut words = BTreeMap::new(alloc);
+    let mut rest = script;
+    let mut number: u64 = 0;
+    while let Some((line, behind)) = first_line(rest) {
+        number += 1;
+        let outcome = perform(alloc, &mut core, &mut words, line);
+        match show(writer, number, outcome) {
+            Ok(None) => {}
+            Ok(Some(ending)) => return Ok(ending),
+            Err(fault) => return Err(fault),
+        }
+        rest = behind;
+    }
+    Ok(Ending::Done)
+}
+
+// Writes what became of a line, and says how that ends the run, where it does.
+fn show<W: Write>(
+    writer: &mut W,
+    number: u64,
+    outcome: Outcome,
+) -> Result<Option<Ending>, ShellFault>
+    ensures ending { IfOk result (λ ending. ending ≡ outcome_end number outcome) }
+    ensures ok { OnOk result (Appends (W.contents writer.old) (W.contents writer.new) (outcome_text number outcome)) }
+    ensures fault { IfErr result (λ fault. fault ≡ ShellFault.Write) }
+    ensures front { OnErr result (AppendsFront (W.contents writer.old) (W.contents writer.new) (outcome_text number outcome)) }
+{
+    match outcome {
+        Outcome::Idle => Ok(None),
+        Outcome::Replied(reply) => print(writer, reply_line(number, reply), None),
+        Outcome::NoLine => print(
+            writer,
+            text_line(number, b"not a script line"),
+            Some(Ending::BadLine(number)),
+        ),
+        Outcome::NoMemory => print(
+            writer,
+            text_line(number, b"want of memory"),
+            Some(Ending::NoMemoryAt(number)),
+        ),
+    }
+}
+
+// Writes a line, and hands on how the run ends.
+fn print<W: Write>(
+    writer: &mut W,
+    line: Line,
+    ending: Option<Ending>,
+) -> Result<Option<Ending>, ShellFault>
+    ensures ending { IfOk result (λ end. end ≡ ending) }
+    ensures ok { OnOk result (Appends (W.contents writer.old) (W.contents writer.new) line.items) }
+    ensures fault { IfErr result (λ fault. fault ≡ ShellFault.Write) }
+    ensures front { OnErr result (AppendsFront (W.contents writer.old) (W.contents writer.new) line.items) }
+{
+    match write_out(writer, line.as_slice()) {
+        Ok(()) => Ok(ending),
+        Err(fault) => Err(fault),
+    }
+}
+
+// The first line of a script's rest, without its LF, and what stands behind it.
+fn first_line(bytes: &[u8]) -> Option<(&[u8], &[u8])>
+    ensures found { IfSome result (λ x. lines_of bytes.now ≡ x.0.now ∷ lines_of x.1.now) }
+    ensures shorter { IfSome result (λ x. length x.1.now < length bytes.now) }
+    ensures none { IfNone result (lines_of bytes.now ≡ []) }
+{
+    if bytes.is_empty() {
+        return None;
+    }
+    match split_at(bytes, b'\n') {
+        Some((line, rest)) => Some((line, rest)),
+        None => {
+            let nothing: &[u8] = &[];
+            Some((bytes, nothing))
+        }
+    }
+}
+
+#[cfg(test)]
+mod tests;

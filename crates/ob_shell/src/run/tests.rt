@@ -1,0 +1,176 @@
+//! Whole scripts, and readers and writers that fail in the midst of one.
+
+use super::*;
+use crate::streams::{End, Sip, Trickle};
+use std::io::ErrorKind;
+use std::process::Abort;
+use std::test::Fail;
+
+// Runs a script from memory to memory, and compares the output and the ending.
+fn assert_plays(
+    rt: &impl Abort,
+    alloc: Global,
+    script: &[u8],
+    output: &[u8],
+    ending: Ending,
+) -> Result<(), Fail> {
+    let mut reader = script;
+    let mut written = Vec::new(alloc);
+    let ended = run_script(alloc, &mut reader, &mut written)?;
+    assert_eq!(rt; written.as_slice(), output);
+    assert_eq!(rt; ended, ending);
+    Ok(())
+}
+
+#[test]
+fn nothing_shows_nothing(rt: HostRuntime) -> Result<(), Fail> {
+    assert_plays(&rt, rt.alloc(), b"", b"", Ending::Done)?;
+    assert_plays(&rt, rt.alloc(), b"\n\n# words\n", b"", Ending::Done)
+}
+
+const FIRST: &'static [u8] = b"p1 dir \"\\A\" - =a\np1 opendir \"\\A\" - =b\np1 opendir \"\\a\" - =c\np1 close b\np1 close a\n";
+
+const FIRST_SHOWN: &'static [u8] =
+    b"1: SUCCESS\n2: SUCCESS\n3: OBJECT_NAME_NOT_FOUND\n4: SUCCESS\n5: SUCCESS\n";
+
+#[test]
+fn directories_are_made_opened_and_closed(rt: HostRuntime) -> Result<(), Fail> {
+    assert_plays(&rt, rt.alloc(), FIRST, FIRST_SHOWN, Ending::Done)?;
+    assert_plays(&rt, rt.alloc(), &FIRST[..FIRST.len() - 1], FIRST_SHOWN, Ending::Done)
+}
+
+#[test]
+fn names_are_judged(rt: HostRuntime) -> Result<(), Fail> {
+    let script = b"p1 dir \"\\A\" - =a\np1 opendir \"\\\" - =r\np1 opendir \"\" - =x\np1 opendir \"A\" - =x\n\
+        p1 opendir \"\\A\\\" - =x\np1 opendir \"\\A\\\\B\" - =x\np1 dir \"\\No\\X\" - =x\np1 opendir \"\\No\" - =x\n\
+        p1 opendir \"\\No\\\" - =x\np1 dir \"\\%07\" - =x\np1 opendir \"%5c%41\" - =x\n";
+    let output = b"1: SUCCESS\n2: SUCCESS\n3: OBJECT_PATH_SYNTAX_BAD\n4: OBJECT_PATH_SYNTAX_BAD\n\
+        5: OBJECT_NAME_INVALID\n6: OBJECT_NAME_INVALID\n7: OBJECT_PATH_NOT_FOUND\n8: OBJECT_NAME_NOT_FOUND\n\
+        9: OBJECT_PATH_NOT_FOUND\n10: OBJECT_NAME_INVALID\n11: SUCCESS\n";
+    assert_plays(&rt, rt.alloc(), script, output, Ending::Done)
+}
+
+#[test]
+fn flags_are_letters_or_bits(rt: HostRuntime) -> Result<(), Fail> {
+    let script = b"p1 dir \"\\A\" P =a\np1 dir \"\\B\" x10 =b\np1 dir \"\\C\" x200 =c\np1 dir \"\\D\" IE =d\n\
+        p1 dir \"\\E\" L =e\np1 dir \"\\F\" x00000010 =f\np1 close a\np1 opendir \"\\A\" P =a\n";
+    let output = b"1: SUCCESS\n2: SUCCESS\n3: INVALID_PARAMETER\n4: INVALID_PARAMETER\n5: SUCCESS\n6: SUCCESS\n\
+        7: SUCCESS\n8: SUCCESS\n";
+    assert_plays(&rt, rt.alloc(), script, output, Ending::Done)
+}
+
+#[test]
+fn words_belong_to_a_process(rt: HostRuntime) -> Result<(), Fail> {
+    let script = b"p1 close a\np1 dir \"\\A\" - =a\np2 close a\np2 dir \"\\B\" - =a\np1 close a\np1 close a\n\
+        p1 opendir \"\\A\" - =a\n";
+    let output = b"1: INVALID_HANDLE\n2: SUCCESS\n3: PROCESS_GONE\n4: PROCESS_GONE\n5: SUCCESS\n6: INVALID_HANDLE\n\
+        7: OBJECT_NAME_NOT_FOUND\n";
+    assert_plays(&rt, rt.alloc(), script, output, Ending::Done)
+}
+
+#[test]
+fn other_lines_end_the_run(rt: HostRuntime) -> Result<(), Fail> {
+    let lines: [&[u8]; 20] = [
+        b" ",
+        b"p1",
+        b"p1 dir \\A - =a",
+        b"p1 dir \"\\A\" - =a ",
+        b"p1  dir \"\\A\" - =a",
+        b"p1 dir \"\\A\"  =a",
+        b"p1 dir \"\\A\" II =a",
+        b"p1 dir \"\\A\" X =a",
+        b"p1 dir \"\\A\" x =a",
+        b"p1 dir \"\\A\" x123456789 =a",
+        b"p1 dir \"\\%4\" - =a",
+        b"p1 dir \"\\%4g\" - =a",
+        b"p1 dir \"\\\x7f\" - =a",
+        b"p1 dir \"\\A\" - =1",
+        b"p1 dir none - =a",
+        b"stat close a",
+        b"thread",
+        b"p1 close a+1",
+        b"p1 close a\r",
+        b"p1 closes a",
+    ];
+    for line in lines {
+        let mut reader = line;
+        let mut written = Vec::new(rt.alloc());
+        let ended = run_script(rt.alloc(), &mut reader, &mut written)?;
+        assert_eq!(rt; ended, Ending::BadLine(1));
+        assert_eq!(rt; written.as_slice(), b"1: not a script line\n".as_slice());
+    }
+    let script = b"p1 dir \"\\A\" - =a\n\np1 dir \\B - =a\np1 close a\n";
+    assert_plays(
+        &rt,
+        rt.alloc(),
+        script,
+        b"1: SUCCESS\n3: not a script line\n",
+        Ending::BadLine(3),
+    )
+}
+
+#[test]
+fn a_line_has_at_most_262_144_bytes(rt: HostRuntime) -> Result<(), Fail> {
+    let mut script = vec![in rt.alloc(); b'#'; 262_144]?;
+    assert_plays(&rt, rt.alloc(), script.as_slice(), b"", Ending::Done)?;
+    script.push(b'#')?;
+    assert_plays(
+        &rt,
+        rt.alloc(),
+        script.as_slice(),
+        b"1: not a script line\n",
+        Ending::BadLine(1),
+    )
+}
+
+#[test]
+fn a_word_has_at_most_32_letters(rt: HostRuntime) -> Result<(), Fail> {
+    assert_plays(
+        &rt,
+        rt.alloc(),
+        b"p1 close abcdefghijklmnopqrstuvwxyz012345\np1 close abcdefghijklmnopqrstuvwxyz0123456\n",
+        b"1: INVALID_HANDLE\n2: not a script line\n",
+        Ending::BadLine(2),
+    )
+}
+
+#[test]
+fn bytes_may_come_and_go_one_at_a_time(rt: HostRuntime) -> Result<(), Fail> {
+    let mut reader = Trickle::new(FIRST, usize::MAX, ErrorKind::Other);
+    let mut writer = Sip::new(rt.alloc(), usize::MAX, End::NoByte);
+    let ended = run_script(rt.alloc(), &mut reader, &mut writer)?;
+    assert_eq!(rt; ended, Ending::Done);
+    assert_eq!(rt; writer.taken(), FIRST_SHOWN);
+    Ok(())
+}
+
+#[test]
+fn a_failed_read_writes_nothing(rt: HostRuntime) {
+    for kind in [ErrorKind::Other, ErrorKind::Interrupted] {
+        for call in 0..FIRST.len() + 1 {
+            let mut reader = Trickle::new(FIRST, call, kind);
+            let mut writer = Sip::new(rt.alloc(), usize::MAX, End::NoByte);
+            let outcome = run_script(rt.alloc(), &mut reader, &mut writer);
+            assert!(rt; matches!(outcome, Err(ShellFault::Read)), "at call {call}");
+            assert_eq!(rt; writer.taken().len(), 0);
+        }
+    }
+}
+
+#[test]
+fn a_failed_write_leaves_a_beginning(rt: HostRuntime) {
+    let ends = [
+        End::NoByte,
+        End::Fails(ErrorKind::Other),
+        End::Fails(ErrorKind::Interrupted),
+    ];
+    for end in ends {
+        for call in 0..FIRST_SHOWN.len() {
+            let mut reader = FIRST;
+            let mut writer = Sip::new(rt.alloc(), call, end);
+            let outcome = run_script(rt.alloc(), &mut reader, &mut writer);
+            assert!(rt; matches!(outcome, Err(ShellFault::Write)), "at call {call}");
+            assert_eq!(rt; writer.taken(), &FIRST_SHOWN[..call]);
+        }
+    }
+}

@@ -1,0 +1,76 @@
+//! Writing the output, each part of it once.
+
+ghost use Rattle.std.specs.Prelude.{◌≡◌, OnOk, OnErr, IfErr};
+ghost use Rattle.std.specs.Io.KnownBytes.{Appends};
+ghost use Rattle.ob_shell.specs.Writing.{AppendsFront};
+
+use crate::ShellFault;
+use std::io::Write;
+
+/// Writes the bytes, all and in order, and nothing else.
+///
+/// Each write is made once: one that is interrupted, that fails or that takes no byte is the fault
+/// `Write`, the only one. After it a beginning of the bytes was written, and not all of them. It
+/// returns whatever the writer does; no bytes are written without a call of the writer. The writer
+/// is not flushed. (this profile)
+pub fn write_out<W: Write>(writer: &mut W, bytes: &[u8]) -> Result<(), ShellFault>
+    ensures ok { OnOk result (Appends (W.contents writer.old) (W.contents writer.new) bytes.now) }
+    ensures fault { IfErr result (λ fault. fault ≡ ShellFault.Write) }
+    ensures front { OnErr result
+        (AppendsFront (W.contents writer.old) (W.contents writer.new) bytes.now) }
+{
+    let mut rest = bytes;
+    while !rest.is_empty() {
+        match writer.write(rest) {
+            Ok(0) => return Err(ShellFault::Write),
+            Ok(count) => rest = &rest[count..],
+            Err(_) => return Err(ShellFault::Write),
+        }
+    }
+    Ok(())
+}
+
+#[cfg(test)]
+mod tests {
+    use super::*;
+    use crate::streams::{End, Sip};
+    use std::io::ErrorKind;
+    use std::test::Fail;
+
+    const TEXT: &'static [u8] = b"1: SUCCESS\n2: SUCCESS\n";
+
+    #[test]
+    fn writes_to_memory(rt: HostRuntime) -> Result<(), Fail> {
+        let mut kept = Vec::new(rt.alloc());
+        write_out(&mut kept, TEXT)?;
+        assert_eq!(rt; kept.as_slice(), TEXT);
+        write_out(&mut kept, b"")?;
+        assert_eq!(rt; kept.as_slice(), TEXT);
+        Ok(())
+    }
+
+    #[test]
+    fn writes_byte_after_byte(rt: HostRuntime) -> Result<(), Fail> {
+        let mut slow = Sip::new(rt.alloc(), usize::MAX, End::NoByte);
+        write_out(&mut slow, TEXT)?;
+        assert_eq!(rt; slow.taken(), TEXT);
+        Ok(())
+    }
+
+    #[test]
+    fn one_failed_write_ends_it(rt: HostRuntime) {
+        let ends = [
+            End::NoByte,
+            End::Fails(ErrorKind::Other),
+            End::Fails(ErrorKind::Interrupted),
+        ];
+        for end in ends {
+            for call in 0..TEXT.len() {
+                let mut failing = Sip::new(rt.alloc(), call, end);
+                let outcome = write_out(&mut failing, TEXT);
+                assert!(rt; matches!(outcome, Err(ShellFault::Write)), "at call {call}");
+                assert_eq!(rt; failing.taken(), &TEXT[..call]);
+            }
+        }
+    }
+}
