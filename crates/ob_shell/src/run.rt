@@ -1,8 +1,9 @@
 //! The run of a script.
 
-ghost use Rattle.std.specs.Prelude.{◌≡◌, ◌≢◌, ◌<◌, ◌≤◌, ◌∷◌, [], length, IfOk, IfErr, OnOk, OnErr, IsErr, IfSome, IfNone, IsErrOf};
+ghost use Rattle.std.specs.Prelude.{◌≡◌, ◌≢◌, ◌+◌, ◌<◌, ◌≤◌, ◌∷◌, [], length, IfOk, IfErr, OnOk, OnErr, IsErr, IfSome, IfNone, IsErrOf};
 ghost use Rattle.std.specs.Io.KnownBytes.{Appends};
 ghost use Rattle.ob_shell.specs.Lines.{lines_of};
+ghost use Rattle.ob_shell.specs.Reading.{TakesAtMost};
 ghost use Rattle.ob_shell.specs.Writing.{AppendsFront};
 ghost use Rattle.ob_shell.specs.Shown.{PlaysTo, PlaysPartTo};
 ghost use Rattle.ob_shell.specs.Running.{outcome_text, outcome_end, StopsPlaying};
@@ -59,6 +60,9 @@ pub fn run_script<R: Read, W: Write>(
         SCRIPT_LIMIT < length script) }
     ensures refused { IfSome (R.remaining reader.old) (λ script.
         SCRIPT_LIMIT < length script → IsErr result) }
+
+    // However it ends, no more than one byte past the limit is read.
+    ensures taken { TakesAtMost (R.remaining reader.old) (R.remaining reader.new) (SCRIPT_LIMIT + 1) }
 {
     match read_script(alloc, reader) {
         Ok(script) => run_text(alloc, script.as_slice(), writer),
