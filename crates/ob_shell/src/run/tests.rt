@@ -28,7 +28,8 @@ fn nothing_shows_nothing(rt: HostRuntime) -> Result<(), Fail> {
     assert_plays(&rt, rt.alloc(), b"\n\n# words\n", b"", Ending::Done)
 }
 
-const FIRST: &'static [u8] = b"p1 dir \"\\A\" - =a\np1 opendir \"\\A\" - =b\np1 opendir \"\\a\" - =c\np1 close b\np1 close a\n";
+const FIRST: &'static [u8] =
+    b"p1 dir \"\\A\" - =a\np1 opendir \"\\A\" - =b\np1 opendir \"\\a\" - =c\np1 close b\np1 close a\n";
 
 const FIRST_SHOWN: &'static [u8] =
     b"1: SUCCESS\n2: SUCCESS\n3: OBJECT_NAME_NOT_FOUND\n4: SUCCESS\n5: SUCCESS\n";
@@ -36,12 +37,19 @@ const FIRST_SHOWN: &'static [u8] =
 #[test]
 fn directories_are_made_opened_and_closed(rt: HostRuntime) -> Result<(), Fail> {
     assert_plays(&rt, rt.alloc(), FIRST, FIRST_SHOWN, Ending::Done)?;
-    assert_plays(&rt, rt.alloc(), &FIRST[..FIRST.len() - 1], FIRST_SHOWN, Ending::Done)
+    assert_plays(
+        &rt,
+        rt.alloc(),
+        &FIRST[..FIRST.len() - 1],
+        FIRST_SHOWN,
+        Ending::Done,
+    )
 }
 
 #[test]
 fn names_are_judged(rt: HostRuntime) -> Result<(), Fail> {
-    let script = b"p1 dir \"\\A\" - =a\np1 opendir \"\\\" - =r\np1 opendir \"\" - =x\np1 opendir \"A\" - =x\n\
+    let script =
+        b"p1 dir \"\\A\" - =a\np1 opendir \"\\\" - =r\np1 opendir \"\" - =x\np1 opendir \"A\" - =x\n\
         p1 opendir \"\\A\\\" - =x\np1 opendir \"\\A\\\\B\" - =x\np1 dir \"\\No\\X\" - =x\np1 opendir \"\\No\" - =x\n\
         p1 opendir \"\\No\\\" - =x\np1 dir \"\\%07\" - =x\np1 opendir \"%5c%41\" - =x\n";
     let output = b"1: SUCCESS\n2: SUCCESS\n3: OBJECT_PATH_SYNTAX_BAD\n4: OBJECT_PATH_SYNTAX_BAD\n\
@@ -52,18 +60,22 @@ fn names_are_judged(rt: HostRuntime) -> Result<(), Fail> {
 
 #[test]
 fn flags_are_letters_or_bits(rt: HostRuntime) -> Result<(), Fail> {
-    let script = b"p1 dir \"\\A\" P =a\np1 dir \"\\B\" x10 =b\np1 dir \"\\C\" x200 =c\np1 dir \"\\D\" IE =d\n\
+    let script =
+        b"p1 dir \"\\A\" P =a\np1 dir \"\\B\" x10 =b\np1 dir \"\\C\" x200 =c\np1 dir \"\\D\" IE =d\n\
         p1 dir \"\\E\" L =e\np1 dir \"\\F\" x00000010 =f\np1 close a\np1 opendir \"\\A\" P =a\n";
-    let output = b"1: SUCCESS\n2: SUCCESS\n3: INVALID_PARAMETER\n4: INVALID_PARAMETER\n5: SUCCESS\n6: SUCCESS\n\
+    let output =
+        b"1: SUCCESS\n2: SUCCESS\n3: INVALID_PARAMETER\n4: INVALID_PARAMETER\n5: SUCCESS\n6: SUCCESS\n\
         7: SUCCESS\n8: SUCCESS\n";
     assert_plays(&rt, rt.alloc(), script, output, Ending::Done)
 }
 
 #[test]
 fn words_belong_to_a_process(rt: HostRuntime) -> Result<(), Fail> {
-    let script = b"p1 close a\np1 dir \"\\A\" - =a\np2 close a\np2 dir \"\\B\" - =a\np1 close a\np1 close a\n\
+    let script =
+        b"p1 close a\np1 dir \"\\A\" - =a\np2 close a\np2 dir \"\\B\" - =a\np1 close a\np1 close a\n\
         p1 opendir \"\\A\" - =a\n";
-    let output = b"1: INVALID_HANDLE\n2: SUCCESS\n3: PROCESS_GONE\n4: PROCESS_GONE\n5: SUCCESS\n6: INVALID_HANDLE\n\
+    let output =
+        b"1: INVALID_HANDLE\n2: SUCCESS\n3: PROCESS_GONE\n4: PROCESS_GONE\n5: SUCCESS\n6: INVALID_HANDLE\n\
         7: OBJECT_NAME_NOT_FOUND\n";
     assert_plays(&rt, rt.alloc(), script, output, Ending::Done)
 }
