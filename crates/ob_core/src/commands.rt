@@ -1,10 +1,9 @@
 //! The namespace: commands in, replies out.
 
-ghost use Rattle.std.specs.Prelude.{◌≡◌, ◌<◌, ◌||◌, ◌++◌, ◌∷◌, [], length, true, false, Some, None, IfOk, IfErr, OnErr, OnOk, MatchResult};
-ghost use Rattle.std.specs.Option.{option_and_then};
+ghost use Rattle.std.specs.Prelude.{◌≡◌, ◌<◌, ◌||◌, [], length, true, false, Some, None, IfOk, IfErr, OnErr, OnOk};
 ghost use Rattle.ob_base.specs.declared.Fault.TheVariants.{Memory};
 ghost use Rattle.ob_base.specs.declared.Status.TheVariants.{Success};
-ghost use Rattle.ob_base.specs.Attrs.{has_flag, inherit_flag, exclusive_flag, permanent_flag};
+ghost use Rattle.ob_base.specs.Attrs.{has_flag, inherit_flag, exclusive_flag};
 ghost use Rattle.ob_model.specs.declared.reply.Answer.TheVariants.{Done};
 ghost use Rattle.ob_model.specs.declared.reply.Event.TheVariants.{Start};
 ghost use Rattle.ob_model.specs.declared.state.Body.TheVariants as body;
@@ -12,7 +11,7 @@ ghost use Rattle.ob_model.specs.State.{is_live, is_directory};
 ghost use Rattle.ob_model.specs.Opening.{opening};
 ghost use Rattle.ob_model.specs.Procedures.{Opened};
 ghost use Rattle.ob_model.specs.Looks.{Vacant, At};
-ghost use Rattle.ob_model.specs.Grants.{is_table_full, is_exclusive, has_other_holder, grant_refusal, with_handle, with_open, IsFreeValue};
+ghost use Rattle.ob_model.specs.Grants.{is_table_full, is_exclusive, has_other_holder, grant_refusal, with_handle, IsFreeValue};
 ghost use Rattle.ob_model.specs.Settle.{settle};
 ghost use Rattle.ob_model.specs.Step.{Step, gives, created, is_store_full, is_stampless, Starts, Creates, CreatesDirectory, Opens, OpensDirectory, Closes};
 ghost use Rattle.ob_model.specs.FirstLooks.{FirstLooks};
@@ -64,7 +63,8 @@ impl Model for Core {
 
     ghost Value = { Namespace };
 
-    ghost view = { λ a. owned_by a.process (namespace a.objects.items a.rows.items a.handles.items a.next_id a.next_stamp a.next_order) };
+    ghost view = { λ a. owned_by a.process
+        (namespace a.objects.items a.rows.items a.handles.items a.next_id a.next_stamp a.next_order) };
 
     ghost invariant = { λ a. is_directory (namespace a.objects.items [] [] 0 0 0) root_id ≡ true };
 }
@@ -101,7 +101,8 @@ impl Core {
     /// Every refusal is a reply; docs/namespace.md has their order. The only fault is want of memory,
     /// which is told only where a growth was refused, and then nothing has changed.
     pub fn start(&mut self, process: Proc, command: &Command) -> Result<Started, Fault>
-        ensures step { IfOk result (λ started. Step no_types self.old (Start process command.now) (answer_of started) self.new) }
+        ensures step { IfOk result (λ started.
+            Step no_types self.old (Start process command.now) (answer_of started) self.new) }
         ensures err { OnErr result (self.new ≡ self.old) }
         ensures memory { IfErr result (λ fault. fault ≡ Memory) }
     {
@@ -143,7 +144,8 @@ impl Core {
         name: &[u8],
         attrs: u32,
     ) -> Result<Reply, Fault>
-        ensures step { IfOk result (λ reply. CreatesDirectory no_types self.old process root name.now attrs (Done reply) self.new) }
+        ensures step { IfOk result (λ reply.
+            CreatesDirectory no_types self.old process root name.now attrs (Done reply) self.new) }
         ensures err { OnErr result (self.new ≡ self.old) }
         ensures memory { IfErr result (λ fault. fault ≡ Memory) }
     {
@@ -169,7 +171,8 @@ impl Core {
         component: &[u8],
         attrs: Attrs,
     ) -> Result<Reply, Fault>
-        ensures step { IfOk result (λ reply. Creates no_types self.old process attrs (Vacant directory component.now) (Done reply) self.new) }
+        ensures step { IfOk result (λ reply.
+            Creates no_types self.old process attrs (Vacant directory component.now) (Done reply) self.new) }
         ensures err { OnErr result (self.new ≡ self.old) }
         ensures memory { IfErr result (λ fault. fault ≡ Memory) }
     {
@@ -194,7 +197,8 @@ impl Core {
         requires order { is_table_full self.old process ≡ false }
         requires store { is_store_full self.old ≡ false }
         requires stamp { is_stampless self.old ≡ false }
-        ensures ok { OnOk result (self.new ≡ settle no_types (created self.old process directory name body.Directory attrs value)) }
+        ensures ok { OnOk result
+            (self.new ≡ settle no_types (created self.old process directory name body.Directory attrs value)) }
         ensures err { OnErr result (self.new ≡ self.old) }
     {
         self.objects.reserve(1)?;
@@ -244,7 +248,8 @@ impl Core {
         name: &[u8],
         attrs: u32,
     ) -> Result<Reply, Fault>
-        ensures step { IfOk result (λ reply. OpensDirectory no_types self.old process root name.now attrs (Done reply) self.new) }
+        ensures step { IfOk result (λ reply.
+            OpensDirectory no_types self.old process root name.now attrs (Done reply) self.new) }
         ensures err { OnErr result (self.new ≡ self.old) }
         ensures memory { IfErr result (λ fault. fault ≡ Memory) }
     {
@@ -261,7 +266,8 @@ impl Core {
 
     /// Opens an object that was found, where it is a directory.
     fn open_object(&mut self, process: Proc, object: ObjId, attrs: Attrs) -> Result<Reply, Fault>
-        ensures step { IfOk result (λ reply. Opens no_types self.old process attrs (At object) (Done reply) self.new) }
+        ensures step { IfOk result (λ reply.
+            Opens no_types self.old process attrs (At object) (Done reply) self.new) }
         ensures err { OnErr result (self.new ≡ self.old) }
         ensures memory { IfErr result (λ fault. fault ≡ Memory) }
     {
@@ -285,7 +291,8 @@ impl Core {
         value: Handle,
     ) -> Result<(), AllocError>
         requires { is_table_full self.old process ≡ false }
-        ensures ok { OnOk result (self.new ≡ settle no_types (with_handle self.old process value object (has_flag inherit_flag attrs))) }
+        ensures ok { OnOk result (self.new
+            ≡ settle no_types (with_handle self.old process value object (has_flag inherit_flag attrs))) }
         ensures err { OnErr result (self.new ≡ self.old) }
     {
         self.handles.reserve(1)?;
@@ -363,7 +370,8 @@ impl Core {
 
     /// The first refusal of a grant.
     fn grant_refusal(&self, process: Proc, object: ObjId, attrs: Attrs) -> Option<Status>
-        ensures { result ≡ grant_refusal no_types self.now process object (record { inherit = has_flag inherit_flag attrs; exclusive = has_flag exclusive_flag attrs }) Opened }
+        ensures { result ≡ grant_refusal no_types self.now process object
+            (record { inherit = has_flag inherit_flag attrs; exclusive = has_flag exclusive_flag attrs }) Opened }
     {
         let exclusive = is_exclusive(&self.objects, object);
         if attrs.is_exclusive() && !exclusive {

@@ -14,7 +14,8 @@ use ob_model::{Held, Row};
 /// Takes away the names and the objects that don't stay, both judged as they were before. No
 /// memory is taken.
 pub(crate) fn settle(objects: &mut Vec<Entity>, rows: &mut Vec<Row>, handles: &[Held])
-    ensures rows { rows.new.items ≡ filter (is_kept (namespace objects.old.items rows.old.items handles.now 0 0 0)) rows.old.items }
+    ensures rows { rows.new.items
+        ≡ filter (is_kept (namespace objects.old.items rows.old.items handles.now 0 0 0)) rows.old.items }
     ensures objects { objects.new.items
         ≡ filter (λ x. is_alive (namespace objects.old.items rows.old.items handles.now 0 0 0) x.id) objects.old.items }
 {

@@ -42,7 +42,8 @@ pub(crate) fn free_value(
 
 /// The first place without a mark.
 fn first_unmarked(used: &[bool]) -> Option<usize>
-    ensures { MatchOption result (All (λ b. b ≡ true) used.now) (λ k. (k < length used.now) × (slice_index_or used.now k true ≡ false)) }
+    ensures { MatchOption result (All (λ b. b ≡ true) used.now)
+        (λ k. (k < length used.now) × (slice_index_or used.now k true ≡ false)) }
 {
     used.iter().position(|used| !*used)
 }
