@@ -1,0 +1,19 @@
+//! What a set of types promises: the procedures of its types, what each of them gives, and the
+//! laws that make a set lawful.
+//!
+//! A set of types is a value whose type has an `impl` of [`TypeSet`]. What its procedures mean is
+//! one record of functions, of `ob_model`'s `Procedures`, by which each method has its contract.
+#![tactic(auto)]
+
+pub mod laws;
+mod reason;
+mod refusal;
+mod set;
+#[cfg(test)]
+mod tests;
+mod uses;
+
+pub use reason::Reason;
+pub use refusal::Refusal;
+pub use set::TypeSet;
+pub use uses::{close_last, is_one_kind, open_or_leave};
