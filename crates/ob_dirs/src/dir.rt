@@ -1,0 +1,150 @@
+//! A directory.
+
+ghost use Rattle.std.specs.Prelude.{◌≡◌, ◌≢◌, ◌<◌, ◌↔◌, ◌==◌, [], ◌∷◌, ◌++◌, length, filter, not};
+ghost use Rattle.std.specs.Prelude.{All, IfOk, IfErr, OnErr};
+ghost use Rattle.std.specs.List.{find, list_any, position};
+ghost use Rattle.std.specs.Option.{option_copied, option_map};
+ghost use Rattle.ob_dirs.specs.Dir.{entry_found, is_named, IsDir};
+ghost use Rattle.ob_dirs.specs.Dir.{DirFindsWhatTheStateFinds, NotFoundIsFree};
+
+use crate::DirEntry;
+use ob_base::{Fault, ObjId};
+use ob_names::{NameBuf, same};
+use std::alloc::Global;
+use std::marker::Model;
+
+/// One object directory. A contract sees a `Dir` as the list of its entries, whose stamps rise
+/// strictly and whose spellings differ from one another; two names that only the case of letters
+/// tells apart may stand side by side.
+///
+/// Source: Windows Internals, Object Manager: object directories; the order is this profile.
+#[derive(Debug, Drop)]
+pub struct Dir {
+    entries: Vec<DirEntry>,
+}
+
+impl Model for Dir {
+    ghost use Rattle.std.specs.Prelude.{List};
+    ghost use Rattle.ob_dirs.specs.declared.entry.DirEntry.{DirEntry};
+    ghost use Rattle.ob_dirs.specs.Dir.{IsDir};
+
+    ghost Value = { List DirEntry };
+
+    ghost view = { λ dir. dir.entries.items };
+
+    ghost invariant = { λ dir. IsDir dir.entries.items };
+}
+
+impl Dir {
+    /// A directory with no entry. Takes no memory.
+    pub fn new(alloc: Global) -> Dir
+        ensures { result ≡ [] }
+    {
+        Dir {
+            entries: Vec::new(alloc),
+        }
+    }
+
+    /// How many entries there are.
+    pub fn len(&self) -> usize
+        ensures count { result ≡ length self.now }
+
+        // What holds of every directory's entries.
+        ensures entries { IsDir self.now }
+    {
+        self.entries.len()
+    }
+
+    /// Whether there is no entry.
+    pub fn is_empty(&self) -> bool
+        ensures { result ≡ (length self.now == 0) }
+    {
+        self.entries.is_empty()
+    }
+
+    /// What stands under a component, of any length and with any bytes: of the entries whose names
+    /// are equal to it, with `fold` for equality without regard to case, the one of least stamp; its
+    /// stamp and its object. `None` exactly where no name is equal.
+    ///
+    /// Source: Windows Internals, Object Manager: object directories; OBJECT_ATTRIBUTES structure
+    /// (Windows Driver Kit), OBJ_CASE_INSENSITIVE. Which of several matches is found is this
+    /// profile.
+    pub fn find(&self, component: &[u8], fold: bool) -> Option<(u64, ObjId)>
+        ensures { result
+            ≡ option_map (λ entry. (entry.stamp, entry.object))
+            (entry_found self.now component.now fold) }
+    {
+        first_named(self.entries.as_slice(), component, fold).map(|entry| (
+            entry.stamp,
+            entry.object,
+        ))
+    }
+
+    /// Puts an entry behind all others. That spelling must be free: no entry has exactly these
+    /// bytes, as where `find` without `fold` gives `None`; a name that differs in the case of
+    /// letters alone may be there. The stamp must be above those of all entries.
+    ///
+    /// The only fault is `Memory`, and then nothing has changed.
+    ///
+    /// Source: Windows Internals, Object Manager: object directories; the stamps are this profile.
+    pub fn insert(&mut self, stamp: u64, name: NameBuf, object: ObjId) -> Result<(), Fault>
+        requires free { All (λ entry. entry.name ≢ name) self.old }
+        requires newest { All (λ entry. entry.stamp < stamp) self.old }
+        ensures last { IfOk result (λ _. self.new
+            ≡ self.old ++ record { stamp = stamp; name = name; object = object } ∷ []) }
+        ensures memory { IfErr result (λ fault. fault ≡ Fault.Memory) }
+        ensures unchanged { OnErr result (self.new ≡ self.old) }
+    {
+        self.entries.push(DirEntry {
+            stamp,
+            name,
+            object,
+        })?;
+        Ok(())
+    }
+
+    /// Takes away the entry of a stamp, which may be any number, and gives `true`; where no entry
+    /// has it, nothing changes and it gives `false`. The other entries stay, in their order. Takes
+    /// no memory.
+    ///
+    /// Source: Windows Internals, Object Manager: object directories; the stamps are this profile.
+    pub fn remove(&mut self, stamp: u64) -> bool
+        ensures there { result ≡ list_any (λ entry. entry.stamp == stamp) self.old }
+        ensures others { self.new ≡ filter (λ entry. not (entry.stamp == stamp)) self.old }
+    {
+        let Some(index) = index_of(self.entries.as_slice(), stamp) else {
+            return false;
+        };
+        self.entries.remove(index);
+        true
+    }
+}
+
+// The first of some entries whose name is equal to a component, and none where no name is.
+fn first_named<'a>(entries: &'a [DirEntry], component: &[u8], fold: bool) -> Option<&'a DirEntry>
+    ensures { option_copied result ≡ find (is_named component.now fold) entries.now }
+{
+    entries
+        .iter()
+        .find(|entry| same(entry.name.as_slice(), component, fold))
+}
+
+// Where the first of some entries with a stamp stands, and none where there is none.
+fn index_of(entries: &[DirEntry], stamp: u64) -> Option<usize>
+    ensures { result ≡ position (λ entry. entry.stamp == stamp) entries.now }
+{
+    entries.iter().position(|entry| entry.stamp == stamp)
+}
+
+/// The law that a directory finds what the state finds. Where the rows of a state that stand in a
+/// directory are these entries, in their order, what the state finds there under a component, with
+/// or without `fold`, is the row of the entry that is found. Takes nothing and does nothing.
+pub fn dir_finds_what_the_state_finds<K, T, F, I>()
+    ensures { DirFindsWhatTheStateFinds K T F I }
+{}
+
+/// The law that a spelling is free exactly where a search without `fold` finds nothing. Takes
+/// nothing and does nothing.
+pub fn not_found_is_free()
+    ensures { NotFoundIsFree }
+{}

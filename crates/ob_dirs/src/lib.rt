@@ -1,0 +1,11 @@
+//! One object directory: its entries by rising stamps, what is found under a name, and how an entry
+//! comes and goes.
+#![tactic(auto)]
+
+mod dir;
+mod entry;
+#[cfg(test)]
+mod tests;
+
+pub use dir::{Dir, dir_finds_what_the_state_finds, not_found_is_free};
+pub use entry::DirEntry;
