@@ -1,37 +1,15 @@
 -- What the laws of a directory rest on.
-use Rattle.std.proofs.Common.{◌≡◌, ◌≢◌, ◌∙◌, ℕ, Bool, true, false, cond, ◌&&◌, List, [], ◌∷◌, filter, map, Option, None, Some, option_map, All, refl, ap, sym, nat_le, ◌==◌}
+use Rattle.std.proofs.Common.{◌≡◌, ◌≢◌, ◌∙◌, ℕ, Bool, true, false, cond, List, [], ◌∷◌, filter, map, Option, None, Some, option_map, All, refl, ap, sym, nat_le, ◌==◌}
 use Rattle.std.proofs.lemmas.List.Elements.{All-nil, All-cons, All-head, All-tail}
 use Rattle.std.specs.Option.{is_some}
 use Rattle.std.specs.Cmp.Lexicographic.{same_text, other_text}
-use Rattle.ob_model.specs.declared.state.Row.{Row}
 use Rattle.ob_model.specs.Names.{same_name}
 use Rattle.ob_model.specs.Paths.{found, earliest, earlier}
 use Rattle.ob_dirs.specs.declared.entry.DirEntry.{DirEntry}
+use Rattle.ob_dirs.proofs.Rows.{filter_both, filter-map}
 use Rattle.ob_dirs.specs.Dir.{earlier_entry, earliest_entry, entry_found, is_named, row_of, DirFindsWhatTheStateFinds}
 
--- to keep by two tests is to keep by one and then by the other
-filter_both : (p q : Row → Bool) (rows : List Row) → filter (λ r. p r && q r) rows ≡ filter q (filter p rows)
-filter_both p q [] = refl
-filter_both p q (r ∷ rows) = go (p r) (q r) refl (filter_both p q rows)
-  where
-    go : (a b : Bool) → q r ≡ b → filter (λ r. p r && q r) rows ≡ filter q (filter p rows)
-        → cond (a && b) (r ∷ filter (λ r. p r && q r) rows) (filter (λ r. p r && q r) rows) ≡ filter q (cond a (r ∷ filter p rows) (filter p rows))
-    go true true e more = rw e (ap (λ rs. r ∷ rs) more)
-    go true false e more = rw e more
-    go false b e more = more
-
--- the rows of the entries with a name, and the row of the earliest
-filter-rows : (d : ℕ) (component : List ℕ) (fold : Bool) (es : List DirEntry)
-    → filter (λ r. same_name fold r.name component) (map (row_of d) es) ≡ map (row_of d) (filter (is_named component fold) es)
-filter-rows d component fold [] = refl
-filter-rows d component fold (e ∷ es) = go (is_named component fold e) (filter-rows d component fold es)
-  where
-    go : (b : Bool) → filter (λ r. same_name fold r.name component) (map (row_of d) es) ≡ map (row_of d) (filter (is_named component fold) es)
-        → cond b (row_of d e ∷ filter (λ r. same_name fold r.name component) (map (row_of d) es)) (filter (λ r. same_name fold r.name component) (map (row_of d) es))
-        ≡ map (row_of d) (cond b (e ∷ filter (is_named component fold) es) (filter (is_named component fold) es))
-    go true more = ap (λ rs. row_of d e ∷ rs) more
-    go false more = more
-
+-- what is earliest among the rows of some entries
 earlier-row : (d : ℕ) (e : DirEntry) (o : Option DirEntry) → earlier (row_of d e) (option_map (row_of d) o) ≡ row_of d (earlier_entry e o)
 earlier-row d e None = refl
 earlier-row d e (Some x) = go (nat_le e.stamp x.stamp)
@@ -49,7 +27,7 @@ pub found-entries : {K T F I : Type 0} → DirFindsWhatTheStateFinds K T F I
 found-entries s d es are component fold =
     ap earliest (filter_both (λ r. r.directory == d) (λ r. same_name fold r.name component) s.rows
     ∙ ap (filter (λ r. same_name fold r.name component)) are
-    ∙ filter-rows d component fold es)
+    ∙ filter-map (row_of d) (λ r. same_name fold r.name component) es)
     ∙ earliest-rows d (filter (is_named component fold) es)
 
 -- nothing is found exactly where no entry is spelled so

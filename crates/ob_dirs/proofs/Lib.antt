@@ -1,3 +1,4 @@
 pub mod Earliest
 pub mod Removed
+pub mod Rows
 pub mod Laws

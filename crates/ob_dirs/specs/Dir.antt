@@ -4,7 +4,7 @@
 -- Sources: Windows Internals, Object Manager: object directories; OBJECT_ATTRIBUTES structure
 -- (Windows Driver Kit), OBJ_CASE_INSENSITIVE. Stamps, and which of several matches is found, are this
 -- profile.
-use Rattle.std.specs.Prelude.{◌≡◌, ◌≢◌, ◌↔◌, ℕ, ◌<◌, Bool, false, ◌==◌, nat_le, if◌then◌else◌, List, [], ◌∷◌, Option, None, Some, All, filter, map}
+use Rattle.std.specs.Prelude.{◌≡◌, ◌≢◌, ◌↔◌, ℕ, ◌<◌, Bool, false, ◌==◌, nat_le, if◌then◌else◌, not, List, [], ◌∷◌, ◌++◌, Option, None, Some, All, filter, map}
 use Rattle.std.specs.List.{AllPairs}
 use Rattle.std.specs.Option.{option_map}
 use Rattle.ob_model.specs.declared.state.Row.{Row}
@@ -43,12 +43,15 @@ entry_found entries component fold = earliest_entry (filter (is_named component 
 abbrev pub row_of : ℕ → DirEntry → Row
 row_of directory e = record { stamp = e.stamp; directory = directory; name = e.name; object = e.object }
 
--- where the rows of a state that stand in a directory are these entries, in their order, the state
--- finds the row of the entry that is found
+-- of these rows, those that stand in the directory are these entries, in their order
+abbrev pub AreEntries : List Row → ℕ → List DirEntry → Type 0
+AreEntries rows directory entries = filter (λ r. r.directory == directory) rows ≡ map (row_of directory) entries
+
+-- where the rows of a state that stand in a directory are these entries, the state finds the row of
+-- the entry that is found
 abbrev pub DirFindsWhatTheStateFinds : (K T F I : Type 0) → Type 0
 DirFindsWhatTheStateFinds K T F I =
-    (s : State K T F I) (directory : ℕ) (entries : List DirEntry)
-    → filter (λ r. r.directory == directory) s.rows ≡ map (row_of directory) entries
+    (s : State K T F I) (directory : ℕ) (entries : List DirEntry) → AreEntries s.rows directory entries
     → (component : List ℕ) (fold : Bool)
     → found s directory component fold ≡ option_map (row_of directory) (entry_found entries component fold)
 
@@ -57,3 +60,25 @@ abbrev pub NotFoundIsFree : Type 0
 NotFoundIsFree =
     (entries : List DirEntry) (component : List ℕ)
     → (entry_found entries component false ≡ None) ↔ All (λ e. e.name ≢ component) entries
+
+-- a directory with no row has no entry
+abbrev pub NoRowIsNoEntry : Type 0
+NoRowIsNoEntry = (rows : List Row) (directory : ℕ) → All (λ r. r.directory ≢ directory) rows → AreEntries rows directory []
+
+-- the row of a further entry, put behind all rows, puts the entry behind the others
+abbrev pub NewRowIsLastEntry : Type 0
+NewRowIsLastEntry =
+    (rows : List Row) (directory : ℕ) (entries : List DirEntry) (e : DirEntry) → AreEntries rows directory entries
+    → AreEntries (rows ++ row_of directory e ∷ []) directory (entries ++ e ∷ [])
+
+-- a further row of another directory changes no entry
+abbrev pub RowElsewhereIsNoEntry : Type 0
+RowElsewhereIsNoEntry =
+    (rows : List Row) (directory : ℕ) (entries : List DirEntry) (r : Row) → r.directory ≢ directory → AreEntries rows directory entries
+    → AreEntries (rows ++ r ∷ []) directory entries
+
+-- with the rows of a stamp go the entries of that stamp, and no others
+abbrev pub EntryGoesWithItsRow : Type 0
+EntryGoesWithItsRow =
+    (rows : List Row) (directory : ℕ) (entries : List DirEntry) (stamp : ℕ) → AreEntries rows directory entries
+    → AreEntries (filter (λ r. not (r.stamp == stamp)) rows) directory (filter (λ e. not (e.stamp == stamp)) entries)

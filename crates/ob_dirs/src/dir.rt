@@ -6,6 +6,12 @@ ghost use Rattle.std.specs.List.{find, list_any, position};
 ghost use Rattle.std.specs.Option.{option_copied, option_map};
 ghost use Rattle.ob_dirs.specs.Dir.{entry_found, is_named, IsDir};
 ghost use Rattle.ob_dirs.specs.Dir.{DirFindsWhatTheStateFinds, NotFoundIsFree};
+ghost use Rattle.ob_dirs.specs.Dir.{
+  NoRowIsNoEntry,
+  NewRowIsLastEntry,
+  RowElsewhereIsNoEntry,
+  EntryGoesWithItsRow,
+};
 
 use crate::DirEntry;
 use ob_base::{Fault, ObjId};
@@ -74,10 +80,8 @@ impl Dir {
             ≡ option_map (λ entry. (entry.stamp, entry.object))
             (entry_found self.now component.now fold) }
     {
-        first_named(self.entries.as_slice(), component, fold).map(|entry| (
-            entry.stamp,
-            entry.object,
-        ))
+        let named = first_named(self.entries.as_slice(), component, fold);
+        named.map(|entry| (entry.stamp, entry.object))
     }
 
     /// Puts an entry behind all others. That spelling must be free: no entry has exactly these
@@ -147,4 +151,15 @@ pub fn dir_finds_what_the_state_finds<K, T, F, I>()
 /// nothing and does nothing.
 pub fn not_found_is_free()
     ensures { NotFoundIsFree }
+{}
+
+/// The laws by which a directory stays that of a state. The rows that stand in it are its entries, in
+/// their order: where there is no row and no entry, when a row comes behind all others as an entry
+/// is inserted, when a row of another directory comes, and when the row of a stamp goes as its entry
+/// is removed. Takes nothing and does nothing.
+pub fn entries_follow_the_rows()
+    ensures none { NoRowIsNoEntry }
+    ensures inserted { NewRowIsLastEntry }
+    ensures elsewhere { RowElsewhereIsNoEntry }
+    ensures removed { EntryGoesWithItsRow }
 {}

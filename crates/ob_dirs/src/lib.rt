@@ -7,5 +7,5 @@ mod entry;
 #[cfg(test)]
 mod tests;
 
-pub use dir::{Dir, dir_finds_what_the_state_finds, not_found_is_free};
+pub use dir::{Dir, dir_finds_what_the_state_finds, entries_follow_the_rows, not_found_is_free};
 pub use entry::DirEntry;

@@ -91,4 +91,5 @@ fn a_name_comes_back_as_the_newest(rt: HostRuntime) -> Result<(), Fail> {
 fn laws_can_be_called(_rt: HostRuntime) {
     dir_finds_what_the_state_finds::<u8, u8, u8, u8>();
     not_found_is_free();
+    entries_follow_the_rows();
 }

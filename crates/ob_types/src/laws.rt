@@ -2,13 +2,13 @@
 //! every set of types, since each `impl` of `TypeSet` proves them, and do nothing when they run.
 
 ghost use Rattle.std.specs.Prelude.{◌≡◌, ℕ, List, true, None, Some};
-ghost use Rattle.ob_model.specs.Procedures.{Reason};
+ghost use Rattle.ob_model.specs.Procedures as model;
 
 use crate::TypeSet;
 
 /// An open that is refused leaves the set and the inner value as they were. (this profile)
 pub fn refused_open<T: TypeSet>()
-    ensures { (set : T) (inner : T.Inner) (reason : Reason) (k : ℕ) → (T.procedures).refuses_to_open set inner reason ≡ Some k → (T.procedures).opened set inner reason ≡ (set, inner) }
+    ensures { (set : T) (inner : T.Inner) (reason : model.Reason) (k : ℕ) → (T.procedures).refuses_to_open set inner reason ≡ Some k → (T.procedures).opened set inner reason ≡ (set, inner) }
 {}
 
 /// What is made stands for no open handle. (this profile)

@@ -1,7 +1,7 @@
 //! The procedures of a set of types.
 
 ghost use Rattle.std.specs.Prelude.{◌≡◌, ℕ, List, true, None, Some, IfOk, IfErr};
-ghost use Rattle.ob_model.specs.Procedures.{Procedures, Reason};
+ghost use Rattle.ob_model.specs.Procedures as model;
 ghost use Rattle.ob_types.specs.Told.{reason_of, IsTold};
 
 use crate::{Reason, Refusal};
@@ -24,7 +24,7 @@ pub trait TypeSet: Sized + Drop + Send {
     type Inner: Drop + Send;
 
     /// What each procedure means, as functions.
-    ghost procedures: { Procedures Self.Kind Self Self.Face Self.Inner };
+    ghost procedures: { model.Procedures Self.Kind Self Self.Face Self.Inner };
 
     /// The inner value stands for no open handle.
     ghost idle: { Self.Inner → Type 0 };
@@ -66,7 +66,7 @@ pub trait TypeSet: Sized + Drop + Send {
         ensures { self.new ≡ procedures.deleted self.old inner };
 
     /// An open that is refused leaves the set and the inner value as they were.
-    ghost refused_open: { (set : Self) (inner : Self.Inner) (reason : Reason) (k : ℕ) → procedures.refuses_to_open set inner reason ≡ Some k → procedures.opened set inner reason ≡ (set, inner) };
+    ghost refused_open: { (set : Self) (inner : Self.Inner) (reason : model.Reason) (k : ℕ) → procedures.refuses_to_open set inner reason ≡ Some k → procedures.opened set inner reason ≡ (set, inner) };
 
     /// What is made stands for no open handle.
     ghost made_idle: { (kind : Self.Kind) (args : List ℕ) → procedures.refuses_to_make kind args ≡ None → idle ((procedures.made kind args).1) };
