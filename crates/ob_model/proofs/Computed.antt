@@ -42,11 +42,11 @@ module _ {K T F I : Type 0} where
         handles = AllPass-from_list_all (λ h. is_some (object_of s h.object)) s.handles fourth.1;
       }
 
-module _ {K T F I : Type 0} (g : Procedures K T F I) (s : State K T F I) (sound : is_sound s ≡ true) (p : ℕ) (mode : Mode) where
+module _ {K T F I : Type 0} (g : Procedures K T F I) (s : State K T F I) (sound : is_sound s ≡ true) (p : ℕ) (mode : Mode) (n : ℕ) where
   -- an absolute name ends as computed
-  pub ends_as_computed : (name : List ℕ) (look : Look) → looked_up_name g s p mode None name ≡ look → LooksUp g s p mode None name look
-  ends_as_computed name look e = subst (λ (x : Look). LooksUp g s p mode None name x) e (looked_up_name-LooksUp g s p mode None name (IsSound-from_test s sound) tt)
+  pub ends_as_computed : (name : List ℕ) (look : Look) → looked_up_name g s p mode n None name ≡ look → LooksUp g s p mode n None name look
+  ends_as_computed name look e = subst (λ (x : Look). LooksUp g s p mode n None name x) e (looked_up_name-LooksUp g s p mode n None name (IsSound-from_test s sound) tt)
 
   -- and so does one relative to an object that is there
-  pub relative_ends_as_computed : (root : ℕ) (name : List ℕ) (look : Look) → is_some (object_of s root) ≡ true → looked_up_name g s p mode (Some root) name ≡ look → LooksUp g s p mode (Some root) name look
-  relative_ends_as_computed root name look stands e = subst (λ (x : Look). LooksUp g s p mode (Some root) name x) e (looked_up_name-LooksUp g s p mode (Some root) name (IsSound-from_test s sound) stands)
+  pub relative_ends_as_computed : (root : ℕ) (name : List ℕ) (look : Look) → is_some (object_of s root) ≡ true → looked_up_name g s p mode n (Some root) name ≡ look → LooksUp g s p mode n (Some root) name look
+  relative_ends_as_computed root name look stands e = subst (λ (x : Look). LooksUp g s p mode n (Some root) name x) e (looked_up_name-LooksUp g s p mode n (Some root) name (IsSound-from_test s sound) stands)

@@ -9,7 +9,7 @@ use Rattle.ob_model.specs.Names.{longest_name, substituted, begins_with_separato
 use Rattle.ob_model.specs.State.{State, body_of, is_directory, is_directory_body}
 use Rattle.ob_model.specs.Paths.{Origin, directory_at, origin_of, relative}
 use Rattle.ob_model.specs.Procedures.{Procedures}
-use Rattle.ob_model.specs.Looks.{Look, At, Parse, Refused, Mode, most_reparses, Stop, Missed, Reached, Next, Over, Follow, at_miss, at_body, IsNext, IsStop, Again, Ends, Looks, LooksFrom, LooksUp}
+use Rattle.ob_model.specs.Looks.{Look, At, Parse, Refused, Mode, Stop, Missed, Reached, Next, Over, Follow, at_miss, at_body, IsNext, IsStop, Again, Ends, Looks, LooksFrom, LooksUp}
 use Rattle.ob_model.specs.Sound.{IsSound, IsDirectory, Stands}
 use Rattle.ob_model.proofs.Walk.{walked, walked_stops, stop_unique}
 use Rattle.ob_model.proofs.SoundPaths.{IsSoundOrigin, body_from_stands, stands_from_directory, path_stands, origin_is_directory}
@@ -37,11 +37,11 @@ Ends-unique (Over look) Fits a b same h k = cc
 Ends-unique (Follow target rest) Fits a b same h k = same target rest h k
 
 module _ {K T F I : Type 0} where
-  looked_again-Again : (s : State K T F I) (p : ℕ) (create : Bool) (text : List ℕ) (goes_on : Origin × List ℕ → Look) (Fits : Look → Origin → List ℕ → Type 0)
+  looked_again-Again : (s : State K T F I) (p : ℕ) (mode : Mode) (text : List ℕ) (goes_on : Origin × List ℕ → Look) (Fits : Look → Origin → List ℕ → Type 0)
       → IsSound s → ((at : Origin × List ℕ) → IsDirectory s (directory_at s at.0) → IsRest at.1 → Fits (goes_on at) at.0 at.1)
-      → (look : Look) → look ≡ looked_again (nat_lt longest_name (length text)) (origin_of s p create text) goes_on
-      → Again s p create text (Fits look) (λ status. look ≡ Refused status)
-  looked_again-Again s p create text goes_on Fits sound fits look e = go (nat_lt longest_name (length text)) (origin_of s p create text) (origin_is_directory s p create text sound) e
+      → (look : Look) → look ≡ looked_again (nat_lt longest_name (length text)) (origin_of s p mode.create mode.views text) goes_on
+      → Again s p mode text (Fits look) (λ status. look ≡ Refused status)
+  looked_again-Again s p mode text goes_on Fits sound fits look e = go (nat_lt longest_name (length text)) (origin_of s p mode.create mode.views text) (origin_is_directory s p mode.create mode.views text sound) e
     where
       go : (t : Bool) (o : Option (Origin × List ℕ)) → IsSoundOrigin s o → look ≡ looked_again t o goes_on
           → MatchBool t (look ≡ Refused NameTooLong) (MatchOption o (look ≡ Refused ObjectPathSyntaxBad) (λ at. Fits look at.0 at.1))
@@ -49,10 +49,10 @@ module _ {K T F I : Type 0} where
       go false None fine e = e
       go false (Some at) fine e = subst (λ (x : Look). Fits x at.0 at.1) (sym e) (fits at fine.0 fine.1)
 
-  Again-unique : (s : State K T F I) (p : ℕ) (create : Bool) (text : List ℕ) (Fits : Look → Origin → List ℕ → Type 0) (a b : Look)
+  Again-unique : (s : State K T F I) (p : ℕ) (mode : Mode) (text : List ℕ) (Fits : Look → Origin → List ℕ → Type 0) (a b : Look)
       → ((place : Origin) (rest : List ℕ) → Fits a place rest → Fits b place rest → a ≡ b)
-      → Again s p create text (Fits a) (λ status. a ≡ Refused status) → Again s p create text (Fits b) (λ status. b ≡ Refused status) → a ≡ b
-  Again-unique s p create text Fits a b same h k = go (nat_lt longest_name (length text)) (origin_of s p create text) h k
+      → Again s p mode text (Fits a) (λ status. a ≡ Refused status) → Again s p mode text (Fits b) (λ status. b ≡ Refused status) → a ≡ b
+  Again-unique s p mode text Fits a b same h k = go (nat_lt longest_name (length text)) (origin_of s p mode.create mode.views text) h k
     where
       go : (t : Bool) (o : Option (Origin × List ℕ))
           → MatchBool t (a ≡ Refused NameTooLong) (MatchOption o (a ≡ Refused ObjectPathSyntaxBad) (λ at. Fits a at.0 at.1))
@@ -77,7 +77,7 @@ module _ {K T F I : Type 0} (g : Procedures K T F I) where
   looked_up s p mode zero place text = ended (next_of s mode zero (walked s place text mode.fold)) (λ target rest. Refused ReparseLimit)
   looked_up s p mode (suc n) place text =
       ended (next_of s mode (suc n) (walked s place text mode.fold))
-      (λ target rest. looked_again (nat_lt longest_name (length (substituted target rest))) (origin_of s p mode.create (substituted target rest)) (λ at. looked_up s p mode n at.0 at.1))
+      (λ target rest. looked_again (nat_lt longest_name (length (substituted target rest))) (origin_of s p mode.create mode.views (substituted target rest)) (λ at. looked_up s p mode n at.0 at.1))
 
   -- at most one thing is to be done at a stop
   pub next_unique : (s : State K T F I) (mode : Mode) (n : ℕ) (stop : Stop) (a b : Next) → IsNext g s mode n stop a → IsNext g s mode n stop b → a ≡ b
@@ -120,9 +120,9 @@ module _ {K T F I : Type 0} (g : Procedures K T F I) where
         stops,
         next_is s mode (suc n) place text stop sound dir stops,
         ended-Ends (next_of s mode (suc n) stop)
-            (λ target rest. looked_again (nat_lt longest_name (length (substituted target rest))) (origin_of s p mode.create (substituted target rest)) (λ at. looked_up s p mode n at.0 at.1))
-            (λ look target rest. Again s p mode.create (substituted target rest) (λ place' text'. Looks g s p mode n place' text' look) (λ status. look ≡ Refused status))
-            (λ target rest. looked_again-Again s p mode.create (substituted target rest) (λ at. looked_up s p mode n at.0 at.1) (λ look place' text'. Looks g s p mode n place' text' look) sound
+            (λ target rest. looked_again (nat_lt longest_name (length (substituted target rest))) (origin_of s p mode.create mode.views (substituted target rest)) (λ at. looked_up s p mode n at.0 at.1))
+            (λ look target rest. Again s p mode (substituted target rest) (λ place' text'. Looks g s p mode n place' text' look) (λ status. look ≡ Refused status))
+            (λ target rest. looked_again-Again s p mode (substituted target rest) (λ at. looked_up s p mode n at.0 at.1) (λ look place' text'. Looks g s p mode n place' text' look) sound
             (λ at at_directory at_rest. looked_up-Looks s p mode n at.0 at.1 sound at_directory at_rest) _ refl),
       )
 
@@ -138,10 +138,10 @@ module _ {K T F I : Type 0} (g : Procedures K T F I) where
       let same : stop' ≡ stop = stop_unique s place text mode.fold stop' stop stops' stops in
       let same_next : next' ≡ next = next_unique s mode (suc n) stop next' next (subst (λ (x : Stop). IsNext g s mode (suc n) x next') same nexts') nexts in
       Ends-unique next
-      (λ look target rest. Again s p mode.create (substituted target rest) (λ place' text'. Looks g s p mode n place' text' look) (λ status. look ≡ Refused status)) a b
-      (λ target rest h k. Again-unique s p mode.create (substituted target rest) (λ look place' text'. Looks g s p mode n place' text' look) a b
+      (λ look target rest. Again s p mode (substituted target rest) (λ place' text'. Looks g s p mode n place' text' look) (λ status. look ≡ Refused status)) a b
+      (λ target rest h k. Again-unique s p mode (substituted target rest) (λ look place' text'. Looks g s p mode n place' text' look) a b
       (λ place' text' h' k'. looks_unique s p mode n place' text' a b h' k') h k) ends
-      (subst (λ (x : Next). Ends x (λ target rest. Again s p mode.create (substituted target rest) (λ place' text'. Looks g s p mode n place' text' b) (λ status. b ≡ Refused status)) b) same_next ends')
+      (subst (λ (x : Next). Ends x (λ target rest. Again s p mode (substituted target rest) (λ place' text'. Looks g s p mode n place' text' b) (λ status. b ≡ Refused status)) b) same_next ends')
 
   -- in a sound state a lookup from a directory has an end
   pub looks_total : (s : State K T F I) (p : ℕ) (mode : Mode) (n : ℕ) (place : Origin) (text : List ℕ)
@@ -149,23 +149,23 @@ module _ {K T F I : Type 0} (g : Procedures K T F I) where
   looks_total s p mode n place text sound dir bounded = (looked_up s p mode n place text, looked_up-Looks s p mode n place text sound dir bounded)
 
   -- what a name relative to an object of this body is looked up with
-  abbrev pub looked_from : State K T F I → ℕ → Mode → ℕ → Body F I → List ℕ → Look
-  looked_from s p mode root Directory name = looked_up s p mode most_reparses (relative root name).0 (relative root name).1
-  looked_from s p mode root (Link target) name = Refused ObjectTypeMismatch
-  looked_from s p mode root (Other face inner) name = if g.parses (g.kind_of face) && not mode.create then Parse root name most_reparses else Refused ObjectTypeMismatch
+  abbrev pub looked_from : State K T F I → ℕ → Mode → ℕ → ℕ → Body F I → List ℕ → Look
+  looked_from s p mode n root Directory name = looked_up s p mode n (relative root name).0 (relative root name).1
+  looked_from s p mode n root (Link target) name = Refused ObjectTypeMismatch
+  looked_from s p mode n root (Other face inner) name = if g.parses (g.kind_of face) && not mode.create then Parse root name n else Refused ObjectTypeMismatch
 
-  abbrev pub looked_relative : State K T F I → ℕ → Mode → ℕ → Option (Body F I) → List ℕ → Look
-  looked_relative s p mode root None name = At root
-  looked_relative s p mode root (Some body) name = looked_from s p mode root body name
+  abbrev pub looked_relative : State K T F I → ℕ → Mode → ℕ → ℕ → Option (Body F I) → List ℕ → Look
+  looked_relative s p mode n root None name = At root
+  looked_relative s p mode n root (Some body) name = looked_from s p mode n root body name
 
-  abbrev pub looked_at : State K T F I → ℕ → Mode → Option (Origin × List ℕ) → Look
-  looked_at s p mode None = Refused ObjectPathSyntaxBad
-  looked_at s p mode (Some at) = looked_up s p mode most_reparses at.0 at.1
+  abbrev pub looked_at : State K T F I → ℕ → Mode → ℕ → Option (Origin × List ℕ) → Look
+  looked_at s p mode n None = Refused ObjectPathSyntaxBad
+  looked_at s p mode n (Some at) = looked_up s p mode n at.0 at.1
 
   -- what a name ends with, absolute or relative to the object of a root handle
-  abbrev pub looked_up_name : State K T F I → ℕ → Mode → Option ℕ → List ℕ → Look
-  looked_up_name s p mode None name = looked_at s p mode (origin_of s p mode.create name)
-  looked_up_name s p mode (Some root) name = if begins_with_separator name then Refused ObjectPathSyntaxBad else looked_relative s p mode root (body_of s root) name
+  abbrev pub looked_up_name : State K T F I → ℕ → Mode → ℕ → Option ℕ → List ℕ → Look
+  looked_up_name s p mode n None name = looked_at s p mode n (origin_of s p mode.create mode.views name)
+  looked_up_name s p mode n (Some root) name = if begins_with_separator name then Refused ObjectPathSyntaxBad else looked_relative s p mode n root (body_of s root) name
 
   -- the object of a root handle, where there is one, is there
   abbrev pub IsSoundRoot : State K T F I → Option ℕ → Type 0
@@ -184,51 +184,51 @@ module _ {K T F I : Type 0} (g : Procedures K T F I) where
   is_directory-from_body s o e = ap (λ (x : Option (Body F I)). option_map_or is_directory_body x false) e
 
   -- in a sound state a name ends as computed
-  pub looked_up_name-LooksUp : (s : State K T F I) (p : ℕ) (mode : Mode) (root : Option ℕ) (name : List ℕ)
-      → IsSound s → IsSoundRoot s root → LooksUp g s p mode root name (looked_up_name s p mode root name)
-  looked_up_name-LooksUp s p mode None name sound stands = go (origin_of s p mode.create name) (origin_is_directory s p mode.create name sound)
+  pub looked_up_name-LooksUp : (s : State K T F I) (p : ℕ) (mode : Mode) (n : ℕ) (root : Option ℕ) (name : List ℕ)
+      → IsSound s → IsSoundRoot s root → LooksUp g s p mode n root name (looked_up_name s p mode n root name)
+  looked_up_name-LooksUp s p mode n None name sound stands = go (origin_of s p mode.create mode.views name) (origin_is_directory s p mode.create mode.views name sound)
     where
-      go : (o : Option (Origin × List ℕ)) → IsSoundOrigin s o → MatchOption o (looked_at s p mode o ≡ Refused ObjectPathSyntaxBad) (λ at. Looks g s p mode most_reparses at.0 at.1 (looked_at s p mode o))
+      go : (o : Option (Origin × List ℕ)) → IsSoundOrigin s o → MatchOption o (looked_at s p mode n o ≡ Refused ObjectPathSyntaxBad) (λ at. Looks g s p mode n at.0 at.1 (looked_at s p mode n o))
       go None fine = refl
-      go (Some at) fine = looked_up-Looks s p mode most_reparses at.0 at.1 sound fine.0 fine.1
-  looked_up_name-LooksUp s p mode (Some root) name sound stands = go (begins_with_separator name) (body_of s root) refl (body_from_stands s root stands)
+      go (Some at) fine = looked_up-Looks s p mode n at.0 at.1 sound fine.0 fine.1
+  looked_up_name-LooksUp s p mode n (Some root) name sound stands = go (begins_with_separator name) (body_of s root) refl (body_from_stands s root stands)
     where
-      for_body : (body : Body F I) → body_of s root ≡ Some body → LooksFrom g s p mode root body name (looked_from s p mode root body name)
+      for_body : (body : Body F I) → body_of s root ≡ Some body → LooksFrom g s p mode n root body name (looked_from s p mode n root body name)
       for_body Directory e =
-          looked_up-Looks s p mode most_reparses (relative root name).0 (relative root name).1 sound (ap (is_directory s) (directory_at-relative s root name) ∙ is_directory-from_body s root e) (relative-is_rest root name)
+          looked_up-Looks s p mode n (relative root name).0 (relative root name).1 sound (ap (is_directory s) (directory_at-relative s root name) ∙ is_directory-from_body s root e) (relative-is_rest root name)
       for_body (Link target) e = refl
       for_body (Other face inner) e = refl
 
       go : (t : Bool) (o : Option (Body F I)) → body_of s root ≡ o → (body : Body F I) × (o ≡ Some body)
-          → MatchBool t ((if t then Refused ObjectPathSyntaxBad else looked_relative s p mode root o name) ≡ Refused ObjectPathSyntaxBad)
-          (MatchOption o ⊥ (λ body. LooksFrom g s p mode root body name (if t then Refused ObjectPathSyntaxBad else looked_relative s p mode root o name)))
+          → MatchBool t ((if t then Refused ObjectPathSyntaxBad else looked_relative s p mode n root o name) ≡ Refused ObjectPathSyntaxBad)
+          (MatchOption o ⊥ (λ body. LooksFrom g s p mode n root body name (if t then Refused ObjectPathSyntaxBad else looked_relative s p mode n root o name)))
       go true o e h = refl
       go false None e h = absurd (let k = h.1 in cc)
       go false (Some body) e h = for_body body e
 
   -- in a sound state a name has an end
-  pub looks_up_total : (s : State K T F I) (p : ℕ) (mode : Mode) (root : Option ℕ) (name : List ℕ)
-      → IsSound s → IsSoundRoot s root → (look : Look) × LooksUp g s p mode root name look
-  looks_up_total s p mode root name sound stands = (looked_up_name s p mode root name, looked_up_name-LooksUp s p mode root name sound stands)
+  pub looks_up_total : (s : State K T F I) (p : ℕ) (mode : Mode) (n : ℕ) (root : Option ℕ) (name : List ℕ)
+      → IsSound s → IsSoundRoot s root → (look : Look) × LooksUp g s p mode n root name look
+  looks_up_total s p mode n root name sound stands = (looked_up_name s p mode n root name, looked_up_name-LooksUp s p mode n root name sound stands)
 
   -- a name has at most one end
-  pub looks_up_unique : (s : State K T F I) (p : ℕ) (mode : Mode) (root : Option ℕ) (name : List ℕ) (a b : Look)
-      → LooksUp g s p mode root name a → LooksUp g s p mode root name b → a ≡ b
-  looks_up_unique s p mode None name a b h k = go (origin_of s p mode.create name) h k
+  pub looks_up_unique : (s : State K T F I) (p : ℕ) (mode : Mode) (n : ℕ) (root : Option ℕ) (name : List ℕ) (a b : Look)
+      → LooksUp g s p mode n root name a → LooksUp g s p mode n root name b → a ≡ b
+  looks_up_unique s p mode n None name a b h k = go (origin_of s p mode.create mode.views name) h k
     where
-      go : (o : Option (Origin × List ℕ)) → MatchOption o (a ≡ Refused ObjectPathSyntaxBad) (λ at. Looks g s p mode most_reparses at.0 at.1 a)
-          → MatchOption o (b ≡ Refused ObjectPathSyntaxBad) (λ at. Looks g s p mode most_reparses at.0 at.1 b) → a ≡ b
+      go : (o : Option (Origin × List ℕ)) → MatchOption o (a ≡ Refused ObjectPathSyntaxBad) (λ at. Looks g s p mode n at.0 at.1 a)
+          → MatchOption o (b ≡ Refused ObjectPathSyntaxBad) (λ at. Looks g s p mode n at.0 at.1 b) → a ≡ b
       go None h k = cc
-      go (Some at) h k = looks_unique s p mode most_reparses at.0 at.1 a b h k
-  looks_up_unique s p mode (Some root) name a b h k = go (begins_with_separator name) (body_of s root) h k
+      go (Some at) h k = looks_unique s p mode n at.0 at.1 a b h k
+  looks_up_unique s p mode n (Some root) name a b h k = go (begins_with_separator name) (body_of s root) h k
     where
-      for_body : (body : Body F I) → LooksFrom g s p mode root body name a → LooksFrom g s p mode root body name b → a ≡ b
-      for_body Directory h k = looks_unique s p mode most_reparses (relative root name).0 (relative root name).1 a b h k
+      for_body : (body : Body F I) → LooksFrom g s p mode n root body name a → LooksFrom g s p mode n root body name b → a ≡ b
+      for_body Directory h k = looks_unique s p mode n (relative root name).0 (relative root name).1 a b h k
       for_body (Link target) h k = cc
       for_body (Other face inner) h k = cc
 
-      go : (t : Bool) (o : Option (Body F I)) → MatchBool t (a ≡ Refused ObjectPathSyntaxBad) (MatchOption o ⊥ (λ body. LooksFrom g s p mode root body name a))
-          → MatchBool t (b ≡ Refused ObjectPathSyntaxBad) (MatchOption o ⊥ (λ body. LooksFrom g s p mode root body name b)) → a ≡ b
+      go : (t : Bool) (o : Option (Body F I)) → MatchBool t (a ≡ Refused ObjectPathSyntaxBad) (MatchOption o ⊥ (λ body. LooksFrom g s p mode n root body name a))
+          → MatchBool t (b ≡ Refused ObjectPathSyntaxBad) (MatchOption o ⊥ (λ body. LooksFrom g s p mode n root body name b)) → a ≡ b
       go true o h k = cc
       go false None h k = absurd h
       go false (Some body) h k = for_body body h k

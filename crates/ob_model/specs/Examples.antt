@@ -11,7 +11,7 @@ use Rattle.ob_model.specs.Names.{separator, same_name, IsSplit, substituted}
 use Rattle.ob_model.specs.State.{State, object_of, global_id}
 use Rattle.ob_model.specs.Opening.{opening, standing, root_row}
 use Rattle.ob_model.specs.Paths.{origin_of, InDirectory, ViewOf}
-use Rattle.ob_model.specs.Procedures.{Procedures, Front}
+use Rattle.ob_model.specs.Procedures.{Procedures, Front, without_parse}
 use Rattle.ob_model.specs.Looks.{Look, At, Vacant, Parse, Refused, Mode, most_reparses, LooksUp}
 use Rattle.ob_model.specs.Settle.{settle, has_name}
 
@@ -64,20 +64,20 @@ row_in directory stamp name o = record { stamp = stamp; directory = directory; n
 -- a name is opened as it is written or with case folded, its last component is opened as a link, or
 -- an object of that name is created
 abbrev pub opens : Mode
-opens = record { create = false; fold = false; follow = true }
+opens = record { create = false; fold = false; follow = true; views = true }
 
 abbrev pub opens_folded : Mode
-opens_folded = record { create = false; fold = true; follow = true }
+opens_folded = record { create = false; fold = true; follow = true; views = true }
 
 abbrev pub opens_link : Mode
-opens_link = record { create = false; fold = false; follow = false }
+opens_link = record { create = false; fold = false; follow = false; views = true }
 
 abbrev pub creates : Mode
-creates = record { create = true; fold = false; follow = true }
+creates = record { create = true; fold = false; follow = true; views = true }
 
 -- process 1 looks an absolute name up with this end
 abbrev pub EndsAt : Numbers → Mode → List ℕ → Look → Type 0
-EndsAt s mode name look = LooksUp numbers s 1 mode None name look
+EndsAt s mode name look = LooksUp numbers s 1 mode most_reparses None name look
 
 -- ---- names
 
@@ -111,7 +111,7 @@ with_disk = opening_with (standing 7 (Other 0 0) ∷ []) (row_in 4 6 (codes "Dis
 abbrev pub NamesThatAreFound : Type 0
 NamesThatAreFound =
     EndsAt with_disk opens (codes "\\") (At 1) × EndsAt with_disk opens (codes "\\Device") (At 4)
-    × EndsAt with_disk opens (codes "\\Device\\Disk") (At 7) × LooksUp numbers with_disk 1 opens (Some 4) (codes "Disk") (At 7)
+    × EndsAt with_disk opens (codes "\\Device\\Disk") (At 7) × LooksUp numbers with_disk 1 opens most_reparses (Some 4) (codes "Disk") (At 7)
 
 -- a component that names nothing is refused by whether it is the last; the last one is a place for
 -- a create. An object that is no directory has nothing behind it
@@ -145,11 +145,13 @@ abbrev pub with_volume : Numbers
 with_volume = opening_with (standing 7 (Other 1 0) ∷ []) (root_row 6 (codes "Volume") 7 ∷ [])
 
 -- an open hands what follows a parsing object to its parse, separators and all; a create never
--- parses
+-- parses, and where no kind parses an open ends at the object too
 abbrev pub RestIsParsed : Type 0
 RestIsParsed =
     EndsAt with_volume opens (codes "\\Volume\\a\\\\b") (Parse 7 (codes "\\a\\\\b") most_reparses) × EndsAt with_volume opens (codes "\\Volume") (Parse 7 [] most_reparses)
     × EndsAt with_volume creates (codes "\\Volume") (At 7) × EndsAt with_volume creates (codes "\\Volume\\a") (Refused ObjectTypeMismatch)
+    × LooksUp (without_parse numbers) with_volume 1 opens most_reparses None (codes "\\Volume") (At 7)
+    × LooksUp (without_parse numbers) with_volume 1 opens most_reparses None (codes "\\Volume\\a") (Refused ObjectTypeMismatch)
 
 -- ---- lookups through links
 
@@ -233,15 +235,24 @@ with_local =
 abbrev pub LocalComesFirst : Type 0
 LocalComesFirst =
     EndsAt with_local opens (codes "\\??\\C:") (At 8) × EndsAt with_local opens (codes "\\??\\D:") (At 10)
-    × EndsAt with_local opens (codes "\\GLOBAL??\\C:") (At 9) × LooksUp numbers with_local 2 opens None (codes "\\??\\C:") (At 9)
+    × EndsAt with_local opens (codes "\\GLOBAL??\\C:") (At 9) × LooksUp numbers with_local 2 opens most_reparses None (codes "\\??\\C:") (At 9)
     × EndsAt with_local opens (codes "\\DosDevices\\C:") (At 8)
 
 -- a create right behind `\??` looks in the local directory alone, so it doesn't meet the global entry
 abbrev pub CreateIsLocal : Type 0
 CreateIsLocal =
     EndsAt with_local creates (codes "\\??\\D:") (Vacant 7 (codes "D:")) × EndsAt with_local creates (codes "\\??\\C:") (At 8)
-    × (origin_of with_local 1 true (codes "\\??\\D:") ≡ Some (InDirectory 7, codes "\\D:"))
-    × (origin_of with_local 1 true (codes "\\??\\D:\\x") ≡ Some (ViewOf 1, codes "\\D:\\x"))
+    × (origin_of with_local 1 true true (codes "\\??\\D:") ≡ Some (InDirectory 7, codes "\\D:"))
+    × (origin_of with_local 1 true true (codes "\\??\\D:\\x") ≡ Some (ViewOf 1, codes "\\D:\\x"))
+
+-- without views `\??` is a name like another, of which the root directory has no entry
+abbrev pub NamesWithoutViews : Type 0
+NamesWithoutViews =
+    EndsAt with_local (record opens { views = false }) (codes "\\??\\C:") (Refused ObjectPathNotFound)
+    × EndsAt with_local (record opens { views = false }) (codes "\\??") (Refused ObjectNameNotFound)
+    × EndsAt with_local (record opens { views = false }) (codes "\\DosDevices\\C:") (Refused ObjectPathNotFound)
+    × EndsAt with_local (record creates { views = false }) (codes "\\??") (Refused ObjectNameInvalid)
+    × EndsAt with_local (record opens { views = false }) (codes "\\GLOBAL??\\C:") (At 9)
 
 -- ---- what stays
 

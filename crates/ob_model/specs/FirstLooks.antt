@@ -14,7 +14,7 @@ first_origin name = if bytes_eq name (codes "\\") then Some [] else if begins_wi
 
 -- what is done where a walk stops: a link is as any object that is no directory
 abbrev pub first_next : Bool → Stop → Next
-first_next create (Missed d c last) = at_miss (record { create = create; fold = false; follow = false }) d c last
+first_next create (Missed d c last) = at_miss (record { create = create; fold = false; follow = false; views = false }) d c last
 first_next create (Reached o rest) = Over (named_or_mismatch o rest)
 
 -- an absolute name is looked up with this end, byte by byte compared

@@ -71,14 +71,14 @@ module _ (K T F I : Type 0) where
   -- a name is looked up with at most one end
   abbrev pub NameLookIsUnique : Type 0
   NameLookIsUnique =
-      (g : Procedures K T F I) (s : State K T F I) (p : ℕ) (mode : Mode) (root : Option ℕ) (name : List ℕ) (a b : Look)
-      → LooksUp g s p mode root name a → LooksUp g s p mode root name b → a ≡ b
+      (g : Procedures K T F I) (s : State K T F I) (p : ℕ) (mode : Mode) (n : ℕ) (root : Option ℕ) (name : List ℕ) (a b : Look)
+      → LooksUp g s p mode n root name a → LooksUp g s p mode n root name b → a ≡ b
 
   -- in a sound state every name has an end, where the object of its root handle stands
   abbrev pub NameLookIsTotal : Type 0
   NameLookIsTotal =
-      (g : Procedures K T F I) (s : State K T F I) (p : ℕ) (mode : Mode) (root : Option ℕ) (name : List ℕ)
-      → IsSound s → MatchOption root (Unit {0}) (Stands s) → (look : Look) × LooksUp g s p mode root name look
+      (g : Procedures K T F I) (s : State K T F I) (p : ℕ) (mode : Mode) (n : ℕ) (root : Option ℕ) (name : List ℕ)
+      → IsSound s → MatchOption root (Unit {0}) (Stands s) → (look : Look) × LooksUp g s p mode n root name look
 
   -- settling a settled state changes nothing
   abbrev pub SettleIsIdempotent : Type 0

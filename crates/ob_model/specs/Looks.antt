@@ -15,12 +15,14 @@ use Rattle.ob_model.specs.State.{State, root_id, body_of}
 use Rattle.ob_model.specs.Paths.{Origin, IsReach, IsMiss, origin_of, relative}
 use Rattle.ob_model.specs.Procedures.{Procedures}
 
--- how a name is looked up: for a create or an open, with or without case, following a link that
--- the last component names or not
+-- how a name is looked up: for a create or an open; with case folded or not; following a link that
+-- the last component names or not; and with `\??` as the process's view of the DOS device names, or,
+-- in a build whose device maps have not come yet, as a name like another
 pub record Mode : Type 0 where
   pub create : Bool
   pub fold : Bool
   pub follow : Bool
+  pub views : Bool
 
 -- what a lookup ends with: an object, a vacant place (its directory and its component), a parsing
 -- object with the rest for its parse and the reparses left, or a refusal
@@ -30,7 +32,7 @@ pub data Look : Type 0 where
   Parse : ℕ → List ℕ → ℕ → Look
   Refused : Status → Look
 
--- the most reparses of one lookup, links and parse answers together
+-- the most reparses of one lookup, links and parse answers together: a name begins with all of them
 abbrev pub most_reparses : ℕ
 most_reparses = 32
 
@@ -90,10 +92,10 @@ module _ {K T F I : Type 0} where
 
   -- a text that a reparse made, looked up again from its origin: too long, no origin, or the lookup
   -- that goes on from there
-  abbrev pub Again : State K T F I → ℕ → Bool → List ℕ → (Origin → List ℕ → Type 0) → (Status → Type 0) → Type 0
-  Again s p create text goes_on is_refused =
+  abbrev pub Again : State K T F I → ℕ → Mode → List ℕ → (Origin → List ℕ → Type 0) → (Status → Type 0) → Type 0
+  Again s p mode text goes_on is_refused =
       MatchBool (nat_lt longest_name (length text)) (is_refused NameTooLong)
-      (MatchOption (origin_of s p create text) (is_refused ObjectPathSyntaxBad) (λ at. goes_on at.0 at.1))
+      (MatchOption (origin_of s p mode.create mode.views text) (is_refused ObjectPathSyntaxBad) (λ at. goes_on at.0 at.1))
 
 -- the lookup ends so where this is to be done next, given how a followed link ends it
 abbrev pub Ends : Next → (List ℕ → List ℕ → Type 0) → Look → Type 0
@@ -109,20 +111,21 @@ module _ {K T F I : Type 0} (g : Procedures K T F I) where
       × Ends next (λ target rest. look ≡ Refused ReparseLimit) look
   Looks s p mode (suc n) place text look =
       (stop : Stop) × (next : Next) × IsStop s place text mode.fold stop × IsNext g s mode (suc n) stop next
-      × Ends next (λ target rest. Again s p mode.create (substituted target rest) (λ place' text'. Looks s p mode n place' text' look) (λ status. look ≡ Refused status)) look
+      × Ends next (λ target rest. Again s p mode (substituted target rest) (λ place' text'. Looks s p mode n place' text' look) (λ status. look ≡ Refused status)) look
 
-  -- what a name relative to an object of this body is looked up with: a directory is where the walk
-  -- begins, an open hands the name as it is to the parse of a parsing object
-  abbrev pub LooksFrom : State K T F I → ℕ → Mode → ℕ → Body F I → List ℕ → Look → Type 0
-  LooksFrom s p mode root Directory name look = let at = relative root name in Looks s p mode most_reparses at.0 at.1 look
-  LooksFrom s p mode root (Link target) name look = look ≡ Refused ObjectTypeMismatch
-  LooksFrom s p mode root (Other face inner) name look =
-      look ≡ (if g.parses (g.kind_of face) && not mode.create then Parse root name most_reparses else Refused ObjectTypeMismatch)
+  -- what a name relative to an object of this body is looked up with, with n reparses left: a
+  -- directory is where the walk begins, an open hands the name as it is to the parse of a parsing
+  -- object
+  abbrev pub LooksFrom : State K T F I → ℕ → Mode → ℕ → (root : ℕ) → Body F I → List ℕ → Look → Type 0
+  LooksFrom s p mode n root Directory name look = let at = relative root name in Looks s p mode n at.0 at.1 look
+  LooksFrom s p mode n root (Link target) name look = look ≡ Refused ObjectTypeMismatch
+  LooksFrom s p mode n root (Other face inner) name look =
+      look ≡ (if g.parses (g.kind_of face) && not mode.create then Parse root name n else Refused ObjectTypeMismatch)
 
-  -- a name is looked up with this end: from its origin where it is absolute, else from the object
-  -- of the root handle; a relative name doesn't begin with a separator
-  abbrev pub LooksUp : State K T F I → ℕ → Mode → Option ℕ → List ℕ → Look → Type 0
-  LooksUp s p mode None name look =
-      MatchOption (origin_of s p mode.create name) (look ≡ Refused ObjectPathSyntaxBad) (λ at. Looks s p mode most_reparses at.0 at.1 look)
-  LooksUp s p mode (Some root) name look =
-      MatchBool (begins_with_separator name) (look ≡ Refused ObjectPathSyntaxBad) (MatchOption (body_of s root) ⊥ (λ body. LooksFrom s p mode root body name look))
+  -- a name is looked up with this end, with n reparses left: from its origin where it is absolute,
+  -- else from the object of the root handle; a relative name doesn't begin with a separator
+  abbrev pub LooksUp : State K T F I → ℕ → Mode → ℕ → (root : Option ℕ) → List ℕ → Look → Type 0
+  LooksUp s p mode n None name look =
+      MatchOption (origin_of s p mode.create mode.views name) (look ≡ Refused ObjectPathSyntaxBad) (λ at. Looks s p mode n at.0 at.1 look)
+  LooksUp s p mode n (Some root) name look =
+      MatchBool (begins_with_separator name) (look ≡ Refused ObjectPathSyntaxBad) (MatchOption (body_of s root) ⊥ (λ body. LooksFrom s p mode n root body name look))

@@ -20,6 +20,7 @@ ghost use Rattle.ob_model.specs.Examples.{
   ChainOfLinks,
   LocalComesFirst,
   CreateIsLocal,
+  NamesWithoutViews,
   HoldsWithoutName,
   TemporaryGoes,
   OpeningIsSettled,
@@ -63,7 +64,7 @@ pub fn first_inserted_is_found()
 {}
 
 /// An open hands what follows a parsing object to its parse, separators and all; a create never
-/// parses.
+/// parses, and where no kind parses an open ends at the object too.
 pub fn rest_is_parsed()
     ensures { RestIsParsed }
 {}
@@ -107,6 +108,12 @@ pub fn local_comes_first()
 /// A create of `\??\D:` looks in the local directory alone, though `D:` is a global name.
 pub fn create_is_local()
     ensures { CreateIsLocal }
+{}
+
+/// Where `\??` is no view, it is a name that the root directory has no entry of, and `\DosDevices`
+/// leads to it.
+pub fn names_without_views()
+    ensures { NamesWithoutViews }
 {}
 
 /// A temporary directory that holds a held object's name loses its own name in settling, and stays.

@@ -65,12 +65,14 @@ pub fn look_is_total<K, T, F, I>()
     ensures { LookIsTotal K T F I }
 {}
 
-/// A name is looked up with at most one end, in each state, for each process, mode and root handle.
+/// A name is looked up with at most one end, in each state, for each process, mode, number of
+/// reparses left and root handle.
 pub fn name_look_is_unique<K, T, F, I>()
     ensures { NameLookIsUnique K T F I }
 {}
 
-/// In a sound state every name has an end, where the object of its root handle, if any, is there.
+/// In a sound state every name has an end, with any number of reparses left, where the object of its
+/// root handle, if any, is there.
 pub fn name_look_is_total<K, T, F, I>()
     ensures { NameLookIsTotal K T F I }
 {}

@@ -1,6 +1,7 @@
 -- Each reparse comes back to the same link.
 use Rattle.std.proofs.Common.{codes, refl}
 use Rattle.ob_model.specs.Examples.{numbers, with_links, opens, opens_link}
+use Rattle.ob_model.specs.Looks.{most_reparses}
 use Rattle.ob_model.proofs.Walk.{walk}
 use Rattle.ob_model.proofs.Lookup.{looked_up}
 use Rattle.ob_model.proofs.Computed.{ends_as_computed}
@@ -9,8 +10,8 @@ use Rattle.ob_model.proofs.examples.link_to_itself.Goals as goal
 pub returns : goal.returns
 unfolding walk looked_up
 returns c =
-    let opens_ends = ends_as_computed numbers with_links refl 1 opens in
-    let opens_link_ends = ends_as_computed numbers with_links refl 1 opens_link in (
+    let opens_ends = ends_as_computed numbers with_links refl 1 opens most_reparses in
+    let opens_link_ends = ends_as_computed numbers with_links refl 1 opens_link most_reparses in (
       opens_ends (codes "\\Self") _ refl,
       opens_link_ends (codes "\\Self") _ refl,
     )

@@ -1,6 +1,7 @@
 -- Each name is looked up by computing.
 use Rattle.std.proofs.Common.{codes, refl}
 use Rattle.ob_model.specs.Examples.{numbers, with_disk, opens}
+use Rattle.ob_model.specs.Looks.{most_reparses}
 use Rattle.ob_model.proofs.Walk.{walk}
 use Rattle.ob_model.proofs.Lookup.{looked_up}
 use Rattle.ob_model.proofs.Computed.{ends_as_computed, relative_ends_as_computed}
@@ -9,9 +10,9 @@ use Rattle.ob_model.proofs.examples.names_that_are_found.Goals as goal
 pub returns : goal.returns
 unfolding walk looked_up
 returns c =
-    let opens_ends = ends_as_computed numbers with_disk refl 1 opens in (
+    let opens_ends = ends_as_computed numbers with_disk refl 1 opens most_reparses in (
       opens_ends (codes "\\") _ refl,
       opens_ends (codes "\\Device") _ refl,
       opens_ends (codes "\\Device\\Disk") _ refl,
-      relative_ends_as_computed numbers with_disk refl 1 opens 4 (codes "Disk") _ refl refl,
+      relative_ends_as_computed numbers with_disk refl 1 opens most_reparses 4 (codes "Disk") _ refl refl,
     )

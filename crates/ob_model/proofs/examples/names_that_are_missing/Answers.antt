@@ -1,6 +1,7 @@
 -- Each name is looked up by computing.
 use Rattle.std.proofs.Common.{codes, refl}
 use Rattle.ob_model.specs.Examples.{numbers, with_disk, opens, creates}
+use Rattle.ob_model.specs.Looks.{most_reparses}
 use Rattle.ob_model.proofs.Walk.{walk}
 use Rattle.ob_model.proofs.Lookup.{looked_up}
 use Rattle.ob_model.proofs.Computed.{ends_as_computed}
@@ -9,8 +10,8 @@ use Rattle.ob_model.proofs.examples.names_that_are_missing.Goals as goal
 pub returns : goal.returns
 unfolding walk looked_up
 returns c =
-    let opens_ends = ends_as_computed numbers with_disk refl 1 opens in
-    let creates_ends = ends_as_computed numbers with_disk refl 1 creates in (
+    let opens_ends = ends_as_computed numbers with_disk refl 1 opens most_reparses in
+    let creates_ends = ends_as_computed numbers with_disk refl 1 creates most_reparses in (
       opens_ends (codes "\\Missing\\Disk") _ refl,
       opens_ends (codes "\\Device\\Missing") _ refl,
       creates_ends (codes "\\Device\\Missing") _ refl,
