@@ -97,7 +97,7 @@ fn at_stop(create: bool, stop: Stop<'_>) -> Look<'_>
 
 /// What is done where a walk misses a component.
 fn at_miss(create: bool, directory: ObjId, component: &[u8], last: bool) -> Look<'_>
-    ensures { machine_at_miss (record { create = create; fold = false; follow = false }) directory component.now last
+    ensures { machine_at_miss (record { create = create; fold = false; follow = false; views = false }) directory component.now last
         ≡ Over (look_of result) }
 {
     if component.is_empty() {
