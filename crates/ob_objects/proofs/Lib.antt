@@ -1,0 +1,5 @@
+pub mod ByStamp
+pub mod Ids
+pub mod Written
+pub mod Bodies
+pub mod Shown

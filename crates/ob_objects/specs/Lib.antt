@@ -1,0 +1,4 @@
+pub mod Rows
+pub mod Store
+pub mod Changes
+pub mod Laws

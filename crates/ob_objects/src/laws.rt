@@ -1,0 +1,64 @@
+//! How a store and the abstract state that shows it go together.
+//!
+//! Each function has an empty body: its contract is a law about the definitions alone, stated in
+//! `specs/Laws.antt`. The type parameters are those of the state: the kinds, the value, the faces
+//! and the inner values of any set of types. They do nothing when they run.
+
+ghost use Rattle.ob_objects.specs.Laws.{
+  StoredIsTheObject,
+  StoreFindsWhatTheStateFinds,
+  OpenedIsTheMachines,
+  ClosedIsTheMachines,
+  RowsAreByStamp,
+  RowsAreTheEntries,
+  NewObjectHasNoRow,
+  RowsGoWithTheirDirectory,
+  NewNameIsTheLastRow,
+  RowGoesWithItsName,
+  NamesChangeNoObject,
+  PermanenceIsTheObjects,
+};
+
+/// The object of a number in the state is what the store has under it.
+pub fn stored_is_the_object<K, T, F, I>()
+    ensures { StoredIsTheObject K T F I }
+{}
+
+/// What the state finds in a directory is the row of the entry that is found there.
+pub fn store_finds_what_the_state_finds<K, T, F, I>()
+    ensures { StoreFindsWhatTheStateFinds K T F I }
+{}
+
+/// Opening and closing an object of the store does to the state's objects what the machine does, and
+/// leaves the rows as they were.
+pub fn opens_and_closes_are_the_machines<K, T, F, I>()
+    ensures opened { OpenedIsTheMachines K T F I }
+    ensures closed { ClosedIsTheMachines K T F I }
+{}
+
+/// The rows of a store are by rising stamps, and those of each directory are its entries, in their
+/// order.
+pub fn rows_are_the_entries<F, I>()
+    ensures by_stamp { RowsAreByStamp F I }
+    ensures entries { RowsAreTheEntries F I }
+{}
+
+/// The rows follow the objects as these come and go: a new object without an entry brings no row,
+/// and with an object go the rows that stand in it.
+pub fn rows_follow_the_objects<F, I>()
+    ensures new { NewObjectHasNoRow F I }
+    ensures gone { RowsGoWithTheirDirectory F I }
+{}
+
+/// The rows follow the names as these come and go: a new one of the greatest stamp is the last row,
+/// and the row of one that is taken away goes. The objects stay as they were.
+pub fn rows_follow_the_names<F, I>()
+    ensures new { NewNameIsTheLastRow F I }
+    ensures gone { RowGoesWithItsName F I }
+    ensures objects { NamesChangeNoObject F I }
+{}
+
+/// Permanence is a part of one object, and of no row.
+pub fn permanence_is_the_objects<F, I>()
+    ensures { PermanenceIsTheObjects F I }
+{}

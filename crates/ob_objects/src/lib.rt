@@ -1,0 +1,13 @@
+//! The objects of a namespace by their ids: directories with their entries, symbolic links, and
+//! objects of a set of types.
+#![tactic(auto)]
+
+mod changes;
+pub mod laws;
+mod object;
+mod store;
+#[cfg(test)]
+mod tests;
+
+pub use object::{StoredBody, StoredObject};
+pub use store::Store;

@@ -1,0 +1,194 @@
+//! The store.
+
+ghost use Rattle.std.specs.Prelude.{◌≡◌, ◌≢◌, ◌<◌, ◌==◌, [], ◌∷◌, ◌++◌, length, None, Some};
+ghost use Rattle.std.specs.Prelude.{All, IsSome, IfOk, IfErr, OnErr};
+ghost use Rattle.std.specs.List.{list_any};
+ghost use Rattle.std.specs.Option.{option_copied};
+ghost use Rattle.ob_types.specs.Told.{reason_of};
+ghost use Rattle.ob_objects.specs.Store.{IsStore, stored_at, directory_at, entries_at};
+ghost use Rattle.ob_objects.specs.Changes.{without_object, with_name, without_name, with_permanence};
+ghost use Rattle.ob_objects.specs.Changes.{refusal_to_open, with_opened, set_after_open, with_closed, set_after_close};
+
+use crate::{StoredObject, changes};
+use ob_base::{Fault, ObjId};
+use ob_names::NameBuf;
+use ob_types::{Reason, TypeSet};
+use std::alloc::Global;
+use std::collections::BTreeMap;
+use std::marker::Model;
+
+/// The objects of a namespace under a set of types, by their ids. A contract sees a store as the
+/// list of its entries by rising ids, each an id and what is stored under it; no id is there twice.
+///
+/// A store says nothing of which object is the root, nor that a name's object is there: that is for
+/// the code that fills it.
+///
+/// Source: Windows Internals, Object Manager: object headers and bodies; the ids are this profile.
+#[derive(Drop)]
+pub struct Store<T: TypeSet> {
+    objects: BTreeMap<u64, StoredObject<T::Face, T::Inner>>,
+}
+
+impl<T: TypeSet> Model for Store<T> {
+    ghost use Rattle.ob_objects.specs.Store.{Entries, IsStore};
+
+    ghost Value = { Entries T.Face T.Inner };
+
+    ghost view = { λ store. store.objects.entries };
+
+    ghost invariant = { λ store. IsStore store.objects.entries };
+}
+
+impl<T: TypeSet> Store<T> {
+    /// A store with no object. Takes no memory.
+    pub fn new(alloc: Global) -> Store<T>
+        ensures { result ≡ [] }
+    {
+        Store {
+            objects: BTreeMap::new(alloc),
+        }
+    }
+
+    /// How many objects there are. Takes no memory.
+    pub fn len(&self) -> usize
+        ensures count { result ≡ length self.now }
+
+        // What holds of every store.
+        ensures store { IsStore self.now }
+    {
+        self.objects.len()
+    }
+
+    /// Whether there is no object. Takes no memory.
+    pub fn is_empty(&self) -> bool
+        ensures { result ≡ (length self.now == 0) }
+    {
+        self.objects.is_empty()
+    }
+
+    /// What is stored under an id, and `None` exactly where nothing is. Takes no memory.
+    pub fn get(&self, id: ObjId) -> Option<&StoredObject<T::Face, T::Inner>>
+        ensures stored { option_copied result ≡ stored_at self.now id }
+
+        // What holds of every store.
+        ensures store { IsStore self.now }
+    {
+        self.objects.get(&id.0)
+    }
+
+    /// Stores an object under an id, which must be above all ids of the store.
+    ///
+    /// The only fault is `Memory`; then the object is dropped and nothing has changed.
+    pub fn insert(
+        &mut self,
+        id: ObjId,
+        object: StoredObject<T::Face, T::Inner>,
+    ) -> Result<(), Fault>
+        requires newest { All (λ e. e.0 < id) self.old }
+        ensures last { IfOk result (λ _. self.new ≡ self.old ++ (id, object) ∷ []) }
+        ensures memory { IfErr result (λ fault. fault ≡ Fault.Memory) }
+        ensures unchanged { OnErr result (self.new ≡ self.old) }
+    {
+        let _ = changes::count_names(&object);
+        self.objects.insert(id.0, object)?;
+        Ok(())
+    }
+
+    /// Takes an object out, with any entries that lie in it, and hands it back; `None` where nothing
+    /// is stored under the id, and then nothing changes. Takes no memory.
+    pub fn remove(&mut self, id: ObjId) -> Option<StoredObject<T::Face, T::Inner>>
+        ensures there { result ≡ stored_at self.old id }
+        ensures others { self.new ≡ without_object self.old id }
+    {
+        self.objects.remove(&id.0)
+    }
+
+    /// Puts a name for an object behind all entries of a directory, which must be there. That
+    /// spelling must be free in it, and the stamp above those of its entries. The object may have
+    /// any id.
+    ///
+    /// The only fault is `Memory`, and then nothing has changed.
+    ///
+    /// Source: Windows Internals, Object Manager: object directories; the stamps are this profile.
+    pub fn insert_name(
+        &mut self,
+        directory: ObjId,
+        stamp: u64,
+        name: NameBuf,
+        object: ObjId,
+    ) -> Result<(), Fault>
+        requires there { IsSome (directory_at self.old directory) }
+        requires free { All (λ entry. entry.name ≢ name) (entries_at self.old directory) }
+        requires newest { All (λ entry. entry.stamp < stamp) (entries_at self.old directory) }
+        ensures last { IfOk result (λ _. self.new
+            ≡ with_name self.old directory (record { stamp = stamp; name = name; object = object })) }
+        ensures memory { IfErr result (λ fault. fault ≡ Fault.Memory) }
+        ensures unchanged { OnErr result (self.new ≡ self.old) }
+    {
+        let Some(stored) = self.objects.get_mut(&directory.0) else {
+            unreachable!();
+        };
+        changes::insert_name(stored, stamp, name, object)?;
+        Ok(())
+    }
+
+    /// Takes the entry of a stamp out of a directory, and gives `true`; where the directory has none,
+    /// or there is no such directory, nothing changes and it gives `false`. Takes no memory.
+    ///
+    /// Source: Windows Internals, Object Manager: object directories; the stamps are this profile.
+    pub fn remove_name(&mut self, directory: ObjId, stamp: u64) -> bool
+        ensures there { result ≡ list_any (λ entry. entry.stamp == stamp) (entries_at self.old directory) }
+        ensures others { self.new ≡ without_name self.old directory stamp }
+    {
+        let Some(stored) = self.objects.get_mut(&directory.0) else {
+            return false;
+        };
+        changes::remove_name(stored, stamp)
+    }
+
+    /// Makes an object permanent or temporary; where there is none, nothing changes. Takes no memory.
+    ///
+    /// Source: Windows Driver Kit, ZwMakePermanentObject and ZwMakeTemporaryObject.
+    pub fn set_permanent(&mut self, id: ObjId, permanent: bool)
+        ensures { self.new ≡ with_permanence self.old id permanent }
+    {
+        let Some(stored) = self.objects.get_mut(&id.0) else {
+            return;
+        };
+        stored.permanent = permanent;
+    }
+
+    /// Calls the set's open procedure for an object. It may refuse, with a number of its own, and
+    /// then nothing has changed. For a directory, a link, or where there is no object, nothing is
+    /// called, nothing changes and the open is accepted. Takes no memory.
+    ///
+    /// Source: Windows Internals, Object Manager: open methods.
+    pub fn open(&mut self, id: ObjId, set: &mut T, reason: Reason) -> Result<(), u16>
+        ensures accepted { IfOk result (λ _. refusal_to_open T.procedures self.old set.old id (reason_of reason) ≡ None) }
+        ensures refused { IfErr result (λ code. refusal_to_open T.procedures self.old set.old id (reason_of reason) ≡ Some code) }
+        ensures opened { self.new ≡ with_opened T.procedures self.old set.old id (reason_of reason) }
+        ensures set { set.new ≡ set_after_open T.procedures self.old set.old id (reason_of reason) }
+        ensures unchanged { OnErr result (self.new ≡ self.old) }
+        ensures set_unchanged { OnErr result (set.new ≡ set.old) }
+    {
+        let Some(stored) = self.objects.get_mut(&id.0) else {
+            return Ok(());
+        };
+        changes::open(stored, set, reason)
+    }
+
+    /// Calls the set's close procedure for an object, given the handles to it that are left in the
+    /// process and in the whole system. For a directory, a link, or where there is no object,
+    /// nothing is called and nothing changes. Takes no memory.
+    ///
+    /// Source: Windows Internals, Object Manager: close methods.
+    pub fn close(&mut self, id: ObjId, set: &mut T, process_left: u32, system_left: u32)
+        ensures closed { self.new ≡ with_closed T.procedures self.old set.old id process_left system_left }
+        ensures set { set.new ≡ set_after_close T.procedures self.old set.old id process_left system_left }
+    {
+        let Some(stored) = self.objects.get_mut(&id.0) else {
+            return;
+        };
+        changes::close(stored, set, process_left, system_left);
+    }
+}
