@@ -1,0 +1,5 @@
+pub mod Seen
+pub mod Steps
+pub mod Turns
+pub mod Onto
+pub mod Begins

@@ -1,0 +1,19 @@
+-- What comes of the turns so far ends the lookup of the name, in each state that shows the store.
+use Rattle.std.proofs.Common.{ℕ, ◌<◌}
+use Rattle.ob_model.specs.State.{State}
+use Rattle.ob_model.specs.Procedures.{without_parse}
+use Rattle.ob_model.specs.Looks as machine
+use Rattle.ob_objects.specs.Store.{Shows}
+use Rattle.ob_lookup.specs.Look.{mode_of, turn_of, IfAgain, Goes}
+use Rattle.ob_lookup.proofs.lookup.look.Given as goal
+
+abbrev pub invariant-loop-next : goal.invariant-loop-next
+invariant-loop-next g l = record {
+  left : IfAgain l.next (0 < l.left);
+  goes : (s : State g.row.T-Kind.Denot g.row.T.Denot g.row.T-Face.Denot g.row.T-Inner.Denot) (p : ℕ) (end : machine.Look) → Shows s l.store
+      → Goes (without_parse g.T.TypeSet.procedures) s p (mode_of l.mode) l.left (turn_of l.next) end
+      → machine.LooksUp (without_parse g.T.TypeSet.procedures) s p (mode_of l.mode) l.budget l.fn.root l.fn.name end;
+}
+
+abbrev pub decreases-loop-next : goal.decreases-loop-next
+decreases-loop-next g l = l.left

@@ -1,0 +1,19 @@
+-- The walk stops, and the turn at its stop ends the lookup.
+use Rattle.std.proofs.Common.{subst}
+use Rattle.ob_lookup.specs.Look.{mode_of, next_at, Turn, Goes}
+use Rattle.ob_lookup.specs.Walk.{place_of, text_of}
+use Rattle.ob_lookup.proofs.Turns.{if_ok, again_left, looks_by_turn}
+use Rattle.ob_model.specs.Procedures.{without_parse}
+use Rattle.ob_lookup.proofs.lookup.look_from.Goals as goal
+
+pub returns-clause-left : goal.returns-clause-left
+returns-clause-left g c =
+    if_ok _ _ c.at_stop.result (λ next turn. again_left next c.args.left (next_at (mode_of c.args.mode) c.walk.result) turn) c.at_stop.ensures.turn
+
+pub returns-clause-goes : goal.returns-clause-goes
+returns-clause-goes g c =
+    if_ok _ _ c.at_stop.result
+    (λ next turn s p end shows goes.
+    looks_by_turn g.T.TypeSet.procedures s p (mode_of c.args.mode) c.args.left (place_of c.args.start) (text_of c.args.start) c.walk.result end
+    (c.walk.ensures.stop s shows) (c.walk.ensures.meets s shows)
+    (subst (λ (t : Turn). Goes (without_parse g.T.TypeSet.procedures) s p (mode_of c.args.mode) c.args.left t end) turn goes)) c.at_stop.ensures.turn

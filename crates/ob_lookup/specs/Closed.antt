@@ -1,0 +1,21 @@
+-- Closed stores: what a lookup rests on, which is what of a sound state its objects and its rows tell.
+--
+-- Source: this profile.
+use Rattle.std.specs.Prelude.{All, IsSome, Option, MatchOption, ℕ}
+use Rattle.ob_model.specs.State.{State, root_id}
+use Rattle.ob_model.specs.Sound.{IsSound}
+use Rattle.ob_objects.specs.Store.{Entries, Shows, stored_at, directory_at, rows_of}
+
+module _ {F I : Type 0} where
+  -- The root is a directory, and each row names an object that is there.
+  pub record IsClosed (store : Entries F I) : Type 0 where
+    pub root : IsSome (directory_at store root_id)
+    pub rows : All (λ r. IsSome (stored_at store r.object)) (rows_of store)
+
+  -- the object of a root handle is there, where one is given
+  abbrev pub IsRootThere : Entries F I → Option ℕ → Type 0
+  IsRootThere store root = MatchOption root (Unit {0}) (λ id. IsSome (stored_at store id))
+
+-- the store that a sound state shows is closed
+abbrev pub SoundIsClosed : (K T F I : Type 0) → Type 0
+SoundIsClosed K T F I = (s : State K T F I) (store : Entries F I) → Shows s store → IsSound s → IsClosed store

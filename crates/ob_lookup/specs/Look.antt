@@ -1,0 +1,74 @@
+-- A lookup of the code, in the words of the machine: what is done at a stop, and what it ends with.
+--
+-- Source: this profile.
+use Rattle.std.specs.Prelude.{◌≡◌, ℕ, zero, suc, ◌-◌, false, nat_lt, if◌then◌else◌, List, length, Option, MatchOption}
+use Rattle.ob_base.specs.declared.status.Status.TheVariants.{ObjectPathSyntaxBad, NameTooLong, ReparseLimit}
+use Rattle.ob_model.specs.Names.{longest_name, substituted}
+use Rattle.ob_model.specs.State.{State}
+use Rattle.ob_model.specs.Paths.{origin_of}
+use Rattle.ob_model.specs.Procedures.{Procedures, without_parse}
+use Rattle.ob_model.specs.Looks as machine
+use Rattle.ob_objects.specs.Store.{Entries, Shows}
+use Rattle.ob_lookup.specs.declared.terms.Look.{Look}
+use Rattle.ob_lookup.specs.declared.terms.Look.TheVariants as look
+use Rattle.ob_lookup.specs.declared.terms.Mode.{Mode}
+use Rattle.ob_lookup.specs.declared.next.Next.{Next}
+use Rattle.ob_lookup.specs.declared.next.Next.TheVariants as next
+use Rattle.ob_lookup.specs.declared.walk.Stop.{Stop}
+use Rattle.ob_lookup.specs.declared.walk.Stop.TheVariants as stop
+
+-- the mode, in which `\??` is a name like another
+abbrev pub mode_of : Mode → machine.Mode
+mode_of mode = record { create = mode.create; fold = mode.fold; follow = mode.follow; views = false }
+
+-- what a lookup ended with
+abbrev pub look_of : Look → machine.Look
+look_of (look.At id) = machine.At id
+look_of (look.Vacant directory component) = machine.Vacant directory component
+look_of (look.Refused status) = machine.Refused status
+
+-- what is to be done at a stop, where no object parses
+abbrev pub next_at : machine.Mode → Stop → machine.Next
+next_at mode (stop.Missed directory component last) = machine.at_miss mode directory component last
+next_at mode (stop.Directory id) = machine.Over (machine.At id)
+next_at mode (stop.Link id target rest) = machine.at_link mode id target rest
+next_at mode (stop.Other id rest) = machine.Over (machine.named_or_mismatch id rest)
+
+-- what comes of it with n reparses left: the lookup is over, or a text is looked up again
+pub data Turn : Type 0 where
+  Ended : machine.Look → Turn
+  Restarted : List ℕ → Turn
+
+abbrev pub turn_at : ℕ → machine.Next → Turn
+turn_at n (machine.Over end) = Ended end
+turn_at zero (machine.Follow target rest) = Ended (machine.Refused ReparseLimit)
+turn_at (suc n) (machine.Follow target rest) =
+    if nat_lt longest_name (length (substituted target rest)) then Ended (machine.Refused NameTooLong)
+    else Restarted (substituted target rest)
+
+abbrev pub turn_of : Next → Turn
+turn_of (next.Over end) = Ended (look_of end)
+turn_of (next.Again text) = Restarted text
+
+-- a fact, where a text is to be looked up again
+abbrev pub IfAgain : Next → Type 0 → Type 0
+IfAgain (next.Over end) fact = Unit {0}
+IfAgain (next.Again text) fact = fact
+
+module _ {K T F I : Type 0} (g : Procedures K T F I) where
+  -- a text that a reparse made is looked up with this end, with n reparses left
+  abbrev pub LooksAgain : State K T F I → ℕ → machine.Mode → ℕ → List ℕ → machine.Look → Type 0
+  LooksAgain s p mode n text end =
+      MatchOption (origin_of s p mode.create mode.views text) (end ≡ machine.Refused ObjectPathSyntaxBad)
+      (λ at. machine.Looks g s p mode n at.0 at.1 end)
+
+  -- from a turn the lookup ends so, with n reparses left before it
+  abbrev pub Goes : State K T F I → ℕ → machine.Mode → ℕ → Turn → machine.Look → Type 0
+  Goes s p mode n (Ended found) end = end ≡ found
+  Goes s p mode n (Restarted text) end = LooksAgain s p mode (n - 1) text end
+
+  -- a name is looked up with this end in every state that shows the store, for every process, where
+  -- no object parses
+  abbrev pub LooksUpIn : Entries F I → machine.Mode → ℕ → Option ℕ → List ℕ → machine.Look → Type 0
+  LooksUpIn store mode n root name end =
+      (s : State K T F I) (p : ℕ) → Shows s store → machine.LooksUp (without_parse g) s p mode n root name end

@@ -1,0 +1,9 @@
+//! Stores that a lookup may be made in.
+
+ghost use Rattle.ob_lookup.specs.Closed.{SoundIsClosed};
+
+/// The law that the store which a sound state shows is closed: its root is a directory, and each row
+/// names an object that is there. Takes nothing and does nothing.
+pub fn sound_is_closed<K, T, F, I>()
+    ensures { SoundIsClosed K T F I }
+{}

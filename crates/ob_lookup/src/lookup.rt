@@ -1,0 +1,102 @@
+//! The lookup.
+
+ghost use Rattle.std.specs.Prelude.{◌≡◌, ◌<◌, ℕ, IsSome, IfOk, IfErr};
+ghost use Rattle.ob_model.specs.State.{State};
+ghost use Rattle.ob_model.specs.Procedures.{without_parse};
+ghost use Rattle.ob_model.specs.Looks as machine;
+ghost use Rattle.ob_objects.specs.Store.{Shows, directory_at};
+ghost use Rattle.ob_lookup.specs.Closed.{IsClosed, IsRootThere};
+ghost use Rattle.ob_lookup.specs.Walk.{place_of, text_of};
+ghost use Rattle.ob_lookup.specs.Look.{mode_of, look_of, turn_of, IfAgain, LooksAgain, Goes, LooksUpIn};
+
+use crate::next::{Next, at_stop};
+use crate::start::{Start, absolute, begin};
+use crate::walk::walk;
+use crate::{Look, Mode};
+use ob_base::{Fault, ObjId, Status};
+use ob_names::Name;
+use ob_objects::Store;
+use ob_types::TypeSet;
+use std::alloc::Global;
+
+/// Looks a name up: an absolute one where `root` is none, else relative to the object `root`, which
+/// must be there. So must be the root directory, and each object that an entry names.
+///
+/// At most `budget` reparses are made; where one more is wanted the lookup ends in `ReparseLimit`,
+/// whatever the length of what it would look up. No object is asked to parse what follows it in a
+/// name, and `\??` is a name like another: parse procedures and device maps have not come yet.
+///
+/// The only fault is `Memory`, for a text that a link makes or for a vacant component. Nothing is
+/// changed in any case.
+///
+/// Source: Windows Internals, Object Manager (object names, symbolic links); OBJECT_ATTRIBUTES
+/// structure (Windows Driver Kit). The refusals and their order are this profile.
+pub fn look<T: TypeSet>(
+    alloc: Global,
+    store: &Store<T>,
+    root: Option<ObjId>,
+    name: Name<'_>,
+    mode: Mode,
+    budget: u32,
+) -> Result<Look, Fault>
+    requires closed { IsClosed store.now }
+    requires root { IsRootThere store.now root }
+    ensures end { IfOk result (λ look.
+        LooksUpIn T.procedures store.now (mode_of mode) budget root name.entry (look_of look)) }
+    ensures memory { IfErr result (λ fault. fault ≡ Fault.Memory) }
+{
+    let start = match begin(store, root, name) {
+        Ok(start) => start,
+        Err(status) => return Ok(Look::Refused(status)),
+    };
+    let mut left = budget;
+    let mut next = look_from(alloc, store, start, mode, left)?;
+    while let Next::Again(text) = next {
+        left -= 1;
+        next = look_again(alloc, store, text.as_name(), mode, left)?;
+    }
+    let Next::Over(look) = next else {
+        unreachable!();
+    };
+    Ok(look)
+}
+
+/// Walks once, and does what is to be done where the walk stops.
+fn look_from<T: TypeSet>(
+    alloc: Global,
+    store: &Store<T>,
+    start: Start<'_>,
+    mode: Mode,
+    left: u32,
+) -> Result<Next, Fault>
+    requires closed { IsClosed store.now }
+    requires directory { IsSome (directory_at store.now start.directory) }
+    ensures left { IfOk result (λ next. IfAgain next (0 < left)) }
+    ensures goes { IfOk result (λ next. (s : State T.Kind T T.Face T.Inner) (p : ℕ) (end : machine.Look) → Shows s store.now
+        → Goes (without_parse T.procedures) s p (mode_of mode) left (turn_of next) end
+        → machine.Looks (without_parse T.procedures) s p (mode_of mode) left (place_of start.entry) (text_of start.entry) end) }
+    ensures memory { IfErr result (λ fault. fault ≡ Fault.Memory) }
+{
+    at_stop(alloc, walk(store, start, mode.fold), mode, left)
+}
+
+/// Looks up a text that a reparse made.
+fn look_again<T: TypeSet>(
+    alloc: Global,
+    store: &Store<T>,
+    text: Name<'_>,
+    mode: Mode,
+    left: u32,
+) -> Result<Next, Fault>
+    requires { IsClosed store.now }
+    ensures left { IfOk result (λ next. IfAgain next (0 < left)) }
+    ensures goes { IfOk result (λ next. (s : State T.Kind T T.Face T.Inner) (p : ℕ) (end : machine.Look) → Shows s store.now
+        → Goes (without_parse T.procedures) s p (mode_of mode) left (turn_of next) end
+        → LooksAgain (without_parse T.procedures) s p (mode_of mode) left text.entry end) }
+    ensures memory { IfErr result (λ fault. fault ≡ Fault.Memory) }
+{
+    match absolute(text) {
+        Some(start) => look_from(alloc, store, start, mode, left),
+        None => Ok(Next::Over(Look::Refused(Status::ObjectPathSyntaxBad))),
+    }
+}

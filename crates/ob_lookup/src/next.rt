@@ -1,0 +1,111 @@
+//! What is done where a walk stops.
+
+ghost use Rattle.std.specs.Prelude.{◌≡◌, IfOk, IfErr};
+ghost use Rattle.ob_model.specs.Looks as machine;
+ghost use Rattle.ob_lookup.specs.Look.{mode_of, look_of, next_at, turn_at, turn_of};
+
+use crate::start::ROOT;
+use crate::walk::Stop;
+use crate::{Look, Mode};
+use ob_base::{Fault, ObjId, Status};
+use ob_names::{Name, NameBuf, substitute};
+use std::alloc::{AllocError, Global};
+
+/// What comes of a stop.
+#[derive(Drop)]
+pub(crate) enum Next {
+    /// The lookup is over.
+    Over(Look),
+    /// This text, which a reparse made, is to be looked up.
+    Again(NameBuf),
+}
+
+/// What is done at a stop, with so many reparses left.
+pub(crate) fn at_stop(alloc: Global, stop: Stop<'_>, mode: Mode, left: u32) -> Result<Next, Fault>
+    ensures turn { IfOk result (λ next. turn_of next ≡ turn_at left (next_at (mode_of mode) stop.entry)) }
+    ensures memory { IfErr result (λ fault. fault ≡ Fault.Memory) }
+{
+    match stop {
+        Stop::Missed {
+            directory,
+            component,
+            last,
+        } => Ok(Next::Over(at_miss(alloc, mode, directory, component, last)?)),
+        Stop::Directory(id) => Ok(Next::Over(Look::At(id))),
+        Stop::Link { id, target, rest } => at_link(alloc, mode, left, id, target, rest),
+        Stop::Other { id, rest } => Ok(Next::Over(at_other(id, rest))),
+    }
+}
+
+/// What a lookup ends with where a component is missed.
+fn at_miss(
+    alloc: Global,
+    mode: Mode,
+    directory: ObjId,
+    component: Name<'_>,
+    last: bool,
+) -> Result<Look, AllocError>
+    ensures { IfOk result (λ look. machine.at_miss (mode_of mode) directory component.entry last ≡ machine.Over (look_of look)) }
+{
+    let bytes = component.as_slice();
+    if bytes.is_empty() {
+        Ok(Look::Refused(Status::ObjectNameInvalid))
+    } else if !last {
+        Ok(Look::Refused(Status::ObjectPathNotFound))
+    } else if !mode.create {
+        Ok(Look::Refused(Status::ObjectNameNotFound))
+    } else if directory == ROOT && bytes == b"??".as_slice() {
+        Ok(Look::Refused(Status::ObjectNameInvalid))
+    } else {
+        let component = NameBuf::from_name(alloc, component)?;
+        Ok(Look::Vacant {
+            directory,
+            component,
+        })
+    }
+}
+
+/// What is done at a link: it is what was named, or it is followed.
+fn at_link(
+    alloc: Global,
+    mode: Mode,
+    left: u32,
+    id: ObjId,
+    target: Name<'_>,
+    rest: Name<'_>,
+) -> Result<Next, Fault>
+    ensures turn { IfOk result (λ next. turn_of next ≡ turn_at left (machine.at_link (mode_of mode) id target.entry rest.entry)) }
+    ensures memory { IfErr result (λ fault. fault ≡ Fault.Memory) }
+{
+    let follows = mode.follow && !mode.create;
+    if rest.as_slice().is_empty() && !follows {
+        return Ok(Next::Over(Look::At(id)));
+    }
+    follow(alloc, left, target, rest)
+}
+
+/// What comes of a link that is followed.
+fn follow(alloc: Global, left: u32, target: Name<'_>, rest: Name<'_>) -> Result<Next, Fault>
+    ensures turn { IfOk result (λ next. turn_of next ≡ turn_at left (machine.Follow target.entry rest.entry)) }
+    ensures memory { IfErr result (λ fault. fault ≡ Fault.Memory) }
+{
+    if left == 0 {
+        return Ok(Next::Over(Look::Refused(Status::ReparseLimit)));
+    }
+    match substitute(alloc, target.as_slice(), rest.as_slice()) {
+        Ok(text) => Ok(Next::Again(text)),
+        Err(Fault::Refused(status)) => Ok(Next::Over(Look::Refused(status))),
+        Err(Fault::Memory) => Err(Fault::Memory),
+    }
+}
+
+/// What a lookup ends with at an object of the set.
+fn at_other(id: ObjId, rest: Name<'_>) -> Look
+    ensures { look_of result ≡ machine.named_or_mismatch id rest.entry }
+{
+    if rest.as_slice().is_empty() {
+        Look::At(id)
+    } else {
+        Look::Refused(Status::ObjectTypeMismatch)
+    }
+}

@@ -1,0 +1,32 @@
+//! How a lookup is asked for, and what it ends with.
+
+use ob_base::{ObjId, Status};
+use ob_names::NameBuf;
+
+/// How a name is looked up.
+#[derive(Clone, Copy, PartialEq, Eq, Debug)]
+pub struct Mode {
+    /// Whether it is looked up to create an object of that name: then the last component may be
+    /// vacant, and is not followed.
+    pub create: bool,
+    /// Whether `a` to `z` are equal to `A` to `Z` in it.
+    pub fold: bool,
+    /// Whether a link that the last component names is followed, where nothing is created.
+    pub follow: bool,
+}
+
+/// What a lookup ends with.
+#[derive(Debug, Drop)]
+pub enum Look {
+    /// An object.
+    At(ObjId),
+    /// A vacant place, for a create.
+    Vacant {
+        /// The directory that the new entry is to stand in.
+        directory: ObjId,
+        /// The component, which is to be the entry's name.
+        component: NameBuf,
+    },
+    /// A refusal.
+    Refused(Status),
+}

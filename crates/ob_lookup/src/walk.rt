@@ -1,0 +1,139 @@
+//! The walk over a text, component by component.
+
+ghost use Rattle.std.specs.Prelude.{◌≡◌, ℕ, None, Some, IsSome};
+ghost use Rattle.std.specs.Option.{option_copied, option_map};
+ghost use Rattle.ob_model.specs.Names.{IsRest};
+ghost use Rattle.ob_model.specs.State.{State};
+ghost use Rattle.ob_model.specs.Looks.{IsStop};
+ghost use Rattle.ob_dirs.specs.Dir.{entry_found};
+ghost use Rattle.ob_objects.specs.Store.{IsStore, Shows, stored_at, directory_at};
+ghost use Rattle.ob_lookup.specs.Closed.{IsClosed};
+ghost use Rattle.ob_lookup.specs.Walk.{rest_of, place_of, text_of, stop_of, Meets};
+
+use crate::start::Start;
+use ob_base::ObjId;
+use ob_dirs::Dir;
+use ob_names::{Component, Name, first};
+use ob_objects::{Store, StoredBody};
+use ob_types::TypeSet;
+
+/// Where a walk stops.
+pub(crate) enum Stop<'a> {
+    /// At a directory in which a component is empty or names nothing.
+    Missed {
+        /// The directory.
+        directory: ObjId,
+        /// The component.
+        component: Name<'a>,
+        /// Whether nothing follows it.
+        last: bool,
+    },
+    /// At a directory, with nothing left.
+    Directory(ObjId),
+    /// At a symbolic link.
+    Link {
+        /// The link.
+        id: ObjId,
+        /// Its target.
+        target: Name<'a>,
+        /// What follows it in the text.
+        rest: Name<'a>,
+    },
+    /// At an object of the set.
+    Other {
+        /// The object.
+        id: ObjId,
+        /// What follows it in the text.
+        rest: Name<'a>,
+    },
+}
+
+/// Walks a text from a directory.
+pub(crate) fn walk<'a, T: TypeSet>(store: &'a Store<T>, start: Start<'a>, fold: bool) -> Stop<'a>
+    requires closed { IsClosed store.now }
+    requires directory { IsSome (directory_at store.now start.directory) }
+    ensures stop { (s : State T.Kind T T.Face T.Inner) → Shows s store.now
+        → IsStop s (place_of start.entry) (text_of start.entry) fold (stop_of result) }
+    ensures meets { (s : State T.Kind T T.Face T.Inner) → Shows s store.now → Meets s result }
+{
+    let mut id = start.directory;
+    let mut dir = directory(store, id);
+    let mut left = start.behind;
+    while let Some(behind) = left {
+        let Component::One { name, rest } = first(behind.as_slice()) else {
+            return Stop::Missed {
+                directory: id,
+                component: Name::new(&[]),
+                last: behind.as_slice().is_empty(),
+            };
+        };
+        let Some(object) = named_in(dir, name, fold) else {
+            return Stop::Missed {
+                directory: id,
+                component: Name::new(name),
+                last: rest.is_empty(),
+            };
+        };
+        match body(store, object) {
+            StoredBody::Directory(next) => {
+                id = object;
+                dir = next;
+                left = behind_separator(Name::new(rest));
+            }
+            StoredBody::Link(target) => {
+                return Stop::Link {
+                    id: object,
+                    target: target.as_name(),
+                    rest: Name::new(rest),
+                };
+            }
+            StoredBody::Other { .. } => {
+                return Stop::Other {
+                    id: object,
+                    rest: Name::new(rest),
+                };
+            }
+        }
+    }
+    Stop::Directory(id)
+}
+
+/// The object that a component names in a directory.
+fn named_in(dir: &Dir, component: &[u8], fold: bool) -> Option<ObjId>
+    ensures { result ≡ option_map (λ e. e.object) (entry_found dir.now component.now fold) }
+{
+    dir.find(component, fold).map(|(_, object)| object)
+}
+
+/// A directory's entries.
+fn directory<T: TypeSet>(store: &Store<T>, id: ObjId) -> &Dir
+    requires { IsSome (directory_at store.now id) }
+    ensures directory { directory_at store.now id ≡ Some result.now }
+    ensures store { IsStore store.now }
+{
+    let StoredBody::Directory(dir) = body(store, id) else {
+        unreachable!();
+    };
+    dir
+}
+
+/// What an object is that is there.
+fn body<T: TypeSet>(store: &Store<T>, id: ObjId) -> &StoredBody<T::Face, T::Inner>
+    requires { IsSome (stored_at store.now id) }
+    ensures body { option_map (λ x. x.body) (stored_at store.now id) ≡ Some result.now }
+    ensures store { IsStore store.now }
+{
+    let Some(object) = store.get(id) else {
+        unreachable!();
+    };
+    &object.body
+}
+
+/// What stands behind the separator that a rest begins with; none where it is empty.
+fn behind_separator<'a>(rest: Name<'a>) -> Option<Name<'a>>
+    requires { IsRest rest }
+    ensures { rest_of result ≡ rest.entry }
+{
+    let (_, behind) = rest.as_slice().split_first()?;
+    Some(Name::new(behind))
+}
