@@ -3,3 +3,5 @@ pub mod Steps
 pub mod Turns
 pub mod Onto
 pub mod Begins
+pub mod Stays
+pub mod Spaces

@@ -5,10 +5,14 @@
 mod closed;
 mod lookup;
 mod next;
+#[cfg(test)]
+mod space;
 mod start;
 mod terms;
+#[cfg(test)]
+mod tests;
 mod walk;
 
-pub use closed::sound_is_closed;
+pub use closed::{closed_stays, sound_is_closed};
 pub use lookup::look;
 pub use terms::{Look, Mode};

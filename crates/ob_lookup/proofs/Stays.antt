@@ -1,0 +1,119 @@
+-- A closed store stays closed.
+use Rattle.std.proofs.Common.{◌≡◌, ◌∙◌, ℕ, ◌<◌, ◌==◌, ◌+◌, Bool, true, false, cond, List, [], ◌∷◌, ◌++◌, find, map, Option, None, Some, option_map, All, IsSome, refl, ap, sym, subst, arith, eq-eqb}
+use Rattle.std.proofs.lemmas.Bool.{false≢true}
+use Rattle.std.proofs.lemmas.List.Elements.{All-nil, All-cons, All-head, All-tail, All-weaker, All-push}
+use Rattle.std.specs.Option.{option_and_then, is_some, unwrap_or}
+use Rattle.ob_model.specs.State.{root_id}
+use Rattle.ob_dirs.specs.declared.entry.DirEntry.{DirEntry}
+use Rattle.ob_dirs.specs.Dir.{row_of}
+use Rattle.ob_objects.specs.declared.object.StoredBody.{StoredBody}
+use Rattle.ob_objects.specs.declared.object.StoredBody.TheVariants.{Directory, Link, Other}
+use Rattle.ob_objects.specs.declared.object.StoredObject.{StoredObject}
+use Rattle.ob_objects.specs.Store.{Entries, IsStore, stored_at, directory_of, directory_at, entries_in, entries_at, rows_of}
+use Rattle.ob_objects.specs.Changes.{changed_at, body_with_name, with_name}
+use Rattle.ob_objects.proofs.Shown.{new_object_has_no_row, new_name_is_last, rows_are_entries}
+use Rattle.ob_lookup.specs.Closed.{IsClosed, ClosedWithObject, ClosedWithName}
+
+-- what is there
+some_of : {X : Type 0} (o : Option X) → IsSome o → (x : X) × (o ≡ Some x)
+some_of None e = absurd (false≢true e)
+some_of (Some x) e = (x, refl)
+
+-- where a test of two says the same, one is there where the other is
+some_from_test : {X : Type 0} (test : X → Bool) (a b : Option X) → option_map test a ≡ option_map test b → IsSome b → IsSome a
+some_from_test test None None e there = there
+some_from_test test None (Some y) e there = cc
+some_from_test test (Some x) b e there = refl
+
+module _ {F I : Type 0} where
+  -- ---- an object more
+
+  -- what was found still is
+  pub found_with_object : (store : Entries F I) (id k : ℕ) (x y : StoredObject F I) → stored_at store k ≡ Some y → stored_at (store ++ (id, x) ∷ []) k ≡ Some y
+  found_with_object [] id k x y e = cc
+  found_with_object (o ∷ store) id k x y e = go (o.0 == k) e (found_with_object store id k x y)
+    where
+      go : (t : Bool) → option_map (λ z. z.1) (cond t (Some o) (find (λ z. z.0 == k) store)) ≡ Some y
+          → (stored_at store k ≡ Some y → stored_at (store ++ (id, x) ∷ []) k ≡ Some y)
+          → option_map (λ z. z.1) (cond t (Some o) (find (λ z. z.0 == k) (store ++ (id, x) ∷ []))) ≡ Some y
+      go true e more = e
+      go false e more = more e
+
+  pub there_with_object : (store : Entries F I) (id k : ℕ) (x : StoredObject F I) → IsSome (stored_at store k) → IsSome (stored_at (store ++ (id, x) ∷ []) k)
+  there_with_object store id k x there =
+      let was = some_of (stored_at store k) there in
+      ap is_some (found_with_object store id k x was.0 was.1)
+
+  -- the new object is there
+  pub new_object_there : (store : Entries F I) (id : ℕ) (x : StoredObject F I) → IsSome (stored_at (store ++ (id, x) ∷ []) id)
+  new_object_there [] id x = ap (λ t. is_some (option_map (λ (z : ℕ × StoredObject F I). z.1) (cond t (Some (id, x)) None))) (eq-eqb id id refl)
+  new_object_there (o ∷ store) id x = go (o.0 == id) (new_object_there store id x)
+    where
+      go : (t : Bool) → IsSome (stored_at (store ++ (id, x) ∷ []) id) → IsSome (option_map (λ z. z.1) (cond t (Some o) (find (λ z. z.0 == id) (store ++ (id, x) ∷ []))))
+      go true more = refl
+      go false more = more
+
+  -- a directory has the entries that it had
+  pub directory_with_object : (store : Entries F I) (id d : ℕ) (x : StoredObject F I) → IsSome (directory_at store d) → directory_at (store ++ (id, x) ∷ []) d ≡ directory_at store d
+  directory_with_object store id d x there =
+      let was = some_of (stored_at store d) (go (stored_at store d) there) in
+      ap (option_and_then (λ (y : StoredObject F I). directory_of y.body)) (found_with_object store id d x was.0 was.1 ∙ sym was.1)
+    where
+      go : (o : Option (StoredObject F I)) → IsSome (option_and_then (λ y. directory_of y.body) o) → IsSome o
+      go None e = e
+      go (Some y) e = refl
+
+  pub closed_with_object : ClosedWithObject F I
+  closed_with_object store id x closed none = record {
+    root = subst IsSome (sym (directory_with_object store id root_id x closed.root)) closed.root;
+    rows = subst (All (λ r. IsSome (stored_at (store ++ (id, x) ∷ []) r.object))) (sym (new_object_has_no_row store id x none))
+        (All-weaker (λ r. IsSome (stored_at store r.object)) (λ r. IsSome (stored_at (store ++ (id, x) ∷ []) r.object)) (λ r there. there_with_object store id r.object x there) (rows_of store) closed.rows);
+  }
+
+  -- ---- a name more
+
+  -- a test that a change doesn't see says the same of what is found
+  tested : (store : Entries F I) (id k : ℕ) (change : StoredObject F I → StoredObject F I) (test : StoredObject F I → Bool)
+      → ((x : StoredObject F I) → test (change x) ≡ test x) → option_map test (stored_at (changed_at id change store) k) ≡ option_map test (stored_at store k)
+  tested [] id k change test same = refl
+  tested (o ∷ store) id k change test same = go (o.0 == id) (o.0 == k) refl (tested store id k change test same)
+    where
+      go : (t u : Bool) → (o.0 == k) ≡ u → option_map test (stored_at (changed_at id change store) k) ≡ option_map test (stored_at store k)
+          → option_map test (stored_at (cond t (o.0, change o.1) o ∷ changed_at id change store) k)
+          ≡ option_map test (option_map (λ z. z.1) (cond u (Some o) (find (λ z. z.0 == k) store)))
+      go true true e more = rw e (ap Some (same o.1))
+      go true false e more = rw e more
+      go false true e more = rw e refl
+      go false false e more = rw e more
+
+  pub there_with_name : (store : Entries F I) (d k : ℕ) (entry : DirEntry) → IsSome (stored_at store k) → IsSome (stored_at (with_name store d entry) k)
+  there_with_name store d k entry there =
+      some_from_test (λ x. true) (stored_at (with_name store d entry) k) (stored_at store k)
+      (tested store d k (λ x. record x { body = body_with_name entry x.body }) (λ x. true) (λ x. refl)) there
+
+  abbrev is_directory : StoredObject F I → Bool
+  is_directory x = is_some (directory_of x.body)
+
+  still_directory : (entry : DirEntry) (body : StoredBody F I) → is_some (directory_of (body_with_name entry body)) ≡ is_some (directory_of body)
+  still_directory entry (Directory es) = refl
+  still_directory entry (Link target) = refl
+  still_directory entry (Other face inner) = refl
+
+  directory_by_test : (o : Option (StoredObject F I)) → is_some (option_and_then (λ x. directory_of x.body) o) ≡ unwrap_or (option_map is_directory o) false
+  directory_by_test None = refl
+  directory_by_test (Some x) = refl
+
+  pub directory_with_name : (store : Entries F I) (d k : ℕ) (entry : DirEntry) → IsSome (directory_at store k) → IsSome (directory_at (with_name store d entry) k)
+  directory_with_name store d k entry there =
+      directory_by_test (stored_at (with_name store d entry) k)
+      ∙ ap (λ (o : Option Bool). unwrap_or o false) (tested store d k (λ x. record x { body = body_with_name entry x.body }) is_directory (λ x. still_directory entry x.body))
+      ∙ sym (directory_by_test (stored_at store k)) ∙ there
+
+  pub closed_with_name : ClosedWithName F I
+  closed_with_name store d entry is closed there newest object = record {
+    root = directory_with_name store d root_id entry closed.root;
+    rows = subst (All (λ r. IsSome (stored_at (with_name store d entry) r.object))) (sym (new_name_is_last store d entry is there newest))
+        (All-push (λ r. IsSome (stored_at (with_name store d entry) r.object)) (rows_of store) (row_of d entry)
+        (All-weaker (λ r. IsSome (stored_at store r.object)) (λ r. IsSome (stored_at (with_name store d entry) r.object)) (λ r was. there_with_name store d r.object entry was) (rows_of store) closed.rows)
+        (there_with_name store d entry.object entry object));
+  }
