@@ -6,6 +6,8 @@ mod closed;
 mod lookup;
 mod next;
 #[cfg(test)]
+mod plain;
+#[cfg(test)]
 mod space;
 mod start;
 mod terms;

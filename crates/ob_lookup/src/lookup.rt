@@ -22,12 +22,22 @@ use std::alloc::Global;
 /// Looks a name up: an absolute one where `root` is none, else relative to the object `root`, which
 /// must be there. So must be the root directory, and each object that an entry names.
 ///
-/// At most `budget` reparses are made; where one more is wanted the lookup ends in `ReparseLimit`,
-/// whatever the length of what it would look up. No object is asked to parse what follows it in a
-/// name, and `\??` is a name like another: parse procedures and device maps have not come yet.
+/// The refusals:
 ///
-/// The only fault is `Memory`, for a text that a link makes or for a vacant component. Nothing is
-/// changed in any case.
+/// - `ObjectPathSyntaxBad`: an absolute name, or a target that is followed, doesn't begin with a
+///   separator, or a relative name does; for a relative name this is told before all else.
+/// - `ObjectTypeMismatch`: the object `root` is no directory, or something follows an object that is
+///   neither a directory nor a link.
+/// - `ObjectNameInvalid`: a component is empty, or a create would put `??` into the root directory.
+/// - `ObjectPathNotFound`: a component names nothing, and something follows it.
+/// - `ObjectNameNotFound`: the last component names nothing, and nothing is to be created.
+/// - `ReparseLimit`: a reparse more than `budget` is wanted, however long what it makes.
+/// - `NameTooLong`: a target and what follows the link make more than 32,767 bytes.
+///
+/// No object is asked to parse what follows it in a name, and `\??` is a name like another: parse
+/// procedures and device maps have not come yet.
+///
+/// The only fault is `Memory`, for a text that a link makes or for a vacant component.
 ///
 /// Source: Windows Internals, Object Manager (object names, symbolic links); OBJECT_ATTRIBUTES
 /// structure (Windows Driver Kit). The refusals and their order are this profile.

@@ -4,6 +4,9 @@ use ob_base::{ObjId, Status};
 use ob_names::NameBuf;
 
 /// How a name is looked up.
+///
+/// Source: OBJECT_ATTRIBUTES structure (Windows Driver Kit), OBJ_CASE_INSENSITIVE and OBJ_OPENLINK;
+/// what a create does is this profile.
 #[derive(Clone, Copy, PartialEq, Eq, Debug)]
 pub struct Mode {
     /// Whether it is looked up to create an object of that name: then the last component may be
@@ -15,7 +18,7 @@ pub struct Mode {
     pub follow: bool,
 }
 
-/// What a lookup ends with.
+/// What a lookup ends with. (this profile)
 #[derive(Debug, Drop)]
 pub enum Look {
     /// An object.
@@ -27,6 +30,6 @@ pub enum Look {
         /// The component, which is to be the entry's name.
         component: NameBuf,
     },
-    /// A refusal.
+    /// A refusal, with its status.
     Refused(Status),
 }

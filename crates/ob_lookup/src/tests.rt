@@ -1,13 +1,14 @@
 //! Names looked up in small namespaces, and beside a plain search over flat rows.
 
-ghost use Rattle.std.specs.Prelude.{◌≡◌, [], IfOk};
+ghost use Rattle.std.specs.Prelude.{◌≡◌, ◌<◌, [], IfOk};
 ghost use Rattle.ob_objects.specs.Store.{entries_in};
 
+use crate::plain::{End, Kind, PlainRow, search};
 use crate::space::Space;
 use crate::{Look, Mode, closed_stays, look, sound_is_closed};
 use ob_base::{ObjId, Status};
 use ob_dirs::Dir;
-use ob_names::{Component, Name, NameBuf, first, same};
+use ob_names::{Name, NameBuf};
 use ob_objects::StoredBody;
 use ob_plain::{PlainFace, PlainInner, PlainKind, Standard};
 use ob_types::TypeSet;
@@ -42,14 +43,6 @@ const CREATE: Mode = Mode {
     fold: false,
     follow: true,
 };
-
-// What a lookup is wanted to end with.
-#[derive(Clone, Copy)]
-enum End<'a> {
-    At(u64),
-    Vacant(u64, &'a [u8]),
-    Refused(Status),
-}
 
 fn is_end(look: &Look, end: End<'_>) -> bool {
     match (look, end) {
@@ -252,4 +245,81 @@ fn the_limit_is_told_before_the_length(rt: HostRuntime) -> Result<(), Fail> {
 fn laws_hold_at_a_concrete_set(_rt: HostRuntime) {
     sound_is_closed::<u8, u16, u32, u64>();
     closed_stays::<u32, u64>();
+}
+
+// The names, the kinds and the links of the namespaces below, and what is looked up in them.
+const NAMES: [u8; 3] = [b'a', b'A', b'b'];
+
+const TARGETS: [&[u8]; 5] = [b"\\a", b"\\b\\", b"\\A\\a", b"b", b"\\"];
+
+const LOOKED_UP: [&[u8]; 8] = [
+    b"\\a",
+    b"\\b",
+    b"\\A\\a",
+    b"\\b\\b",
+    b"\\a\\b\\a",
+    b"\\b\\A\\",
+    b"\\a\\\\b",
+    b"\\b\\a\\b",
+];
+
+// The digit of a number at a place, in a base above 0.
+fn digit(number: u64, place: u32, base: u64) -> u64
+    requires { 0 < base }
+    ensures { result < base }
+{
+    let mut left = number;
+    for _ in 0..place {
+        left /= 7;
+    }
+    left % base
+}
+
+// The namespace of a number: up to four objects, in directories that came before them.
+fn numbered(alloc: Global, number: u64, rows: &mut Vec<PlainRow>) -> Result<Space, Fail> {
+    let mut space = Space::new(alloc)?;
+    let mut last = ROOT;
+    for k in 0..4u32 {
+        let directory_id = if digit(number, k, 2) == 0 { ROOT } else { last };
+        let name = NAMES[(digit(number, k + 1, 3)) as usize];
+        let is_row = |row: &PlainRow| row.directory == directory_id.0 && row.name == name;
+        if rows.iter().any(is_row) {
+            continue;
+        }
+        let target = TARGETS[(digit(number, k + 2, 5)) as usize];
+        let (kind, body) = match digit(number, k, 7) {
+            0 | 1 | 2 => (Kind::Directory, directory(alloc)),
+            3 => (Kind::Event, event(alloc)?),
+            _ => (Kind::Link(target), link(alloc, target)?),
+        };
+        let is_directory = matches!(kind, Kind::Directory);
+        let id = space.add(alloc, directory_id, &[name], body)?;
+        rows.push(PlainRow {
+            directory: directory_id.0,
+            name,
+            object: id.0,
+            kind,
+        })?;
+        if is_directory {
+            last = id;
+        }
+    }
+    Ok(space)
+}
+
+#[test]
+fn ends_as_a_plain_search(rt: HostRuntime) -> Result<(), Fail> {
+    let alloc = rt.alloc();
+    for number in 0..343u64 {
+        let mut rows = Vec::new(alloc);
+        let space = numbered(alloc, number * 7, &mut rows)?;
+        for name in LOOKED_UP {
+            for mode in [OPEN, OPEN_FOLDED, OPEN_LINK, CREATE] {
+                let found = look(alloc, space.store(), None, Name::read(name)?, mode, 3)?;
+                let end = search(alloc, rows.as_slice(), mode, name, 3)?;
+                assert!(rt; is_end(&found, end), "at {number} {name:?}");
+            }
+        }
+    }
+    Ok(())
 }
