@@ -82,7 +82,8 @@ fn look_from<T: TypeSet>(
     requires closed { IsClosed store.now }
     requires directory { IsSome (directory_at store.now start.directory) }
     ensures left { IfOk result (λ next. IfAgain next (0 < left)) }
-    ensures goes { IfOk result (λ next. (s : State T.Kind T T.Face T.Inner) (p : ℕ) (end : machine.Look) → Shows s store.now
+    ensures goes { IfOk result (λ next.
+        (s : State T.Kind T T.Face T.Inner) (p : ℕ) (end : machine.Look) → Shows s store.now
         → Goes (without_parse T.procedures) s p (mode_of mode) left (turn_of next) end
         → machine.Looks (without_parse T.procedures) s p (mode_of mode) left (place_of start.entry) (text_of start.entry) end) }
     ensures memory { IfErr result (λ fault. fault ≡ Fault.Memory) }
@@ -100,7 +101,8 @@ fn look_again<T: TypeSet>(
 ) -> Result<Next, Fault>
     requires { IsClosed store.now }
     ensures left { IfOk result (λ next. IfAgain next (0 < left)) }
-    ensures goes { IfOk result (λ next. (s : State T.Kind T T.Face T.Inner) (p : ℕ) (end : machine.Look) → Shows s store.now
+    ensures goes { IfOk result (λ next.
+        (s : State T.Kind T T.Face T.Inner) (p : ℕ) (end : machine.Look) → Shows s store.now
         → Goes (without_parse T.procedures) s p (mode_of mode) left (turn_of next) end
         → LooksAgain (without_parse T.procedures) s p (mode_of mode) left text.entry end) }
     ensures memory { IfErr result (λ fault. fault ≡ Fault.Memory) }

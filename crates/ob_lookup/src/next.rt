@@ -45,7 +45,8 @@ fn at_miss(
     component: Name<'_>,
     last: bool,
 ) -> Result<Look, AllocError>
-    ensures { IfOk result (λ look. machine.at_miss (mode_of mode) directory component.entry last ≡ machine.Over (look_of look)) }
+    ensures { IfOk result (λ look.
+        machine.at_miss (mode_of mode) directory component.entry last ≡ machine.Over (look_of look)) }
 {
     let bytes = component.as_slice();
     if bytes.is_empty() {
@@ -74,7 +75,8 @@ fn at_link(
     target: Name<'_>,
     rest: Name<'_>,
 ) -> Result<Next, Fault>
-    ensures turn { IfOk result (λ next. turn_of next ≡ turn_at left (machine.at_link (mode_of mode) id target.entry rest.entry)) }
+    ensures turn { IfOk result (λ next. turn_of next
+        ≡ turn_at left (machine.at_link (mode_of mode) id target.entry rest.entry)) }
     ensures memory { IfErr result (λ fault. fault ≡ Fault.Memory) }
 {
     let follows = mode.follow && !mode.create;

@@ -8,7 +8,8 @@ ghost use Rattle.ob_model.specs.Grants.{open_refusal_of, opened_set};
 ghost use Rattle.ob_model.specs.Closing.{closed_set};
 ghost use Rattle.ob_types.specs.Told.{reason_of};
 ghost use Rattle.ob_objects.specs.Store.{directory_of, entries_in, body_of_stored};
-ghost use Rattle.ob_objects.specs.Changes.{body_with_name, body_without_name, stored_opened, stored_closed};
+ghost use Rattle.ob_objects.specs.Changes.{body_with_name, body_without_name};
+ghost use Rattle.ob_objects.specs.Changes.{stored_opened, stored_closed};
 
 use crate::{StoredBody, StoredObject};
 use ob_base::{Fault, ObjId};
@@ -36,7 +37,9 @@ pub(crate) fn insert_name<F, I>(
     requires free { All (λ entry. entry.name ≢ name) (entries_in stored.old.body) }
     requires newest { All (λ entry. entry.stamp < stamp) (entries_in stored.old.body) }
     ensures last { IfOk result (λ _. stored.new
-        ≡ record stored.old { body = body_with_name (record { stamp = stamp; name = name; object = object }) stored.old.body }) }
+        ≡ record stored.old {
+          body = body_with_name (record { stamp = stamp; name = name; object = object }) stored.old.body;
+        }) }
     ensures memory { IfErr result (λ fault. fault ≡ Fault.Memory) }
     ensures unchanged { OnErr result (stored.new ≡ stored.old) }
 {

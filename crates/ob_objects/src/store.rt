@@ -7,7 +7,13 @@ ghost use Rattle.std.specs.Option.{option_copied};
 ghost use Rattle.ob_types.specs.Told.{reason_of};
 ghost use Rattle.ob_objects.specs.Store.{IsStore, stored_at, directory_at, entries_at};
 ghost use Rattle.ob_objects.specs.Changes.{without_object, with_name, without_name, with_permanence};
-ghost use Rattle.ob_objects.specs.Changes.{refusal_to_open, with_opened, set_after_open, with_closed, set_after_close};
+ghost use Rattle.ob_objects.specs.Changes.{
+  refusal_to_open,
+  with_opened,
+  set_after_open,
+  with_closed,
+  set_after_close,
+};
 
 use crate::{StoredObject, changes};
 use ob_base::{Fault, ObjId};
@@ -164,8 +170,10 @@ impl<T: TypeSet> Store<T> {
     ///
     /// Source: Windows Internals, Object Manager: open methods.
     pub fn open(&mut self, id: ObjId, set: &mut T, reason: Reason) -> Result<(), u16>
-        ensures accepted { IfOk result (λ _. refusal_to_open T.procedures self.old set.old id (reason_of reason) ≡ None) }
-        ensures refused { IfErr result (λ code. refusal_to_open T.procedures self.old set.old id (reason_of reason) ≡ Some code) }
+        ensures accepted { IfOk result (λ _.
+            refusal_to_open T.procedures self.old set.old id (reason_of reason) ≡ None) }
+        ensures refused { IfErr result (λ code.
+            refusal_to_open T.procedures self.old set.old id (reason_of reason) ≡ Some code) }
         ensures opened { self.new ≡ with_opened T.procedures self.old set.old id (reason_of reason) }
         ensures set { set.new ≡ set_after_open T.procedures self.old set.old id (reason_of reason) }
         ensures unchanged { OnErr result (self.new ≡ self.old) }
