@@ -2,5 +2,15 @@ pub mod Staying
 pub mod Rows
 pub mod Walking
 pub mod Marks
-pub mod Stepping
 pub mod Owned
+pub mod Changes
+pub mod Results
+pub mod Orders
+pub mod Backward
+pub mod Stepping
+pub mod Closed
+pub mod Granted
+pub mod Judged
+pub mod WaysUp
+pub mod Queries
+pub mod Made

@@ -1,23 +1,16 @@
 -- A lookup from the root directory reads the objects and the rows alone.
 use Rattle.std.proofs.Common.{◌≡◌, ℕ, Bool, false, List, [], ◌∷◌, refl, inl, inr, ◌∙◌}
 use Rattle.std.specs.Prelude.{Option, None, Some, MatchOption}
-use Rattle.ob_model.specs.declared.state.Object.{Object}
-use Rattle.ob_model.specs.declared.state.Row.{Row}
-use Rattle.ob_model.specs.declared.state.Held.{Held}
-use Rattle.ob_model.specs.State.{root_id}
 use Rattle.ob_model.specs.Paths.{InDirectory, IsPath, entry, place_behind}
 use Rattle.ob_model.specs.Looks.{Look, Refused, Stop, Missed, Reached, Over, IsStop}
 use Rattle.ob_model.specs.FirstLooks.{FirstLooks, first_origin, first_next}
 use Rattle.ob_base.specs.declared.status.Status.TheVariants.{ObjectPathSyntaxBad}
-use Rattle.ob_core.specs.declared.types.NoType.{NoType}
-use Rattle.ob_core.specs.Namespace.{Namespace, namespace, owned_by}
+use Rattle.ob_model.specs.State.{State, root_id}
+use Rattle.ob_core.specs.Namespace.{listed}
 
-module _ (objects : List (Object NoType NoType)) (rows : List Row) (handles : List Held) (process i j k : ℕ) where
-  abbrev bare : Namespace
-  bare = namespace objects rows [] 0 0 0
-
-  abbrev whole : Namespace
-  whole = owned_by process (namespace objects rows handles i j k)
+module _ {K T F I : Type 0} (whole : State K T F I) where
+  abbrev bare : State (Unit {0}) (Unit {0}) F I
+  bare = listed whole.objects whole.rows []
 
   path_owned : (d : ℕ) (cs : List (List ℕ)) (o : ℕ) → IsPath bare (InDirectory d) cs false o → IsPath whole (InDirectory d) cs false o
   path_owned d [] o p = p

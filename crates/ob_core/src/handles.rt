@@ -1,12 +1,12 @@
 //! The handles of a namespace, as a flat list in the order in which they were opened.
 
-ghost use Rattle.std.specs.Prelude.{◌≡◌, [], filter, not};
+ghost use Rattle.std.specs.Prelude.{◌≡◌, ◌&&◌, ◌==◌, filter, not, count_by};
 ghost use Rattle.std.specs.Option.{option_and_then, option_copied};
 ghost use Rattle.ob_base.specs.Handle.{key_of};
 ghost use Rattle.ob_model.specs.State.{held_of};
 ghost use Rattle.ob_model.specs.Closing.{is_handle};
 ghost use Rattle.ob_model.specs.Grants.{has_other_holder};
-ghost use Rattle.ob_core.specs.Namespace.{namespace};
+ghost use Rattle.ob_core.specs.Namespace.{handles_alone};
 
 use ob_base::{Handle, ObjId, Proc};
 use ob_model::Held;
@@ -20,14 +20,14 @@ fn is_handle(held: &Held, process: Proc, value: Handle) -> bool
 
 /// The handle of this value that a process holds.
 fn held_at(handles: &[Held], process: Proc, value: Handle) -> Option<&Held>
-    ensures { option_copied result ≡ held_of (namespace [] [] handles.now 0 0 0) process value }
+    ensures { option_copied result ≡ held_of (handles_alone handles.now) process value }
 {
     handles.iter().find(|held| is_handle(held, process, value))
 }
 
 /// The handle that a process names by a value, whose low two bits are ignored.
 pub(crate) fn held_of(handles: &[Held], process: Proc, handle: Handle) -> Option<Held>
-    ensures { result ≡ option_and_then (held_of (namespace [] [] handles.now 0 0 0) process) (key_of handle) }
+    ensures { result ≡ option_and_then (held_of (handles_alone handles.now) process) (key_of handle) }
 {
     match handle.key() {
         Some(key) => held_at(handles, process, Handle(key)).copied(),
@@ -42,9 +42,26 @@ pub(crate) fn take(handles: &mut Vec<Held>, taken: Held)
     handles.retain(|held| !is_handle(held, taken.process, taken.value));
 }
 
+/// How many handles lead to an object, in all.
+pub(crate) fn handle_count(handles: &[Held], object: ObjId) -> usize
+    ensures { result ≡ count_by (λ h. h.object == object) handles.now }
+{
+    handles.iter().filter(|held| held.object == object).count()
+}
+
+/// How many handles of a process lead to an object.
+pub(crate) fn handle_count_in(handles: &[Held], process: Proc, object: ObjId) -> usize
+    ensures { result ≡ count_by (λ h. (h.process == process) && (h.object == object)) handles.now }
+{
+    handles
+        .iter()
+        .filter(|held| held.process == process && held.object == object)
+        .count()
+}
+
 /// Whether a process other than this one has a handle to an object.
 pub(crate) fn has_other_holder(handles: &[Held], process: Proc, object: ObjId) -> bool
-    ensures { result ≡ has_other_holder (namespace [] [] handles.now 0 0 0) process object }
+    ensures { result ≡ has_other_holder (handles_alone handles.now) process object }
 {
     handles
         .iter()

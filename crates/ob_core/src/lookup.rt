@@ -7,12 +7,12 @@ ghost use Rattle.ob_model.specs.State.{is_directory, root_id};
 ghost use Rattle.ob_model.specs.Paths.{found, is_match, InDirectory};
 ghost use Rattle.ob_model.specs.Looks.{IsStop, at_miss as machine_at_miss, Over};
 ghost use Rattle.ob_model.specs.FirstLooks.{FirstLooks, first_origin, first_next};
-ghost use Rattle.ob_core.specs.Namespace.{namespace};
+ghost use Rattle.ob_core.specs.Namespace.{listed, rows_alone};
 ghost use Rattle.ob_core.specs.Lookup.{stop_of, look_of, earlier_of};
 
-use crate::objects::{Entity, ROOT, is_directory};
+use crate::objects::{ROOT, is_directory};
 use ob_base::{ObjId, Status};
-use ob_model::Row;
+use ob_model::{Object, Row};
 use ob_names::{Component, first, same};
 
 /// Where a walk stops.
@@ -53,14 +53,14 @@ pub(crate) enum Look<'a> {
 }
 
 /// Looks an absolute name up.
-pub(crate) fn look_up<'a>(
-    objects: &[Entity],
+pub(crate) fn look_up<'a, F, I>(
+    objects: &[Object<F, I>],
     rows: &[Row],
     name: &'a [u8],
     create: bool,
 ) -> Look<'a>
-    requires { is_directory (namespace objects.now [] [] 0 0 0) root_id ≡ true }
-    ensures { FirstLooks (namespace objects.now rows.now [] 0 0 0) create name.now (look_of result) }
+    requires { is_directory (listed objects.now [] []) root_id ≡ true }
+    ensures { FirstLooks (listed objects.now rows.now []) create name.now (look_of result) }
 {
     let Some(text) = origin(name) else {
         return Look::Refused(Status::ObjectPathSyntaxBad);
@@ -117,10 +117,10 @@ fn at_miss(create: bool, directory: ObjId, component: &[u8], last: bool) -> Look
 }
 
 /// Walks a text from the root directory, component by component.
-fn walk<'a>(objects: &[Entity], rows: &[Row], text: &'a [u8]) -> Stop<'a>
-    requires root { is_directory (namespace objects.now [] [] 0 0 0) root_id ≡ true }
+fn walk<'a, F, I>(objects: &[Object<F, I>], rows: &[Row], text: &'a [u8]) -> Stop<'a>
+    requires root { is_directory (listed objects.now [] []) root_id ≡ true }
     requires bounded { IsRest text.now }
-    ensures { IsStop (namespace objects.now rows.now [] 0 0 0) (InDirectory root_id) text.now false (stop_of result) }
+    ensures { IsStop (listed objects.now rows.now []) (InDirectory root_id) text.now false (stop_of result) }
 {
     let mut directory = ROOT;
     let mut rest = text;
@@ -157,7 +157,7 @@ fn walk<'a>(objects: &[Entity], rows: &[Row], text: &'a [u8]) -> Stop<'a>
 /// The row that is found in a directory: of those with the component's bytes, the one of least
 /// stamp.
 fn found<'a>(rows: &'a [Row], directory: ObjId, component: &[u8]) -> Option<&'a Row>
-    ensures { option_copied result ≡ found (namespace [] rows.now [] 0 0 0) directory component.now false }
+    ensures { option_copied result ≡ found (rows_alone rows.now) directory component.now false }
 {
     let mut best: Option<&Row> = None;
     for row in rows {

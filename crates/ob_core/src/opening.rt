@@ -4,16 +4,14 @@ ghost use Rattle.std.specs.Prelude.{◌≡◌, IfOk, IfErr, ◌∷◌, [], true,
 ghost use Rattle.ob_model.specs.declared.state.Body.{Body};
 ghost use Rattle.ob_model.specs.State.{State};
 ghost use Rattle.ob_model.specs.Opening.{opening, standing, root_row};
-ghost use Rattle.ob_core.specs.Namespace.{first_state};
 
-use crate::objects::{Entity, ROOT};
-use crate::types::NoType;
+use crate::objects::ROOT;
 use ob_base::ObjId;
 use ob_model::{Body, Bytes, Object, Row};
 use std::alloc::{AllocError, Global};
 
 /// An object of the opening state: permanent, and not exclusive.
-fn standing(id: u64, body: Body<NoType, NoType>) -> Entity
+fn standing<F, I>(id: u64, body: Body<F, I>) -> Object<F, I>
     ensures { result ≡ standing id body }
 {
     Object {
@@ -37,23 +35,25 @@ fn root_row(alloc: Global, stamp: u64, name: &[u8], object: u64) -> Result<Row, 
 }
 
 /// The objects of the opening state.
-pub(crate) fn opening_objects(alloc: Global) -> Result<Vec<Entity>, AllocError>
-    ensures { IfOk result (λ objects. objects.items ≡ first_state.objects) }
+pub(crate) fn opening_objects<F: Drop, I: Drop>(
+    alloc: Global,
+) -> Result<Vec<Object<F, I>>, AllocError>
+    ensures { IfOk result (λ objects. objects.items ≡ (opening {K = Unit {0}} (tt {0})).objects) }
 {
     let view = Bytes::from_slice(alloc, b"\\??")?;
-    Ok(vec![in alloc;
-        standing(1, Body::Directory),
-        standing(2, Body::Directory),
-        standing(3, Body::Link(view)),
-        standing(4, Body::Directory),
-        standing(5, Body::Directory),
-        standing(6, Body::Directory),
-    ]?)
+    let mut objects = Vec::new(alloc);
+    objects.push(standing(1, Body::Directory))?;
+    objects.push(standing(2, Body::Directory))?;
+    objects.push(standing(3, Body::Link(view)))?;
+    objects.push(standing(4, Body::Directory))?;
+    objects.push(standing(5, Body::Directory))?;
+    objects.push(standing(6, Body::Directory))?;
+    Ok(objects)
 }
 
 /// The rows of the opening state.
 pub(crate) fn opening_rows(alloc: Global) -> Result<Vec<Row>, AllocError>
-    ensures { IfOk result (λ rows. rows.items ≡ first_state.rows) }
+    ensures { IfOk result (λ rows. rows.items ≡ (opening {K = Unit {0}} {F = Unit {0}} {I = Unit {0}} (tt {0})).rows) }
 {
     Ok(vec![in alloc;
         root_row(alloc, 1, b"GLOBAL??", 2)?,

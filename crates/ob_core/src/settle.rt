@@ -1,59 +1,75 @@
 //! What stays at the end of a step.
 
-ghost use Rattle.std.specs.Prelude.{◌≡◌, ◌==◌, ◌||◌, [], filter};
+ghost use Rattle.std.specs.Prelude.{◌≡◌, ◌==◌, ◌||◌, false, [], filter, not, All};
 ghost use Rattle.std.specs.List.{list_any};
 ghost use Rattle.ob_model.specs.State.{root_id, global_id};
-ghost use Rattle.ob_model.specs.Settle.{is_kept, is_alive, is_permanent, has_handle};
-ghost use Rattle.ob_core.specs.Namespace.{namespace};
+ghost use Rattle.ob_model.specs.Settle.{settle, is_kept, is_permanent, has_handle, deleted_all};
+ghost use Rattle.ob_core.specs.Namespace.{state_of, listed, handles_alone};
+ghost use Rattle.ob_core.specs.Orderly.{IsOrderly, IsIdleUnheld};
 ghost use Rattle.ob_core.specs.Settling.{is_held_up};
 
-use crate::objects::{Entity, GLOBAL, ROOT, object_of};
+use crate::calls::delete_body;
+use crate::objects::{GLOBAL, ROOT, object_of};
+use crate::space::Namespace;
 use ob_base::ObjId;
-use ob_model::{Held, Row};
+use ob_model::{Held, Object, Row};
+use ob_types::TypeSet;
 
-/// Takes away the names and the objects that don't stay, both judged as they were before. No
-/// memory is taken.
-pub(crate) fn settle(objects: &mut Vec<Entity>, rows: &mut Vec<Row>, handles: &[Held])
-    ensures rows { rows.new.items
-        ≡ filter (is_kept (namespace objects.old.items rows.old.items handles.now 0 0 0)) rows.old.items }
-    ensures objects { objects.new.items
-        ≡ filter (λ x. is_alive (namespace objects.old.items rows.old.items handles.now 0 0 0) x.id) objects.old.items }
+/// Takes away the names and the objects that don't stay, both judged as they were before, and
+/// deletes those objects from the highest number down. No memory is taken.
+pub(crate) fn settle<T: TypeSet>(space: &mut Namespace<T, T::Face, T::Inner>)
+    requires { IsOrderly T.idle (state_of T.Kind space.old) }
+    ensures orderly { IsOrderly T.idle (state_of T.Kind space.new) }
+    ensures settled { state_of T.Kind space.new ≡ settle T.procedures (state_of T.Kind space.old) }
 {
-    keep_rows(rows, objects, handles);
-    keep_objects(objects, rows, handles);
+    keep_rows(&mut space.rows, &space.objects, &space.handles);
+    keep_objects(space);
 }
 
 /// Takes away the names that don't stay.
-fn keep_rows(rows: &mut Vec<Row>, objects: &[Entity], handles: &[Held])
-    ensures { rows.new.items ≡ filter (is_kept (namespace objects.now [] handles.now 0 0 0)) rows.old.items }
+fn keep_rows<F, I>(rows: &mut Vec<Row>, objects: &[Object<F, I>], handles: &[Held])
+    ensures { rows.new.items ≡ filter (is_kept (listed objects.now [] handles.now)) rows.old.items }
 {
     rows.retain(|row| is_kept(objects, handles, row));
 }
 
-/// Takes away the objects that don't stay, given the names that stay.
-fn keep_objects(objects: &mut Vec<Entity>, kept: &[Row], handles: &[Held])
-    ensures { objects.new.items ≡ filter (λ x. is_held_up kept.now handles.now x.id) objects.old.items }
+/// Takes away and deletes the objects that don't stay, given the names that stay, from the last one
+/// back.
+fn keep_objects<T: TypeSet>(space: &mut Namespace<T, T::Face, T::Inner>)
+    requires { All (IsIdleUnheld T.idle space.old.handles.items) space.old.objects.items }
+    ensures { state_of T.Kind space.new ≡ record (state_of T.Kind space.old) {
+      objects = filter (λ x. is_held_up space.old.rows.items space.old.handles.items x.id) space.old.objects.items;
+      set = deleted_all T.procedures space.old.set
+          (filter (λ x. not (is_held_up space.old.rows.items space.old.handles.items x.id)) space.old.objects.items);
+    } }
 {
-    objects.retain(|object| is_held_up(kept, handles, object.id));
+    let mut index = space.objects.len();
+    while index > 0 {
+        index -= 1;
+        if !is_held_up(&space.rows, &space.handles, space.objects[index].id) {
+            let object = space.objects.remove(index);
+            delete_body(&mut space.set, object.body);
+        }
+    }
 }
 
 /// Whether a name stays: its object is permanent or has a handle.
-fn is_kept(objects: &[Entity], handles: &[Held], row: &Row) -> bool
-    ensures { result ≡ is_kept (namespace objects.now [] handles.now 0 0 0) row.now }
+fn is_kept<F, I>(objects: &[Object<F, I>], handles: &[Held], row: &Row) -> bool
+    ensures { result ≡ is_kept (listed objects.now [] handles.now) row.now }
 {
     is_permanent(objects, row.object) || has_handle(handles, row.object)
 }
 
 /// Whether an object is there and is permanent.
-fn is_permanent(objects: &[Entity], id: ObjId) -> bool
-    ensures { result ≡ is_permanent (namespace objects.now [] [] 0 0 0) id }
+fn is_permanent<F, I>(objects: &[Object<F, I>], id: ObjId) -> bool
+    ensures { result ≡ is_permanent (listed objects.now [] []) id }
 {
     object_of(objects, id).is_some_and(|object| object.permanent)
 }
 
 /// Whether an object has a handle.
 fn has_handle(handles: &[Held], id: ObjId) -> bool
-    ensures { result ≡ has_handle (namespace [] [] handles.now 0 0 0) id }
+    ensures { result ≡ has_handle (handles_alone handles.now) id }
 {
     handles.iter().any(|held| held.object == id)
 }

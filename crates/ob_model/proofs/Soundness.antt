@@ -1,10 +1,10 @@
 -- The opening state is sound, and what keeps a state so: settling, a new object, an open with its
 -- grant, and a close.
-use Rattle.std.proofs.Common.{◌≡◌, ℕ, ◌<◌, ◌==◌, Bool, true, false, not, if◌then◌else◌, List, [], ◌∷◌, length, get_or, map, find, All, Option, None, Some, MatchOption, option_map, is_some, refl, ap, ◌∙◌, eq-eqb}
+use Rattle.std.proofs.Common.{◌≡◌, ℕ, ◌<◌, ◌+◌, ◌==◌, Bool, true, false, ◌&&◌, not, if◌then◌else◌, List, [], ◌∷◌, length, get_or, map, find, All, Option, None, Some, MatchOption, option_map, is_some, refl, ap, ◌∙◌, eq-eqb}
 use Rattle.std.specs.List.{list_any}
 use Rattle.std.specs.Option.{option_map_or, option_or}
 use Rattle.std.proofs.lemmas.Bool.{or_right}
-use Rattle.std.proofs.lemmas.List.Elements.{All-nil, All-from_recursion, All-push, All-weaker, All-filter}
+use Rattle.std.proofs.lemmas.List.Elements.{All-nil, All-from_recursion, All-append, All-push, All-weaker, All-filter}
 use Rattle.std.proofs.lemmas.List.Folds.{find-append, list_any_at}
 use Rattle.ob_base.specs.Attrs.{has_flag, permanent_flag, exclusive_flag}
 use Rattle.ob_model.specs.declared.state.Body.{Body}
@@ -15,11 +15,11 @@ use Rattle.ob_model.specs.declared.state.Held.{Held}
 use Rattle.ob_model.specs.declared.state.Process.{Process}
 use Rattle.ob_model.specs.State.{State, root_id, global_id, object_of, is_directory, is_directory_body}
 use Rattle.ob_model.specs.Opening.{opening}
-use Rattle.ob_model.specs.Procedures.{Procedures, Reason}
-use Rattle.ob_model.specs.Settle.{is_kept, has_name, is_mapped, settle}
-use Rattle.ob_model.specs.Grants.{opened_body, opened_object, with_open, with_handle}
+use Rattle.ob_model.specs.Procedures.{Procedures, Reason, Created}
+use Rattle.ob_model.specs.Settle.{is_kept, has_name, is_mapped, deleted_one, settle}
+use Rattle.ob_model.specs.Grants.{opened_body, opened_set, opened_object, with_open, with_handle}
 use Rattle.ob_model.specs.Closing.{is_handle, closed_body, closed_object, closed_handle}
-use Rattle.ob_model.specs.Step.{created}
+use Rattle.ob_model.specs.Creates.{Spot, new_rows, with_object, with_row, created, dropped}
 use Rattle.ob_model.specs.Sound.{IsSound, IsDirectory, Stands, HasSoundMap}
 use Rattle.ob_model.proofs.Finds.{find-map, All-kept}
 use Rattle.ob_model.proofs.Settled.{is_directory-settle, stands-settle, alive_from_handle, alive_from_map, alive_from_row, rows_are_names}
@@ -48,7 +48,7 @@ module _ {F I : Type 0} (f : Object F I → Object F I) (same_id : (x : Object F
       go (Some x) = refl
 
 module _ {K T F I : Type 0} (g : Procedures K T F I) where
-  opened_object-id : (set : T) (o : ℕ) (reason : Reason) (x : Object F I) → (opened_object g set o reason x).id ≡ x.id
+  pub opened_object-id : (set : T) (o : ℕ) (reason : Reason) (x : Object F I) → (opened_object g set o reason x).id ≡ x.id
   opened_object-id set o reason x = elim (x.id == o) as (λ b. (if b then record x { body = opened_body g set x.body reason } else x).id ≡ x.id) [ true ↦ refl | false ↦ refl ]
 
   opened_body-is_directory : (set : T) (reason : Reason) (body : Body F I) → is_directory_body (opened_body g set body reason) ≡ is_directory_body body
@@ -61,7 +61,7 @@ module _ {K T F I : Type 0} (g : Procedures K T F I) where
       elim (x.id == o) as (λ b. is_directory_body (if b then record x { body = opened_body g set x.body reason } else x).body ≡ is_directory_body x.body)
       [ true ↦ opened_body-is_directory set reason x.body | false ↦ refl ]
 
-  closed_object-id : (set : T) (o left total : ℕ) (x : Object F I) → (closed_object g set o left total x).id ≡ x.id
+  pub closed_object-id : (set : T) (o left total : ℕ) (x : Object F I) → (closed_object g set o left total x).id ≡ x.id
   closed_object-id set o left total x = elim (x.id == o) as (λ b. (if b then record x { body = closed_body g set left total x.body } else x).id ≡ x.id) [ true ↦ refl | false ↦ refl ]
 
   closed_body-is_directory : (set : T) (left total : ℕ) (body : Body F I) → is_directory_body (closed_body g set left total body) ≡ is_directory_body body
@@ -103,16 +103,11 @@ is_directory_object-or (Some x) other h = h
 
 module _ {K T F I : Type 0} where
   -- a new object leaves each directory one
-  pub is_directory-created : (s : State K T F I) (p d : ℕ) (c : List ℕ) (body : Body F I) (attrs value m : ℕ)
-      → is_directory s m ≡ true → is_directory (created s p d c body attrs value) m ≡ true
-  is_directory-created s p d c body attrs value m h =
-      rw (find-append (λ x. x.id == m) s.objects (record { id = s.next_id; body = body; permanent = has_flag permanent_flag attrs; exclusive = has_flag exclusive_flag attrs } ∷ []))
+  pub is_directory-with_object : (s : State K T F I) (body : Body F I) (permanent exclusive : Bool) (m : ℕ)
+      → is_directory s m ≡ true → is_directory (with_object s body permanent exclusive) m ≡ true
+  is_directory-with_object s body permanent exclusive m h =
+      rw (find-append (λ x. x.id == m) s.objects (record { id = s.next_id; body = body; permanent = permanent; exclusive = exclusive } ∷ []))
       (is_directory_object-or (object_of s m) _ h)
-
-  -- the root is a directory after a create where it was one before
-  pub created_root : (s : State K T F I) (p d : ℕ) (c : List ℕ) (body : Body F I) (attrs value : ℕ)
-      → is_directory s root_id ≡ true → is_directory (created s p d c body attrs value) root_id ≡ true
-  created_root s p d c body attrs value h = is_directory-created s p d c body attrs value root_id h
 
 -- what is found is found before what comes behind, and else what comes behind is
 is_some-or_left : {F I : Type 0} (found other : Option (Object F I)) → is_some found ≡ true → is_some (option_or found other) ≡ true
@@ -170,28 +165,47 @@ module _ {K T F I : Type 0} where
   sound_handles s t stays xs each = All-weaker (λ h. Stands s h.object) (λ h. Stands t h.object) (λ h k. stays h.object k) xs each
 
   -- a new object leaves what stands, and stands itself
-  pub stands-created : (s : State K T F I) (p d : ℕ) (c : List ℕ) (body : Body F I) (attrs value m : ℕ) → Stands s m → Stands (created s p d c body attrs value) m
-  stands-created s p d c body attrs value m h =
-      rw (find-append (λ x. x.id == m) s.objects (record { id = s.next_id; body = body; permanent = has_flag permanent_flag attrs; exclusive = has_flag exclusive_flag attrs } ∷ []))
+  pub stands-with_object : (s : State K T F I) (body : Body F I) (permanent exclusive : Bool) (m : ℕ)
+      → Stands s m → Stands (with_object s body permanent exclusive) m
+  stands-with_object s body permanent exclusive m h =
+      rw (find-append (λ x. x.id == m) s.objects (record { id = s.next_id; body = body; permanent = permanent; exclusive = exclusive } ∷ []))
       (is_some-or_left (object_of s m) _ h)
 
-  pub new_stands : (s : State K T F I) (p d : ℕ) (c : List ℕ) (body : Body F I) (attrs value : ℕ) → Stands (created s p d c body attrs value) s.next_id
-  new_stands s p d c body attrs value =
-      rw (find-append (λ x. x.id == s.next_id) s.objects (record { id = s.next_id; body = body; permanent = has_flag permanent_flag attrs; exclusive = has_flag exclusive_flag attrs } ∷ []))
+  pub new_stands : (s : State K T F I) (body : Body F I) (permanent exclusive : Bool) → Stands (with_object s body permanent exclusive) s.next_id
+  new_stands s body permanent exclusive =
+      rw (find-append (λ x. x.id == s.next_id) s.objects (record { id = s.next_id; body = body; permanent = permanent; exclusive = exclusive } ∷ []))
       (is_some-or_right (object_of s s.next_id) _ (rw (eq-eqb s.next_id s.next_id refl) refl))
 
-  -- a create leaves a sound state
-  pub created_sound : (s : State K T F I) (p d : ℕ) (c : List ℕ) (body : Body F I) (attrs value : ℕ) → IsSound s → IsSound (created s p d c body attrs value)
-  created_sound s p d c body attrs value sound =
-      let t = created s p d c body attrs value in
-      let new : Stands t s.next_id = new_stands s p d c body attrs value in
+  -- a new object leaves a sound state
+  object_sound : (s : State K T F I) (body : Body F I) (permanent exclusive : Bool) → IsSound s → IsSound (with_object s body permanent exclusive)
+  object_sound s body permanent exclusive sound =
+      let t = with_object s body permanent exclusive in
+      let stays = λ (m : ℕ) (h : Stands s m). stands-with_object s body permanent exclusive m h in
       record {
-        root = is_directory-created s p d c body attrs value root_id sound.root;
-        global = is_directory-created s p d c body attrs value global_id sound.global;
-        maps = sound_maps s t (λ o h. is_directory-created s p d c body attrs value o h) s.processes sound.maps;
-        rows = All-push (λ r. Stands t r.object) s.rows _ (sound_rows s t (λ o h. stands-created s p d c body attrs value o h) s.rows sound.rows) new;
-        handles = All-push (λ h. Stands t h.object) s.handles _ (sound_handles s t (λ o h. stands-created s p d c body attrs value o h) s.handles sound.handles) new;
+        root = is_directory-with_object s body permanent exclusive root_id sound.root;
+        global = is_directory-with_object s body permanent exclusive global_id sound.global;
+        maps = sound_maps s t (λ o h. is_directory-with_object s body permanent exclusive o h) s.processes sound.maps;
+        rows = sound_rows s t stays s.rows sound.rows;
+        handles = sound_handles s t stays s.handles sound.handles;
       }
+
+  -- the row of an object that stands leaves a sound state
+  row_sound : (s : State K T F I) (spot : Spot) (o : ℕ) → IsSound s → Stands s o → IsSound (with_row s spot o)
+  row_sound s spot o sound stands = record {
+    root = sound.root;
+    global = sound.global;
+    maps = sound.maps;
+    rows = All-append (λ r. Stands s r.object) s.rows (new_rows spot s.next_stamp o) sound.rows (new spot);
+    handles = sound.handles;
+  }
+    where
+      new : (spot : Spot) → All (λ r. Stands s r.object) (new_rows spot s.next_stamp o)
+      new None = All-nil (λ r. Stands s r.object)
+      new (Some at) = All-push (λ r. Stands s r.object) [] _ (All-nil (λ r. Stands s r.object)) stands
+
+  -- another value of the set leaves a sound state
+  set_sound : (s : State K T F I) (set : T) (id : ℕ) → IsSound s → IsSound (record s { set = set; next_id = id })
+  set_sound s set id sound = record { root = sound.root; global = sound.global; maps = sound.maps; rows = sound.rows; handles = sound.handles }
 
   -- a handle of an object that stands leaves a sound state
   pub handle_sound : (s : State K T F I) (p value o : ℕ) (inherit : Bool) → IsSound s → Stands s o → IsSound (with_handle s p value o inherit)
@@ -263,3 +277,19 @@ module _ {K T F I : Type 0} (g : Procedures K T F I) where
         rows = sound_rows s t stays s.rows sound.rows;
         handles = All-filter (λ x. not (is_handle h.process h.value x)) (λ x. Stands t x.object) s.handles (sound_handles s t stays s.handles sound.handles);
       }
+
+  -- a create leaves a sound state
+  pub created_sound : (s : State K T F I) (p : ℕ) (spot : Spot) (body : Body F I) (attrs value : ℕ) → IsSound s → IsSound (created g s p spot body attrs value)
+  created_sound s p spot body attrs value sound =
+      let opened = record s { set = opened_set g s.set body Created } in
+      let left = opened_body g s.set body Created in
+      let permanent = is_some spot && has_flag permanent_flag attrs in
+      let exclusive = has_flag exclusive_flag attrs in
+      let there = with_object opened left permanent exclusive in
+      let stands : Stands there s.next_id = new_stands opened left permanent exclusive in
+      handle_sound (with_row there spot s.next_id) p value s.next_id _
+      (row_sound there spot s.next_id (object_sound opened left permanent exclusive (set_sound s (opened_set g s.set body Created) s.next_id sound)) stands) stands
+
+  -- and so does one whose object the set refuses to open
+  pub dropped_sound : (s : State K T F I) (body : Body F I) → IsSound s → IsSound (dropped g s body)
+  dropped_sound s body sound = set_sound s (deleted_one g body s.set) (s.next_id + 1) sound

@@ -1,28 +1,37 @@
 -- A step from a sound state leads to a sound one.
-use Rattle.std.proofs.Common.{◌≡◌, ℕ, ◌||◌, Bool, true, false, not, List, [], ◌∷◌, Option, None, Some, Result, Ok, Err, MatchOption, MatchResult, refl, sym, subst}
-use Rattle.std.specs.Option.{option_and_then}
+use Rattle.std.proofs.Common.{◌≡◌, ℕ, Bool, true, false, not, List, [], ◌∷◌, Option, None, Some, Result, Ok, Err, MatchOption, MatchResult, refl, sym, subst}
+use Rattle.std.specs.Prelude.{MatchBool}
+use Rattle.std.specs.Option.{option_and_then, option_map, option_map_or, is_some}
 use Rattle.ob_base.specs.declared.status.Status.{Status}
-use Rattle.ob_base.specs.declared.status.Status.TheVariants.{Success, InvalidHandle, ObjectTypeMismatch, InsufficientResources, ProcessGone}
-use Rattle.ob_base.specs.Attrs.{has_flag, inherit_flag, exclusive_flag}
+use Rattle.ob_base.specs.declared.status.Status.TheVariants.{Success, InvalidHandle, ObjectTypeMismatch, ObjectNameExists, ObjectNameCollision, ProcessGone, TypeRefused}
+use Rattle.ob_base.specs.Attrs.{has_flag, open_if_flag}
 use Rattle.ob_base.specs.Handle.{key_of}
+use Rattle.ob_model.specs.declared.command.Place.{Place}
 use Rattle.ob_model.specs.declared.command.Place.TheVariants as place
-use Rattle.ob_model.specs.declared.command.Command.TheVariants.{CreateDirectory, OpenDirectory, Close}
+use Rattle.ob_model.specs.declared.command.Command.TheVariants.{CreateDirectory, CreateObject, OpenDirectory, OpenObject, Close, QueryName}
 use Rattle.ob_model.specs.declared.reply.Answer.{Answer}
 use Rattle.ob_model.specs.declared.reply.Event.{Event}
 use Rattle.ob_model.specs.declared.reply.Event.TheVariants.{Start}
 use Rattle.ob_model.specs.declared.reply.Given.TheVariants.{Handle}
-use Rattle.ob_model.specs.declared.state.Body.TheVariants.{Directory}
 use Rattle.ob_model.specs.declared.state.Held.{Held}
-use Rattle.ob_model.specs.State.{State, is_live, is_directory, held_of}
+use Rattle.ob_model.specs.declared.state.Object.{Object}
+use Rattle.ob_model.specs.declared.state.Wanted.{Wanted}
+use Rattle.ob_model.specs.declared.state.Wanted.TheVariants as wanted
+use Rattle.ob_model.specs.State.{State, is_live, held_of, object_of}
 use Rattle.ob_model.specs.Looks.{Look, At, Vacant, Parse, Refused}
 use Rattle.ob_model.specs.FirstLooks.{FirstLooks}
-use Rattle.ob_model.specs.Procedures.{Procedures, Opened}
+use Rattle.ob_model.specs.Procedures.{Procedures, Opened, Created}
 use Rattle.ob_model.specs.Settle.{settle}
-use Rattle.ob_model.specs.Grants.{first_refusal, is_table_full, Grants, IsFreeValue, Asked}
+use Rattle.ob_model.specs.Grants.{first_refusal, Grants, IsFreeValue, Asked, open_refusal_of}
 use Rattle.ob_model.specs.Closing.{closed_handle}
-use Rattle.ob_model.specs.Step.{gives, answers, IsRefused, Unless, create_refusals, open_refusals, is_store_full, is_stampless, created, Creates, Opens, Closes, Step}
+use Rattle.ob_model.specs.Types.{is_wanted, is_wanted_at}
+use Rattle.ob_model.specs.Refusals.{gives, answers, IsRefused, Unless, create_refusals, open_refusals}
+use Rattle.ob_model.specs.Opens.{OpensAt, Opens, asked_by, type_wanted}
+use Rattle.ob_model.specs.Creates.{Making, MakesDirectory, MakesObject, type_made, Spot, room_refusals, make_refusal, body_made, created, dropped, Makes, Creates}
+use Rattle.ob_model.specs.Naming.{TellsName}
+use Rattle.ob_model.specs.Step.{WithHandle, CreatesIn, CreatesAt, OpensName, Step}
 use Rattle.ob_model.specs.Sound.{IsSound, Stands}
-use Rattle.ob_model.proofs.Soundness.{settled_sound, created_sound, granted_sound, closed_sound, stands_from_is_directory}
+use Rattle.ob_model.proofs.Soundness.{settled_sound, created_sound, dropped_sound, granted_sound, closed_sound}
 
 module _ {K T F I : Type 0} where
   -- a step that is refused leaves the state
@@ -44,56 +53,110 @@ module _ {K T F I : Type 0} where
   tested_sound true status s t answer Does sound does h = does refl h
   tested_sound false status s t answer Does sound does h = refused_sound s t status answer sound h
 
-module _ {K T F I : Type 0} (g : Procedures K T F I) where
-  creates_sound : (s t : State K T F I) (p attrs : ℕ) (look : Look) (answer : Answer) → IsSound s → Creates g s p attrs look answer t → IsSound t
-  creates_sound s t p attrs (Refused status) answer sound h = refused_sound s t status answer sound h
-  creates_sound s t p attrs (At o) answer sound h = refused_sound s t _ answer sound h
-  creates_sound s t p attrs (Parse o rest n) answer sound h = absurd h
-  creates_sound s t p attrs (Vacant d c) answer sound h =
-      unless_sound ((is_table_full s p || is_store_full s || is_stampless s, InsufficientResources) ∷ []) s t answer
-      ((value : ℕ) × IsFreeValue s p value × (answer ≡ gives Success (Handle value)) × (t ≡ settle g (created s p d c Directory attrs value))) sound
-      (λ does. subst IsSound (sym does.3) (settled_sound g (created s p d c Directory attrs does.0) (created_sound s p d c Directory attrs does.0 sound))) h
-
-  granted_or_refused_sound : (s t u : State K T F I) (p o : ℕ) (asked : Asked) (answer : Answer) (result : Result ℕ Status)
-      → IsSound s → Stands s o → Grants g s p o asked Opened result u
-      → MatchResult result (λ value. (answer ≡ gives Success (Handle value)) × (t ≡ settle g u)) (λ status. IsRefused s status answer t) → IsSound t
-  granted_or_refused_sound s t u p o asked answer (Ok value) sound stands grants h =
-      subst IsSound (sym h.1)
-      (settled_sound g u (subst IsSound (sym grants.2) (granted_sound g s p value o Opened asked.inherit sound stands)))
-  granted_or_refused_sound s t u p o asked answer (Err status) sound stands grants h = refused_sound s t status answer sound h
-
-  opens_sound : (s t : State K T F I) (p attrs : ℕ) (look : Look) (answer : Answer) → IsSound s → Opens g s p attrs look answer t → IsSound t
-  opens_sound s t p attrs (Refused status) answer sound h = refused_sound s t status answer sound h
-  opens_sound s t p attrs (Vacant d c) answer sound h = absurd h
-  opens_sound s t p attrs (Parse o rest n) answer sound h = absurd h
-  opens_sound s t p attrs (At o) answer sound h =
-      tested_sound (is_directory s o) ObjectTypeMismatch s t answer
-      ((result : Result ℕ Status) × (u : State K T F I)
-      × Grants g s p o (record { inherit = has_flag inherit_flag attrs; exclusive = has_flag exclusive_flag attrs }) Opened result u
-      × MatchResult result (λ value. (answer ≡ gives Success (Handle value)) × (t ≡ settle g u)) (λ status. IsRefused s status answer t)) sound
-      (λ dir does.
-      granted_or_refused_sound s t does.1 p o (record { inherit = has_flag inherit_flag attrs; exclusive = has_flag exclusive_flag attrs }) answer does.0 sound
-      (stands_from_is_directory s o dir) does.2 does.3) h
-
-  closes_sound : (s t : State K T F I) (p handle : ℕ) (answer : Answer) → IsSound s → Closes g s p handle answer t → IsSound t
-  closes_sound s t p handle answer sound h =
+  -- a step that uses a handle
+  with_handle_sound : (s t : State K T F I) (p handle : ℕ) (answer : Answer) (Does : Held → Type 0)
+      → IsSound s → ((h : Held) → Does h → IsSound t) → WithHandle s p handle answer t Does → IsSound t
+  with_handle_sound s t p handle answer Does sound does h =
       unless_sound ((not (is_live s p), ProcessGone) ∷ []) s t answer
-      (MatchOption (option_and_then (held_of s p) (key_of handle)) (IsRefused s InvalidHandle answer t)
-      (λ x. (answer ≡ answers Success) × (t ≡ settle g (closed_handle g s x)))) sound
+      (MatchOption (option_and_then (held_of s p) (key_of handle)) (IsRefused s InvalidHandle answer t) Does) sound
       (go (option_and_then (held_of s p) (key_of handle))) h
     where
-      go : (o : Option Held) → MatchOption o (IsRefused s InvalidHandle answer t) (λ x. (answer ≡ answers Success) × (t ≡ settle g (closed_handle g s x))) → IsSound t
+      go : (o : Option Held) → MatchOption o (IsRefused s InvalidHandle answer t) Does → IsSound t
       go None h = refused_sound s t InvalidHandle answer sound h
-      go (Some x) h = subst IsSound (sym h.1) (settled_sound g (closed_handle g s x) (closed_sound g s x sound))
+      go (Some x) h = does x h
+
+module _ {K T F I : Type 0} (g : Procedures K T F I) where
+  -- an object that is of the type that is asked for stands
+  stands_where_wanted : (s : State K T F I) (o : ℕ) (wanted : Wanted K) → is_wanted_at g s o wanted ≡ true → Stands s o
+  stands_where_wanted s o wanted h = go (object_of s o) h
+    where
+      go : (x : Option (Object F I)) → option_map_or (is_wanted g wanted) (option_map (λ y. y.body) x) false ≡ true → is_some x ≡ true
+      go None h = cc
+      go (Some y) h = refl
+
+  -- what a grant answers
+  granted_or_refused_sound : (s t u : State K T F I) (p o : ℕ) (asked : Asked) (status : Status) (answer : Answer) (result : Result ℕ Status)
+      → IsSound s → Stands s o → Grants g s p o asked Opened result u
+      → MatchResult result (λ value. (answer ≡ gives status (Handle value)) × (t ≡ settle g u)) (λ refusal. IsRefused s refusal answer t) → IsSound t
+  granted_or_refused_sound s t u p o asked status answer (Ok value) sound stands grants h =
+      subst IsSound (sym h.1)
+      (settled_sound g u (subst IsSound (sym grants.2) (granted_sound g s p value o Opened asked.inherit sound stands)))
+  granted_or_refused_sound s t u p o asked status answer (Err refusal) sound stands grants h = refused_sound s t refusal answer sound h
+
+  opens_at_sound : (s t : State K T F I) (p attrs : ℕ) (wanted : Wanted K) (status : Status) (o : ℕ) (answer : Answer)
+      → IsSound s → OpensAt g s p attrs wanted status o answer t → IsSound t
+  opens_at_sound s t p attrs wanted status o answer sound h =
+      tested_sound (is_wanted_at g s o wanted) ObjectTypeMismatch s t answer
+      ((result : Result ℕ Status) × (u : State K T F I) × Grants g s p o (asked_by attrs) Opened result u
+      × MatchResult result (λ value. (answer ≡ gives status (Handle value)) × (t ≡ settle g u)) (λ refusal. IsRefused s refusal answer t)) sound
+      (λ is does. granted_or_refused_sound s t does.1 p o (asked_by attrs) status answer does.0 sound (stands_where_wanted s o wanted is) does.2 does.3) h
+
+  opens_sound : (s t : State K T F I) (p attrs : ℕ) (wanted : Wanted K) (look : Look) (answer : Answer)
+      → IsSound s → Opens g s p attrs wanted look answer t → IsSound t
+  opens_sound s t p attrs wanted (Refused status) answer sound h = refused_sound s t status answer sound h
+  opens_sound s t p attrs wanted (Vacant d c) answer sound h = absurd h
+  opens_sound s t p attrs wanted (Parse o rest n) answer sound h = absurd h
+  opens_sound s t p attrs wanted (At o) answer sound h = opens_at_sound s t p attrs wanted Success o answer sound h
+
+  makes_sound : (s t : State K T F I) (p attrs : ℕ) (making : Making K) (spot : Spot) (answer : Answer)
+      → IsSound s → Makes g s p attrs making spot answer t → IsSound t
+  makes_sound s t p attrs making spot answer sound h =
+      unless_sound (room_refusals s p spot) s t answer _ sound (go (make_refusal g making)) h
+    where
+      Given : Type 0
+      Given = (value : ℕ) × IsFreeValue s p value × (answer ≡ gives Success (Handle value)) × (t ≡ settle g (created g s p spot (body_made g making) attrs value))
+
+      DroppedFor : ℕ → Type 0
+      DroppedFor k = (answer ≡ answers (TypeRefused k)) × (t ≡ dropped g s (body_made g making))
+
+      opened : (refusal : Option ℕ) → MatchOption refusal Given DroppedFor → IsSound t
+      opened None h =
+          subst IsSound (sym h.3)
+          (settled_sound g (created g s p spot (body_made g making) attrs h.0) (created_sound g s p spot (body_made g making) attrs h.0 sound))
+      opened (Some k) h = subst IsSound (sym h.1) (dropped_sound g s (body_made g making) sound)
+
+      go : (refusal : Option ℕ)
+          → MatchOption refusal (MatchOption (open_refusal_of g s.set (body_made g making) Created) Given DroppedFor) (λ k. IsRefused s (TypeRefused k) answer t) → IsSound t
+      go None h = opened (open_refusal_of g s.set (body_made g making) Created) h
+      go (Some k) h = refused_sound s t (TypeRefused k) answer sound h
+
+  creates_sound : (s t : State K T F I) (p attrs : ℕ) (making : Making K) (look : Look) (answer : Answer)
+      → IsSound s → Creates g s p attrs making look answer t → IsSound t
+  creates_sound s t p attrs making (Refused status) answer sound h = refused_sound s t status answer sound h
+  creates_sound s t p attrs making (At o) answer sound h = go (has_flag open_if_flag attrs) h
+    where
+      go : (opens : Bool) → MatchBool opens (OpensAt g s p attrs (type_made making) ObjectNameExists o answer t) (IsRefused s ObjectNameCollision answer t) → IsSound t
+      go true h = opens_at_sound s t p attrs (type_made making) ObjectNameExists o answer sound h
+      go false h = refused_sound s t ObjectNameCollision answer sound h
+  creates_sound s t p attrs making (Parse o rest n) answer sound h = absurd h
+  creates_sound s t p attrs making (Vacant d c) answer sound h = makes_sound s t p attrs making (Some (d, c)) answer sound h
+
+  creates_in_sound : (s t : State K T F I) (p : ℕ) (where_to : Place) (attrs : ℕ) (making : Making K) (answer : Answer)
+      → IsSound s → CreatesIn g s p where_to attrs making answer t → IsSound t
+  creates_in_sound s t p (place.At root name) attrs making answer sound h = creates_sound s t p attrs making h.0 answer sound h.2
+  creates_in_sound s t p place.Unnamed attrs making answer sound h = makes_sound s t p attrs making None answer sound h
+
+  creates_at_sound : (s t : State K T F I) (p : ℕ) (where_to : Place) (attrs : ℕ) (making : Making K) (answer : Answer)
+      → IsSound s → CreatesAt g s p where_to attrs making answer t → IsSound t
+  creates_at_sound s t p where_to attrs making answer sound h =
+      unless_sound (create_refusals (is_live s p) where_to attrs) s t answer (CreatesIn g s p where_to attrs making answer t) sound
+      (creates_in_sound s t p where_to attrs making answer sound) h
+
+  opens_name_sound : (s t : State K T F I) (p : ℕ) (root : Option ℕ) (name : List ℕ) (attrs : ℕ) (wanted : Wanted K) (answer : Answer)
+      → IsSound s → OpensName g s p root name attrs wanted answer t → IsSound t
+  opens_name_sound s t p root name attrs wanted answer sound h =
+      unless_sound (open_refusals (is_live s p) root name attrs) s t answer
+      ((look : Look) × FirstLooks s false name look × Opens g s p attrs wanted look answer t) sound
+      (λ does. opens_sound s t p attrs wanted does.0 answer sound does.2) h
 
   -- a step from a sound state leads to a sound one
-  pub step_sound : (s t : State K T F I) (event : Event) (answer : Answer) → IsSound s → Step g s event answer t → IsSound t
-  step_sound s t (Start p (CreateDirectory (place.At root name) attrs)) answer sound h =
-      unless_sound (create_refusals (is_live s p) root name attrs) s t answer
-      ((look : Look) × FirstLooks s true name look × Creates g s p attrs look answer t) sound
-      (λ does. creates_sound s t p attrs does.0 answer sound does.2) h
-  step_sound s t (Start p (OpenDirectory root name attrs)) answer sound h =
-      unless_sound (open_refusals (is_live s p) root name attrs) s t answer
-      ((look : Look) × FirstLooks s false name look × Opens g s p attrs look answer t) sound
-      (λ does. opens_sound s t p attrs does.0 answer sound does.2) h
-  step_sound s t (Start p (Close handle)) answer sound h = closes_sound s t p handle answer sound h
+  pub step_sound : (s t : State K T F I) (event : Event K) (answer : Answer) → IsSound s → Step g s event answer t → IsSound t
+  step_sound s t (Start p (CreateDirectory where_to attrs)) answer sound h = creates_at_sound s t p where_to attrs MakesDirectory answer sound h
+  step_sound s t (Start p (CreateObject where_to attrs kind args)) answer sound h = creates_at_sound s t p where_to attrs (MakesObject kind args) answer sound h
+  step_sound s t (Start p (OpenDirectory root name attrs)) answer sound h = opens_name_sound s t p root name attrs wanted.Directory answer sound h
+  step_sound s t (Start p (OpenObject root name attrs want)) answer sound h = opens_name_sound s t p root name attrs (type_wanted want) answer sound h
+  step_sound s t (Start p (Close handle)) answer sound h =
+      with_handle_sound s t p handle answer (λ x. (answer ≡ answers Success) × (t ≡ settle g (closed_handle g s x))) sound
+      (λ x does. subst IsSound (sym does.1) (settled_sound g (closed_handle g s x) (closed_sound g s x sound))) h
+  step_sound s t (Start p (QueryName handle)) answer sound h =
+      with_handle_sound s t p handle answer (λ x. TellsName s x.object answer × (t ≡ s)) sound (λ x does. subst IsSound (sym does.1) sound) h

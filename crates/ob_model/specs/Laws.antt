@@ -98,5 +98,5 @@ module _ (K T F I : Type 0) where
 
   abbrev pub StepStaysSound : Type 0
   StepStaysSound =
-      (g : Procedures K T F I) (s t : State K T F I) (event : Event) (answer : Answer)
+      (g : Procedures K T F I) (s t : State K T F I) (event : Event K) (answer : Answer)
       → IsSound s → Step g s event answer t → IsSound t

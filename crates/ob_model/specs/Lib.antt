@@ -10,6 +10,11 @@ pub mod Grants
 pub mod Enumeration
 pub mod Calls
 pub mod Closing
+pub mod Types
+pub mod Refusals
+pub mod Opens
+pub mod Creates
+pub mod Naming
 pub mod Step
 pub mod Run
 pub mod Sound

@@ -13,19 +13,34 @@ pub enum Place {
         /// The name, as handed in: any bytes, of any length.
         name: Bytes,
     },
+    /// Nowhere: the object gets no name, and lives as long as it has a handle.
+    Unnamed,
 }
 
 /// A command of a process. Flags are raw: a lookup and its refusals judge them. The commands are
 /// those of the Windows Driver Kit's `Zw` routines (`ZwCreateDirectoryObject`,
-/// `ZwOpenDirectoryObject`, `ZwClose`), without access masks.
+/// `ZwOpenDirectoryObject`, `ZwCreateEvent` and its like, `ZwClose`) and of `ObQueryNameString`,
+/// without access masks. `K` is the kind of an object of the set of types.
 #[derive(Debug, Drop)]
-pub enum Command {
+pub enum Command<K> {
     /// Makes a directory at a place and opens a handle to it. Uses every flag but OPENLINK.
     CreateDirectory {
         /// Where the directory is to stand.
         place: Place,
         /// The attribute flags, as raw bits.
         attrs: u32,
+    },
+    /// Makes an object of a kind of the set at a place and opens a handle to it. Uses every flag
+    /// but OPENLINK.
+    CreateObject {
+        /// Where the object is to stand.
+        place: Place,
+        /// The attribute flags, as raw bits.
+        attrs: u32,
+        /// The kind.
+        kind: K,
+        /// The arguments, which the kind's type judges: any bytes, of any length.
+        args: Bytes,
     },
     /// Opens a handle to a directory. Uses INHERIT, EXCLUSIVE, CASE_INSENSITIVE and OPENLINK.
     OpenDirectory {
@@ -36,8 +51,25 @@ pub enum Command {
         /// The attribute flags, as raw bits.
         attrs: u32,
     },
+    /// Opens a handle to an object. Uses INHERIT, EXCLUSIVE, CASE_INSENSITIVE and OPENLINK.
+    OpenObject {
+        /// The handle that the name is relative to; none for an absolute name.
+        root: Option<Handle>,
+        /// The name, as handed in.
+        name: Bytes,
+        /// The attribute flags, as raw bits.
+        attrs: u32,
+        /// The kind that the object must have; none for any object, also a directory or a link.
+        want: Option<K>,
+    },
     /// Closes a handle of the caller. The low two bits of the value are ignored.
     Close {
+        /// The handle.
+        handle: Handle,
+    },
+    /// Asks for the path of the object of a handle of the caller. The low two bits of the value are
+    /// ignored.
+    QueryName {
         /// The handle.
         handle: Handle,
     },

@@ -1,19 +1,21 @@
 //! What the namespace answers, and the events of its history.
 
-use crate::Command;
+use crate::{Bytes, Command};
 use ob_base::{Handle, Proc, Status};
 
 /// What a reply gives beside its status.
-#[derive(Clone, Copy, PartialEq, Eq, Debug)]
+#[derive(Debug, Drop)]
 pub enum Given {
     /// Nothing.
     Nothing,
     /// A new handle of the caller: a multiple of four from 4 to 262,140.
     Handle(Handle),
+    /// A text of at most 32,767 bytes.
+    Text(Bytes),
 }
 
 /// The reply to a command: a status, and what is given with it. A refusal gives nothing.
-#[derive(Clone, Copy, PartialEq, Eq, Debug)]
+#[derive(Debug, Drop)]
 pub struct Reply {
     /// How the command ended.
     pub status: Status,
@@ -21,20 +23,21 @@ pub struct Reply {
     pub given: Given,
 }
 
-/// One event of the namespace's history: one atomic step is made for it.
+/// One event of the namespace's history: one atomic step is made for it. `K` is the kind of an
+/// object of the set of types.
 #[derive(Debug, Drop)]
-pub enum Event {
+pub enum Event<K> {
     /// A process begins a command.
     Start {
         /// The process that asks.
         process: Proc,
         /// What it asks.
-        command: Command,
+        command: Command<K>,
     },
 }
 
 /// How an event ends.
-#[derive(Clone, Copy, PartialEq, Eq, Debug)]
+#[derive(Debug, Drop)]
 pub enum Answer {
     /// The command is done, and this is its reply.
     Done(Reply),

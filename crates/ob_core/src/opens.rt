@@ -1,0 +1,77 @@
+//! Opens, by name and of an object that was found.
+
+ghost use Rattle.std.specs.Prelude.{◌≡◌, IfOk, IfErr, OnErr};
+ghost use Rattle.ob_base.specs.declared.Fault.TheVariants.{Memory};
+ghost use Rattle.ob_model.specs.declared.reply.Answer.TheVariants.{Done};
+ghost use Rattle.ob_model.specs.Opens.{OpensAt};
+ghost use Rattle.ob_model.specs.Step.{OpensName};
+ghost use Rattle.ob_core.specs.Namespace.{state_of};
+ghost use Rattle.ob_core.specs.Orderly.{IsOrderly};
+
+use crate::granting::grant;
+use crate::judge::judge_open;
+use crate::lookup::{Look, look_up};
+use crate::objects::is_wanted_at;
+use crate::replies::{status_alone, with_handle};
+use crate::settle::settle;
+use crate::space::{Namespace, is_live};
+use ob_base::{Attrs, Fault, Handle, ObjId, Proc, Status};
+use ob_model::{Reply, Wanted};
+use ob_types::TypeSet;
+
+/// Opens an object by name, of the type that is asked for.
+pub(crate) fn open_name<T: TypeSet>(
+    space: &mut Namespace<T, T::Face, T::Inner>,
+    process: Proc,
+    root: Option<Handle>,
+    name: &[u8],
+    attrs: u32,
+    wanted: Wanted<T::Kind>,
+) -> Result<Reply, Fault>
+    requires { IsOrderly T.idle (state_of T.Kind space.old) }
+    ensures orderly { IsOrderly T.idle (state_of T.Kind space.new) }
+    ensures step { IfOk result (λ reply.
+        OpensName T.procedures (state_of T.Kind space.old) process root name.now attrs wanted (Done reply) (state_of T.Kind space.new)) }
+    ensures err { OnErr result (state_of T.Kind space.new ≡ state_of T.Kind space.old) }
+    ensures memory { IfErr result (λ fault. fault ≡ Memory) }
+{
+    let attrs = match judge_open(is_live(space, process), root, name, attrs) {
+        Ok(attrs) => attrs,
+        Err(status) => return Ok(status_alone(status)),
+    };
+    match look_up(&space.objects, &space.rows, name, false) {
+        Look::Refused(status) => Ok(status_alone(status)),
+        Look::At(object) => open_at(space, process, object, attrs, wanted, Status::Success),
+        Look::Vacant { .. } => unreachable!(),
+    }
+}
+
+/// Opens an object that was found, where it is of the type that is asked for. The handle is given
+/// with this status.
+pub(crate) fn open_at<T: TypeSet>(
+    space: &mut Namespace<T, T::Face, T::Inner>,
+    process: Proc,
+    object: ObjId,
+    attrs: Attrs,
+    wanted: Wanted<T::Kind>,
+    status: Status,
+) -> Result<Reply, Fault>
+    requires orderly { IsOrderly T.idle (state_of T.Kind space.old) }
+    requires first { process ≡ 1 }
+    ensures orderly { IsOrderly T.idle (state_of T.Kind space.new) }
+    ensures step { IfOk result (λ reply.
+        OpensAt T.procedures (state_of T.Kind space.old) process attrs wanted status object (Done reply) (state_of T.Kind space.new)) }
+    ensures err { OnErr result (state_of T.Kind space.new ≡ state_of T.Kind space.old) }
+    ensures memory { IfErr result (λ fault. fault ≡ Memory) }
+{
+    if !is_wanted_at::<T>(&space.objects, object, wanted) {
+        return Ok(status_alone(Status::ObjectTypeMismatch));
+    }
+    match grant(space, process, object, attrs)? {
+        Ok(value) => {
+            settle(space);
+            Ok(with_handle(status, value))
+        }
+        Err(refusal) => Ok(status_alone(refusal)),
+    }
+}

@@ -1,0 +1,37 @@
+//! The replies.
+
+ghost use Rattle.std.specs.Prelude.{◌≡◌};
+ghost use Rattle.ob_model.specs.declared.reply.Given.TheVariants as given;
+
+use ob_base::{Handle, Status};
+use ob_model::{Bytes, Given, Reply};
+
+/// A reply that is a status alone.
+pub(crate) fn status_alone(status: Status) -> Reply
+    ensures { result ≡ record { status = status; given = given.Nothing } }
+{
+    Reply {
+        status,
+        given: Given::Nothing,
+    }
+}
+
+/// The reply of a status that gives a handle.
+pub(crate) fn with_handle(status: Status, value: Handle) -> Reply
+    ensures { result ≡ record { status = status; given = given.Handle value } }
+{
+    Reply {
+        status,
+        given: Given::Handle(value),
+    }
+}
+
+/// The reply of a success that gives a text.
+pub(crate) fn with_text(text: Bytes) -> Reply
+    ensures { result ≡ record { status = Status.Success; given = given.Text text } }
+{
+    Reply {
+        status: Status::Success,
+        given: Given::Text(text),
+    }
+}

@@ -1,0 +1,44 @@
+-- The path of an object: the names on the way from it up to the root.
+--
+-- Sources: ObQueryNameString (Windows Driver Kit); Windows Internals, Object Manager (object names). That
+-- an object without a path has the empty text, and the refusal of a long one, are this profile.
+use Rattle.std.specs.Prelude.{◌≡◌, ◌≢◌, ℕ, ◌==◌, nat_lt, if◌then◌else◌, List, [], ◌∷◌, ◌++◌, length, Option, Some, ◌⊎◌}
+use Rattle.std.specs.List.{find}
+use Rattle.ob_base.specs.declared.status.Status.TheVariants.{Success, NameTooLong}
+use Rattle.ob_model.specs.declared.reply.Answer.{Answer}
+use Rattle.ob_model.specs.declared.reply.Given.TheVariants.{Text}
+use Rattle.ob_model.specs.declared.state.Row.{Row}
+use Rattle.ob_model.specs.Names.{separator, longest_name}
+use Rattle.ob_model.specs.State.{State, root_id}
+use Rattle.ob_model.specs.Refusals.{gives, answers}
+
+module _ {K T F I : Type 0} where
+  -- the row that names an object
+  abbrev pub row_of : State K T F I → ℕ → Option Row
+  row_of s o = find (λ r. r.object == o) s.rows
+
+  -- these are the names on the way up from an object to the root, its own name first: each directory
+  -- on the way has one
+  abbrev pub IsWayUp : State K T F I → ℕ → List (List ℕ) → Type 0
+  IsWayUp s o [] = o ≡ root_id
+  IsWayUp s o (c ∷ cs) = (o ≢ root_id) × ((r : Row) × (row_of s o ≡ Some r) × (c ≡ r.name) × IsWayUp s r.directory cs)
+
+-- the text of these names, the last of them first, each behind a separator
+abbrev pub names_joined : List (List ℕ) → List ℕ
+names_joined [] = []
+names_joined (c ∷ cs) = names_joined cs ++ separator ∷ c
+
+-- the path that a way up says: the separator alone for the root itself
+abbrev pub path_text : List (List ℕ) → List ℕ
+path_text [] = separator ∷ []
+path_text (c ∷ cs) = names_joined (c ∷ cs)
+
+-- the answer that tells a path
+abbrev pub path_answer : List ℕ → Answer
+path_answer text = if nat_lt longest_name (length text) then answers NameTooLong else gives Success (Text text)
+
+-- the path of an object is told, or the empty text where it or a directory above it has no name
+abbrev pub TellsName : {K T F I : Type 0} → State K T F I → ℕ → Answer → Type 0
+TellsName s o answer =
+    ((cs : List (List ℕ)) × IsWayUp s o cs × (answer ≡ path_answer (path_text cs)))
+    ⊎ (((cs : List (List ℕ)) → IsWayUp s o cs → ⊥) × (answer ≡ gives Success (Text [])))

@@ -1,0 +1,44 @@
+-- What an open does past its refusals: the type test, and a grant.
+--
+-- Sources: ZwOpenDirectoryObject, ZwOpenEvent (Windows Driver Kit); Windows Internals, Object Manager
+-- (object handles). The order of refusals is this profile.
+use Rattle.std.specs.Prelude.{◌≡◌, ℕ, not, [], ◌∷◌, Option, None, Some, Result, MatchResult}
+use Rattle.ob_base.specs.declared.status.Status.{Status}
+use Rattle.ob_base.specs.declared.status.Status.TheVariants.{Success, ObjectTypeMismatch}
+use Rattle.ob_base.specs.Attrs.{has_flag, inherit_flag, exclusive_flag}
+use Rattle.ob_model.specs.declared.reply.Answer.{Answer}
+use Rattle.ob_model.specs.declared.reply.Given.TheVariants.{Handle}
+use Rattle.ob_model.specs.declared.state.Wanted.{Wanted}
+use Rattle.ob_model.specs.declared.state.Wanted.TheVariants.{Anything, Kind}
+use Rattle.ob_model.specs.State.{State}
+use Rattle.ob_model.specs.Looks.{Look, At, Vacant, Parse, Refused}
+use Rattle.ob_model.specs.Procedures.{Procedures, Opened}
+use Rattle.ob_model.specs.Settle.{settle}
+use Rattle.ob_model.specs.Grants.{Grants, Asked}
+use Rattle.ob_model.specs.Types.{is_wanted_at}
+use Rattle.ob_model.specs.Refusals.{gives, IsRefused, Unless}
+
+-- what a command's flags ask of a handle
+abbrev pub asked_by : ℕ → Asked
+asked_by attrs = record { inherit = has_flag inherit_flag attrs; exclusive = has_flag exclusive_flag attrs }
+
+-- the type that an open of an object asks for: a kind, or any type at all
+abbrev pub type_wanted : {K : Type 0} → Option K → Wanted K
+type_wanted None = Anything
+type_wanted (Some kind) = Kind kind
+
+module _ {K T F I : Type 0} (g : Procedures K T F I) where
+  -- an object that was found is opened where it is of the type that is asked for: a grant is given
+  -- with this status, or is refused
+  abbrev pub OpensAt : State K T F I → ℕ → ℕ → Wanted K → Status → ℕ → Answer → State K T F I → Type 0
+  OpensAt s p attrs wanted status o answer t =
+      Unless ((not (is_wanted_at g s o wanted), ObjectTypeMismatch) ∷ []) s answer t
+      ((result : Result ℕ Status) × (u : State K T F I) × Grants g s p o (asked_by attrs) Opened result u
+      × MatchResult result (λ value. (answer ≡ gives status (Handle value)) × (t ≡ settle g u)) (λ refusal. IsRefused s refusal answer t))
+
+  -- what the lookup of an open's name leads to: a refusal, or an object that is opened
+  abbrev pub Opens : State K T F I → ℕ → ℕ → Wanted K → Look → Answer → State K T F I → Type 0
+  Opens s p attrs wanted (Refused status) answer t = IsRefused s status answer t
+  Opens s p attrs wanted (At o) answer t = OpensAt s p attrs wanted Success o answer t
+  Opens s p attrs wanted (Vacant d c) answer t = ⊥
+  Opens s p attrs wanted (Parse o rest n) answer t = ⊥
