@@ -1,4 +1,3 @@
-pub mod Complaints
 pub mod Faults
 pub mod Serving
 pub mod Words

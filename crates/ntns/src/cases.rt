@@ -13,7 +13,7 @@ struct Case {
     status: u8,
 }
 
-const CASES: [Case; 11] = [
+const CASES: [Case; 22] = [
     Case {
         shows: b"an empty script prints nothing",
         script: b"",
@@ -52,7 +52,7 @@ const CASES: [Case; 11] = [
     },
     Case {
         shows: b"a name that is there collides, and flags that aren't served are refused",
-        script: b"p1 dir \"\\Device\" - =d\np1 dir \"\\A\" O =a\np1 dir \"\\A\" C =a\np1 dir \"\\A\" IE =a\np1 opendir \"\\Device\" L =a\np1 opendir \"\\Device\" PO =a\n",
+        script: b"p1 dir \"\\Device\" - =d\np1 dir \"\\A\" OC =a\np1 dir \"\\A\" C =a\np1 dir \"\\A\" IE =a\np1 opendir \"\\Device\" L =a\np1 opendir \"\\Device\" PO =a\n",
         prints: b"1: OBJECT_NAME_COLLISION\n2: INVALID_PARAMETER\n3: INVALID_PARAMETER\n4: INVALID_PARAMETER\n5: INVALID_PARAMETER\n6: SUCCESS\n",
         status: 0,
     },
@@ -78,6 +78,72 @@ const CASES: [Case; 11] = [
         shows: b"a space too many, a carriage return or a word of another form makes no script line",
         script: b"p1 opendir \"\\\" - =a\np1  close a\n",
         prints: b"1: SUCCESS\n2: not a script line\n",
+        status: 1,
+    },
+    Case {
+        shows: b"a limit refuses a handle, and arguments that say none refuse the object",
+        script: b"p1 make Event \"\\E\" - \"1\" =a\np1 open Event \"\\E\" - =b\np1 make Event \"\\F\" - \"0\" =c\np1 make Event \"\\F\" - \"01\" =c\np1 make Event \"\\F\" - \"65536\" =c\nstat\n",
+        prints: b"1: SUCCESS\n2: TYPE_REFUSED 2\n3: TYPE_REFUSED 1\n4: TYPE_REFUSED 1\n5: TYPE_REFUSED 1\n6: objects 7 handles 1 opens 1 closes 0 deletes 0\n",
+        status: 0,
+    },
+    Case {
+        shows: b"a create with OPENIF opens what is there, if it is of the type that it makes",
+        script: b"p1 dir \"\\A\" O =a\np1 dir \"\\A\" O =b\np1 dir \"\\A\" - =c\np1 make Event \"\\A\" O \"\" =c\n",
+        prints: b"1: SUCCESS\n2: OBJECT_NAME_EXISTS\n3: OBJECT_NAME_COLLISION\n4: OBJECT_TYPE_MISMATCH\n",
+        status: 0,
+    },
+    Case {
+        shows: b"a name is told in the spelling that it was made with",
+        script: b"p1 make Event \"\\Foo\" - \"\" =a\np1 make Event \"\\foo\" - \"\" =b\np1 name a\np1 name b\np1 opendir \"\\\" - =r\np1 name r\np1 dir \"\\Device\\Disk\" - =d\np1 make Event \"\\Device\\Disk\\E\" - \"\" =e\np1 name e\n",
+        prints: b"1: SUCCESS\n2: SUCCESS\n3: SUCCESS \"\\Foo\"\n4: SUCCESS \"\\foo\"\n5: SUCCESS\n6: SUCCESS \"\\\"\n7: SUCCESS\n8: SUCCESS\n9: SUCCESS \"\\Device\\Disk\\E\"\n",
+        status: 0,
+    },
+    Case {
+        shows: b"an object without a name has the empty one, and lives as long as its handle",
+        script: b"p1 make Section none P \"\" =s\np1 dir none - =d\np1 name s\np1 name d\nstat\np1 close s\np1 close d\nstat\n",
+        prints: b"1: SUCCESS\n2: SUCCESS\n3: SUCCESS \"\"\n4: SUCCESS \"\"\n5: objects 8 handles 2 opens 1 closes 0 deletes 0\n6: SUCCESS\n7: SUCCESS\n8: objects 6 handles 0 opens 1 closes 1 deletes 1\n",
+        status: 0,
+    },
+    Case {
+        shows: b"an object whose directory lost its name has none, and both go with its handle",
+        script: b"p1 dir \"\\T\" - =t\np1 make Event \"\\T\\E\" - \"\" =e\np1 close t\np1 name e\nstat\np1 close e\nstat\n",
+        prints: b"1: SUCCESS\n2: SUCCESS\n3: SUCCESS\n4: SUCCESS \"\"\n5: objects 8 handles 1 opens 1 closes 0 deletes 0\n6: SUCCESS\n7: objects 6 handles 0 opens 1 closes 1 deletes 1\n",
+        status: 0,
+    },
+    Case {
+        shows: b"a quote and a percent sign of a name are printed as a script spells them",
+        script: b"p1 make Event \"\\%22a%25 %5B\" - \"\" =a\np1 name a\np1 open Event \"\\%22a%25 [\" - =b\n",
+        prints: b"1: SUCCESS\n2: SUCCESS \"\\%22a%25 [\"\n3: SUCCESS\n",
+        status: 0,
+    },
+    Case {
+        shows: b"an open asks for any object or for one of a kind",
+        script: b"p1 make Mutant \"\\M\" - \"\" =m\np1 open any \"\\M\" - =x\np1 open Mutant \"\\M\" - =y\np1 open Event \"\\M\" - =z\np1 open Section \"\\M\" - =z\np1 opendir \"\\M\" - =z\np1 open any \"\\Device\" - =d\np1 open Event \"\\Device\" - =z\np1 open any \"\\N\" - =z\np1 open any \"\\M\\N\" - =z\nstat\n",
+        prints: b"1: SUCCESS\n2: SUCCESS\n3: SUCCESS\n4: OBJECT_TYPE_MISMATCH\n5: OBJECT_TYPE_MISMATCH\n6: OBJECT_TYPE_MISMATCH\n7: SUCCESS\n8: OBJECT_TYPE_MISMATCH\n9: OBJECT_NAME_NOT_FOUND\n10: OBJECT_TYPE_MISMATCH\n11: objects 7 handles 4 opens 3 closes 0 deletes 0\n",
+        status: 0,
+    },
+    Case {
+        shows: b"a permanent object stays without a handle",
+        script: b"p1 make Event \"\\P\" P \"\" =p\np1 close p\np1 open Event \"\\P\" - =q\np1 name q\nstat\n",
+        prints: b"1: SUCCESS\n2: SUCCESS\n3: SUCCESS\n4: SUCCESS \"\\P\"\n5: objects 7 handles 1 opens 2 closes 1 deletes 0\n",
+        status: 0,
+    },
+    Case {
+        shows: b"a create that opens what is there leaves it temporary",
+        script: b"p1 make Event \"\\O\" O \"\" =a\np1 make Event \"\\O\" OP \"\" =b\np1 close a\np1 close b\np1 open Event \"\\O\" - =c\nstat\n",
+        prints: b"1: SUCCESS\n2: OBJECT_NAME_EXISTS\n3: SUCCESS\n4: SUCCESS\n5: OBJECT_NAME_NOT_FOUND\n6: objects 6 handles 0 opens 2 closes 2 deletes 1\n",
+        status: 0,
+    },
+    Case {
+        shows: b"a reply sets the word of a create and of an open, and no word of a query",
+        script: b"p1 make Event \"\\E\" - \"\" =a\np1 name a\np1 name a\np1 make Event \"\\E\" - \"\" =a\np1 name a\np1 open Event \"\\E\" - =b\np1 open Mutant \"\\E\" - =b\np1 close b\nq name a\n",
+        prints: b"1: SUCCESS\n2: SUCCESS \"\\E\"\n3: SUCCESS \"\\E\"\n4: OBJECT_NAME_COLLISION\n5: INVALID_HANDLE\n6: SUCCESS\n7: OBJECT_TYPE_MISMATCH\n8: INVALID_HANDLE\n9: PROCESS_GONE\n",
+        status: 0,
+    },
+    Case {
+        shows: b"a kind that isn't served makes no script line, behind lines that were run",
+        script: b"stat\np1 make Device \"\\D\" - \"\" =d\nstat\n",
+        prints: b"1: objects 6 handles 0 opens 0 closes 0 deletes 0\n2: not a script line\n",
         status: 1,
     },
 ];
@@ -179,6 +245,34 @@ fn long_names_and_lines_end_where_the_rules_say(rt: HostRuntime) -> Result<(), F
         assert_eq!(rt; status, wanted, "at {times}");
         assert_eq!(rt; errors.len(), 0, "at {times}");
     }
+    Ok(())
+}
+
+#[test]
+fn a_path_of_32_767_bytes_is_told(rt: HostRuntime) -> Result<(), Fail> {
+    let front = b"p1 make Event \"\\";
+    let back = b"\" - \"\" =e\np1 name e\n";
+    let script = repeated(rt.alloc(), front, b'a', 32_766, back)?;
+    let prints = repeated(
+        rt.alloc(),
+        b"1: SUCCESS\n2: SUCCESS \"\\",
+        b'a',
+        32_766,
+        b"\"\n",
+    )?;
+    let mut reader = script.as_slice();
+    let mut output = Vec::new(rt.alloc());
+    let mut errors = Vec::new(rt.alloc());
+    let status = perform(
+        rt.alloc(),
+        Task::Script,
+        &mut reader,
+        &mut output,
+        &mut errors,
+    );
+    assert!(rt; output.as_slice() == prints.as_slice());
+    assert_eq!(rt; status, 0);
+    assert_eq!(rt; errors.len(), 0);
     Ok(())
 }
 

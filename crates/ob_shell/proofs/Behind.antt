@@ -9,9 +9,11 @@ use Rattle.ob_model.specs.declared.reply.Event.TheVariants.{Start}
 use Rattle.ob_model.specs.Opening.{opening}
 use Rattle.ob_model.specs.Step.{Step}
 use Rattle.ob_model.specs.Run.{Entry, RunFrom}
-use Rattle.ob_core.specs.Namespace.{Namespace, no_types}
-use Rattle.ob_shell.specs.declared.form.Form.TheVariants.{Nothing, Asks}
-use Rattle.ob_shell.specs.declared.form.Request.{Request}
+use Rattle.ob_plain.specs.declared.plain.PlainKind.{PlainKind}
+use Rattle.ob_plain.specs.Counting.{opens_of, closes_of, deletes_of}
+use Rattle.ob_shell.specs.declared.counts.Counts.{Counts}
+use Rattle.ob_shell.specs.declared.form.Form.TheVariants.{Nothing, Stat, Asks}
+use Rattle.ob_shell.specs.declared.request.Request.{Request}
 use Rattle.ob_shell.specs.declared.line.Outcome.{Outcome}
 use Rattle.ob_shell.specs.declared.line.Outcome.TheVariants as outcome
 use Rattle.ob_shell.specs.declared.run.Ending.{Ending}
@@ -20,51 +22,59 @@ use Rattle.ob_shell.specs.Lines.{lines_of}
 use Rattle.ob_shell.specs.Grammar.{IsLine}
 use Rattle.ob_shell.specs.Words.{Words, no_words, with_word, process_of}
 use Rattle.ob_shell.specs.Writing.{AppendsFront}
-use Rattle.ob_shell.specs.Shown.{IsCommand, word_of, value_after, output_line, reply_text, Shows, PlaysLines, PlaysTo, PlaysPartTo}
+use Rattle.ob_shell.specs.Machine.{Standard, standard, Space, IsFresh}
+use Rattle.ob_shell.specs.Commands.{IsCommand, word_of, value_after}
+use Rattle.ob_shell.specs.Printed.{output_line, reply_text, counts_text}
+use Rattle.ob_shell.specs.Shown.{Entries, Shows, PlaysLines, PlaysTo, PlaysPartTo}
 use Rattle.ob_shell.specs.Running.{IsAnswered, IsDone, outcome_text, outcome_end}
 
 -- a request is answered by a step for the command that it spells, and by setting its word
-pub answered : (request : Request (List ℕ)) (p q : ℕ) (words mid new : Words) (s s' : Namespace) (reply : Reply) (c : Command) (w : List ℕ) (v b : ℕ)
-    → mid ≡ words → IsCommand request (mid p) c → Step no_types s (Start p c) (Done reply) s' → q ≡ p → w ≡ word_of request → b ≡ mid q w
+pub answered : (request : Request (List ℕ)) (p q : ℕ) (words mid new : Words) (s s' : Space) (reply : Reply) (c : Command PlainKind) (w : List ℕ) (v b : ℕ)
+    → mid ≡ words → IsCommand request (mid p) c → Step standard s (Start p c) (Done reply) s' → q ≡ p → w ≡ word_of request → b ≡ mid q w
     → v ≡ value_after request reply b → new ≡ with_word mid q w v → IsAnswered request p words s reply new s'
 answered request p q words mid new s s' reply c w v b m command step e f g h n =
     let same : words p ≡ mid p = ap (λ (x : Words). x p) (sym m) in
     let P : (List ℕ → ℕ) → Type 0 = λ x. IsCommand request x c in
     (c, subst P (sym same) command, step, n ∙ (rw (h, g, e, f, m) refl))
 
-pub replied : (line process : List ℕ) (request : Request (List ℕ)) (p : ℕ) (words new : Words) (s s' : Namespace) (reply : Reply)
+pub replied : (line process : List ℕ) (request : Request (List ℕ)) (p : ℕ) (words new : Words) (s s' : Space) (reply : Reply)
     → IsLine line (Asks process request) → p ≡ process_of process → IsAnswered request p words s reply new s' → IsDone line words s (outcome.Replied reply) new s'
 replied line process request p words new s s' reply l e a =
     let P : ℕ → Type 0 = λ x. IsAnswered request x words s reply new s' in (process, request, l, subst P e a)
 
 -- the rest of the script stands behind what was run and written so far: whatever lines come, what
 -- they show from here on stands behind it
-pub record StandsBehind (old new : Option (List ℕ)) (script rest : List ℕ) (number : ℕ) (words : Words) (s : Namespace) : Type 0 where
+pub record StandsBehind (old new : Option (List ℕ)) (script rest : List ℕ) (number : ℕ) (words : Words) (s : Space) : Type 0 where
   pub done : List (List ℕ)
   pub so_far : List ℕ
   pub count : ℕ
   pub split : lines_of script ≡ done ++ lines_of rest
   pub written : Appends old new so_far
-  pub onward : (lines : List (List ℕ)) (entries : List Entry) (t : Namespace) (output : List ℕ) (end : Ending) → RunFrom no_types s count entries t
-      → Shows (number + 1) lines words entries output end → PlaysLines (done ++ lines) (so_far ++ output) end
+  pub onward : (lines : List (List ℕ)) (entries : Entries) (t : Space) (output : List ℕ) (end : Ending) → RunFrom standard s count entries t
+      → Shows (number + 1) lines words s entries output end → PlaysLines (done ++ lines) (so_far ++ output) end
+
+-- a set of which nothing is counted is fresh
+pub is_fresh : (set : Standard) → opens_of set ≡ 0 → closes_of set ≡ 0 → deletes_of set ≡ 0 → IsFresh set
+is_fresh set o c d = record { no_opens = o; no_closes = c; no_deletes = d }
 
 -- at first nothing was run and written
-pub stands_first : (old : Option (List ℕ)) (script : List ℕ) (words : Words) (s : Namespace) → words ≡ no_words → s ≡ opening tt
+pub stands_first : (old : Option (List ℕ)) (script : List ℕ) (words : Words) (first : Standard) (s : Space) → IsFresh first → words ≡ no_words → s ≡ opening first
     → StandsBehind old old script script 0 words s
-stands_first old script words s w e = record {
+stands_first old script words first s f w e = record {
   done = [];
   so_far = [];
   count = 0;
   split = refl;
   written = Appends-nil old;
   onward = λ lines entries t output end run shows.
-      let P : Namespace → Type 0 = λ x. RunFrom no_types x 0 entries t in
-      let Q : Words → Type 0 = λ x. Shows 1 lines x entries output end in
-      (entries, t, subst P e run, subst Q w shows);
+      let P : Space → Type 0 = λ x. RunFrom standard x 0 entries t in
+      let Q : Space → Type 0 = λ x. Shows 1 lines words x entries output end in
+      let R : Words → Type 0 = λ x. Shows 1 lines x (opening first) entries output end in
+      (first, entries, t, f, subst P e run, subst R w (subst Q e shows));
 }
 
 -- the last line was run
-pub stands_last : (old new : Option (List ℕ)) (script rest : List ℕ) (number : ℕ) (words : Words) (s : Namespace) → StandsBehind old new script rest number words s
+pub stands_last : (old new : Option (List ℕ)) (script rest : List ℕ) (number : ℕ) (words : Words) (s : Space) → StandsBehind old new script rest number words s
     → lines_of rest ≡ [] → PlaysTo old new script ending.Done
 stands_last old new script rest number words s b none =
     let lines : lines_of script ≡ b.done ++ [] = b.split ∙ ap (λ x. b.done ++ x) none in
@@ -73,20 +83,22 @@ stands_last old new script rest number words s b none =
     (b.so_far ++ [], plays, rw append-nil b.written)
 
 -- the entry of a line's step
-abbrev entry_of : ℕ → ℕ → Command → Reply → Entry
+abbrev entry_of : ℕ → ℕ → Command PlainKind → Reply → Entry PlainKind
 entry_of count p c reply = record { number = count + 1; seat = 0; event = Start p c; answer = Done reply }
 
 -- what a line that goes on, or ends the run, shows alone
-pub shows_alone : (line : List ℕ) (number : ℕ) (words words' : Words) (s s' : Namespace) (count : ℕ) (o : Outcome) → IsDone line words s o words' s'
-    → (entries : List Entry) × (t : Namespace) × (end : Ending) × RunFrom no_types s count entries t × Shows number (line ∷ []) words entries (outcome_text number o) end
+pub shows_alone : (line : List ℕ) (number : ℕ) (words words' : Words) (s s' : Space) (count : ℕ) (o : Outcome) → IsDone line words s o words' s'
+    → (entries : Entries) × (t : Space) × (end : Ending) × RunFrom standard s count entries t × Shows number (line ∷ []) words s entries (outcome_text number o) end
 shows_alone line number words words' s s' count outcome.Idle (l, w, e) =
     ([], s, ending.Done, refl, inl (Nothing, l, (refl, refl, refl)))
+shows_alone line number words words' s s' count (outcome.Counted counts) (l, k, w, e) =
+    ([], s, ending.Done, refl, inl (Stat, l, ([], ap (λ (x : Counts). output_line number (counts_text x)) k ∙ sym (append-nil _), (refl, refl, refl))))
 shows_alone line number words words' s s' count (outcome.Replied reply) (p, r, l, (c, command, step, w)) = (
   entry_of count (process_of p) c reply ∷ [],
   s',
   ending.Done,
   (s', refl, step, refl),
-  inl (Asks p r, l, inl (entry_of count (process_of p) c reply, [], [], c, reply, command, refl, refl, refl, refl, sym (append-nil _), (refl, refl, refl))),
+  inl (Asks p r, l, inl (entry_of count (process_of p) c reply, [], [], c, reply, s', command, refl, refl, refl, step, refl, sym (append-nil _), (refl, refl, refl))),
 )
 shows_alone line number words words' s s' count outcome.NoLine h =
     ([], s, ending.BadLine number, refl, inr (h, refl, refl, refl))
@@ -94,7 +106,7 @@ shows_alone line number words words' s s' count outcome.NoMemory (p, r, l) =
     ([], s, ending.NoMemoryAt number, refl, inl (Asks p r, l, inr (refl, refl, refl)))
 
 -- a line that goes on stands behind what was shown before it
-pub stands_more : (old mid new : Option (List ℕ)) (script rest line behind : List ℕ) (number : ℕ) (words words' : Words) (s s' : Namespace) (o : Outcome)
+pub stands_more : (old mid new : Option (List ℕ)) (script rest line behind : List ℕ) (number : ℕ) (words words' : Words) (s s' : Space) (o : Outcome)
     → StandsBehind old mid script rest number words s → lines_of rest ≡ line ∷ lines_of behind → IsDone line words s o words' s'
     → None ≡ outcome_end (number + 1) o → Appends mid new (outcome_text (number + 1) o) → StandsBehind old new script behind (number + 1) words' s'
 stands_more old mid new script rest line behind number words words' s s' o b e d n a = record {
@@ -109,26 +121,38 @@ stands_more old mid new script rest line behind number words words' s s' o b e d
   where
     count_after : Outcome → ℕ
     count_after outcome.Idle = b.count
+    count_after (outcome.Counted counts) = b.count
     count_after (outcome.Replied reply) = b.count + 1
     count_after outcome.NoLine = b.count
     count_after outcome.NoMemory = b.count
 
+    -- a line that leaves the words and the state
+    same : (lines : List (List ℕ)) (entries : Entries) (output : List ℕ) (end : Ending) → words' ≡ words → s' ≡ s
+        → Shows (number + 1 + 1) lines words' s' entries output end → Shows (number + 1 + 1) lines words s entries output end
+    same lines entries output end w e shows =
+        let Q : Words → Type 0 = λ x. Shows (number + 1 + 1) lines x s' entries output end in
+        let R : Space → Type 0 = λ x. Shows (number + 1 + 1) lines words x entries output end in
+        subst R e (subst Q w shows)
+
     go : (o : Outcome) → IsDone line words s o words' s' → None ≡ outcome_end (number + 1) o
-        → (lines : List (List ℕ)) (entries : List Entry) (t : Namespace) (output : List ℕ) (end : Ending) → RunFrom no_types s' (count_after o) entries t
-        → Shows (number + 1 + 1) lines words' entries output end → PlaysLines (b.done ++ (line ∷ lines)) (b.so_far ++ (outcome_text (number + 1) o ++ output)) end
+        → (lines : List (List ℕ)) (entries : Entries) (t : Space) (output : List ℕ) (end : Ending) → RunFrom standard s' (count_after o) entries t
+        → Shows (number + 1 + 1) lines words' s' entries output end → PlaysLines (b.done ++ (line ∷ lines)) (b.so_far ++ (outcome_text (number + 1) o ++ output)) end
     go outcome.Idle (l, w, e) n lines entries t output end run shows =
-        let P : Namespace → Type 0 = λ x. RunFrom no_types x b.count entries t in
-        let Q : Words → Type 0 = λ x. Shows (number + 1 + 1) lines x entries output end in
-        b.onward (line ∷ lines) entries t output end (subst P e run) (inl (Nothing, l, subst Q w shows))
+        let P : Space → Type 0 = λ x. RunFrom standard x b.count entries t in
+        b.onward (line ∷ lines) entries t output end (subst P e run) (inl (Nothing, l, same lines entries output end w e shows))
+    go (outcome.Counted counts) (l, k, w, e) n lines entries t output end run shows =
+        let P : Space → Type 0 = λ x. RunFrom standard x b.count entries t in
+        b.onward (line ∷ lines) entries t (output_line (number + 1) (counts_text counts) ++ output) end (subst P e run)
+        (inl (Stat, l, (output, ap (λ (x : Counts). output_line (number + 1) (counts_text x) ++ output) k, same lines entries output end w e shows)))
     go (outcome.Replied reply) (p, r, l, (c, command, step, w)) n lines entries t output end run shows =
-        let Q : Words → Type 0 = λ x. Shows (number + 1 + 1) lines x entries output end in
+        let Q : Words → Type 0 = λ x. Shows (number + 1 + 1) lines x s' entries output end in
         b.onward (line ∷ lines) (entry_of b.count (process_of p) c reply ∷ entries) t (output_line (number + 1) (reply_text reply) ++ output) end (s', refl, step, run)
-        (inl (Asks p r, l, inl (entry_of b.count (process_of p) c reply, entries, output, c, reply, command, refl, refl, refl, refl, refl, subst Q w shows)))
+        (inl (Asks p r, l, inl (entry_of b.count (process_of p) c reply, entries, output, c, reply, s', command, refl, refl, refl, step, refl, refl, subst Q w shows)))
     go outcome.NoLine h n lines entries t output end run shows = cc
     go outcome.NoMemory d n lines entries t output end run shows = cc
 
 -- a line that ends the run
-pub stands_end : (old mid new : Option (List ℕ)) (script rest line behind : List ℕ) (number : ℕ) (words words' : Words) (s s' : Namespace) (o : Outcome) (end : Ending)
+pub stands_end : (old mid new : Option (List ℕ)) (script rest line behind : List ℕ) (number : ℕ) (words words' : Words) (s s' : Space) (o : Outcome) (end : Ending)
     → StandsBehind old mid script rest number words s → lines_of rest ≡ line ∷ lines_of behind → IsDone line words s o words' s'
     → Some end ≡ outcome_end (number + 1) o → Appends mid new (outcome_text (number + 1) o) → PlaysTo old new script end
 stands_end old mid new script rest line behind number words words' s s' o end b e d n a =
@@ -139,6 +163,7 @@ stands_end old mid new script rest line behind number words words' s s' o end b 
 
     go : (o : Outcome) → IsDone line words s o words' s' → Some end ≡ outcome_end (number + 1) o → PlaysLines (b.done ++ (line ∷ lines_of behind)) (b.so_far ++ outcome_text (number + 1) o) end
     go outcome.Idle d n = cc
+    go (outcome.Counted counts) d n = cc
     go (outcome.Replied reply) d n = cc
     go outcome.NoLine h n =
         let same : end ≡ ending.BadLine (number + 1) = cc in
@@ -148,13 +173,13 @@ stands_end old mid new script rest line behind number words words' s s' o end b 
         b.onward (line ∷ lines_of behind) [] s (outcome_text (number + 1) outcome.NoMemory) end refl (inl (Asks p r, l, inr (refl, refl, same)))
 
 -- a line that was not written whole
-pub stands_part : (old mid new : Option (List ℕ)) (script rest line behind : List ℕ) (number : ℕ) (words words' : Words) (s s' : Namespace) (o : Outcome)
+pub stands_part : (old mid new : Option (List ℕ)) (script rest line behind : List ℕ) (number : ℕ) (words words' : Words) (s s' : Space) (o : Outcome)
     → StandsBehind old mid script rest number words s → lines_of rest ≡ line ∷ lines_of behind → IsDone line words s o words' s'
     → AppendsFront mid new (outcome_text (number + 1) o) → PlaysPartTo old new script
 stands_part old mid new script rest line behind number words words' s s' o b e d f =
     go (shows_alone line (number + 1) words words' s s' b.count o d)
   where
-    go : (entries : List Entry) × (t : Namespace) × (end : Ending) × RunFrom no_types s b.count entries t × Shows (number + 1) (line ∷ []) words entries (outcome_text (number + 1) o) end
+    go : (entries : Entries) × (t : Space) × (end : Ending) × RunFrom standard s b.count entries t × Shows (number + 1) (line ∷ []) words s entries (outcome_text (number + 1) o) end
         → PlaysPartTo old new script
     go (entries, t, end, run, shows) =
         let lines : lines_of script ≡ (b.done ++ line ∷ []) ++ lines_of behind = b.split ∙ (ap (λ x. b.done ++ x) e ∙ sym (append_assoc b.done (line ∷ []) (lines_of behind))) in

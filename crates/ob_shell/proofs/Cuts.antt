@@ -96,3 +96,8 @@ behind_none s p (Some x) m = tt
 pub IfNone-map : {T : Type 0} (r : Option T) (P Q : Type 0) → (P → Q) → IfNone r P → IfNone r Q
 IfNone-map None P Q f p = f p
 IfNone-map (Some x) P Q f p = tt
+
+-- a fact of `Some` from two others
+pub IfSome-join : {T : Type 0} (r : Option T) (P Q R : T → Type 0) → ((x : T) → P x → Q x → R x) → IfSome r P → IfSome r Q → IfSome r R
+IfSome-join None P Q R f p q = tt
+IfSome-join (Some x) P Q R f p q = f x p q

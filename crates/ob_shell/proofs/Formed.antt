@@ -1,109 +1,121 @@
--- Forms of a line.
-use Rattle.std.proofs.Common.{◌≡◌, ◌≢◌, ℕ, ◌≤◌, inl, inr, List, [], ◌∷◌, ◌++◌, length, get_or, eqb, false, refl, ap, arith, codes, append_assoc, sym, ◌∙◌}
-use Rattle.ob_shell.specs.declared.form.Form.{Form}
-use Rattle.ob_shell.specs.declared.form.Form.TheVariants.{Nothing, Asks}
-use Rattle.ob_shell.specs.declared.form.Request.{Request}
-use Rattle.ob_shell.specs.declared.form.Request.TheVariants.{CreateDirectory, OpenDirectory, Close}
+-- Requests, and forms of a line.
+use Rattle.std.proofs.Common.{◌≡◌, ◌≢◌, ℕ, ◌≤◌, inl, inr, List, [], ◌∷◌, ◌++◌, Option, length, get_or, eqb, Bool, false, refl, ap, arith, codes, append_assoc, sym, ◌∙◌}
 use Rattle.std.specs.Char.{IsAsciiAlphabetic}
-use Rattle.ob_shell.specs.Text.{Lacks, IsWord, IsProcessWord, IsText}
-use Rattle.ob_shell.specs.Flags.{IsFlags}
-use Rattle.ob_shell.specs.Grammar.{IsNamed, IsRequest, IsIdle, IsLine, LinesHaveOneForm}
+use Rattle.std.specs.Str.{bytes_eq}
+use Rattle.std.proofs.lemmas.Bool.{both_ways}
+use Rattle.std.proofs.lemmas.Slice.Eq.{bytes_eq-Decides}
+use Rattle.ob_plain.specs.declared.plain.PlainKind.{PlainKind}
+use Rattle.ob_shell.specs.declared.form.Form.{Form}
+use Rattle.ob_shell.specs.declared.form.Form.TheVariants.{Nothing, Stat, Asks}
+use Rattle.ob_shell.specs.declared.request.PlaceForm.{PlaceForm}
+use Rattle.ob_shell.specs.declared.request.Request.{Request}
+use Rattle.ob_shell.specs.declared.request.Request.TheVariants.{CreateDirectory, CreateObject, OpenDirectory, OpenObject, Close, QueryName}
+use Rattle.ob_shell.specs.declared.verb.Verb.{Verb}
+use Rattle.ob_shell.specs.declared.verb.Verb.TheVariants as verb
+use Rattle.ob_shell.specs.Text.{Lacks, IsProcessWord}
+use Rattle.ob_shell.specs.Parts.{BeginsWithPlace, BeginsWithText}
+use Rattle.ob_shell.specs.Grammar.{verb_text, verb_of, IsOperands, IsRequest, IsFlagsAndWord, IsFlagsTextAndWord, IsIdle, IsLine, LinesHaveOneForm}
 use Rattle.ob_shell.proofs.Cuts.{cut_alike, lacks_no_cut}
-use Rattle.ob_shell.proofs.Spelled.{text_lacks, word_lacks}
-use Rattle.ob_shell.proofs.Flagged.{flags_lack, flags_alike}
+use Rattle.ob_shell.proofs.Spelled.{word_lacks}
+use Rattle.ob_shell.proofs.Flagged.{lacks_from_test}
+use Rattle.ob_shell.proofs.Parted.{apart, differ, moved, spaced, spaced_alike, text_alike, place_alike, kind_alike, want_alike, ends_alike, text_ends_alike}
 
--- the parts of a NAME FLAGS =V, the first behind the quote
-pub named_nested : (text flags word : List ℕ) → codes "\"" ++ text ++ codes "\" " ++ flags ++ codes " =" ++ word ≡ 0x22 ∷ (text ++ (0x22 ∷ (0x20 ∷ (flags ++ (0x20 ∷ (0x3D ∷ word))))))
-named_nested text flags word = simp append_assoc
+-- the words of verbs have no space, and no two verbs share one
+pub verb_lacks : (v : Verb) → Lacks 0x20 (verb_text v)
+verb_lacks verb.Dir = lacks_from_test 0x20 (codes "dir") refl
+verb_lacks verb.Make = lacks_from_test 0x20 (codes "make") refl
+verb_lacks verb.OpenDir = lacks_from_test 0x20 (codes "opendir") refl
+verb_lacks verb.Open = lacks_from_test 0x20 (codes "open") refl
+verb_lacks verb.Close = lacks_from_test 0x20 (codes "close") refl
+verb_lacks verb.Name = lacks_from_test 0x20 (codes "name") refl
 
--- one cut of a NAME FLAGS =V is the only one
-pub named_parts : (bytes quoted text rest t w : List ℕ) (a : ℕ) → bytes ≡ 0x22 ∷ quoted → quoted ≡ text ++ (0x22 ∷ rest) → Lacks 0x22 text → IsNamed bytes t a w
-    → (flags : List ℕ) × (text ≡ t) × (rest ≡ 0x20 ∷ (flags ++ (0x20 ∷ (0x3D ∷ w)))) × IsText t × IsFlags flags a × IsWord w
-named_parts bytes quoted text rest t w a b q l (flags, (name, spelled), isflags, isword, e) =
-    let whole : 0x22 ∷ (text ++ (0x22 ∷ rest)) ≡ 0x22 ∷ (t ++ (0x22 ∷ (0x20 ∷ (flags ++ (0x20 ∷ (0x3D ∷ w)))))) = ap (λ z. 0x22 ∷ z) (sym q) ∙ (sym b ∙ (e ∙ named_nested t flags w)) in
-    let tails : text ++ (0x22 ∷ rest) ≡ t ++ (0x22 ∷ (0x20 ∷ (flags ++ (0x20 ∷ (0x3D ∷ w))))) = cc in
-    let same : (text ≡ t) × (rest ≡ 0x20 ∷ (flags ++ (0x20 ∷ (0x3D ∷ w)))) = cut_alike 0x22 text rest t (0x20 ∷ (flags ++ (0x20 ∷ (0x3D ∷ w)))) l (text_lacks t name spelled) tails in
-    (flags, same.0, same.1, (name, spelled), isflags, isword)
+pub verb_same : (a b : Verb) → verb_text a ≡ verb_text b → a ≡ b
+verb_same verb.Dir verb.Dir e = refl
+verb_same verb.Make verb.Make e = refl
+verb_same verb.OpenDir verb.OpenDir e = refl
+verb_same verb.Open verb.Open e = refl
+verb_same verb.Close verb.Close e = refl
+verb_same verb.Name verb.Name e = refl
+verb_same a b e = absurd (differ (verb_text a) (verb_text b) refl e)
 
--- bytes behind the quote without another quote are no NAME FLAGS =V
-pub named_unclosed : (bytes quoted t w : List ℕ) (a : ℕ) → bytes ≡ 0x22 ∷ quoted → Lacks 0x22 quoted → ¬ IsNamed bytes t a w
-named_unclosed bytes quoted t w a b l (flags, text, isflags, isword, e) =
-    let whole : bytes ≡ 0x22 ∷ (t ++ (0x22 ∷ (0x20 ∷ (flags ++ (0x20 ∷ (0x3D ∷ w)))))) = e ∙ named_nested t flags w in
-    let tails : quoted ≡ t ++ (0x22 ∷ (0x20 ∷ (flags ++ (0x20 ∷ (0x3D ∷ w))))) = cc in
-    lacks_no_cut 0x22 quoted t _ l tails
+-- operands that are none of their verb's are those of no request of this verb
+pub no_directory : (bytes : List ℕ) (v : Verb) → v ≡ verb.Dir → ((p : PlaceForm (List ℕ)) (a : ℕ) (w : List ℕ) → ¬ IsOperands bytes (CreateDirectory p a w))
+    → (r : Request (List ℕ)) → verb_of r ≡ v → ¬ IsOperands bytes r
+no_directory bytes v d none (CreateDirectory p a w) e s = none p a w s
+no_directory bytes v d none r e s = absurd (differ (verb_text (verb_of r)) (verb_text verb.Dir) refl (ap verb_text (e ∙ d)))
 
--- the same, of the flags and of the word
-pub flags_unclosed : (rest more flags w : List ℕ) → rest ≡ 0x20 ∷ more → Lacks 0x20 more → rest ≡ 0x20 ∷ (flags ++ (0x20 ∷ (0x3D ∷ w))) → ⊥
-flags_unclosed rest more flags w e l f =
-    let tails : more ≡ flags ++ (0x20 ∷ (0x3D ∷ w)) = cc in lacks_no_cut 0x20 more flags _ l tails
+pub no_object : (bytes : List ℕ) (v : Verb) → v ≡ verb.Make
+    → ((k : PlainKind) (p : PlaceForm (List ℕ)) (a : ℕ) (t w : List ℕ) → ¬ IsOperands bytes (CreateObject k p a t w))
+    → (r : Request (List ℕ)) → verb_of r ≡ v → ¬ IsOperands bytes r
+no_object bytes v d none (CreateObject k p a t w) e s = none k p a t w s
+no_object bytes v d none r e s = absurd (differ (verb_text (verb_of r)) (verb_text verb.Make) refl (ap verb_text (e ∙ d)))
 
-pub flags_parts : (rest more flags last f w : List ℕ) → rest ≡ 0x20 ∷ more → more ≡ flags ++ (0x20 ∷ last) → Lacks 0x20 flags → Lacks 0x20 f
-    → rest ≡ 0x20 ∷ (f ++ (0x20 ∷ (0x3D ∷ w))) → (flags ≡ f) × (last ≡ 0x3D ∷ w)
-flags_parts rest more flags last f w e m l k g =
-    let tails : flags ++ (0x20 ∷ last) ≡ f ++ (0x20 ∷ (0x3D ∷ w)) = cc in
-    cut_alike 0x20 flags last f (0x3D ∷ w) l k tails
+pub no_open_directory : (bytes : List ℕ) (v : Verb) → v ≡ verb.OpenDir → ((t : List ℕ) (a : ℕ) (w : List ℕ) → ¬ IsOperands bytes (OpenDirectory t a w))
+    → (r : Request (List ℕ)) → verb_of r ≡ v → ¬ IsOperands bytes r
+no_open_directory bytes v d none (OpenDirectory t a w) e s = none t a w s
+no_open_directory bytes v d none r e s = absurd (differ (verb_text (verb_of r)) (verb_text verb.OpenDir) refl (ap verb_text (e ∙ d)))
 
--- bytes that are cut so are a NAME FLAGS =V
-pub named_joined : (bytes quoted text rest more flags last word : List ℕ) (attrs : ℕ) → bytes ≡ 0x22 ∷ quoted → quoted ≡ text ++ (0x22 ∷ rest)
-    → rest ≡ 0x20 ∷ more → more ≡ flags ++ (0x20 ∷ last) → last ≡ 0x3D ∷ word → IsText text → IsFlags flags attrs → IsWord word → IsNamed bytes text attrs word
-named_joined bytes quoted text rest more flags last word attrs b q r m l istext isflags isword =
-    (flags, istext, isflags, isword, b ∙ (rw (q, r, m, l) refl ∙ sym (named_nested text flags word)))
+pub no_open_object : (bytes : List ℕ) (v : Verb) → v ≡ verb.Open
+    → ((k : Option PlainKind) (t : List ℕ) (a : ℕ) (w : List ℕ) → ¬ IsOperands bytes (OpenObject k t a w))
+    → (r : Request (List ℕ)) → verb_of r ≡ v → ¬ IsOperands bytes r
+no_open_object bytes v d none (OpenObject k t a w) e s = none k t a w s
+no_open_object bytes v d none r e s = absurd (differ (verb_text (verb_of r)) (verb_text verb.Open) refl (ap verb_text (e ∙ d)))
 
--- every NAME FLAGS =V that these bytes are has the parts that they are cut into
-pub named_is : (bytes quoted text rest more flags last t w : List ℕ) (a : ℕ) → bytes ≡ 0x22 ∷ quoted → quoted ≡ text ++ (0x22 ∷ rest) → Lacks 0x22 text
-    → rest ≡ 0x20 ∷ more → more ≡ flags ++ (0x20 ∷ last) → Lacks 0x20 flags → IsNamed bytes t a w
-    → (text ≡ t) × (last ≡ 0x3D ∷ w) × IsText text × IsFlags flags a × IsWord w
-named_is bytes quoted text rest more flags last t w a b q l r m k n =
-    go (named_parts bytes quoted text rest t w a b q l n)
-  where
-    go : (f : List ℕ) × (text ≡ t) × (rest ≡ 0x20 ∷ (f ++ (0x20 ∷ (0x3D ∷ w)))) × IsText t × IsFlags f a × IsWord w
-        → (text ≡ t) × (last ≡ 0x3D ∷ w) × IsText text × IsFlags flags a × IsWord w
-    go (f, same, e, istext, isflags, isword) =
-        let cut : (flags ≡ f) × (last ≡ 0x3D ∷ w) = flags_parts rest more flags last f w r m k (flags_lack f a isflags) e in
-        (same, cut.1, rw same istext, rw cut.0 isflags, isword)
+pub no_close : (bytes : List ℕ) (v : Verb) → v ≡ verb.Close → ((w : List ℕ) → ¬ IsOperands bytes (Close w))
+    → (r : Request (List ℕ)) → verb_of r ≡ v → ¬ IsOperands bytes r
+no_close bytes v d none (Close w) e s = none w s
+no_close bytes v d none r e s = absurd (differ (verb_text (verb_of r)) (verb_text verb.Close) refl (ap verb_text (e ∙ d)))
 
--- a NAME FLAGS =V has one reading
-pub named_alike : (bytes t w t' w' : List ℕ) (a a' : ℕ) → IsNamed bytes t a w → IsNamed bytes t' a' w' → (t ≡ t') × (a ≡ a') × (w ≡ w')
-named_alike bytes t w t' w' a a' (flags, (name, spelled), isflags, isword, e) n =
-    let is = named_is bytes (t ++ (0x22 ∷ (0x20 ∷ (flags ++ (0x20 ∷ (0x3D ∷ w)))))) t (0x20 ∷ (flags ++ (0x20 ∷ (0x3D ∷ w)))) (flags ++ (0x20 ∷ (0x3D ∷ w))) flags (0x3D ∷ w) t' w' a'
-    (e ∙ named_nested t flags w) refl (text_lacks t name spelled) refl refl (flags_lack flags a isflags) n in
-    let words : 0x3D ∷ w ≡ 0x3D ∷ w' = is.1 in
-    (is.0, flags_alike flags a a' isflags is.3, (cc))
+pub no_name_query : (bytes : List ℕ) (v : Verb) → v ≡ verb.Name → ((w : List ℕ) → ¬ IsOperands bytes (QueryName w))
+    → (r : Request (List ℕ)) → verb_of r ≡ v → ¬ IsOperands bytes r
+no_name_query bytes v d none (QueryName w) e s = none w s
+no_name_query bytes v d none r e s = absurd (differ (verb_text (verb_of r)) (verb_text verb.Name) refl (ap verb_text (e ∙ d)))
 
--- lists with two first bytes are two
-apart : (a b : ℕ) {x y : List ℕ} → a ∷ x ≡ b ∷ y → a ≢ b → ⊥
-apart a b {x} {y} e n = let h : a ≡ b = ap (λ (z : List ℕ). get_or z 0 0) e in n h
+-- operands have one reading for each verb
+operands_alike : (bytes : List ℕ) (a b : Request (List ℕ)) → verb_of a ≡ verb_of b → IsOperands bytes a → IsOperands bytes b → a ≡ b
+operands_alike bytes (CreateDirectory p a w) (CreateDirectory p' a' w') e (r, b, f) (r', b', f') =
+    let place = place_alike bytes p r p' r' b b' in
+    let same = ends_alike r a w a' w' f (moved (λ x. IsFlagsAndWord x a' w') r r' place.1 f') in
+    rw (place.0, same.0, same.1) refl
+operands_alike bytes (CreateObject k p a t w) (CreateObject k' p' a' t' w') e (r, m, c, b, f) (r', m', c', b', f') =
+    let kind = kind_alike bytes k r k' r' c c' in
+    let place = place_alike r p m p' m' b (moved (λ x. BeginsWithPlace x p' m') r r' kind.1 b') in
+    let same = text_ends_alike m a t w a' t' w' f (moved (λ x. IsFlagsTextAndWord x a' t' w') m m' place.1 f') in
+    rw (kind.0, place.0, same.0, same.1, same.2) refl
+operands_alike bytes (OpenDirectory t a w) (OpenDirectory t' a' w') e (r, b, f) (r', b', f') =
+    let text = text_alike bytes t r t' r' b b' in
+    let same = ends_alike r a w a' w' f (moved (λ x. IsFlagsAndWord x a' w') r r' text.1 f') in
+    rw (text.0, same.0, same.1) refl
+operands_alike bytes (OpenObject k t a w) (OpenObject k' t' a' w') e (r, m, c, b, f) (r', m', c', b', f') =
+    let want = want_alike bytes k r k' r' c c' in
+    let text = text_alike r t m t' m' b (moved (λ x. BeginsWithText x t' m') r r' want.1 b') in
+    let same = ends_alike m a w a' w' f (moved (λ x. IsFlagsAndWord x a' w') m m' text.1 f') in
+    rw (want.0, text.0, same.0, same.1) refl
+operands_alike bytes (Close w) (Close w') e (f, s) (f', s') = ap Close (sym f ∙ f')
+operands_alike bytes (QueryName w) (QueryName w') e (f, s) (f', s') = ap QueryName (sym f ∙ f')
+operands_alike bytes a b e s s' = absurd (differ (verb_text (verb_of a)) (verb_text (verb_of b)) refl (ap verb_text e))
 
--- bytes that begin with a command's word are no other request
-pub not_dir : (bytes named : List ℕ) → bytes ≡ codes "dir " ++ named → ((t : List ℕ) (a : ℕ) (w : List ℕ) → ¬ IsNamed named t a w)
-    → (request : Request (List ℕ)) → ¬ IsRequest bytes request
-not_dir bytes named e none (CreateDirectory t a w) (n, f, s) = let same : n ≡ named = cc in none t a w (rw (← same) s)
-not_dir bytes named e none (OpenDirectory t a w) (n, f, s) = apart 0x64 0x6F (sym e ∙ f) (omega arith)
-not_dir bytes named e none (Close w) (f, s) = apart 0x64 0x63 (sym e ∙ f) (omega arith)
+-- a request that is cut behind its verb is no other
+pub request_parts : (bytes word rest : List ℕ) (r : Request (List ℕ)) → bytes ≡ word ++ (0x20 ∷ rest) → Lacks 0x20 word → IsRequest bytes r
+    → (word ≡ verb_text (verb_of r)) × IsOperands rest r
+request_parts bytes word rest r e l (operands, f, s) =
+    let same : (word ≡ verb_text (verb_of r)) × (rest ≡ operands) = spaced_alike bytes word rest (verb_text (verb_of r)) operands l (verb_lacks (verb_of r)) e f in
+    (same.0, moved (λ x. IsOperands x r) rest operands same.1 s)
 
-pub not_opendir : (bytes named : List ℕ) → bytes ≡ codes "opendir " ++ named → ((t : List ℕ) (a : ℕ) (w : List ℕ) → ¬ IsNamed named t a w)
-    → (request : Request (List ℕ)) → ¬ IsRequest bytes request
-not_opendir bytes named e none (CreateDirectory t a w) (n, f, s) = apart 0x6F 0x64 (sym e ∙ f) (omega arith)
-not_opendir bytes named e none (OpenDirectory t a w) (n, f, s) = let same : n ≡ named = cc in none t a w (rw (← same) s)
-not_opendir bytes named e none (Close w) (f, s) = apart 0x6F 0x63 (sym e ∙ f) (omega arith)
+pub request_uncut : (bytes : List ℕ) (r : Request (List ℕ)) → Lacks 0x20 bytes → ¬ IsRequest bytes r
+request_uncut bytes r l (operands, e, s) =
+    lacks_no_cut 0x20 bytes (verb_text (verb_of r)) operands l (spaced bytes (verb_text (verb_of r)) operands e)
+
+-- a verb, a space and its operands are a request
+pub request_joined : (bytes word rest : List ℕ) (v : Verb) (r : Request (List ℕ)) → bytes ≡ word ++ (0x20 ∷ rest) → word ≡ verb_text v → verb_of r ≡ v
+    → IsOperands rest r → IsRequest bytes r
+request_joined bytes word rest v r e f g s = (rest, e ∙ (rw (f, g) (sym (simp append_assoc))), s)
 
 -- a request has one reading
 pub request_alike : (bytes : List ℕ) (a b : Request (List ℕ)) → IsRequest bytes a → IsRequest bytes b → a ≡ b
-request_alike bytes (CreateDirectory t a w) (CreateDirectory t' a' w') (n, f, s) (n', f', s') =
-    let same : n ≡ n' = cc in
-    let is = named_alike n t w t' w' a a' s (rw same s') in
-    cc
-request_alike bytes (CreateDirectory t a w) (OpenDirectory t' a' w') (n, f, s) (n', f', s') = absurd (apart 0x64 0x6F (sym f ∙ f') (omega arith))
-request_alike bytes (CreateDirectory t a w) (Close w') (n, f, s) (f', s') = absurd (apart 0x64 0x63 (sym f ∙ f') (omega arith))
-request_alike bytes (OpenDirectory t a w) (CreateDirectory t' a' w') (n, f, s) (n', f', s') = absurd (apart 0x6F 0x64 (sym f ∙ f') (omega arith))
-request_alike bytes (OpenDirectory t a w) (OpenDirectory t' a' w') (n, f, s) (n', f', s') =
-    let same : n ≡ n' = cc in
-    let is = named_alike n t w t' w' a a' s (rw same s') in
-    cc
-request_alike bytes (OpenDirectory t a w) (Close w') (n, f, s) (f', s') = absurd (apart 0x6F 0x63 (sym f ∙ f') (omega arith))
-request_alike bytes (Close w) (CreateDirectory t a w') (f, s) (n, f', s') = absurd (apart 0x63 0x64 (sym f ∙ f') (omega arith))
-request_alike bytes (Close w) (OpenDirectory t a w') (f, s) (n, f', s') = absurd (apart 0x63 0x6F (sym f ∙ f') (omega arith))
-request_alike bytes (Close w) (Close w') (f, s) (f', s') = let same : w ≡ w' = cc in cc
+request_alike bytes a b (rest, e, s) t =
+    let parts = request_parts bytes (verb_text (verb_of a)) rest b (spaced bytes (verb_text (verb_of a)) rest e) (verb_lacks (verb_of a)) t in
+    operands_alike rest a b (verb_same (verb_of a) (verb_of b) parts.0) s parts.1
 
 -- a line that is cut at its first space asks for nothing else
 pub asks_parts : (line process rest p : List ℕ) (r : Request (List ℕ)) → line ≡ process ++ (0x20 ∷ rest) → Lacks 0x20 process → IsLine line (Asks p r)
@@ -117,7 +129,7 @@ pub asks_uncut : (line p : List ℕ) (r : Request (List ℕ)) → Lacks 0x20 lin
 asks_uncut line p r l (more, f, word, request, short) =
     let cut : line ≡ p ++ (0x20 ∷ more) = f ∙ simp append_assoc in lacks_no_cut 0x20 line p more l cut
 
--- a line that asks for something isn't idle
+-- a line that asks for something isn't idle, and is no `stat`
 pub asks_not_idle : (line p : List ℕ) (r : Request (List ℕ)) → IsLine line (Asks p r) → ¬ IsIdle line
 asks_not_idle line [] r (more, f, word, request, short) idle = absurd word.0
 asks_not_idle line (c ∷ cs) r (more, f, word, request, short) (inl e) = cc
@@ -128,25 +140,42 @@ asks_not_idle line (c ∷ cs) r (more, f, word, request, short) (inr (comment, e
     not_sharp c (inl h) e = omega arith
     not_sharp c (inr h) e = omega arith
 
+asks_not_stat : (line p : List ℕ) (r : Request (List ℕ)) → IsLine line (Asks p r) → ¬ (line ≡ codes "stat")
+asks_not_stat line p r asks e = asks_uncut line p r (moved (Lacks 0x20) line (codes "stat") e (lacks_from_test 0x20 (codes "stat") refl)) asks
+
+-- an idle line is no `stat`
+stat_not_idle : (line : List ℕ) → line ≡ codes "stat" → ¬ IsIdle line
+stat_not_idle line e (inl f) = differ (codes "stat") [] refl (sym e ∙ f)
+stat_not_idle line e (inr (comment, f)) = apart 0x73 0x23 (sym e ∙ f) (omega arith)
+
 -- a line has one form
 pub line_alike : LinesHaveOneForm
 line_alike line Nothing Nothing s t = refl
+line_alike line Nothing Stat s t = absurd (stat_not_idle line t s.0)
 line_alike line Nothing (Asks p r) s t = absurd (asks_not_idle line p r t s.0)
+line_alike line Stat Nothing s t = absurd (stat_not_idle line s t.0)
+line_alike line Stat Stat s t = refl
+line_alike line Stat (Asks p r) s t = absurd (asks_not_stat line p r t s)
 line_alike line (Asks p r) Nothing s t = absurd (asks_not_idle line p r s t.0)
+line_alike line (Asks p r) Stat s t = absurd (asks_not_stat line p r s t)
 line_alike line (Asks p r) (Asks q s) (rest, e, word, request, short) t =
     let cut : line ≡ p ++ (0x20 ∷ rest) = e ∙ simp append_assoc in
     let parts = asks_parts line p rest q s cut (word_lacks p word.0) t in
-    let same : r ≡ s = request_alike rest r s request parts.2 in
-    cc
+    rw (parts.0, request_alike rest r s request parts.2) refl
 
 -- a process word and a request with a space between them are a line
 pub asks_joined : (line process rest : List ℕ) (r : Request (List ℕ)) → line ≡ process ++ (0x20 ∷ rest) → IsProcessWord process → IsRequest rest r → length line ≤ 262144
     → IsLine line (Asks process r)
 asks_joined line process rest r e word request short = (rest, e ∙ sym (simp append_assoc), word, request, short)
 
--- a line that has a first byte other than `#` and asks for nothing has no form
-pub not_idle : (line : List ℕ) → eqb (length line) 0 ≡ false → (get_or line 0 0 ≡ 0x23 → ⊥)
+-- a line that a test tells apart from `stat` is none
+pub no_stat : (line word : List ℕ) (told : Bool) → told ≡ false → told ≡ bytes_eq line word → word ≡ codes "stat" → line ≡ codes "stat" → ⊥
+no_stat line word told f is w e = both_ways told f (is ∙ (bytes_eq-Decides line word).1 (e ∙ sym w))
+
+-- a line that has a first byte other than `#`, is no `stat` and asks for nothing has no form
+pub no_form : (line : List ℕ) → eqb (length line) 0 ≡ false → (get_or line 0 0 ≡ 0x23 → ⊥) → (line ≡ codes "stat" → ⊥)
     → ((p : List ℕ) (r : Request (List ℕ)) → ¬ IsLine line (Asks p r)) → (form : Form (List ℕ)) → ¬ IsLine line form
-not_idle line long first none (Asks p r) s = none p r s
-not_idle line long first none Nothing (inl e, short) = let empty = rw e at long in cc
-not_idle line long first none Nothing (inr (comment, e), short) = first (ap (λ (z : List ℕ). get_or z 0 0) e)
+no_form line long first stat none (Asks p r) s = none p r s
+no_form line long first stat none Stat s = stat s
+no_form line long first stat none Nothing (inl e, short) = let empty = rw e at long in cc
+no_form line long first stat none Nothing (inr (comment, e), short) = first (ap (λ (z : List ℕ). get_or z 0 0) e)

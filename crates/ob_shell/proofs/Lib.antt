@@ -3,8 +3,10 @@ pub mod Writers
 pub mod Cuts
 pub mod Spelled
 pub mod Flagged
+pub mod Parted
 pub mod Formed
 pub mod Worded
 pub mod Printed
+pub mod Told
 pub mod Lined
 pub mod Behind

@@ -5,30 +5,65 @@
 use Rattle.std.specs.Prelude.{◌≡◌, ℕ, ◌≤◌, ◌⊎◌, List, [], ◌++◌, length, codes}
 use Rattle.std.specs.Borrow.{Bor}
 use Rattle.ob_shell.specs.declared.form.Form.{Form}
-use Rattle.ob_shell.specs.declared.form.Form.TheVariants.{Nothing, Asks}
-use Rattle.ob_shell.specs.declared.form.Request.{Request}
-use Rattle.ob_shell.specs.declared.form.Request.TheVariants.{CreateDirectory, OpenDirectory, Close}
-use Rattle.ob_shell.specs.Text.{IsWord, IsProcessWord, IsText}
-use Rattle.ob_shell.specs.Flags.{IsFlags}
+use Rattle.ob_shell.specs.declared.form.Form.TheVariants.{Nothing, Stat, Asks}
+use Rattle.ob_shell.specs.declared.request.Request.{Request}
+use Rattle.ob_shell.specs.declared.request.Request.TheVariants.{CreateDirectory, CreateObject, OpenDirectory, OpenObject, Close, QueryName}
+use Rattle.ob_shell.specs.declared.verb.Verb.{Verb}
+use Rattle.ob_shell.specs.declared.verb.Verb.TheVariants as verb
+use Rattle.ob_shell.specs.Text.{IsWord, IsProcessWord}
+use Rattle.ob_shell.specs.Parts.{BeginsWithText, BeginsWithPlace, BeginsWithKind, BeginsWithWant, BeginsWithFlags, SetsWord, place_seen}
 
 -- the most bytes that a line may have, without its LF
 abbrev pub longest_line : ℕ
 longest_line = 262144
 
--- `NAME FLAGS =V`
-abbrev pub IsNamed : List ℕ → List ℕ → ℕ → List ℕ → Type 0
-IsNamed bytes text attrs word =
-    (flags : List ℕ) × IsText text × IsFlags flags attrs × IsWord word
-    × (bytes ≡ codes "\"" ++ text ++ codes "\" " ++ flags ++ codes " =" ++ word)
+-- `FLAGS =V`
+abbrev pub IsFlagsAndWord : List ℕ → ℕ → List ℕ → Type 0
+IsFlagsAndWord bytes attrs word = (rest : List ℕ) × BeginsWithFlags bytes attrs rest × SetsWord rest word
 
--- what a process asks for, behind its process word and a space: `dir NAME FLAGS =V`,
--- `opendir NAME FLAGS =V` or `close V`
+-- `FLAGS TEXT =V`
+abbrev pub IsFlagsTextAndWord : List ℕ → ℕ → List ℕ → List ℕ → Type 0
+IsFlagsTextAndWord bytes attrs text word =
+    (rest more : List ℕ) × BeginsWithFlags bytes attrs rest × BeginsWithText rest text more × SetsWord more word
+
+-- the word of a verb
+abbrev pub verb_text : Verb → List ℕ
+verb_text verb.Dir = codes "dir"
+verb_text verb.Make = codes "make"
+verb_text verb.OpenDir = codes "opendir"
+verb_text verb.Open = codes "open"
+verb_text verb.Close = codes "close"
+verb_text verb.Name = codes "name"
+
+-- the verb of a request
+abbrev pub verb_of : Request (List ℕ) → Verb
+verb_of (CreateDirectory place attrs word) = verb.Dir
+verb_of (CreateObject kind place attrs args word) = verb.Make
+verb_of (OpenDirectory text attrs word) = verb.OpenDir
+verb_of (OpenObject want text attrs word) = verb.Open
+verb_of (Close word) = verb.Close
+verb_of (QueryName word) = verb.Name
+
+-- what stands behind the verb of a request and a space: `PLACE FLAGS =V` behind `dir`,
+-- `KIND PLACE FLAGS TEXT =V` behind `make`, `NAME FLAGS =V` behind `opendir`, `WANT NAME FLAGS =V` behind
+-- `open`, and `V` behind `close` and `name`
+abbrev pub IsOperands : List ℕ → Request (List ℕ) → Type 0
+IsOperands bytes (CreateDirectory place attrs word) =
+    (rest : List ℕ) × BeginsWithPlace bytes place rest × IsFlagsAndWord rest attrs word
+IsOperands bytes (CreateObject kind place attrs args word) =
+    (rest more : List ℕ) × BeginsWithKind bytes kind rest × BeginsWithPlace rest place more
+    × IsFlagsTextAndWord more attrs args word
+IsOperands bytes (OpenDirectory text attrs word) =
+    (rest : List ℕ) × BeginsWithText bytes text rest × IsFlagsAndWord rest attrs word
+IsOperands bytes (OpenObject want text attrs word) =
+    (rest more : List ℕ) × BeginsWithWant bytes want rest × BeginsWithText rest text more × IsFlagsAndWord more attrs word
+IsOperands bytes (Close word) = (bytes ≡ word) × IsWord word
+IsOperands bytes (QueryName word) = (bytes ≡ word) × IsWord word
+
+-- what a process asks for, behind its process word and a space: a verb, a space and its operands
 abbrev pub IsRequest : List ℕ → Request (List ℕ) → Type 0
-IsRequest bytes (CreateDirectory text attrs word) =
-    (named : List ℕ) × (bytes ≡ codes "dir " ++ named) × IsNamed named text attrs word
-IsRequest bytes (OpenDirectory text attrs word) =
-    (named : List ℕ) × (bytes ≡ codes "opendir " ++ named) × IsNamed named text attrs word
-IsRequest bytes (Close word) = (bytes ≡ codes "close " ++ word) × IsWord word
+IsRequest bytes request =
+    (operands : List ℕ) × (bytes ≡ verb_text (verb_of request) ++ codes " " ++ operands) × IsOperands operands request
 
 -- an empty line, or a comment, which begins with `#`
 abbrev pub IsIdle : List ℕ → Type 0
@@ -37,6 +72,7 @@ IsIdle line = (line ≡ []) ⊎ ((comment : List ℕ) × (line ≡ codes "#" ++ 
 -- the line, without its LF, is of this form
 abbrev pub IsLine : List ℕ → Form (List ℕ) → Type 0
 IsLine line Nothing = IsIdle line × (length line ≤ longest_line)
+IsLine line Stat = line ≡ codes "stat"
 IsLine line (Asks process request) =
     (rest : List ℕ) × (line ≡ process ++ codes " " ++ rest) × IsProcessWord process × IsRequest rest request
     × (length line ≤ longest_line)
@@ -47,10 +83,14 @@ LinesHaveOneForm = (line : List ℕ) (a b : Form (List ℕ)) → IsLine line a �
 
 -- a request, and a form, whose slices of bytes are seen as the lists that they hold
 abbrev pub request_seen : Request (Bor (List ℕ)) → Request (List ℕ)
-request_seen (CreateDirectory text attrs word) = CreateDirectory text.now attrs word.now
+request_seen (CreateDirectory place attrs word) = CreateDirectory (place_seen place) attrs word.now
+request_seen (CreateObject kind place attrs args word) = CreateObject kind (place_seen place) attrs args.now word.now
 request_seen (OpenDirectory text attrs word) = OpenDirectory text.now attrs word.now
+request_seen (OpenObject want text attrs word) = OpenObject want text.now attrs word.now
 request_seen (Close word) = Close word.now
+request_seen (QueryName word) = QueryName word.now
 
 abbrev pub form_seen : Form (Bor (List ℕ)) → Form (List ℕ)
 form_seen Nothing = Nothing
+form_seen Stat = Stat
 form_seen (Asks process request) = Asks process.now (request_seen request)

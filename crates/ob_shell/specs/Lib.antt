@@ -1,10 +1,14 @@
 pub mod Lines
 pub mod Text
 pub mod Flags
+pub mod Parts
 pub mod Grammar
 pub mod Fault
 pub mod Reading
 pub mod Writing
 pub mod Words
+pub mod Machine
+pub mod Commands
+pub mod Printed
 pub mod Shown
 pub mod Running

@@ -5,11 +5,13 @@ use Rattle.ob_model.specs.declared.reply.Reply.{Reply}
 use Rattle.ob_model.specs.declared.reply.Answer.TheVariants.{Done}
 use Rattle.ob_model.specs.declared.reply.Event.TheVariants.{Start}
 use Rattle.ob_model.specs.Step.{Step}
-use Rattle.ob_core.specs.Namespace.{Namespace, no_types}
+use Rattle.ob_plain.specs.declared.plain.PlainKind.{PlainKind}
 use Rattle.ob_shell.specs.declared.form.Form.{Form}
-use Rattle.ob_shell.specs.declared.form.Form.TheVariants.{Nothing, Asks}
-use Rattle.ob_shell.specs.declared.form.Request.{Request}
-use Rattle.ob_shell.specs.declared.form.Request.TheVariants.{CreateDirectory, OpenDirectory, Close}
+use Rattle.ob_shell.specs.declared.form.Form.TheVariants.{Nothing, Stat, Asks}
+use Rattle.ob_shell.specs.declared.request.PlaceForm.{PlaceForm}
+use Rattle.ob_shell.specs.declared.request.PlaceForm.TheVariants.{Named, Unnamed}
+use Rattle.ob_shell.specs.declared.request.Request.{Request}
+use Rattle.ob_shell.specs.declared.request.Request.TheVariants.{CreateDirectory, CreateObject, OpenDirectory, OpenObject, Close, QueryName}
 use Rattle.ob_shell.specs.declared.line.Outcome.{Outcome}
 use Rattle.ob_shell.specs.declared.line.Outcome.TheVariants as outcome
 use Rattle.ob_shell.specs.declared.run.Ending.{Ending}
@@ -17,25 +19,38 @@ use Rattle.ob_shell.specs.declared.run.Ending.TheVariants as ending
 use Rattle.ob_shell.specs.Text.{IsText}
 use Rattle.ob_shell.specs.Grammar.{IsLine}
 use Rattle.ob_shell.specs.Words.{Words, process_of}
-use Rattle.ob_shell.specs.Shown.{IsCommand, words_after, output_line, reply_text, PlaysPartTo}
+use Rattle.ob_shell.specs.Machine.{standard, Space, counts_of}
+use Rattle.ob_shell.specs.Commands.{IsCommand, words_after}
+use Rattle.ob_shell.specs.Printed.{output_line, reply_text, counts_text}
+use Rattle.ob_shell.specs.Shown.{PlaysPartTo}
 use Rattle.ob_shell.specs.declared.fault.ShellFault.{ShellFault}
 use Rattle.ob_shell.specs.declared.fault.ShellFault.TheVariants as fault
 
--- the text of a request, where it has one, is a text
-abbrev pub HasText : Request (List ℕ) → Type 0
-HasText (CreateDirectory text attrs word) = IsText text
-HasText (OpenDirectory text attrs word) = IsText text
-HasText (Close word) = Unit {0}
+-- the text of a place, where it has one, is a text
+abbrev pub HasPlaceText : PlaceForm (List ℕ) → Type 0
+HasPlaceText (Named text) = IsText text
+HasPlaceText Unnamed = Unit {0}
+
+-- the texts of a request, where it has some, are texts
+abbrev pub HasTexts : Request (List ℕ) → Type 0
+HasTexts (CreateDirectory place attrs word) = HasPlaceText place
+HasTexts (CreateObject kind place attrs args word) = HasPlaceText place × IsText args
+HasTexts (OpenDirectory text attrs word) = IsText text
+HasTexts (OpenObject want text attrs word) = IsText text
+HasTexts (Close word) = Unit {0}
+HasTexts (QueryName word) = Unit {0}
 
 -- a request of a process was answered by a step of the machine, which left these words and states
-abbrev pub IsAnswered : Request (List ℕ) → ℕ → Words → Namespace → Reply → Words → Namespace → Type 0
+abbrev pub IsAnswered : Request (List ℕ) → ℕ → Words → Space → Reply → Words → Space → Type 0
 IsAnswered request process words s reply words' s' =
-    (c : Command) × IsCommand request (words process) c × Step no_types s (Start process c) (Done reply) s'
+    (c : Command PlainKind) × IsCommand request (words process) c × Step standard s (Start process c) (Done reply) s'
     × (words' ≡ words_after request process reply words)
 
 -- what became of a line, and what it left
-abbrev pub IsDone : List ℕ → Words → Namespace → Outcome → Words → Namespace → Type 0
+abbrev pub IsDone : List ℕ → Words → Space → Outcome → Words → Space → Type 0
 IsDone line words s outcome.Idle words' s' = IsLine line Nothing × (words' ≡ words) × (s' ≡ s)
+IsDone line words s (outcome.Counted counts) words' s' =
+    IsLine line Stat × (counts ≡ counts_of s) × (words' ≡ words) × (s' ≡ s)
 IsDone line words s (outcome.Replied reply) words' s' =
     (process : List ℕ) × (request : Request (List ℕ)) × IsLine line (Asks process request)
     × IsAnswered request (process_of process) words s reply words' s'
@@ -45,6 +60,7 @@ IsDone line words s outcome.NoMemory words' s' = (process : List ℕ) × (reques
 -- what the line of this number prints for it
 abbrev pub outcome_text : ℕ → Outcome → List ℕ
 outcome_text number outcome.Idle = []
+outcome_text number (outcome.Counted counts) = output_line number (counts_text counts)
 outcome_text number (outcome.Replied reply) = output_line number (reply_text reply)
 outcome_text number outcome.NoLine = output_line number (codes "not a script line")
 outcome_text number outcome.NoMemory = output_line number (codes "want of memory")
@@ -52,6 +68,7 @@ outcome_text number outcome.NoMemory = output_line number (codes "want of memory
 -- how it ends the run, where it does
 abbrev pub outcome_end : ℕ → Outcome → Option Ending
 outcome_end number outcome.Idle = None
+outcome_end number (outcome.Counted counts) = None
 outcome_end number (outcome.Replied reply) = None
 outcome_end number outcome.NoLine = Some (ending.BadLine number)
 outcome_end number outcome.NoMemory = Some (ending.NoMemoryAt number)

@@ -1,20 +1,19 @@
 //! Lines of the output, made without memory.
 
-ghost use Rattle.std.specs.Prelude.{◌≡◌, ◌+◌, ◌<◌, ◌≤◌, [], ◌∷◌, ◌++◌, length};
+ghost use Rattle.std.specs.Prelude.{◌≡◌, ◌+◌, ◌*◌, ◌<◌, ◌≤◌, [], ◌∷◌, ◌++◌, codes, length};
 ghost use Rattle.std.specs.Fmt.{decimal};
-ghost use Rattle.ob_base.specs.Status.{text_of};
 ghost use Rattle.arrayvec.specs.ArrayVec.{array_vec_len};
-ghost use Rattle.ob_shell.specs.Shown.{output_line, reply_text, refusal_number_of};
+ghost use Rattle.ob_shell.specs.Printed.{output_line, status_text, printed_byte, printed_bytes, counts_text};
 
+use crate::counts::Counts;
 use arrayvec::ArrayVec;
 use ob_base::Status;
-use ob_model::Reply;
 
-// Room for a line of the output: at most 20 digits, 22 letters of a status or 17 of a message, and
-// less than 20 bytes more.
-const ROOM: usize = 64;
+// Room for a line of the output: six numbers of at most 20 digits, and at most 44 bytes of words; or
+// for 64 bytes of a text, of which each is printed as three at most.
+const ROOM: usize = 192;
 
-// A line of the output.
+// A line of the output, or a part of one.
 pub type Line = ArrayVec<u8, ROOM>;
 
 // The line of a number and a text.
@@ -30,15 +29,55 @@ pub fn text_line(number: u64, text: &[u8]) -> Line
     line
 }
 
-// The line of a number and a reply.
-pub fn reply_line(number: u64, reply: Reply) -> Line
-    ensures { result.items ≡ output_line number (reply_text reply) }
+// The line of a number and the text of a status.
+pub fn status_line(number: u64, status: Status) -> Line
+    ensures { result.items ≡ output_line number (status_text status) }
 {
     let mut line = empty_line();
     push_number(&mut line, number);
     push_text(&mut line, b": ");
-    push_status(&mut line, reply.status);
+    push_status(&mut line, status);
     push_text(&mut line, b"\n");
+    line
+}
+
+// The same line, as far as the quote in front of a text that is given.
+pub fn text_front(number: u64, status: Status) -> Line
+    ensures { result.items ≡ decimal number ++ codes ": " ++ status_text status ++ codes " \"" }
+{
+    let mut line = empty_line();
+    push_number(&mut line, number);
+    push_text(&mut line, b": ");
+    push_status(&mut line, status);
+    push_text(&mut line, b" \"");
+    line
+}
+
+// The line of a number and of what the namespace counts.
+pub fn counts_line(number: u64, counts: Counts) -> Line
+    ensures { result.items ≡ output_line number (counts_text counts) }
+{
+    let mut line = empty_line();
+    push_number(&mut line, number);
+    push_text(&mut line, b": ");
+    push_count(&mut line, b"objects ", counts.objects as u64);
+    push_count(&mut line, b" handles ", counts.handles as u64);
+    push_count(&mut line, b" opens ", counts.opens);
+    push_count(&mut line, b" closes ", counts.closes);
+    push_count(&mut line, b" deletes ", counts.deletes);
+    push_text(&mut line, b"\n");
+    line
+}
+
+// A part of a text, as it is printed.
+pub fn printed_part(part: &[u8]) -> Line
+    requires { length part.now ≤ 64 }
+    ensures { result.items ≡ printed_bytes part.now }
+{
+    let mut line = empty_line();
+    for byte in part {
+        push_printed(&mut line, *byte);
+    }
     line
 }
 
@@ -50,10 +89,34 @@ fn empty_line() -> Line
     ArrayVec::new()
 }
 
+// Adds a byte of a text, as it is printed.
+fn push_printed(line: &mut Line, byte: u8)
+    requires { array_vec_len line.old ≤ 189 }
+    ensures items { line.new.items ≡ line.old.items ++ printed_byte byte }
+    ensures len { array_vec_len line.new ≤ array_vec_len line.old + 3 }
+{
+    match byte {
+        b'%' => push_text(line, b"%25"),
+        b'"' => push_text(line, b"%22"),
+        _ => line.push(byte),
+    }
+}
+
+// Adds a word and a number.
+fn push_count(line: &mut Line, word: &[u8], count: u64)
+    requires word { length word.now ≤ 9 }
+    requires room { array_vec_len line.old ≤ 163 }
+    ensures items { line.new.items ≡ line.old.items ++ (word.now ++ decimal count) }
+    ensures len { array_vec_len line.new ≤ array_vec_len line.old + 29 }
+{
+    push_text(line, word);
+    push_number(line, count);
+}
+
 // Adds the text of a status, with a type's own number.
 fn push_status(line: &mut Line, status: Status)
     requires { array_vec_len line.old ≤ 22 }
-    ensures items { line.new.items ≡ line.old.items ++ (text_of status ++ refusal_number_of status) }
+    ensures items { line.new.items ≡ line.old.items ++ status_text status }
     ensures room { array_vec_len line.new ≤ 62 }
 {
     push_text(line, status.text().as_bytes());
@@ -65,7 +128,7 @@ fn push_status(line: &mut Line, status: Status)
 
 // Adds a text.
 fn push_text(line: &mut Line, text: &[u8])
-    requires { array_vec_len line.old + length text.now ≤ 64 }
+    requires { array_vec_len line.old + length text.now ≤ 192 }
     ensures items { line.new.items ≡ line.old.items ++ text.now }
     ensures len { array_vec_len line.new ≡ array_vec_len line.old + length text.now }
 {
@@ -76,7 +139,7 @@ fn push_text(line: &mut Line, text: &[u8])
 
 // Adds a number in decimal digits.
 fn push_number(line: &mut Line, number: u64)
-    requires { array_vec_len line.old + length (decimal number) ≤ 64 }
+    requires { array_vec_len line.old + length (decimal number) ≤ 192 }
     ensures items { line.new.items ≡ line.old.items ++ decimal number }
     ensures len { array_vec_len line.new ≡ array_vec_len line.old + length (decimal number) }
 {
@@ -91,7 +154,7 @@ fn push_number(line: &mut Line, number: u64)
 // Adds a digit.
 fn push_digit(line: &mut Line, digit: u8)
     requires digit { digit < 10 }
-    requires room { array_vec_len line.old < 64 }
+    requires room { array_vec_len line.old < 192 }
     ensures items { line.new.items ≡ line.old.items ++ (48 + digit) ∷ [] }
     ensures len { array_vec_len line.new ≡ array_vec_len line.old + 1 }
 {

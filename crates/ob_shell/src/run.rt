@@ -10,11 +10,11 @@ ghost use Rattle.ob_shell.specs.Running.{outcome_text, outcome_end, StopsPlaying
 
 use crate::fault::ShellFault;
 use crate::line::{Outcome, perform};
-use crate::output::{Line, reply_line, text_line};
+use crate::printing::write_outcome;
 use crate::reading::{SCRIPT_LIMIT, read_script};
 use crate::split::split_at;
-use crate::writing::write_out;
 use ob_core::Core;
+use ob_plain::{Counting, Plain};
 use std::alloc::Global;
 use std::collections::BTreeMap;
 use std::io::{Read, Write};
@@ -30,8 +30,8 @@ pub enum Ending {
     NoMemoryAt(u64),
 }
 
-/// Reads a script, runs it from the opening state and writes its replies, a line each; docs/script.md
-/// has the language.
+/// Reads a script, runs it from the opening state with the standard set of types, and writes its
+/// replies, a line each; docs/script.md has the language.
 ///
 /// The script is read whole before its first line runs, and each read and each write is made once.
 /// The faults are `Read`, `TooLong` (more than 16,777,216 bytes) and `Memory`, after which nothing
@@ -76,7 +76,7 @@ fn run_text<W: Write>(alloc: Global, script: &[u8], writer: &mut W) -> Result<En
     ensures played { IfOk result (λ ending. PlaysTo (W.contents writer.old) (W.contents writer.new) script.now ending) }
     ensures fault { IfErr result (λ fault. StopsPlaying script.now fault (W.contents writer.old) (W.contents writer.new)) }
 {
-    let mut core = match Core::new(alloc) {
+    let mut core = match Core::new(alloc, Counting::new(Plain)) {
         Ok(core) => core,
         Err(_) => return Err(ShellFault::Memory),
     };
@@ -107,36 +107,22 @@ fn show<W: Write>(
     ensures fault { IfErr result (λ fault. fault ≡ ShellFault.Write) }
     ensures front { OnErr result (AppendsFront (W.contents writer.old) (W.contents writer.new) (outcome_text number outcome)) }
 {
-    match outcome {
-        Outcome::Idle => Ok(None),
-        Outcome::Replied(reply) => print(writer, reply_line(number, reply), None),
-        Outcome::NoLine => print(
-            writer,
-            text_line(number, b"not a script line"),
-            Some(Ending::BadLine(number)),
-        ),
-        Outcome::NoMemory => print(
-            writer,
-            text_line(number, b"want of memory"),
-            Some(Ending::NoMemoryAt(number)),
-        ),
+    match write_outcome(writer, number, &outcome) {
+        Ok(()) => Ok(ending_of(number, &outcome)),
+        Err(fault) => Err(fault),
     }
 }
 
-// Writes a line, and hands on how the run ends.
-fn print<W: Write>(
-    writer: &mut W,
-    line: Line,
-    ending: Option<Ending>,
-) -> Result<Option<Ending>, ShellFault>
-    ensures ending { IfOk result (λ end. end ≡ ending) }
-    ensures ok { OnOk result (Appends (W.contents writer.old) (W.contents writer.new) line.items) }
-    ensures fault { IfErr result (λ fault. fault ≡ ShellFault.Write) }
-    ensures front { OnErr result (AppendsFront (W.contents writer.old) (W.contents writer.new) line.items) }
+// How what became of a line ends the run, where it does.
+fn ending_of(number: u64, outcome: &Outcome) -> Option<Ending>
+    ensures { result ≡ outcome_end number outcome.now }
 {
-    match write_out(writer, line.as_slice()) {
-        Ok(()) => Ok(ending),
-        Err(fault) => Err(fault),
+    match outcome {
+        Outcome::Idle => None,
+        Outcome::Counted(_) => None,
+        Outcome::Replied(_) => None,
+        Outcome::NoLine => Some(Ending::BadLine(number)),
+        Outcome::NoMemory => Some(Ending::NoMemoryAt(number)),
     }
 }
 

@@ -81,8 +81,19 @@ fn words_belong_to_a_process(rt: HostRuntime) -> Result<(), Fail> {
 }
 
 #[test]
+fn objects_are_made_opened_named_and_counted(rt: HostRuntime) -> Result<(), Fail> {
+    let script =
+        b"p1 make Event \"\\%22\" - \"2\" =a\np1 open any \"\\%22\" - =b\np1 open Event \"\\%22\" - =c\np1 name b\n\
+        stat\np1 close a\np1 close b\np1 make Section none - \"\" =s\np1 name s\np1 close s\np1 dir none - =d\nstat\n";
+    let output = b"1: SUCCESS\n2: SUCCESS\n3: TYPE_REFUSED 2\n4: SUCCESS \"\\%22\"\n\
+        5: objects 7 handles 2 opens 2 closes 0 deletes 0\n6: SUCCESS\n7: SUCCESS\n8: SUCCESS\n9: SUCCESS \"\"\n10: SUCCESS\n11: SUCCESS\n\
+        12: objects 7 handles 1 opens 3 closes 3 deletes 2\n";
+    assert_plays(&rt, rt.alloc(), script, output, Ending::Done)
+}
+
+#[test]
 fn other_lines_end_the_run(rt: HostRuntime) -> Result<(), Fail> {
-    let lines: [&[u8]; 20] = [
+    let lines: [&[u8]; 33] = [
         b" ",
         b"p1",
         b"p1 dir \\A - =a",
@@ -97,7 +108,20 @@ fn other_lines_end_the_run(rt: HostRuntime) -> Result<(), Fail> {
         b"p1 dir \"\\%4g\" - =a",
         b"p1 dir \"\\\x7f\" - =a",
         b"p1 dir \"\\A\" - =1",
-        b"p1 dir none - =a",
+        b"p1 dir none =a",
+        b"p1 dir nowhere - =a",
+        b"p1 opendir none - =a",
+        b"p1 open any none - =a",
+        b"p1 open Thing \"\\E\" - =a",
+        b"p1 make any \"\\E\" - \"\" =a",
+        b"p1 make event \"\\E\" - \"\" =a",
+        b"p1 make Event \"\\E\" - =a",
+        b"p1 make Event \"\\E\" \"\" - =a",
+        b"p1 make Event none - \"%\" =a",
+        b"p1 name a b",
+        b"p1 stat",
+        b"stat ",
+        b"stat dir \"\\A\" - =a",
         b"stat close a",
         b"thread",
         b"p1 close a+1",

@@ -1,7 +1,6 @@
 use Rattle.std.proofs.Common.{◌++◌, codes}
 use Rattle.ob_shell.specs.Fault.{fault_text_of}
-use Rattle.ob_shell.proofs.Writers.{front-append}
-use Rattle.ntns.proofs.Complaints.{append-append-front, append-front-append, at_err, at_err_weaker}
+use Rattle.ob_shell.proofs.Writers.{front-append, append-append-front, append-front-append, at_err, at_err_weaker}
 use Rattle.ntns.proofs.perform.write_complaint.Goals as goal
 
 pub returns-in_err-write_out-clause-front : goal.returns-in_err-write_out-clause-front

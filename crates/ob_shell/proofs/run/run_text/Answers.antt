@@ -6,7 +6,7 @@ use Rattle.ob_shell.specs.Words.{values_of}
 use Rattle.ob_shell.specs.Shown.{PlaysPartTo}
 use Rattle.ob_shell.specs.Running.{StopsPlaying}
 use Rattle.ob_shell.proofs.Worded.{no_values}
-use Rattle.ob_shell.proofs.Behind.{stands_first, stands_more, stands_end, stands_part, stands_last}
+use Rattle.ob_shell.proofs.Behind.{is_fresh, stands_first, stands_more, stands_end, stands_part, stands_last}
 use Rattle.ob_shell.proofs.run.run_text.Goals as goal
 
 stopped : (script : List ℕ) (f : ShellFault) (old new : Option (List ℕ)) → f ≡ Write → PlaysPartTo old new script → StopsPlaying script f old new
@@ -14,7 +14,8 @@ stopped script f old new e p = let P : ShellFault → Type 0 = λ x. StopsPlayin
 
 pub loop-line-init : goal.loop-line-init
 loop-line-init g c = (
-  stands_first (g.W.Write.contents c.args.writer.now) c.args.script.now (values_of c.new-words.result) c.in-Ok.core
+  stands_first (g.W.Write.contents c.args.writer.now) c.args.script.now (values_of c.new-words.result) c.new.result c.in-Ok.core
+      (is_fresh c.new.result c.new.ensures.opens c.new.ensures.closes c.new.ensures.deletes)
       (no_values c.new-words.result c.new-words.ensures.empty) c.in-Ok.ensures.opening,
   omega arith,
 )

@@ -1,6 +1,7 @@
+-- There is room for the digits of any number, and for any status.
 use Rattle.std.proofs.Common.{arith}
 use Rattle.ob_shell.proofs.Printed.{number_short}
-use Rattle.ob_shell.proofs.output.reply_line.Goals as goal
+use Rattle.ob_shell.proofs.output.text_front.Goals as goal
 
 pub push_number-requires : goal.push_number-requires
 push_number-requires c = omega (arith, number_short c.args.number c.ranges.number.fits, c.empty_line-line.ensures.len)

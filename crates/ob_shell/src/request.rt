@@ -1,0 +1,200 @@
+//! What a process asks for in a line.
+
+ghost use Rattle.std.specs.Prelude.{◌≡◌, ◌≤◌, ℕ, List, Option, length, IfSome, IfNone};
+ghost use Rattle.ob_plain.specs.declared.plain.PlainKind.{PlainKind};
+ghost use Rattle.ob_shell.specs.declared.request.PlaceForm.{PlaceForm};
+ghost use Rattle.ob_shell.specs.declared.request.Request.{Request};
+ghost use Rattle.ob_shell.specs.declared.verb.Verb.{Verb};
+ghost use Rattle.ob_shell.specs.Grammar.{IsOperands, IsRequest, request_seen, verb_of};
+
+use crate::kind::{take_kind, take_want};
+use crate::parts::{flags_and_word, flags_text_and_word, take_place, take_text};
+use crate::split::split_at;
+use crate::text::is_word;
+use crate::verb::{Verb, verb_of};
+use ob_plain::PlainKind;
+
+/// Where a create puts what it makes. `T` is how bytes are held: as slices of the line, or, in
+/// contracts, as lists.
+#[derive(Clone, Copy, PartialEq, Eq, Debug)]
+pub enum PlaceForm<T> {
+    /// `"TEXT"`: at the absolute name that the text spells.
+    Named(T),
+    /// `none`: nowhere, without a name.
+    Unnamed,
+}
+
+/// What a process asks for in a line. `T` is how bytes are held: as slices of the line, or, in
+/// contracts, as lists.
+#[derive(Clone, Copy, PartialEq, Eq, Debug)]
+pub enum Request<T> {
+    /// `dir PLACE FLAGS =V`: a new directory.
+    CreateDirectory {
+        /// Where the directory is to stand.
+        place: PlaceForm<T>,
+        /// The attribute flags, as raw bits.
+        attrs: u32,
+        /// The handle word that is set.
+        word: T,
+    },
+    /// `make KIND PLACE FLAGS TEXT =V`: a new object.
+    CreateObject {
+        /// The kind of the object.
+        kind: PlainKind,
+        /// Where the object is to stand.
+        place: PlaceForm<T>,
+        /// The attribute flags, as raw bits.
+        attrs: u32,
+        /// The text that spells the object's arguments.
+        args: T,
+        /// The handle word that is set.
+        word: T,
+    },
+    /// `opendir NAME FLAGS =V`: a handle to a directory.
+    OpenDirectory {
+        /// The text that spells its absolute name.
+        text: T,
+        /// The attribute flags, as raw bits.
+        attrs: u32,
+        /// The handle word that is set.
+        word: T,
+    },
+    /// `open WANT NAME FLAGS =V`: a handle to an object.
+    OpenObject {
+        /// The kind that the object must have; none for `any`.
+        want: Option<PlainKind>,
+        /// The text that spells its absolute name.
+        text: T,
+        /// The attribute flags, as raw bits.
+        attrs: u32,
+        /// The handle word that is set.
+        word: T,
+    },
+    /// `close V`: a handle is closed.
+    Close {
+        /// The handle word that holds it.
+        word: T,
+    },
+    /// `name V`: the path of a handle's object.
+    QueryName {
+        /// The handle word that holds it.
+        word: T,
+    },
+}
+
+// What is asked for, behind the process word and a space.
+pub fn request_of(bytes: &[u8]) -> Option<Request<&[u8]>>
+    requires { length bytes.now ≤ 262144 }
+    ensures found { IfSome result (λ request. IsRequest bytes.now (request_seen request)) }
+    ensures none { IfNone result ((request : Request (List ℕ)) → ¬ IsRequest bytes.now request) }
+{
+    let (word, operands) = split_at(bytes, b' ')?;
+    let verb = verb_of(word)?;
+    operands_of(verb, operands)
+}
+
+// What is asked for by a verb with these operands.
+fn operands_of(verb: Verb, operands: &[u8]) -> Option<Request<&[u8]>>
+    requires { length operands.now ≤ 262144 }
+    ensures verb { IfSome result (λ request. verb_of (request_seen request) ≡ verb) }
+    ensures found { IfSome result (λ request. IsOperands operands.now (request_seen request)) }
+    ensures none { IfNone result ((request : Request (List ℕ)) → verb_of request ≡ verb → ¬ IsOperands operands.now request) }
+{
+    match verb {
+        Verb::Dir => directory_of(operands),
+        Verb::Make => object_of(operands),
+        Verb::OpenDir => open_directory_of(operands),
+        Verb::Open => open_object_of(operands),
+        Verb::Close => close_of(operands),
+        Verb::Name => name_query_of(operands),
+    }
+}
+
+// The create of a directory: `PLACE FLAGS =V`.
+fn directory_of(operands: &[u8]) -> Option<Request<&[u8]>>
+    requires { length operands.now ≤ 262144 }
+    ensures verb { IfSome result (λ request. verb_of (request_seen request) ≡ Verb.Dir) }
+    ensures found { IfSome result (λ request. IsOperands operands.now (request_seen request)) }
+    ensures none { IfNone result ((place : PlaceForm (List ℕ)) (attrs : ℕ) (word : List ℕ)
+        → ¬ IsOperands operands.now (Request.CreateDirectory place attrs word)) }
+{
+    let (place, rest) = take_place(operands)?;
+    let (attrs, word) = flags_and_word(rest)?;
+    Some(Request::CreateDirectory { place, attrs, word })
+}
+
+// The create of an object: `KIND PLACE FLAGS TEXT =V`.
+fn object_of(operands: &[u8]) -> Option<Request<&[u8]>>
+    requires { length operands.now ≤ 262144 }
+    ensures verb { IfSome result (λ request. verb_of (request_seen request) ≡ Verb.Make) }
+    ensures found { IfSome result (λ request. IsOperands operands.now (request_seen request)) }
+    ensures none { IfNone result ((kind : PlainKind) (place : PlaceForm (List ℕ)) (attrs : ℕ) (args word : List ℕ)
+        → ¬ IsOperands operands.now (Request.CreateObject kind place attrs args word)) }
+{
+    let (kind, rest) = take_kind(operands)?;
+    let (place, rest) = take_place(rest)?;
+    let (attrs, args, word) = flags_text_and_word(rest)?;
+    Some(Request::CreateObject {
+        kind,
+        place,
+        attrs,
+        args,
+        word,
+    })
+}
+
+// The open of a directory: `NAME FLAGS =V`.
+fn open_directory_of(operands: &[u8]) -> Option<Request<&[u8]>>
+    requires { length operands.now ≤ 262144 }
+    ensures verb { IfSome result (λ request. verb_of (request_seen request) ≡ Verb.OpenDir) }
+    ensures found { IfSome result (λ request. IsOperands operands.now (request_seen request)) }
+    ensures none { IfNone result ((text : List ℕ) (attrs : ℕ) (word : List ℕ)
+        → ¬ IsOperands operands.now (Request.OpenDirectory text attrs word)) }
+{
+    let (text, rest) = take_text(operands)?;
+    let (attrs, word) = flags_and_word(rest)?;
+    Some(Request::OpenDirectory { text, attrs, word })
+}
+
+// The open of an object: `WANT NAME FLAGS =V`.
+fn open_object_of(operands: &[u8]) -> Option<Request<&[u8]>>
+    requires { length operands.now ≤ 262144 }
+    ensures verb { IfSome result (λ request. verb_of (request_seen request) ≡ Verb.Open) }
+    ensures found { IfSome result (λ request. IsOperands operands.now (request_seen request)) }
+    ensures none { IfNone result ((want : Option PlainKind) (text : List ℕ) (attrs : ℕ) (word : List ℕ)
+        → ¬ IsOperands operands.now (Request.OpenObject want text attrs word)) }
+{
+    let (want, rest) = take_want(operands)?;
+    let (text, rest) = take_text(rest)?;
+    let (attrs, word) = flags_and_word(rest)?;
+    Some(Request::OpenObject {
+        want,
+        text,
+        attrs,
+        word,
+    })
+}
+
+// The close of a handle: `V`.
+fn close_of(operands: &[u8]) -> Option<Request<&[u8]>>
+    ensures verb { IfSome result (λ request. verb_of (request_seen request) ≡ Verb.Close) }
+    ensures found { IfSome result (λ request. IsOperands operands.now (request_seen request)) }
+    ensures none { IfNone result ((word : List ℕ) → ¬ IsOperands operands.now (Request.Close word)) }
+{
+    if !is_word(operands) {
+        return None;
+    }
+    Some(Request::Close { word: operands })
+}
+
+// The query of a path: `V`.
+fn name_query_of(operands: &[u8]) -> Option<Request<&[u8]>>
+    ensures verb { IfSome result (λ request. verb_of (request_seen request) ≡ Verb.Name) }
+    ensures found { IfSome result (λ request. IsOperands operands.now (request_seen request)) }
+    ensures none { IfNone result ((word : List ℕ) → ¬ IsOperands operands.now (Request.QueryName word)) }
+{
+    if !is_word(operands) {
+        return None;
+    }
+    Some(Request::QueryName { word: operands })
+}
