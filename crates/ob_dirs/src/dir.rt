@@ -68,6 +68,16 @@ impl Dir {
         self.entries.is_empty()
     }
 
+    /// The entries, by rising stamps. Takes no memory.
+    pub fn as_slice(&self) -> &[DirEntry]
+        ensures all { result.now ≡ self.now }
+
+        // What holds of every directory's entries.
+        ensures entries { IsDir self.now }
+    {
+        self.entries.as_slice()
+    }
+
     /// What stands under a component, of any length and with any bytes: of the entries whose names
     /// are equal to it, with `fold` for equality without regard to case, the one of least stamp; its
     /// stamp and its object. `None` exactly where no name is equal.

@@ -1,19 +1,20 @@
 -- How a store and the state that shows it go together: the statements of the law functions in
 -- src/laws.rt.
-use Rattle.std.specs.Prelude.{◌≡◌, ℕ, ◌<◌, Bool, ◌&&◌, ◌==◌, not, if◌then◌else◌, List, [], ◌∷◌, ◌++◌, All, filter, map, IsSome}
-use Rattle.std.specs.Option.{option_map}
+use Rattle.std.specs.Prelude.{◌≡◌, ◌≢◌, ℕ, ◌<◌, Bool, true, ◌&&◌, ◌==◌, not, if◌then◌else◌, List, [], ◌∷◌, ◌++◌, length, None, All, filter, map, IsSome}
+use Rattle.std.specs.List.{AllPairs, find}
+use Rattle.std.specs.Option.{option_map, option_map_or}
 use Rattle.ob_model.specs.declared.state.Object.{Object}
-use Rattle.ob_model.specs.State.{State, object_of}
+use Rattle.ob_model.specs.State.{State, object_of, body_of, is_directory}
 use Rattle.ob_model.specs.Paths.{found}
 use Rattle.ob_model.specs.Procedures.{Procedures, Reason}
-use Rattle.ob_model.specs.Grants.{opened_object}
-use Rattle.ob_model.specs.Closing.{closed_object}
+use Rattle.ob_model.specs.Grants.{open_refusal_of, open_refusal, opened_object, opened_body, opened_set, with_open}
+use Rattle.ob_model.specs.Closing.{closed_object, closed_set}
 use Rattle.ob_dirs.specs.declared.entry.DirEntry.{DirEntry}
 use Rattle.ob_dirs.specs.Dir.{AreEntries, entry_found, row_of}
 use Rattle.ob_objects.specs.declared.object.StoredObject.{StoredObject}
 use Rattle.ob_objects.specs.Rows.{AreByStamp}
-use Rattle.ob_objects.specs.Store.{Entries, IsStore, Shows, stored_at, directory_at, entries_at, entries_in, object_of_stored, objects_of, rows_of}
-use Rattle.ob_objects.specs.Changes.{without_object, with_name, without_name, with_permanence, with_opened, with_closed}
+use Rattle.ob_objects.specs.Store.{Entries, IsStore, Shows, stored_at, directory_at, entries_at, entries_in, body_of_stored, object_of_stored, objects_of, rows_of}
+use Rattle.ob_objects.specs.Changes.{without_object, with_name, without_name, with_permanence, refusal_to_open, with_opened, set_after_open, with_closed, set_after_close}
 
 module _ (K T F I : Type 0) where
   -- the object of a number is what is stored under it
@@ -43,7 +44,96 @@ module _ (K T F I : Type 0) where
       → (objects_of (with_closed g store set id process_left system_left) ≡ map (closed_object g set id process_left system_left) (objects_of store))
       × (rows_of (with_closed g store set id process_left system_left) ≡ rows_of store)
 
+  -- the set is asked to open an object as the machine asks it, and its value then is the machine's
+  abbrev pub RefusalIsTheMachines : Type 0
+  RefusalIsTheMachines =
+      (g : Procedures K T F I) (s : State K T F I) (store : Entries F I) → Shows s store
+      → (id : ℕ) (reason : Reason) → refusal_to_open g store s.set id reason ≡ open_refusal g s id reason
+
+  abbrev pub SetAfterOpenIsTheMachines : Type 0
+  SetAfterOpenIsTheMachines =
+      (g : Procedures K T F I) (s : State K T F I) (store : Entries F I) → Shows s store
+      → (id : ℕ) (reason : Reason) → set_after_open g store s.set id reason ≡ (with_open g s id reason).set
+
+  -- and so when it is asked to close one, whatever handles are left
+  abbrev pub SetAfterCloseIsTheMachines : Type 0
+  SetAfterCloseIsTheMachines =
+      (g : Procedures K T F I) (s : State K T F I) (store : Entries F I) → Shows s store
+      → (id process_left system_left : ℕ)
+      → set_after_close g store s.set id process_left system_left ≡ option_map_or (closed_set g s.set process_left system_left) (body_of s id) s.set
+
+  -- an object that came last is opened as its body says: the others stay, and the set says of it what
+  -- it says of the body
+  abbrev pub NewObjectOpens : Type 0
+  NewObjectOpens =
+      (g : Procedures K T F I) (store : Entries F I) (set : T) (id : ℕ) (x : StoredObject F I) (reason : Reason)
+      → All (λ o. o.id < id) (objects_of store)
+      → (objects_of (with_opened g (store ++ (id, x) ∷ []) set id reason)
+      ≡ objects_of store ++ record (object_of_stored id x) { body = opened_body g set (body_of_stored x.body) reason } ∷ [])
+      × (refusal_to_open g (store ++ (id, x) ∷ []) set id reason ≡ open_refusal_of g set (body_of_stored x.body) reason)
+      × (set_after_open g (store ++ (id, x) ∷ []) set id reason ≡ opened_set g set (body_of_stored x.body) reason)
+
+  -- where the state finds nothing in a directory, a name of these bytes may be put there, with a stamp
+  -- above those of all rows
+  abbrev pub NameMayBeInserted : Type 0
+  NameMayBeInserted =
+      (s : State K T F I) (store : Entries F I) → IsStore store → Shows s store
+      → (directory : ℕ) (name : List ℕ) (fold : Bool) (stamp : ℕ)
+      → is_directory s directory ≡ true → found s directory name fold ≡ None → All (λ r. r.stamp < stamp) s.rows
+      → IsSome (directory_at store directory)
+      × All (λ e. e.name ≢ name) (entries_at store directory)
+      × All (λ e. e.stamp < stamp) (entries_at store directory)
+
 module _ (F I : Type 0) where
+  -- the object of an id is what is stored under it
+  abbrev pub FoundIsStored : Type 0
+  FoundIsStored =
+      (store : Entries F I) (id : ℕ) → find (λ o. o.id == id) (objects_of store) ≡ option_map (object_of_stored id) (stored_at store id)
+
+  -- there are as many objects as entries, and their ids rise
+  abbrev pub ObjectsAreAsMany : Type 0
+  ObjectsAreAsMany = (store : Entries F I) → length (objects_of store) ≡ length store
+
+  abbrev pub IdsRise : Type 0
+  IdsRise = (store : Entries F I) → IsStore store → AllPairs (λ a b. a.id < b.id) (objects_of store)
+
+  -- a further object is the last one, and one that is taken out goes alone
+  abbrev pub NewObjectIsTheLast : Type 0
+  NewObjectIsTheLast =
+      (store : Entries F I) (id : ℕ) (x : StoredObject F I)
+      → objects_of (store ++ (id, x) ∷ []) ≡ objects_of store ++ object_of_stored id x ∷ []
+
+  abbrev pub ObjectGoesAlone : Type 0
+  ObjectGoesAlone =
+      (store : Entries F I) (id : ℕ) → objects_of (without_object store id) ≡ filter (λ o. not (o.id == id)) (objects_of store)
+
+  -- an id above those of all objects is above those of the store
+  abbrev pub NewestIsNewest : Type 0
+  NewestIsNewest = (store : Entries F I) (id : ℕ) → All (λ o. o.id < id) (objects_of store) → All (λ e. e.0 < id) store
+
+  -- a store with an object more, in which no entry lies, is a store
+  abbrev pub StoreWithObjectIsStore : Type 0
+  StoreWithObjectIsStore =
+      (store : Entries F I) (id : ℕ) (x : StoredObject F I) → IsStore store → All (λ o. o.id < id) (objects_of store)
+      → entries_in x.body ≡ [] → IsStore (store ++ (id, x) ∷ [])
+
+  -- an object that came last, a name that came last, and both of them can be taken back
+  abbrev pub ObjectIsTakenBack : Type 0
+  ObjectIsTakenBack =
+      (store : Entries F I) (id : ℕ) (x : StoredObject F I) → All (λ o. o.id < id) (objects_of store)
+      → without_object (store ++ (id, x) ∷ []) id ≡ store
+
+  abbrev pub NameIsTakenBack : Type 0
+  NameIsTakenBack =
+      (store : Entries F I) (directory : ℕ) (entry : DirEntry) → All (λ r. r.stamp < entry.stamp) (rows_of store)
+      → without_name (with_name store directory entry) directory entry.stamp ≡ store
+
+  abbrev pub BothAreTakenBack : Type 0
+  BothAreTakenBack =
+      (store : Entries F I) (id : ℕ) (x : StoredObject F I) (directory : ℕ) (entry : DirEntry)
+      → entries_in x.body ≡ [] → All (λ o. o.id < id) (objects_of store) → All (λ r. r.stamp < entry.stamp) (rows_of store)
+      → without_object (without_name (with_name (store ++ (id, x) ∷ []) directory entry) directory entry.stamp) id ≡ store
+
   -- the rows of a store are by rising stamps
   abbrev pub RowsAreByStamp : Type 0
   RowsAreByStamp = (store : Entries F I) → AreByStamp (rows_of store)

@@ -18,6 +18,23 @@ ghost use Rattle.ob_objects.specs.Laws.{
   NamesChangeNoObject,
   PermanenceIsTheObjects,
 };
+ghost use Rattle.ob_objects.specs.Laws.{
+  FoundIsStored,
+  ObjectsAreAsMany,
+  IdsRise,
+  NewObjectIsTheLast,
+  ObjectGoesAlone,
+  NewestIsNewest,
+  StoreWithObjectIsStore,
+  NameMayBeInserted,
+  RefusalIsTheMachines,
+  SetAfterOpenIsTheMachines,
+  SetAfterCloseIsTheMachines,
+  NewObjectOpens,
+  ObjectIsTakenBack,
+  NameIsTakenBack,
+  BothAreTakenBack,
+};
 
 /// The object of a number in the state is what the store has under it.
 pub fn stored_is_the_object<K, T, F, I>()
@@ -61,4 +78,46 @@ pub fn rows_follow_the_names<F, I>()
 /// Permanence is a part of one object, and of no row.
 pub fn permanence_is_the_objects<F, I>()
     ensures { PermanenceIsTheObjects F I }
+{}
+
+/// The objects of a store are what it has under their ids, as many, by rising ids.
+pub fn objects_are_stored<F, I>()
+    ensures found { FoundIsStored F I }
+    ensures count { ObjectsAreAsMany F I }
+    ensures rising { IdsRise F I }
+{}
+
+/// The objects follow what is stored as it comes and goes: a new one of the greatest id is the last,
+/// and what is left is a store; one that is taken out goes alone.
+pub fn objects_follow<F, I>()
+    ensures new { NewObjectIsTheLast F I }
+    ensures gone { ObjectGoesAlone F I }
+    ensures newest { NewestIsNewest F I }
+    ensures store { StoreWithObjectIsStore F I }
+{}
+
+/// Where the state finds nothing in a directory, with `fold` or without, a name of these bytes may be
+/// put there.
+pub fn a_name_may_be_inserted<K, T, F, I>()
+    ensures { NameMayBeInserted K T F I }
+{}
+
+/// The set is asked to open and to close an object as the machine asks it, and its value then is the
+/// machine's.
+pub fn set_is_the_machines<K, T, F, I>()
+    ensures refused { RefusalIsTheMachines K T F I }
+    ensures opened { SetAfterOpenIsTheMachines K T F I }
+    ensures closed { SetAfterCloseIsTheMachines K T F I }
+{}
+
+/// An object that came last is opened as its body says, and the others stay.
+pub fn a_new_object_opens<K, T, F, I>()
+    ensures { NewObjectOpens K T F I }
+{}
+
+/// What came last can be taken back: an object, a name, and an object with a name.
+pub fn what_came_last_is_taken_back<F, I>()
+    ensures object { ObjectIsTakenBack F I }
+    ensures name { NameIsTakenBack F I }
+    ensures both { BothAreTakenBack F I }
 {}

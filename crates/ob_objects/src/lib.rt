@@ -4,10 +4,12 @@
 
 mod changes;
 pub mod laws;
+mod named;
 mod object;
 mod store;
 #[cfg(test)]
 mod tests;
 
+pub use named::Named;
 pub use object::{StoredBody, StoredObject};
 pub use store::Store;

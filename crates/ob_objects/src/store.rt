@@ -2,10 +2,14 @@
 
 ghost use Rattle.std.specs.Prelude.{◌≡◌, ◌≢◌, ◌<◌, ◌==◌, [], ◌∷◌, ◌++◌, length, None, Some};
 ghost use Rattle.std.specs.Prelude.{All, IsSome, IfOk, IfErr, OnErr};
-ghost use Rattle.std.specs.List.{list_any};
-ghost use Rattle.std.specs.Option.{option_copied};
+ghost use Rattle.std.specs.Prelude.{false};
+ghost use Rattle.std.specs.List.{find, list_any};
+ghost use Rattle.std.specs.Option.{option_copied, option_map, option_map_or};
+ghost use Rattle.ob_model.specs.State.{is_directory_body};
 ghost use Rattle.ob_types.specs.Told.{reason_of};
 ghost use Rattle.ob_objects.specs.Store.{IsStore, stored_at, directory_at, entries_at};
+ghost use Rattle.ob_objects.specs.Store.{objects_of, rows_of};
+ghost use Rattle.ob_objects.specs.Named.{row_of_named, FindsName, FindsLast};
 ghost use Rattle.ob_objects.specs.Changes.{without_object, with_name, without_name, with_permanence};
 ghost use Rattle.ob_objects.specs.Changes.{
   refusal_to_open,
@@ -15,7 +19,7 @@ ghost use Rattle.ob_objects.specs.Changes.{
   set_after_close,
 };
 
-use crate::{StoredObject, changes};
+use crate::{Named, StoredBody, StoredObject, changes, named};
 use ob_base::{Fault, ObjId};
 use ob_names::NameBuf;
 use ob_types::{Reason, TypeSet};
@@ -80,6 +84,90 @@ impl<T: TypeSet> Store<T> {
         ensures store { IsStore self.now }
     {
         self.objects.get(&id.0)
+    }
+
+    /// Whether an object is there and is a directory. Takes no memory.
+    pub fn is_directory(&self, id: ObjId) -> bool
+        ensures { result ≡ option_map_or (λ object. is_directory_body object.body)
+            (find (λ object. object.id == id) (objects_of self.now)) false }
+    {
+        self.get(id)
+            .is_some_and(|stored| matches!(stored.body, StoredBody::Directory(_)))
+    }
+
+    /// Whether an object is there and is permanent. Takes no memory.
+    pub fn is_permanent(&self, id: ObjId) -> bool
+        ensures { result ≡ option_map_or (λ object. object.permanent)
+            (find (λ object. object.id == id) (objects_of self.now)) false }
+    {
+        self.get(id).is_some_and(|stored| stored.permanent)
+    }
+
+    /// Whether an object is there and is exclusive. Takes no memory.
+    pub fn is_exclusive(&self, id: ObjId) -> bool
+        ensures { result ≡ option_map_or (λ object. object.exclusive)
+            (find (λ object. object.id == id) (objects_of self.now)) false }
+    {
+        self.get(id).is_some_and(|stored| stored.exclusive)
+    }
+
+    /// Whether a name lies in an object. Takes no memory.
+    pub fn holds_names(&self, id: ObjId) -> bool
+        ensures { result ≡ list_any (λ row. row.directory == id) (rows_of self.now) }
+    {
+        match self.get(id) {
+            Some(stored) => changes::count_names(stored) != 0,
+            None => false,
+        }
+    }
+
+    /// The name of an object: of all its names the one of least stamp, and of two with one stamp that
+    /// in the directory of the lesser id. `None` exactly where no name is for it. Takes no memory.
+    ///
+    /// Source: Windows Internals, Object Manager: object names; the stamps are this profile.
+    pub fn name_of(&self, id: ObjId) -> Option<Named<'_>>
+        ensures { option_map row_of_named result ≡ find (λ row. row.object == id) (rows_of self.now) }
+    {
+        let mut earliest = None;
+        for (directory, stored) in &self.objects {
+            let Some(entry) = named::first_entry(stored, id) else {
+                continue;
+            };
+            if named::comes_first(entry, &earliest) {
+                let directory = ObjId(*directory);
+                earliest = Some(Named { directory, entry });
+            }
+        }
+        earliest
+    }
+
+    /// Some name whose object passes a test: its directory and its stamp. `None` exactly where no
+    /// name's object passes. A name may be for an object that isn't there. Takes no memory.
+    pub fn name_where<P: Fn(ObjId) -> bool>(&self, test: P) -> Option<(ObjId, u64)>
+        requires { P.IsAlwaysCallable test }
+        ensures { FindsName (λ id passed. P.post test id passed) (rows_of self.now) result }
+    {
+        for (directory, stored) in &self.objects {
+            if let Some(stamp) = named::stamp_where(stored, &test) {
+                return Some((ObjId(*directory), stamp));
+            }
+        }
+        None
+    }
+
+    /// Of the objects that pass a test the one of greatest id; `None` exactly where none passes.
+    /// Takes no memory.
+    pub fn last_where<P: Fn(ObjId) -> bool>(&self, test: P) -> Option<ObjId>
+        requires { P.IsAlwaysCallable test }
+        ensures { FindsLast (λ id passed. P.post test id passed) (objects_of self.now) result }
+    {
+        for id in self.objects.keys().rev() {
+            let id = ObjId(*id);
+            if test(id) {
+                return Some(id);
+            }
+        }
+        None
     }
 
     /// Stores an object under an id, which must be above all ids of the store.
