@@ -54,7 +54,7 @@ insert_row-first : (r : Row) (rows : List Row) → All (ComesFirst r) rows → i
 insert_row-first r [] first = refl
 insert_row-first r (q ∷ rows) first = ap (λ t. cond t (r ∷ q ∷ rows) (q ∷ insert_row r rows)) (le-leb r.stamp q.stamp (All-head (ComesFirst r) q rows first))
 
-above-leb : (m n : ℕ) → m < n → nat_le n m ≡ false
+pub above-leb : (m n : ℕ) → m < n → nat_le n m ≡ false
 above-leb m n above = go (nat_le n m) refl
   where
     go : (t : Bool) → nat_le n m ≡ t → t ≡ false

@@ -3,3 +3,6 @@ pub mod Ids
 pub mod Written
 pub mod Bodies
 pub mod Shown
+pub mod Searches
+pub mod Follow
+pub mod Free

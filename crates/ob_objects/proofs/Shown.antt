@@ -27,7 +27,7 @@ use Rattle.ob_objects.proofs.Ids.{Differ, Differ-from_rising, changed, changed-n
 -- ---- the rows of one directory
 
 -- the rows of a directory's entries rise
-entry_rows-Rises : (d : ℕ) (es : List DirEntry) → IsDir es → Rises (map (row_of d) es)
+pub entry_rows-Rises : (d : ℕ) (es : List DirEntry) → IsDir es → Rises (map (row_of d) es)
 entry_rows-Rises d [] is = tt
 entry_rows-Rises d (e ∷ es) is = (behind es (first_comes_before e es is), entry_rows-Rises d es (others_are_dir e es is))
   where
@@ -98,7 +98,7 @@ module _ {F I : Type 0} where
 
   -- ---- objects come and go
 
-  rows_in_turn-append : (xs ys : Entries F I) → rows_in_turn (xs ++ ys) ≡ rows_in_turn xs ++ rows_in_turn ys
+  pub rows_in_turn-append : (xs ys : Entries F I) → rows_in_turn (xs ++ ys) ≡ rows_in_turn xs ++ rows_in_turn ys
   rows_in_turn-append [] ys = refl
   rows_in_turn-append (x ∷ xs) ys =
       ap (λ rs. map (row_of x.0) (entries_in x.1.body) ++ rs) (rows_in_turn-append xs ys)
@@ -190,7 +190,7 @@ module _ {F I : Type 0} where
   )
 
 -- what holds of a list holds of both its parts
-all_parts : (P : Row → Type 0) (xs ys : List Row) → All P (xs ++ ys) → All P xs × All P ys
+pub all_parts : (P : Row → Type 0) (xs ys : List Row) → All P (xs ++ ys) → All P xs × All P ys
 all_parts P [] ys all = (All-nil P, all)
 all_parts P (x ∷ xs) ys all =
     let more = all_parts P xs ys (All-tail P x (xs ++ ys) all) in
@@ -302,7 +302,7 @@ module _ {F I : Type 0} where
 -- ---- the state
 
 module _ {F I : Type 0} where
-  find_object : (store : Entries F I) (id : ℕ) → find (λ o. o.id == id) (objects_of store) ≡ option_map (object_of_stored id) (stored_at store id)
+  pub find_object : (store : Entries F I) (id : ℕ) → find (λ o. o.id == id) (objects_of store) ≡ option_map (object_of_stored id) (stored_at store id)
   find_object [] id = refl
   find_object (e ∷ store) id = go (e.0 == id) refl (find_object store id)
     where

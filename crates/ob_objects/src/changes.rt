@@ -1,7 +1,7 @@
 //! The changes of one object.
 
 ghost use Rattle.std.specs.Prelude.{◌≡◌, ◌≢◌, ◌<◌, ◌==◌, None, Some};
-ghost use Rattle.std.specs.Prelude.{All, IsSome, IfOk, IfErr, OnErr};
+ghost use Rattle.std.specs.Prelude.{not, length, All, IsSome, IfOk, IfErr, OnErr};
 ghost use Rattle.std.specs.List.{list_any};
 ghost use Rattle.ob_dirs.specs.Dir.{IsDir};
 ghost use Rattle.ob_model.specs.Grants.{open_refusal_of, opened_set};
@@ -23,6 +23,16 @@ pub(crate) fn count_names<F, I>(stored: &StoredObject<F, I>) -> usize
     match &stored.body {
         StoredBody::Directory(dir) => dir.len(),
         _ => 0,
+    }
+}
+
+/// Whether an entry lies in an object.
+pub(crate) fn holds_names<F, I>(stored: &StoredObject<F, I>) -> bool
+    ensures { result ≡ not (length (entries_in stored.now.body) == 0) }
+{
+    match &stored.body {
+        StoredBody::Directory(dir) => !dir.is_empty(),
+        _ => false,
     }
 }
 

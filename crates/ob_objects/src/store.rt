@@ -116,7 +116,7 @@ impl<T: TypeSet> Store<T> {
         ensures { result ≡ list_any (λ row. row.directory == id) (rows_of self.now) }
     {
         match self.get(id) {
-            Some(stored) => changes::count_names(stored) != 0,
+            Some(stored) => changes::holds_names(stored),
             None => false,
         }
     }

@@ -1,0 +1,267 @@
+-- What a search over a store finds: the name of least stamp, a name or an object that passes a test.
+use Rattle.std.proofs.Common.{◌≡◌, ◌∙◌, ℕ, suc, ◌≤◌, ◌<◌, ◌==◌, ◌&&◌, ◌||◌, Bool, true, false, cond, not, nat_le, nat_lt, List, [], ◌∷◌, ◌++◌, length, filter, find, map, Option, None, Some, MatchOption, option_map, option_map_or, All, refl, ap, sym, subst, arith, leb-true, leb-false, le-leb, append_assoc, append-nil, eq-eqb, eqb-true}
+use Rattle.std.proofs.lemmas.Bool.{false≢true}
+use Rattle.std.proofs.lemmas.Bool.Decides.{nat_tests}
+use Rattle.std.proofs.lemmas.List.Elements.{All-nil, All-cons, All-head, All-tail, All-append, All-map, All-weaker}
+use Rattle.std.specs.List.{list_any}
+use Rattle.std.specs.Option.{option_and_then, unwrap_or}
+use Rattle.ob_model.specs.declared.state.Row.{Row}
+use Rattle.ob_dirs.specs.declared.entry.DirEntry.{DirEntry}
+use Rattle.ob_dirs.specs.Dir.{IsDir, row_of}
+use Rattle.ob_objects.specs.declared.named.Named.{Named}
+use Rattle.ob_objects.specs.declared.object.StoredObject.{StoredObject}
+use Rattle.ob_objects.specs.Rows.{insert_row, by_stamp}
+use Rattle.ob_objects.specs.Named.{row_of_named, earlier_row, stands_at, FindsName, FindsStamp}
+use Rattle.ob_objects.specs.Store.{Entries, IsStore, stored_at, directory_of, entries_in, entries_at, rows_in_turn, rows_of}
+use Rattle.ob_objects.proofs.ByStamp.{Rises, ComesFirst, by_stamp-Rises, by_stamp-same, All-by_stamp, above-leb}
+use Rattle.ob_objects.proofs.Ids.{Differ, Differ-from_rising}
+use Rattle.ob_objects.proofs.Shown.{entry_rows-Rises, rows_in_turn-append, rows_are_entries}
+
+-- ---- the earlier of two rows
+
+stays_first : (r : Row) (o : Option Row) → MatchOption o (Unit {0}) (ComesFirst r) → earlier_row (Some r) o ≡ Some r
+stays_first r None first = refl
+stays_first r (Some q) first = ap (λ t. Some (cond t r q)) (le-leb r.stamp q.stamp first)
+
+earlier_assoc : (a b c : Option Row) → earlier_row (earlier_row a b) c ≡ earlier_row a (earlier_row b c)
+earlier_assoc None b c = refl
+earlier_assoc (Some x) None c = refl
+earlier_assoc (Some x) (Some y) None = refl
+earlier_assoc (Some x) (Some y) (Some z) = ap Some (go (nat_le x.stamp y.stamp) (nat_le y.stamp z.stamp) refl refl)
+  where
+    go : (xy yz : Bool) → nat_le x.stamp y.stamp ≡ xy → nat_le y.stamp z.stamp ≡ yz
+        → cond (nat_le (cond xy x y).stamp z.stamp) (cond xy x y) z ≡ cond (nat_le x.stamp (cond yz y z).stamp) x (cond yz y z)
+    go true true e f =
+        ap (λ t. cond t x z) (le-leb x.stamp z.stamp (omega (arith, leb-true x.stamp y.stamp e, leb-true y.stamp z.stamp f)))
+        ∙ sym (ap (λ t. cond t x y) e)
+    go true false e f = refl
+    go false true e f = ap (λ t. cond t y z) f ∙ sym (ap (λ t. cond t x y) e)
+    go false false e f =
+        ap (λ t. cond t y z) f
+        ∙ sym (ap (λ t. cond t x z) (above-leb z.stamp x.stamp (omega (arith, leb-false x.stamp y.stamp e, leb-false y.stamp z.stamp f))))
+
+pub earlier_none : (best : Option Row) → earlier_row best None ≡ best
+earlier_none None = refl
+earlier_none (Some r) = refl
+
+-- ---- what is found among sorted rows
+
+found_holds : (test : Row → Bool) (P : Row → Type 0) (rows : List Row) → All P rows → MatchOption (find test rows) (Unit {0}) P
+found_holds test P [] all = tt
+found_holds test P (r ∷ rows) all = go (test r) (found_holds test P rows (All-tail P r rows all))
+  where
+    go : (t : Bool) → MatchOption (find test rows) (Unit {0}) P → MatchOption (cond t (Some r) (find test rows)) (Unit {0}) P
+    go true more = All-head P r rows all
+    go false more = more
+
+find-insert_row : (test : Row → Bool) (r : Row) (rows : List Row) → Rises rows
+    → find test (insert_row r rows) ≡ cond (test r) (earlier_row (Some r) (find test rows)) (find test rows)
+find-insert_row test r [] rises = refl
+find-insert_row test r (q ∷ rows) rises = go (nat_le r.stamp q.stamp) refl (find-insert_row test r rows rises.1)
+  where
+    all_behind : nat_le r.stamp q.stamp ≡ true → All (ComesFirst r) (q ∷ rows)
+    all_behind before =
+        let first : r.stamp ≤ q.stamp = leb-true r.stamp q.stamp before in
+        All-cons (ComesFirst r) q rows first (All-weaker (ComesFirst q) (ComesFirst r) (λ x behind. omega (arith, first, behind)) rows rises.0)
+
+    ahead : nat_le r.stamp q.stamp ≡ true → (here : Bool)
+        → cond here (Some r) (find test (q ∷ rows)) ≡ cond here (earlier_row (Some r) (find test (q ∷ rows))) (find test (q ∷ rows))
+    ahead before true = sym (stays_first r (find test (q ∷ rows)) (found_holds test (ComesFirst r) (q ∷ rows) (all_behind before)))
+    ahead before false = refl
+
+    behind : nat_le r.stamp q.stamp ≡ false → (here there : Bool)
+        → find test (insert_row r rows) ≡ cond here (earlier_row (Some r) (find test rows)) (find test rows)
+        → cond there (Some q) (find test (insert_row r rows))
+        ≡ cond here (earlier_row (Some r) (cond there (Some q) (find test rows))) (cond there (Some q) (find test rows))
+    behind after true true more = sym (ap (λ t. Some (cond t r q)) after)
+    behind after true false more = more
+    behind after false true more = refl
+    behind after false false more = more
+
+    go : (t : Bool) → nat_le r.stamp q.stamp ≡ t
+        → find test (insert_row r rows) ≡ cond (test r) (earlier_row (Some r) (find test rows)) (find test rows)
+        → find test (cond t (r ∷ q ∷ rows) (q ∷ insert_row r rows))
+        ≡ cond (test r) (earlier_row (Some r) (find test (q ∷ rows))) (find test (q ∷ rows))
+    go true e more = ahead e (test r)
+    go false e more = behind e (test r) (test q) more
+
+find-by_stamp-append : (test : Row → Bool) (xs ys : List Row)
+    → find test (by_stamp (xs ++ ys)) ≡ earlier_row (find test (by_stamp xs)) (find test (by_stamp ys))
+find-by_stamp-append test [] ys = refl
+find-by_stamp-append test (x ∷ xs) ys =
+    find-insert_row test x (by_stamp (xs ++ ys)) (by_stamp-Rises (xs ++ ys))
+    ∙ ap (λ o. cond (test x) (earlier_row (Some x) o) o) (find-by_stamp-append test xs ys)
+    ∙ go (test x)
+    ∙ ap (λ o. earlier_row o (find test (by_stamp ys))) (sym (find-insert_row test x (by_stamp xs) (by_stamp-Rises xs)))
+  where
+    go : (t : Bool)
+        → cond t (earlier_row (Some x) (earlier_row (find test (by_stamp xs)) (find test (by_stamp ys)))) (earlier_row (find test (by_stamp xs)) (find test (by_stamp ys)))
+        ≡ earlier_row (cond t (earlier_row (Some x) (find test (by_stamp xs))) (find test (by_stamp xs))) (find test (by_stamp ys))
+    go true = sym (earlier_assoc (Some x) (find test (by_stamp xs)) (find test (by_stamp ys)))
+    go false = refl
+
+-- ---- the name of an object
+
+-- the row is a name of the object
+abbrev pub names : ℕ → Row → Bool
+names id r = r.object == id
+
+first_row : (d id : ℕ) (es : List DirEntry) → IsDir es → find (names id) (by_stamp (map (row_of d) es)) ≡ option_map (row_of d) (find (λ e. e.object == id) es)
+first_row d id es is = ap (find (names id)) (by_stamp-same (map (row_of d) es) (entry_rows-Rises d es is)) ∙ find_row es
+  where
+    find_row : (xs : List DirEntry) → find (names id) (map (row_of d) xs) ≡ option_map (row_of d) (find (λ e. e.object == id) xs)
+    find_row [] = refl
+    find_row (x ∷ xs) = go (x.object == id) (find_row xs)
+      where
+        go : (t : Bool) → find (names id) (map (row_of d) xs) ≡ option_map (row_of d) (find (λ e. e.object == id) xs)
+            → cond t (Some (row_of d x)) (find (names id) (map (row_of d) xs)) ≡ option_map (row_of d) (cond t (Some x) (find (λ e. e.object == id) xs))
+        go true more = refl
+        go false more = more
+
+-- the best name so far is the entry where it comes first, and else stays
+pub takes_first : (best : Option Named) (d : ℕ) (e : DirEntry) → option_map_or (λ n. nat_lt e.stamp n.entry.now.stamp) best true ≡ true
+    → earlier_row (option_map row_of_named best) (Some (row_of d e)) ≡ Some (row_of d e)
+takes_first None d e first = refl
+takes_first (Some n) d e first = ap (λ t. Some (cond t (row_of_named n) (row_of d e))) (turned n.entry.now.stamp e.stamp first)
+  where
+    turned : (a b : ℕ) → nat_lt b a ≡ true → nat_le a b ≡ false
+    turned a b less = grind (arith, nat_tests)
+
+pub keeps_best : (best : Option Named) (d : ℕ) (e : DirEntry) → option_map_or (λ n. nat_lt e.stamp n.entry.now.stamp) best true ≡ false
+    → earlier_row (option_map row_of_named best) (Some (row_of d e)) ≡ option_map row_of_named best
+keeps_best None d e later = cc
+keeps_best (Some n) d e later = ap (λ t. Some (cond t (row_of_named n) (row_of d e))) (turned n.entry.now.stamp e.stamp later)
+  where
+    turned : (a b : ℕ) → nat_lt b a ≡ false → nat_le a b ≡ true
+    turned a b less = grind (arith, nat_tests)
+
+-- what is found in the end, after these entries of a store
+abbrev pub FindsRest : {F I : Type 0} → ℕ → Option Named → Entries F I → Option Row → Type 0
+FindsRest id best rest row = earlier_row (option_map row_of_named best) (find (names id) (by_stamp (rows_in_turn rest))) ≡ row
+
+pub name_turn : {F I : Type 0} (id d : ℕ) (best next : Option Named) (x : StoredObject F I) (iterator rest : Entries F I) (row : Option Row)
+    → IsDir (entries_in x.body) → iterator ≡ (d, x) ∷ rest
+    → earlier_row (option_map row_of_named best) (option_map (row_of d) (find (λ e. e.object == id) (entries_in x.body))) ≡ option_map row_of_named next
+    → FindsRest id best iterator row → FindsRest id next rest row
+name_turn id d best next x iterator rest row is e turn so_far =
+    ap (λ o. earlier_row o (find (names id) (by_stamp (rows_in_turn rest)))) (sym turn)
+    ∙ earlier_assoc (option_map row_of_named best) (option_map (row_of d) (find (λ x. x.object == id) (entries_in x.body))) (find (names id) (by_stamp (rows_in_turn rest)))
+    ∙ ap (λ o. earlier_row (option_map row_of_named best) (earlier_row o (find (names id) (by_stamp (rows_in_turn rest))))) (sym (first_row d id (entries_in x.body) is))
+    ∙ ap (earlier_row (option_map row_of_named best)) (sym (find-by_stamp-append (names id) (map (row_of d) (entries_in x.body)) (rows_in_turn rest)))
+    ∙ ap (λ es. earlier_row (option_map row_of_named best) (find (names id) (by_stamp (rows_in_turn es)))) (sym e)
+    ∙ so_far
+
+pub name_end : {F I : Type 0} (id : ℕ) (best : Option Named) (iterator : Entries F I) (row : Option Row)
+    → iterator ≡ [] → FindsRest id best iterator row → option_map row_of_named best ≡ row
+name_end id best iterator row e so_far =
+    sym (earlier_none (option_map row_of_named best))
+    ∙ ap (λ es. earlier_row (option_map row_of_named best) (find (names id) (by_stamp (rows_in_turn es)))) (sym e) ∙ so_far
+
+-- ---- a test of two parts
+
+any_both : {X : Type 0} (p q : X → Bool) (xs : List X) → list_any (λ x. p x && q x) xs ≡ list_any q (filter p xs)
+any_both p q [] = refl
+any_both {X} p q (x ∷ xs) = go (p x) (any_both p q xs)
+  where
+    go : (t : Bool) → list_any (λ (y : X). p y && q y) xs ≡ list_any q (filter p xs)
+        → ((t && q x) || list_any (λ (y : X). p y && q y) xs) ≡ list_any q (cond t (x ∷ filter p xs) (filter p xs))
+    go true more = ap (λ t. q x || t) more
+    go false more = more
+
+any_map : {X Y : Type 0} (f : X → Y) (q : Y → Bool) (xs : List X) → list_any q (map f xs) ≡ list_any (λ x. q (f x)) xs
+any_map f q [] = refl
+any_map f q (x ∷ xs) = ap (λ t. q (f x) || t) (any_map f q xs)
+
+all_both : {X : Type 0} (p q : X → Bool) (P : X → Type 0) (xs : List X) → All (λ x. q x ≡ true → P x) (filter p xs) → All (λ x. (p x && q x) ≡ true → P x) xs
+all_both p q P [] all = All-nil (λ x. (p x && q x) ≡ true → P x)
+all_both {X} p q P (x ∷ xs) all = go (p x) refl all (all_both p q P xs)
+  where
+    Both : X → Type 0
+    Both y = (p y && q y) ≡ true → P y
+
+    go : (t : Bool) → p x ≡ t → All (λ y. q y ≡ true → P y) (cond t (x ∷ filter p xs) (filter p xs)) → (All (λ y. q y ≡ true → P y) (filter p xs) → All Both xs) → All Both (x ∷ xs)
+    go true e all more =
+        All-cons Both x xs (λ both. All-head (λ y. q y ≡ true → P y) x (filter p xs) all (sym (ap (λ t. t && q x) e) ∙ both))
+        (more (All-tail (λ y. q y ≡ true → P y) x (filter p xs) all))
+    go false e all more = All-cons Both x xs (λ both. absurd (false≢true (sym (ap (λ t. t && q x) e) ∙ both))) (more all)
+
+-- ---- a name whose object passes a test
+
+module _ {F I : Type 0} (Says : ℕ → Bool → Type 0) where
+  -- no object of a name in these entries passes
+  abbrev pub Fails : Row → Type 0
+  Fails r = Says r.object false
+
+  -- these entries of a store are behind, and no name in them is for an object that passes
+  pub record Behind (store iterator : Entries F I) : Type 0 where
+    pub before : Entries F I
+    pub parts : store ≡ before ++ iterator
+    pub none : All Fails (rows_in_turn before)
+
+  pub behind_first : (store : Entries F I) → Behind store store
+  behind_first store = record { before = []; parts = refl; none = All-nil Fails }
+
+  pub behind_turn : (store iterator rest : Entries F I) (d : ℕ) (x : StoredObject F I) → iterator ≡ (d, x) ∷ rest
+      → All (λ e. Says e.object false) (entries_in x.body) → Behind store iterator → Behind store rest
+  behind_turn store iterator rest d x e none so_far = record {
+    before = so_far.before ++ (d, x) ∷ [];
+    parts = so_far.parts ∙ ap (λ es. so_far.before ++ es) e ∙ sym (append_assoc so_far.before ((d, x) ∷ []) rest);
+    none = subst (All Fails) (sym (rows_in_turn-append so_far.before ((d, x) ∷ []) ∙ ap (λ rs. rows_in_turn so_far.before ++ rs) (append-nil (map (row_of d) (entries_in x.body)))))
+        (All-append Fails (rows_in_turn so_far.before) (map (row_of d) (entries_in x.body)) so_far.none (All-map Fails (row_of d) (entries_in x.body) none));
+  }
+
+  pub behind_all : (store iterator now : Entries F I) → iterator ≡ [] → store ≡ now → Behind store iterator → All Fails (rows_of now)
+  behind_all store iterator now e same so_far =
+      All-by_stamp Fails (rows_in_turn now)
+      (subst (λ es. All Fails (rows_in_turn es)) (sym (append-nil so_far.before) ∙ ap (λ es. so_far.before ++ es) (sym e) ∙ sym so_far.parts ∙ same) so_far.none)
+
+  -- what is stored behind entries of other ids
+  stored_behind : (before rest : Entries F I) (d : ℕ) (x : StoredObject F I) → Differ (before ++ (d, x) ∷ rest) → stored_at (before ++ (d, x) ∷ rest) d ≡ Some x
+  stored_behind [] rest d x differ = ap (λ t. option_map (λ (e : ℕ × StoredObject F I). e.1) (cond t (Some (d, x)) (find (λ e. e.0 == d) rest))) (eq-eqb d d refl)
+  stored_behind (e ∷ before) rest d x differ =
+      ap (λ t. option_map (λ (y : ℕ × StoredObject F I). y.1) (cond t (Some e) (find (λ y. y.0 == d) (before ++ (d, x) ∷ rest)))) (other (e.0 == d) refl)
+      ∙ stored_behind before rest d x differ.1
+    where
+      at : (es : Entries F I) → All (λ y. (y.0 == e.0) ≡ false) (es ++ (d, x) ∷ rest) → (d == e.0) ≡ false
+      at [] all = All-head (λ y. (y.0 == e.0) ≡ false) (d, x) rest all
+      at (y ∷ es) all = at es (All-tail (λ z. (z.0 == e.0) ≡ false) y (es ++ (d, x) ∷ rest) all)
+
+      other : (t : Bool) → (e.0 == d) ≡ t → (e.0 == d) ≡ false
+      other true same = absurd (false≢true (sym (at before differ.0) ∙ eq-eqb d e.0 (sym (eqb-true e.0 d same))))
+      other false apart = apart
+
+  -- the name of a stamp in a directory is the entry of that stamp
+  pub found_name : (store now iterator rest : Entries F I) (d stamp : ℕ) (x : StoredObject F I) → IsStore store → store ≡ now → iterator ≡ (d, x) ∷ rest
+      → FindsStamp Says (entries_in x.body) (Some stamp) → Behind store iterator → FindsName Says (rows_of now) (Some (d, stamp))
+  found_name store now iterator rest d stamp x is same e found so_far =
+      let parts : store ≡ so_far.before ++ (d, x) ∷ rest = so_far.parts ∙ ap (λ es. so_far.before ++ es) e in
+      let there : stored_at store d ≡ Some x =
+          subst (λ es. stored_at es d ≡ Some x) (sym parts) (stored_behind so_far.before rest d x (subst Differ parts (Differ-from_rising store is.rising))) in
+      let are : filter (λ r. r.directory == d) (rows_of store) ≡ map (row_of d) (entries_in x.body) =
+          rows_are_entries store is d ∙ ap (λ (o : Option (StoredObject F I)). map (row_of d) (unwrap_or (option_and_then (λ y. directory_of y.body) o) [])) there in
+      subst (λ es. FindsName Says (rows_of es) (Some (d, stamp))) same (
+      any_both (λ r. r.directory == d) (λ r. r.stamp == stamp) (rows_of store) ∙ ap (list_any (λ r. r.stamp == stamp)) are
+      ∙ any_map (row_of d) (λ r. r.stamp == stamp) (entries_in x.body) ∙ found.0,
+      all_both (λ r. r.directory == d) (λ r. r.stamp == stamp) (λ r. Says r.object true) (rows_of store)
+      (subst (All (λ r. (r.stamp == stamp) ≡ true → Says r.object true)) (sym are)
+      (All-map (λ r. (r.stamp == stamp) ≡ true → Says r.object true) (row_of d) (entries_in x.body) found.1)))
+
+-- ---- whether a name lies in a directory
+
+any_filter : {X : Type 0} (p : X → Bool) (xs : List X) → list_any p xs ≡ not (length (filter p xs) == 0)
+any_filter p [] = refl
+any_filter p (x ∷ xs) = go (p x) (any_filter p xs)
+  where
+    go : (t : Bool) → list_any p xs ≡ not (length (filter p xs) == 0) → (t || list_any p xs) ≡ not (length (cond t (x ∷ filter p xs) (filter p xs)) == 0)
+    go true more = refl
+    go false more = more
+
+same_length : {X Y : Type 0} (f : X → Y) (xs : List X) → length (map f xs) ≡ length xs
+same_length f [] = refl
+same_length f (x ∷ xs) = ap suc (same_length f xs)
+
+pub holds_entries : {F I : Type 0} (store : Entries F I) (d : ℕ) → IsStore store → not (length (entries_at store d) == 0) ≡ list_any (λ r. r.directory == d) (rows_of store)
+holds_entries store d is =
+    sym (any_filter (λ r. r.directory == d) (rows_of store)
+    ∙ ap (λ rs. not (length rs == 0)) (rows_are_entries store is d)
+    ∙ ap (λ n. not (n == 0)) (same_length (row_of d) (entries_at store d)))
