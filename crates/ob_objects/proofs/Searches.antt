@@ -1,18 +1,25 @@
 -- What a search over a store finds: the name of least stamp, a name or an object that passes a test.
-use Rattle.std.proofs.Common.{◌≡◌, ◌∙◌, ℕ, suc, ◌≤◌, ◌<◌, ◌==◌, ◌&&◌, ◌||◌, Bool, true, false, cond, not, nat_le, nat_lt, List, [], ◌∷◌, ◌++◌, length, filter, find, map, Option, None, Some, MatchOption, option_map, option_map_or, All, refl, ap, sym, subst, arith, leb-true, leb-false, le-leb, append_assoc, append-nil, eq-eqb, eqb-true}
+use Rattle.std.proofs.Common.{◌≡◌, ◌∙◌, ℕ, suc, ◌≤◌, ◌<◌, ◌==◌, ◌&&◌, ◌||◌, Bool, true, false, cond, not, nat_le, nat_lt, List, [], ◌∷◌, ◌++◌, length, get_or, filter, find, map, Option, None, Some, MatchOption, option_map, All, refl, ap, sym, subst, arith, leb-true, leb-false, le-leb, append_assoc, append-nil, eq-eqb, eqb-true}
 use Rattle.std.proofs.lemmas.Bool.{false≢true}
 use Rattle.std.proofs.lemmas.Bool.Decides.{nat_tests}
 use Rattle.std.proofs.lemmas.List.Elements.{All-nil, All-cons, All-head, All-tail, All-append, All-map, All-weaker}
-use Rattle.std.specs.List.{list_any}
-use Rattle.std.specs.Option.{option_and_then, unwrap_or}
+use Rattle.std.proofs.lemmas.Map.Keys.{any_passes_from_place, sorted_head, sorted_tail}
+use Rattle.std.proofs.lemmas.Option.{slice_get_read, get_or_from_slice_get}
+use Rattle.std.specs.declared.cmp.Ordering.TheVariants.{Less}
+use Rattle.std.specs.List.{AllByRecursion, list_any, slice_get}
+use Rattle.std.specs.List.Sorted.{IsStrictlySortedBy}
+use Rattle.std.specs.Map.{keys_of}
+use Rattle.std.specs.Option.{option_and_then, option_map_or, unwrap_or}
+use Rattle.std.specs.Ordering.{nat_cmp}
+use Rattle.ob_model.specs.declared.state.Object.{Object}
 use Rattle.ob_model.specs.declared.state.Row.{Row}
 use Rattle.ob_dirs.specs.declared.entry.DirEntry.{DirEntry}
 use Rattle.ob_dirs.specs.Dir.{IsDir, row_of}
 use Rattle.ob_objects.specs.declared.named.Named.{Named}
 use Rattle.ob_objects.specs.declared.object.StoredObject.{StoredObject}
 use Rattle.ob_objects.specs.Rows.{insert_row, by_stamp}
-use Rattle.ob_objects.specs.Named.{row_of_named, earlier_row, stands_at, FindsName, FindsStamp}
-use Rattle.ob_objects.specs.Store.{Entries, IsStore, stored_at, directory_of, entries_in, entries_at, rows_in_turn, rows_of}
+use Rattle.ob_objects.specs.Named.{row_of_named, earlier_row, stands_at, FindsName, FindsStamp, FindsLast}
+use Rattle.ob_objects.specs.Store.{Entries, IsStore, stored_at, directory_of, entries_in, entries_at, object_of_stored, objects_of, rows_in_turn, rows_of}
 use Rattle.ob_objects.proofs.ByStamp.{Rises, ComesFirst, by_stamp-Rises, by_stamp-same, All-by_stamp, above-leb}
 use Rattle.ob_objects.proofs.Ids.{Differ, Differ-from_rising}
 use Rattle.ob_objects.proofs.Shown.{entry_rows-Rises, rows_in_turn-append, rows_are_entries}
@@ -187,33 +194,33 @@ all_both {X} p q P (x ∷ xs) all = go (p x) refl all (all_both p q P xs)
 
 -- ---- a name whose object passes a test
 
-module _ {F I : Type 0} (Says : ℕ → Bool → Type 0) where
-  -- no object of a name in these entries passes
-  abbrev pub Fails : Row → Type 0
-  Fails r = Says r.object false
+-- the object of a name doesn't pass
+abbrev pub Fails : (ℕ → Bool → Type 0) → Row → Type 0
+Fails Says r = Says r.object false
 
+module _ {F I : Type 0} (Says : ℕ → Bool → Type 0) where
   -- these entries of a store are behind, and no name in them is for an object that passes
   pub record Behind (store iterator : Entries F I) : Type 0 where
     pub before : Entries F I
     pub parts : store ≡ before ++ iterator
-    pub none : All Fails (rows_in_turn before)
+    pub none : All (Fails Says) (rows_in_turn before)
 
   pub behind_first : (store : Entries F I) → Behind store store
-  behind_first store = record { before = []; parts = refl; none = All-nil Fails }
+  behind_first store = record { before = []; parts = refl; none = All-nil (Fails Says) }
 
   pub behind_turn : (store iterator rest : Entries F I) (d : ℕ) (x : StoredObject F I) → iterator ≡ (d, x) ∷ rest
       → All (λ e. Says e.object false) (entries_in x.body) → Behind store iterator → Behind store rest
   behind_turn store iterator rest d x e none so_far = record {
     before = so_far.before ++ (d, x) ∷ [];
     parts = so_far.parts ∙ ap (λ es. so_far.before ++ es) e ∙ sym (append_assoc so_far.before ((d, x) ∷ []) rest);
-    none = subst (All Fails) (sym (rows_in_turn-append so_far.before ((d, x) ∷ []) ∙ ap (λ rs. rows_in_turn so_far.before ++ rs) (append-nil (map (row_of d) (entries_in x.body)))))
-        (All-append Fails (rows_in_turn so_far.before) (map (row_of d) (entries_in x.body)) so_far.none (All-map Fails (row_of d) (entries_in x.body) none));
+    none = subst (All (Fails Says)) (sym (rows_in_turn-append so_far.before ((d, x) ∷ []) ∙ ap (λ rs. rows_in_turn so_far.before ++ rs) (append-nil (map (row_of d) (entries_in x.body)))))
+        (All-append (Fails Says) (rows_in_turn so_far.before) (map (row_of d) (entries_in x.body)) so_far.none (All-map (Fails Says) (row_of d) (entries_in x.body) none));
   }
 
-  pub behind_all : (store iterator now : Entries F I) → iterator ≡ [] → store ≡ now → Behind store iterator → All Fails (rows_of now)
+  pub behind_all : (store iterator now : Entries F I) → iterator ≡ [] → store ≡ now → Behind store iterator → All (Fails Says) (rows_of now)
   behind_all store iterator now e same so_far =
-      All-by_stamp Fails (rows_in_turn now)
-      (subst (λ es. All Fails (rows_in_turn es)) (sym (append-nil so_far.before) ∙ ap (λ es. so_far.before ++ es) (sym e) ∙ sym so_far.parts ∙ same) so_far.none)
+      All-by_stamp (Fails Says) (rows_in_turn now)
+      (subst (λ es. All (Fails Says) (rows_in_turn es)) (sym (append-nil so_far.before) ∙ ap (λ es. so_far.before ++ es) (sym e) ∙ sym so_far.parts ∙ same) so_far.none)
 
   -- what is stored behind entries of other ids
   stored_behind : (before rest : Entries F I) (d : ℕ) (x : StoredObject F I) → Differ (before ++ (d, x) ∷ rest) → stored_at (before ++ (d, x) ∷ rest) d ≡ Some x
@@ -248,12 +255,15 @@ module _ {F I : Type 0} (Says : ℕ → Bool → Type 0) where
 
 -- ---- whether a name lies in a directory
 
+some_more : (n : ℕ) → true ≡ not (suc n == 0)
+some_more n = grind (arith, nat_tests)
+
 any_filter : {X : Type 0} (p : X → Bool) (xs : List X) → list_any p xs ≡ not (length (filter p xs) == 0)
 any_filter p [] = refl
 any_filter p (x ∷ xs) = go (p x) (any_filter p xs)
   where
     go : (t : Bool) → list_any p xs ≡ not (length (filter p xs) == 0) → (t || list_any p xs) ≡ not (length (cond t (x ∷ filter p xs) (filter p xs)) == 0)
-    go true more = refl
+    go true more = some_more (length (filter p xs))
     go false more = more
 
 same_length : {X Y : Type 0} (f : X → Y) (xs : List X) → length (map f xs) ≡ length xs
@@ -265,3 +275,90 @@ holds_entries store d is =
     sym (any_filter (λ r. r.directory == d) (rows_of store)
     ∙ ap (λ rs. not (length rs == 0)) (rows_are_entries store is d)
     ∙ ap (λ n. not (n == 0)) (same_length (row_of d) (entries_at store d)))
+
+-- ---- the entry of a stamp
+
+pub stamp_found : (Says : ℕ → Bool → Type 0) (es : List DirEntry) (i : ℕ) (e : DirEntry) → IsDir es → i < length es → e ≡ get_or es i e → Says e.object true
+    → FindsStamp Says es (Some e.stamp)
+stamp_found Says es i e is within here passes =
+    (any_passes_from_place (λ x. x.stamp == e.stamp) es i e place (eq-eqb e.stamp e.stamp refl), at)
+  where
+    place : slice_get es i ≡ Some e
+    place = slice_get_read es (length es) i e refl within here
+
+    there : (d : DirEntry) → get_or es i d ≡ e
+    there d = get_or_from_slice_get es i e d place
+
+    at : (k : ℕ) (d : DirEntry) → k < length es → ((get_or es k d).stamp == e.stamp) ≡ true → Says (get_or es k d).object true
+    at k d inside same = go (nat_le k i) (nat_le i k) refl refl
+      where
+        one : (get_or es k d).stamp ≡ e.stamp
+        one = eqb-true (get_or es k d).stamp e.stamp same
+
+        go : (a b : Bool) → nat_le k i ≡ a → nat_le i k ≡ b → Says (get_or es k d).object true
+        go true true f g =
+            let equal : i ≡ k = omega (arith, leb-true k i f, leb-true i k g) in
+            subst (λ x. Says x.object true) (sym (there d) ∙ ap (λ n. get_or es n d) equal) passes
+        go true false f g = absurd (omega (arith, (is k i d (leb-false i k g) within).0, ap (λ x. x.stamp) (there d), one))
+        go false b f g = absurd (omega (arith, (is i k d (leb-false k i f) inside).0, ap (λ x. x.stamp) (there d), one))
+
+-- ---- the last object that passes a test
+
+-- these ids are a front of a store's, and no id behind them passes
+pub record BehindIds {F I : Type 0} (Says : ℕ → Bool → Type 0) (store : Entries F I) (front : List ℕ) : Type 0 where
+  pub behind : List ℕ
+  pub parts : keys_of store ≡ front ++ behind
+  pub none : All (λ k. Says k false) behind
+
+pub behind_ids_first : {F I : Type 0} (Says : ℕ → Bool → Type 0) (store : Entries F I) (front : List ℕ) → front ≡ keys_of store → BehindIds Says store front
+behind_ids_first Says store front e = record { behind = []; parts = sym e ∙ sym (append-nil front); none = All-nil (λ k. Says k false) }
+
+ids_are_keys : {F I : Type 0} (store : Entries F I) → map (λ o. o.id) (objects_of store) ≡ keys_of store
+ids_are_keys [] = refl
+ids_are_keys (e ∷ store) = ap (λ ks. e.0 ∷ ks) (ids_are_keys store)
+
+of_ids : {F I : Type 0} (P : ℕ → Type 0) (store : Entries F I) → All P (keys_of store) → All (λ o. P o.id) (objects_of store)
+of_ids P [] all = All-nil (λ o. P o.id)
+of_ids {F} {I} P (e ∷ store) all =
+    All-cons (λ (o : Object F I). P o.id) (object_of_stored e.0 e.1) (objects_of store) (All-head P e.0 (keys_of store) all) (of_ids P store (All-tail P e.0 (keys_of store) all))
+
+any_middle : (rest behind : List ℕ) (id : ℕ) → list_any (λ k. k == id) (rest ++ id ∷ behind) ≡ true
+any_middle [] behind id = ap (λ t. t || list_any (λ k. k == id) behind) (eq-eqb id id refl)
+any_middle (k ∷ rest) behind id = go (k == id) (any_middle rest behind id)
+  where
+    go : (t : Bool) → list_any (λ j. j == id) (rest ++ id ∷ behind) ≡ true → (t || list_any (λ j. j == id) (rest ++ id ∷ behind)) ≡ true
+    go true more = refl
+    go false more = more
+
+-- no id above the one that passes does
+above_last : (Says : ℕ → Bool → Type 0) (rest behind : List ℕ) (id : ℕ) → IsStrictlySortedBy nat_cmp (rest ++ id ∷ behind) → All (λ k. Says k false) behind
+    → All (λ k. id < k → Says k false) (rest ++ id ∷ behind)
+above_last Says [] behind id rising none =
+    All-cons (λ k. id < k → Says k false) id behind (λ less. absurd (omega (arith, less)))
+    (All-weaker (λ k. Says k false) (λ k. id < k → Says k false) (λ k says less. says) behind none)
+above_last Says (k ∷ rest) behind id rising none =
+    All-cons (λ j. id < j → Says j false) k (rest ++ id ∷ behind)
+    (λ less. absurd (omega (arith, less, below k id (at rest (sorted_head nat_cmp k (rest ++ id ∷ behind) rising)))))
+    (above_last Says rest behind id (sorted_tail nat_cmp k (rest ++ id ∷ behind) rising) none)
+  where
+    below : (a b : ℕ) → nat_cmp a b ≡ Less → a < b
+    below a b less = grind (arith, nat_tests)
+
+    at : (ks : List ℕ) → AllByRecursion (λ y. nat_cmp k y ≡ Less) (ks ++ id ∷ behind) → nat_cmp k id ≡ Less
+    at [] all = all.0
+    at (j ∷ ks) all = at ks all.1
+
+pub found_last : {F I : Type 0} (Says : ℕ → Bool → Type 0) (store : Entries F I) (front rest : List ℕ) (id : ℕ) → IsStore store → front ≡ rest ++ id ∷ []
+    → Says id true → BehindIds Says store front → FindsLast Says (objects_of store) (Some id)
+found_last {F} {I} Says store front rest id is e passes so_far =
+    let parts : keys_of store ≡ rest ++ id ∷ so_far.behind =
+        so_far.parts ∙ ap (λ ks. ks ++ so_far.behind) e ∙ append_assoc rest (id ∷ []) so_far.behind in
+    (sym (any_map (λ (o : Object F I). o.id) (λ k. k == id) (objects_of store)) ∙ ap (list_any (λ k. k == id)) (ids_are_keys store ∙ parts) ∙ any_middle rest so_far.behind id,
+    passes,
+    of_ids (λ k. id < k → Says k false) store (subst (All (λ k. id < k → Says k false)) (sym parts)
+    (above_last Says rest so_far.behind id (subst (IsStrictlySortedBy nat_cmp) parts is.rising) so_far.none)))
+
+pub none_last : {F I : Type 0} (Says : ℕ → Bool → Type 0) (store : Entries F I) (front : List ℕ) → front ≡ [] → BehindIds Says store front
+    → FindsLast Says (objects_of store) None
+none_last Says store front e so_far =
+    of_ids (λ k. Says k false) store (subst (All (λ k. Says k false)) (sym (so_far.parts ∙ ap (λ ks. ks ++ so_far.behind) e)) so_far.none)
