@@ -9,12 +9,11 @@ use Rattle.std.specs.declared.cmp.Ordering.TheVariants.{Less}
 use Rattle.std.specs.List.{AllPairs, AllByRecursion}
 use Rattle.std.specs.List.Sorted.{IsStrictlySortedBy}
 use Rattle.std.specs.Map.{keys_of}
-use Rattle.std.specs.Option.{option_and_then, option_map_or, is_some}
+use Rattle.std.specs.Option.{option_and_then, option_map_or}
 use Rattle.std.specs.Ordering.{nat_cmp}
 use Rattle.ob_model.proofs.Finds.{filter_all}
 use Rattle.ob_model.specs.declared.state.Object.{Object}
 use Rattle.ob_model.specs.declared.state.Row.{Row}
-use Rattle.ob_model.specs.State.{is_directory_body}
 use Rattle.ob_model.specs.Procedures.{Procedures, Reason}
 use Rattle.ob_model.specs.Grants.{open_refusal_of, opened_body, opened_object, opened_set}
 use Rattle.ob_model.specs.Closing.{closed_set}
@@ -23,7 +22,7 @@ use Rattle.ob_dirs.specs.Dir.{IsDir, row_of}
 use Rattle.ob_objects.specs.declared.object.StoredBody.{StoredBody}
 use Rattle.ob_objects.specs.declared.object.StoredBody.TheVariants.{Directory, Link, Other}
 use Rattle.ob_objects.specs.declared.object.StoredObject.{StoredObject}
-use Rattle.ob_objects.specs.Store.{Entries, IsStore, stored_at, directory_of, entries_in, body_of_stored, object_of_stored, objects_of, rows_in_turn, rows_of}
+use Rattle.ob_objects.specs.Store.{Entries, IsStore, stored_at, entries_in, body_of_stored, object_of_stored, objects_of, rows_in_turn, rows_of}
 use Rattle.ob_objects.specs.Changes.{changed_at, without_object, body_with_name, body_without_name, with_name, without_name, refusal_to_open, with_opened, set_after_open}
 use Rattle.ob_objects.specs.Laws.{FoundIsStored, ObjectsAreAsMany, IdsRise, NewObjectIsTheLast, ObjectGoesAlone, NewestIsNewest, StoreWithObjectIsStore, RefusalIsTheMachines, SetAfterOpenIsTheMachines, SetAfterCloseIsTheMachines, NewObjectOpens, ObjectIsTakenBack, NameIsTakenBack, BothAreTakenBack}
 use Rattle.ob_objects.proofs.ByStamp.{by_stamp-All}
@@ -242,9 +241,3 @@ told_of_object {F} {I} tells store id o e = go o ∙ ap (λ p. option_map_or tel
     go : (p : Option (StoredObject F I)) → option_map_or (λ x. tells (object_of_stored id x)) p false ≡ option_map_or tells (option_map (object_of_stored id) p) false
     go None = refl
     go (Some x) = refl
-
--- whether a body is a directory's is told of it as it is stored
-pub directory_told : {F I : Type 0} (body : StoredBody F I) → is_directory_body (body_of_stored body) ≡ is_some (directory_of body)
-directory_told (Directory entries) = refl
-directory_told (Link target) = refl
-directory_told (Other face inner) = refl

@@ -1,7 +1,8 @@
 -- What a search over a store finds: the name of least stamp, a name or an object that passes a test.
-use Rattle.std.proofs.Common.{◌≡◌, ◌∙◌, ℕ, suc, ◌≤◌, ◌<◌, ◌==◌, ◌&&◌, ◌||◌, Bool, true, false, cond, not, nat_le, nat_lt, List, [], ◌∷◌, ◌++◌, length, get_or, filter, find, map, Option, None, Some, MatchOption, option_map, All, refl, ap, sym, subst, arith, leb-true, leb-false, le-leb, append_assoc, append-nil, eq-eqb, eqb-true}
+use Rattle.std.proofs.Common.{◌≡◌, ◌∙◌, ℕ, suc, ◌≤◌, ◌<◌, ◌==◌, ◌&&◌, ◌||◌, Bool, true, false, cond, not, nat_le, nat_lt, List, [], ◌∷◌, ◌++◌, length, get_or, take, filter, find, map, Option, None, Some, MatchOption, option_map, All, refl, ap, sym, subst, arith, leb-true, leb-false, le-leb, append_assoc, append-nil, eq-eqb, eqb-true}
 use Rattle.std.proofs.lemmas.Bool.{false≢true}
 use Rattle.std.proofs.lemmas.Bool.Decides.{nat_tests}
+use Rattle.std.proofs.lemmas.List.{take_all}
 use Rattle.std.proofs.lemmas.List.Elements.{All-nil, All-cons, All-head, All-tail, All-append, All-map, All-weaker}
 use Rattle.std.proofs.lemmas.Map.Keys.{any_passes_from_place, sorted_head, sorted_tail}
 use Rattle.std.proofs.lemmas.Option.{slice_get_read, get_or_from_slice_get}
@@ -362,3 +363,7 @@ pub none_last : {F I : Type 0} (Says : ℕ → Bool → Type 0) (store : Entries
     → FindsLast Says (objects_of store) None
 none_last Says store front e so_far =
     of_ids (λ k. Says k false) store (subst (All (λ k. Says k false)) (sym (so_far.parts ∙ ap (λ ks. ks ++ so_far.behind) e)) so_far.none)
+
+-- what holds of all that were taken holds of all, where all were
+pub all_taken : {X : Type 0} (P : X → Type 0) (xs : List X) (n : ℕ) → length xs ≤ n → All P (take n xs) → All P xs
+all_taken P xs n enough all = subst (All P) (take_all n xs enough) all

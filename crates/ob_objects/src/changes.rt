@@ -1,9 +1,10 @@
-//! The changes of one object.
+//! The changes of one object, and what can be asked of it.
 
 ghost use Rattle.std.specs.Prelude.{◌≡◌, ◌≢◌, ◌<◌, ◌==◌, None, Some};
 ghost use Rattle.std.specs.Prelude.{not, length, All, IsSome, IfOk, IfErr, OnErr};
 ghost use Rattle.std.specs.List.{list_any};
 ghost use Rattle.ob_dirs.specs.Dir.{IsDir};
+ghost use Rattle.ob_model.specs.State.{is_directory_body};
 ghost use Rattle.ob_model.specs.Grants.{open_refusal_of, opened_set};
 ghost use Rattle.ob_model.specs.Closing.{closed_set};
 ghost use Rattle.ob_types.specs.Told.{reason_of};
@@ -24,6 +25,13 @@ pub(crate) fn count_names<F, I>(stored: &StoredObject<F, I>) -> usize
         StoredBody::Directory(dir) => dir.len(),
         _ => 0,
     }
+}
+
+/// Whether an object is a directory.
+pub(crate) fn is_directory<F, I>(stored: &StoredObject<F, I>) -> bool
+    ensures { result ≡ is_directory_body (body_of_stored stored.now.body) }
+{
+    matches!(stored.body, StoredBody::Directory(_))
 }
 
 /// Whether an entry lies in an object.

@@ -19,7 +19,7 @@ ghost use Rattle.ob_objects.specs.Changes.{
   set_after_close,
 };
 
-use crate::{Named, StoredBody, StoredObject, changes, named};
+use crate::{Named, StoredObject, changes, named};
 use ob_base::{Fault, ObjId};
 use ob_names::NameBuf;
 use ob_types::{Reason, TypeSet};
@@ -91,8 +91,10 @@ impl<T: TypeSet> Store<T> {
         ensures { result ≡ option_map_or (λ object. is_directory_body object.body)
             (find (λ object. object.id == id) (objects_of self.now)) false }
     {
-        self.get(id)
-            .is_some_and(|stored| matches!(stored.body, StoredBody::Directory(_)))
+        match self.get(id) {
+            Some(stored) => changes::is_directory(stored),
+            None => false,
+        }
     }
 
     /// Whether an object is there and is permanent. Takes no memory.
