@@ -1,6 +1,6 @@
 -- Objects and names that come and go: what each makes of the objects of a store, and how it is taken
 -- back.
-use Rattle.std.proofs.Common.{◌≡◌, ◌∙◌, ℕ, suc, ◌<◌, ◌==◌, Bool, true, false, cond, not, List, [], ◌∷◌, ◌++◌, length, filter, find, map, Option, None, Some, option_map, All, IsSome, refl, ap, sym, subst, arith, append-nil, eq-eqb}
+use Rattle.std.proofs.Common.{◌≡◌, ◌∙◌, ℕ, suc, ◌<◌, ◌==◌, Bool, true, false, cond, not, List, [], ◌∷◌, ◌++◌, filter, find, map, Option, None, Some, option_map, All, refl, ap, sym, subst, arith, append-nil, eq-eqb}
 use Rattle.std.proofs.lemmas.Bool.Decides.{nat_tests}
 use Rattle.std.proofs.lemmas.List.Elements.{All-nil, All-cons, All-head, All-tail, All-push, All-weaker, filter-append}
 use Rattle.std.proofs.lemmas.List.Kept.{AllPairs-cons}
@@ -22,8 +22,8 @@ use Rattle.ob_dirs.specs.Dir.{IsDir, row_of}
 use Rattle.ob_objects.specs.declared.object.StoredBody.{StoredBody}
 use Rattle.ob_objects.specs.declared.object.StoredBody.TheVariants.{Directory, Link, Other}
 use Rattle.ob_objects.specs.declared.object.StoredObject.{StoredObject}
-use Rattle.ob_objects.specs.Store.{Entries, IsStore, stored_at, entries_in, body_of_stored, object_of_stored, objects_of, rows_in_turn, rows_of}
-use Rattle.ob_objects.specs.Changes.{changed_at, without_object, body_with_name, body_without_name, with_name, without_name, refusal_to_open, with_opened, set_after_open}
+use Rattle.ob_objects.specs.Store.{Entries, stored_at, entries_in, body_of_stored, object_of_stored, objects_of, rows_in_turn}
+use Rattle.ob_objects.specs.Changes.{without_object, body_with_name, body_without_name, with_name, without_name}
 use Rattle.ob_objects.specs.Laws.{FoundIsStored, ObjectsAreAsMany, IdsRise, NewObjectIsTheLast, ObjectGoesAlone, NewestIsNewest, StoreWithObjectIsStore, RefusalIsTheMachines, SetAfterOpenIsTheMachines, SetAfterCloseIsTheMachines, NewObjectOpens, ObjectIsTakenBack, NameIsTakenBack, BothAreTakenBack}
 use Rattle.ob_objects.proofs.ByStamp.{by_stamp-All}
 use Rattle.ob_objects.proofs.Shown.{find_object, all_parts, new_object_has_no_row, stored_is_object, opened_is_machines}
@@ -104,9 +104,10 @@ module _ {F I : Type 0} where
       → IsStrictlySortedBy nat_cmp (keys_of store) → IsStrictlySortedBy nat_cmp (keys_of (store ++ (id, x) ∷ []))
   unfolding IsStrictlySortedBy
   keys_rise [] id x below rising = (tt, tt)
-  keys_rise (e ∷ store) id x below rising =
-      (keys_above e.0 id x store (All-head (λ (y : ℕ × StoredObject F I). y.0 < id) e store below) (sorted_head nat_cmp e.0 (keys_of store) rising),
-      keys_rise store id x (All-tail (λ (y : ℕ × StoredObject F I). y.0 < id) e store below) (sorted_tail nat_cmp e.0 (keys_of store) rising))
+  keys_rise (e ∷ store) id x below rising = (
+    keys_above e.0 id x store (All-head (λ (y : ℕ × StoredObject F I). y.0 < id) e store below) (sorted_head nat_cmp e.0 (keys_of store) rising),
+    keys_rise store id x (All-tail (λ (y : ℕ × StoredObject F I). y.0 < id) e store below) (sorted_tail nat_cmp e.0 (keys_of store) rising),
+  )
 
   pub store_with_object : StoreWithObjectIsStore F I
   store_with_object store id x is below none = record {

@@ -1,11 +1,9 @@
 -- Where the state finds nothing in a directory, a name may be put there.
-use Rattle.std.proofs.Common.{◌≡◌, ◌≢◌, ◌∙◌, ℕ, ◌<◌, ◌==◌, Bool, true, false, cond, List, [], ◌∷◌, filter, map, Option, None, Some, option_map, All, IsSome, refl, ap, sym, subst, arith, eq-eqb}
+use Rattle.std.proofs.Common.{◌≡◌, ◌≢◌, ◌∙◌, ℕ, ◌<◌, ◌==◌, Bool, true, false, cond, List, [], ◌∷◌, filter, map, Option, None, Some, option_map, All, IsSome, refl, ap, sym, subst, eq-eqb}
 use Rattle.std.proofs.lemmas.Bool.{false≢true}
-use Rattle.std.proofs.lemmas.List.Elements.{All-nil, All-cons, All-head, All-tail, All-filter}
-use Rattle.std.specs.Cmp.Lexicographic.{pointwise}
+use Rattle.std.proofs.lemmas.List.Elements.{All-nil, All-cons, All-filter}
 use Rattle.std.specs.Option.{option_and_then, option_map_or}
 use Rattle.ob_model.specs.declared.state.Object.{Object}
-use Rattle.ob_model.specs.declared.state.Row.{Row}
 use Rattle.ob_model.specs.Names.{same_name, same_byte, upper}
 use Rattle.ob_model.specs.State.{is_directory_body}
 use Rattle.ob_dirs.specs.declared.entry.DirEntry.{DirEntry}
@@ -13,7 +11,7 @@ use Rattle.ob_dirs.specs.Dir.{entry_found, earliest_entry, is_named, row_of}
 use Rattle.ob_objects.specs.declared.object.StoredBody.{StoredBody}
 use Rattle.ob_objects.specs.declared.object.StoredBody.TheVariants.{Directory, Link, Other}
 use Rattle.ob_objects.specs.declared.object.StoredObject.{StoredObject}
-use Rattle.ob_objects.specs.Store.{Entries, stored_at, directory_of, entries_at, body_of_stored, object_of_stored, rows_of}
+use Rattle.ob_objects.specs.Store.{stored_at, directory_of, entries_at, body_of_stored, object_of_stored}
 use Rattle.ob_objects.specs.Laws.{NameMayBeInserted}
 use Rattle.ob_objects.proofs.Shown.{stored_is_object, store_finds, rows_are_entries}
 use Rattle.ob_objects.proofs.Follow.{entries_of_rows}
@@ -56,9 +54,10 @@ directory_stands {F} {I} d (Some x) is = go x.body is
 pub name_may_be_inserted : {K T F I : Type 0} → NameMayBeInserted K T F I
 name_may_be_inserted {K} {T} {F} {I} s store is shows d name fold stamp there none newest =
     let below : All (λ r. r.stamp < stamp) (map (row_of d) (entries_at store d)) =
-        subst (All (λ r. r.stamp < stamp)) (ap (filter (λ r. r.directory == d)) shows.rows ∙ rows_are_entries store is d)
-        (All-filter (λ r. r.directory == d) (λ r. r.stamp < stamp) s.rows newest) in
-    (directory_stands d (stored_at store d)
-    (sym (ap (λ o. option_map_or is_directory_body (option_map (λ (x : Object F I). x.body) o) false) (stored_is_object s store shows d)) ∙ there),
-    none_named (entries_at store d) name fold (no_row (row_of d) (entry_found (entries_at store d) name fold) (sym (store_finds s store is shows d name fold) ∙ none)),
-    entries_of_rows (λ r. r.stamp < stamp) d (entries_at store d) below)
+    subst (All (λ r. r.stamp < stamp)) (ap (filter (λ r. r.directory == d)) shows.rows ∙ rows_are_entries store is d)
+    (All-filter (λ r. r.directory == d) (λ r. r.stamp < stamp) s.rows newest) in (
+      directory_stands d (stored_at store d)
+          (sym (ap (λ o. option_map_or is_directory_body (option_map (λ (x : Object F I). x.body) o) false) (stored_is_object s store shows d)) ∙ there),
+      none_named (entries_at store d) name fold (no_row (row_of d) (entry_found (entries_at store d) name fold) (sym (store_finds s store is shows d name fold) ∙ none)),
+      entries_of_rows (λ r. r.stamp < stamp) d (entries_at store d) below,
+    )

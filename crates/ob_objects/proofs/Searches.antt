@@ -19,7 +19,7 @@ use Rattle.ob_dirs.specs.Dir.{IsDir, row_of}
 use Rattle.ob_objects.specs.declared.named.Named.{Named}
 use Rattle.ob_objects.specs.declared.object.StoredObject.{StoredObject}
 use Rattle.ob_objects.specs.Rows.{insert_row, by_stamp}
-use Rattle.ob_objects.specs.Named.{row_of_named, earlier_row, stands_at, FindsName, FindsStamp, FindsLast}
+use Rattle.ob_objects.specs.Named.{row_of_named, earlier_row, FindsName, FindsStamp, FindsLast}
 use Rattle.ob_objects.specs.Store.{Entries, IsStore, stored_at, directory_of, entries_in, entries_at, object_of_stored, objects_of, rows_in_turn, rows_of}
 use Rattle.ob_objects.proofs.ByStamp.{Rises, ComesFirst, by_stamp-Rises, by_stamp-same, All-by_stamp, above-leb}
 use Rattle.ob_objects.proofs.Ids.{Differ, Differ-from_rising}
@@ -244,15 +244,16 @@ module _ {F I : Type 0} (Says : ℕ → Bool → Type 0) where
   found_name store now iterator rest d stamp x is same e found so_far =
       let parts : store ≡ so_far.before ++ (d, x) ∷ rest = so_far.parts ∙ ap (λ es. so_far.before ++ es) e in
       let there : stored_at store d ≡ Some x =
-          subst (λ es. stored_at es d ≡ Some x) (sym parts) (stored_behind so_far.before rest d x (subst Differ parts (Differ-from_rising store is.rising))) in
+      subst (λ es. stored_at es d ≡ Some x) (sym parts) (stored_behind so_far.before rest d x (subst Differ parts (Differ-from_rising store is.rising))) in
       let are : filter (λ r. r.directory == d) (rows_of store) ≡ map (row_of d) (entries_in x.body) =
-          rows_are_entries store is d ∙ ap (λ (o : Option (StoredObject F I)). map (row_of d) (unwrap_or (option_and_then (λ y. directory_of y.body) o) [])) there in
+      rows_are_entries store is d ∙ ap (λ (o : Option (StoredObject F I)). map (row_of d) (unwrap_or (option_and_then (λ y. directory_of y.body) o) [])) there in
       subst (λ es. FindsName Says (rows_of es) (Some (d, stamp))) same (
-      any_both (λ r. r.directory == d) (λ r. r.stamp == stamp) (rows_of store) ∙ ap (list_any (λ r. r.stamp == stamp)) are
-      ∙ any_map (row_of d) (λ r. r.stamp == stamp) (entries_in x.body) ∙ found.0,
-      all_both (λ r. r.directory == d) (λ r. r.stamp == stamp) (λ r. Says r.object true) (rows_of store)
-      (subst (All (λ r. (r.stamp == stamp) ≡ true → Says r.object true)) (sym are)
-      (All-map (λ r. (r.stamp == stamp) ≡ true → Says r.object true) (row_of d) (entries_in x.body) found.1)))
+        any_both (λ r. r.directory == d) (λ r. r.stamp == stamp) (rows_of store) ∙ ap (list_any (λ r. r.stamp == stamp)) are
+            ∙ any_map (row_of d) (λ r. r.stamp == stamp) (entries_in x.body) ∙ found.0,
+        all_both (λ r. r.directory == d) (λ r. r.stamp == stamp) (λ r. Says r.object true) (rows_of store)
+            (subst (All (λ r. (r.stamp == stamp) ≡ true → Says r.object true)) (sym are)
+            (All-map (λ r. (r.stamp == stamp) ≡ true → Says r.object true) (row_of d) (entries_in x.body) found.1)),
+      )
 
 -- ---- whether a name lies in a directory
 
@@ -353,11 +354,12 @@ pub found_last : {F I : Type 0} (Says : ℕ → Bool → Type 0) (store : Entrie
     → Says id true → BehindIds Says store front → FindsLast Says (objects_of store) (Some id)
 found_last {F} {I} Says store front rest id is e passes so_far =
     let parts : keys_of store ≡ rest ++ id ∷ so_far.behind =
-        so_far.parts ∙ ap (λ ks. ks ++ so_far.behind) e ∙ append_assoc rest (id ∷ []) so_far.behind in
-    (sym (any_map (λ (o : Object F I). o.id) (λ k. k == id) (objects_of store)) ∙ ap (list_any (λ k. k == id)) (ids_are_keys store ∙ parts) ∙ any_middle rest so_far.behind id,
-    passes,
-    of_ids (λ k. id < k → Says k false) store (subst (All (λ k. id < k → Says k false)) (sym parts)
-    (above_last Says rest so_far.behind id (subst (IsStrictlySortedBy nat_cmp) parts is.rising) so_far.none)))
+    so_far.parts ∙ ap (λ ks. ks ++ so_far.behind) e ∙ append_assoc rest (id ∷ []) so_far.behind in (
+      sym (any_map (λ (o : Object F I). o.id) (λ k. k == id) (objects_of store)) ∙ ap (list_any (λ k. k == id)) (ids_are_keys store ∙ parts) ∙ any_middle rest so_far.behind id,
+      passes,
+      of_ids (λ k. id < k → Says k false) store (subst (All (λ k. id < k → Says k false)) (sym parts)
+          (above_last Says rest so_far.behind id (subst (IsStrictlySortedBy nat_cmp) parts is.rising) so_far.none)),
+    )
 
 pub none_last : {F I : Type 0} (Says : ℕ → Bool → Type 0) (store : Entries F I) (front : List ℕ) → front ≡ [] → BehindIds Says store front
     → FindsLast Says (objects_of store) None

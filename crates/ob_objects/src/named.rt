@@ -29,10 +29,7 @@ pub(crate) fn first_entry<F, I>(stored: &StoredObject<F, I>, object: ObjId) -> O
     ensures entries { IsDir (entries_in stored.now.body) }
 {
     match &stored.body {
-        StoredBody::Directory(dir) => dir
-            .as_slice()
-            .iter()
-            .find(|entry| entry.object == object),
+        StoredBody::Directory(dir) => dir.as_slice().iter().find(|entry| entry.object == object),
         _ => None,
     }
 }

@@ -1,9 +1,10 @@
 //! A small store, and each law at a concrete set of types.
 
 ghost use Rattle.std.specs.Prelude.{◌≡◌, [], Some, IfOk};
+ghost use Rattle.std.specs.Prelude.{◌<◌, All};
 ghost use Rattle.ob_objects.specs.Store.{directory_at};
 
-use crate::{Store, StoredBody, StoredObject, laws};
+use crate::{Named, Store, StoredBody, StoredObject, laws};
 use ob_base::ObjId;
 use ob_dirs::Dir;
 use ob_names::{Name, NameBuf};
@@ -42,7 +43,8 @@ fn link(alloc: Global, target: &[u8]) -> Result<Stored, Fail> {
 
 // A store of a directory, 1, a link, 2, and an event, 5.
 fn three(alloc: Global) -> Result<Store<Standard>, Fail>
-    ensures { IfOk result (λ store. directory_at store 1 ≡ Some []) }
+    ensures directory { IfOk result (λ store. directory_at store 1 ≡ Some []) }
+    ensures ids { IfOk result (λ store. All (λ e. e.0 < 6) store) }
 {
     let mut store = Store::new(alloc);
     store.insert(ObjId(1), temporary(StoredBody::Directory(Dir::new(alloc))))?;
@@ -109,6 +111,82 @@ fn names_come_and_go(rt: HostRuntime) -> Result<(), Fail> {
     Ok(())
 }
 
+// A store of two directories, 1 and 4; in the first a name of stamp 7, in the second one of stamp 3,
+// both for the object 5.
+fn named(alloc: Global) -> Result<Store<Standard>, Fail> {
+    let event = NameBuf::from_name(alloc, Name::read(b"Event")?)?;
+    let old = NameBuf::from_name(alloc, Name::read(b"Old")?)?;
+    let mut store = Store::new(alloc);
+    store.insert(ObjId(1), temporary(StoredBody::Directory(Dir::new(alloc))))?;
+    store.insert_name(ObjId(1), 7, event, ObjId(5))?;
+    store.insert(ObjId(4), temporary(StoredBody::Directory(Dir::new(alloc))))?;
+    store.insert_name(ObjId(4), 3, old, ObjId(5))?;
+    Ok(store)
+}
+
+#[test]
+fn the_first_name_is_told(rt: HostRuntime) -> Result<(), Fail> {
+    let store = named(rt.alloc())?;
+    let Some(Named { directory, entry }) = store.name_of(ObjId(5)) else {
+        return Err(Fail::from("no name"));
+    };
+    assert_eq!(rt; directory, ObjId(4));
+    assert_eq!(rt; entry.stamp, 3);
+    assert_eq!(rt; entry.object, ObjId(5));
+    assert_eq!(rt; entry.name.as_slice(), b"Old".as_slice());
+    assert!(rt; store.name_of(ObjId(4)).is_none());
+    assert!(rt; store.name_of(ObjId(9)).is_none());
+    Ok(())
+}
+
+#[test]
+fn names_are_sought_by_their_objects(rt: HostRuntime) -> Result<(), Fail> {
+    let store = named(rt.alloc())?;
+    let some = store.name_where(|id| id == ObjId(5));
+    let none = store.name_where(|id| id != ObjId(5));
+    assert!(rt; some == Some((ObjId(1), 7)) || some == Some((ObjId(4), 3)));
+    assert_eq!(rt; none, None);
+    assert!(rt; store.holds_names(ObjId(1)));
+    assert!(rt; store.holds_names(ObjId(4)));
+    assert!(rt; !store.holds_names(ObjId(5)));
+    Ok(())
+}
+
+#[test]
+fn the_last_object_is_sought(rt: HostRuntime) -> Result<(), Fail> {
+    let store = three(rt.alloc())?;
+    let last = store.last_where(|_| true);
+    let before = store.last_where(|id| id != ObjId(5));
+    let none = store.last_where(|id| id == ObjId(3));
+    assert_eq!(rt; last, Some(ObjId(5)));
+    assert_eq!(rt; before, Some(ObjId(2)));
+    assert_eq!(rt; none, None);
+    assert!(rt; !store.holds_names(ObjId(1)));
+    Ok(())
+}
+
+#[test]
+fn an_object_tells_what_it_is(rt: HostRuntime) -> Result<(), Fail> {
+    let alloc = rt.alloc();
+    let mut store = three(alloc)?;
+    let mut object = event(alloc)?;
+    object.exclusive = true;
+    store.insert(ObjId(6), object)?;
+    store.set_permanent(ObjId(2), true);
+    let told = |id| {
+        (
+            store.is_directory(id),
+            store.is_permanent(id),
+            store.is_exclusive(id),
+        )
+    };
+    assert_eq!(rt; told(ObjId(1)), (true, false, false));
+    assert_eq!(rt; told(ObjId(2)), (false, true, false));
+    assert_eq!(rt; told(ObjId(3)), (false, false, false));
+    assert_eq!(rt; told(ObjId(6)), (false, false, true));
+    Ok(())
+}
+
 #[test]
 fn permanence_is_set(rt: HostRuntime) -> Result<(), Fail> {
     let mut store = three(rt.alloc())?;
@@ -146,4 +224,10 @@ fn laws_hold_at_a_concrete_set(_rt: HostRuntime) {
     laws::rows_follow_the_objects::<u32, u64>();
     laws::rows_follow_the_names::<u32, u64>();
     laws::permanence_is_the_objects::<u32, u64>();
+    laws::objects_are_stored::<u32, u64>();
+    laws::objects_follow::<u32, u64>();
+    laws::a_name_may_be_inserted::<u8, u16, u32, u64>();
+    laws::set_is_the_machines::<u8, u16, u32, u64>();
+    laws::a_new_object_opens::<u8, u16, u32, u64>();
+    laws::what_came_last_is_taken_back::<u32, u64>();
 }

@@ -1,5 +1,5 @@
 -- The rows that stand in a directory are its entries.
-use Rattle.std.proofs.Common.{◌≡◌, ◌∙◌, ◌==◌, ap, sym, not, length, []}
+use Rattle.std.proofs.Common.{◌∙◌, ◌==◌, ap, sym, not, length, []}
 use Rattle.std.specs.Option.{option_copied, option_and_then, unwrap_or}
 use Rattle.ob_objects.specs.declared.object.StoredObject.{StoredObject}
 use Rattle.ob_objects.specs.Store.{directory_of}

@@ -1,11 +1,11 @@
 -- A directory's first name of the object is the earliest of its own, and is weighed against the best so
 -- far.
-use Rattle.std.proofs.Common.{◌≡◌, ◌∙◌, ◌==◌, find, option_map, None, Some, ap, sym, refl}
+use Rattle.std.proofs.Common.{◌∙◌, ◌==◌, find, option_map, Some, ap, sym}
 use Rattle.std.specs.Option.{option_copied}
 use Rattle.ob_dirs.specs.Dir.{row_of}
 use Rattle.ob_objects.specs.Named.{row_of_named, earlier_row}
 use Rattle.ob_objects.specs.Store.{rows_of}
-use Rattle.ob_objects.proofs.Searches.{names, earlier_none, takes_first, keeps_best, name_turn, name_end}
+use Rattle.ob_objects.proofs.Searches.{earlier_none, takes_first, keeps_best, name_turn, name_end}
 use Rattle.ob_objects.proofs.store.Store.name_of.Goals as goal
 
 pub loop-directory-preserved-in_default : goal.loop-directory-preserved-in_default
