@@ -64,7 +64,10 @@ fn the_first_inserted_is_found(rt: HostRuntime) -> Result<(), Fail> {
 fn entries_are_told_in_their_order(rt: HostRuntime) -> Result<(), Fail> {
     let dir = three(rt.alloc())?;
     assert!(rt; Dir::new(rt.alloc()).as_slice().is_empty());
-    let told = dir.as_slice().iter().map(|entry| (entry.stamp, entry.object));
+    let told = dir
+        .as_slice()
+        .iter()
+        .map(|entry| (entry.stamp, entry.object));
     assert!(rt; told.eq([(3, ObjId(10)), (5, ObjId(11)), (9, ObjId(12))].into_iter()));
     Ok(())
 }
