@@ -63,12 +63,12 @@ fn the_first_inserted_is_found(rt: HostRuntime) -> Result<(), Fail> {
 #[test]
 fn entries_are_told_in_their_order(rt: HostRuntime) -> Result<(), Fail> {
     let dir = three(rt.alloc())?;
-    assert!(rt; Dir::new(rt.alloc()).as_slice().is_empty());
-    let told = dir
-        .as_slice()
-        .iter()
-        .map(|entry| (entry.stamp, entry.object));
-    assert!(rt; told.eq([(3, ObjId(10)), (5, ObjId(11)), (9, ObjId(12))].into_iter()));
+    assert_eq!(rt; dir.as_slice().len(), 3);
+    for (entry, want) in dir.as_slice().iter().zip([(3, 10), (5, 11), (9, 12)]) {
+        assert_eq!(rt; (entry.stamp, entry.object.0), want);
+    }
+    let empty = Dir::new(rt.alloc());
+    assert!(rt; empty.as_slice().is_empty());
     Ok(())
 }
 
