@@ -3,7 +3,8 @@
 use Rattle.std.proofs.Common.{◌≡◌, ◌≢◌, ℕ, zero, suc, ◌+◌, ◌<◌, ◌==◌, Bool, true, false, ◌&&◌, ◌||◌, not, cond, List, [], ◌∷◌, ◌++◌, length, get_or, map, filter, find, All, None, Some, option_map, refl, ap, ◌∙◌, sym, subst, arith, eqb-true, eq-eqb}
 use Rattle.std.specs.Prelude.{count_by, MatchOption}
 use Rattle.std.specs.List.{AllPairs, list_any}
-use Rattle.std.specs.Option.{option_map_or}
+use Rattle.std.specs.Option.{option_map_or, is_some}
+use Rattle.std.proofs.lemmas.Bool.{ne_eqb}
 use Rattle.std.proofs.lemmas.List.{length-append}
 use Rattle.std.proofs.lemmas.List.Elements.{All-nil, All-append, All-push, All-map, All-filter, All-weaker}
 use Rattle.std.proofs.lemmas.List.Folds.{list_any-append}
@@ -14,15 +15,16 @@ use Rattle.ob_model.specs.declared.state.Body.{Body}
 use Rattle.ob_model.specs.declared.state.Body.TheVariants.{Directory, Link, Other}
 use Rattle.ob_model.specs.declared.state.Object.{Object}
 use Rattle.ob_model.specs.declared.state.Held.{Held}
+use Rattle.ob_model.specs.declared.state.Row.{Row}
 use Rattle.ob_model.specs.State.{State, root_id, is_directory, is_directory_body, most_handles, table_size, handle_count, handle_count_in}
 use Rattle.ob_model.specs.Procedures.{Procedures, Reason}
-use Rattle.ob_model.specs.Settle.{settle, is_alive, is_kept}
+use Rattle.ob_model.specs.Settle.{settle, is_alive, is_kept, is_permanent, has_handle, has_name}
 use Rattle.ob_model.specs.Grants.{with_open, with_handle, opened_object, opened_body, IsFreeValue}
 use Rattle.ob_model.specs.Closing.{is_handle, without_handle, closed_handle, closed_object, closed_body}
 use Rattle.ob_model.specs.Creates.{Spot, new_rows, with_object, with_row}
 use Rattle.ob_model.proofs.Soundness.{root_stands, opened_root, closed_root, opened_object-id, closed_object-id, is_directory-with_object}
 use Rattle.ob_model.proofs.Finds.{filter_all, filter_none}
-use Rattle.ob_core.specs.Orderly.{IsIdleBody, is_held, IsIdleUnheld, IsOrderly}
+use Rattle.ob_core.specs.Orderly.{IsIdleBody, is_held, IsIdleUnheld, IsNamedPermanent, IsOrderly}
 
 -- pairs of a list whose elements change, and stay as they were to one another
 pairs-map : {X Y : Type 0} (R : Y → Y → Type 0) (f : X → Y) (xs : List X) → AllPairs (λ a b. R (f a) (f b)) xs → AllPairs R (map f xs)
@@ -32,7 +34,7 @@ pairs-map R f (x ∷ xs) h =
     (pairs-map R f xs (λ i j d less below. h (suc i) (suc j) d (omega (arith, less)) (omega (arith, below))))
 
 -- no element passes where none is said to
-none_pass : {X : Type 0} (test : X → Bool) (xs : List X) → list_any test xs ≡ false → All (λ x. test x ≡ false) xs
+pub none_pass : {X : Type 0} (test : X → Bool) (xs : List X) → list_any test xs ≡ false → All (λ x. test x ≡ false) xs
 none_pass test [] h = All-nil (λ x. test x ≡ false)
 none_pass test (x ∷ xs) h = go (test x) refl h (none_pass test xs)
   where
@@ -80,6 +82,25 @@ not_among p value (h ∷ hs) e k d below = go (is_handle p value h) refl e k bel
     go false f e zero below rest = f
     go false f e (suc k) below rest = rest e k d (omega (arith, below))
 
+-- what a search finds at the first place where its test passes
+find_at : {X : Type 0} (test : X → Bool) (xs : List X) (i : ℕ) (d : X) → i < length xs → test (get_or xs i d) ≡ true
+    → ((k : ℕ) → k < i → test (get_or xs k d) ≡ false) → find test xs ≡ Some (get_or xs i d)
+find_at test [] i d below passes before = absurd (omega (arith, below))
+find_at test (x ∷ xs) zero d below passes before = ap (λ (b : Bool). cond b (Some x) (find test xs)) passes
+find_at test (x ∷ xs) (suc i) d below passes before =
+    ap (λ (b : Bool). cond b (Some x) (find test xs)) (before 0 (omega arith))
+    ∙ find_at test xs i d (omega (arith, below)) passes (λ k less. before (suc k) (omega (arith, less)))
+
+-- an object whose number is looked for is found, in a list whose numbers rise
+pub finds_itself : {F I : Type 0} (objects : List (Object F I)) → AllPairs (λ a b. a.id < b.id) objects → All (λ x. find (λ y. y.id == x.id) objects ≡ Some x) objects
+finds_itself objects rising k d below =
+    find_at (λ y. y.id == (get_or objects k d).id) objects k d below (eq-eqb (get_or objects k d).id (get_or objects k d).id refl)
+    (λ j less. ne_eqb (get_or objects j d).id (get_or objects k d).id (λ same. let lower = rising j k d less below in omega (arith, lower, same)))
+
+-- and is as permanent as the state says
+pub permanent_itself : {K T F I : Type 0} (s : State K T F I) → AllPairs (λ a b. a.id < b.id) s.objects → All (λ x. is_permanent s x.id ≡ x.permanent) s.objects
+permanent_itself s rising k d below = ap (λ (o : _). option_map_or (λ x. x.permanent) o false) (finds_itself s.objects rising k d below)
+
 -- the handles of one process are all handles
 module _ {K T F I : Type 0} {idle : I → Type 0} (s : State K T F I) (orderly : IsOrderly idle s) (p : ℕ) (first : p ≡ 1) where
   all_own : All (λ h. (h.process == p) ≡ true) s.handles
@@ -104,11 +125,23 @@ module _ {K T F I : Type 0} (g : Procedures K T F I) (idle : I → Type 0) where
     rising = AllPairs-filter (λ a b. a.id < b.id) (λ x. is_alive s x.id) s.objects h.rising;
     drawn = All-filter (λ x. is_alive s x.id) (λ x. x.id < s.next_id) s.objects h.drawn;
     descending = All-filter (is_kept s) (λ r. r.directory < r.object) s.rows h.descending;
+    stamped = All-filter (is_kept s) (λ r. r.stamp < s.next_stamp) s.rows h.stamped;
+    named = All-filter (λ x. is_alive s x.id) (IsNamedPermanent (settle g s)) s.objects (λ k d below. named_settled (get_or s.objects k d) (permanent_itself s h.rising k d below) (h.named k d below));
     unheld = All-filter (λ x. is_alive s x.id) (IsIdleUnheld idle s.handles) s.objects h.unheld;
     own = h.own;
     distinct = h.distinct;
     few = h.few;
   }
+    where
+      -- the names of a permanent object stay
+      named_settled : (x : Object F I) → is_permanent s x.id ≡ x.permanent → IsNamedPermanent s x → IsNamedPermanent (settle g s) x
+      named_settled x itself before permanent =
+          ap (λ (b : Bool). (x.id == root_id) || b)
+          (any_stays (λ r. r.object == x.id) (is_kept s) s.rows (λ k d below found. kept (get_or s.rows k d) (eqb-true (get_or s.rows k d).object x.id found)))
+          ∙ before permanent
+        where
+          kept : (r : Row) → r.object ≡ x.id → is_kept s r ≡ true
+          kept r at = ap (λ (b : Bool). b || has_handle s r.object) (ap (is_permanent s) at ∙ itself ∙ permanent)
 
   -- an open and a grant to process 1, which has room for it, leave an orderly state
   pub granted_orderly : (s : State K T F I) (p value o : ℕ) (reason : Reason) (inherit : Bool)
@@ -123,6 +156,8 @@ module _ {K T F I : Type 0} (g : Procedures K T F I) (idle : I → Type 0) where
             (subst (λ (n : ℕ). (get_or s.objects i d).id < n) (sym (opened_object-id g s.set o reason (get_or s.objects j d))) (h.rising i j d less below)));
         drawn = All-map (λ x. x.id < s.next_id) f s.objects (λ k d below. subst (λ (n : ℕ). n < s.next_id) (sym (opened_object-id g s.set o reason (get_or s.objects k d))) (h.drawn k d below));
         descending = h.descending;
+        stamped = h.stamped;
+        named = All-map (IsNamedPermanent s) f s.objects (All-weaker (IsNamedPermanent s) (λ x. IsNamedPermanent s (f x)) opened_named s.objects h.named);
         unheld = All-map (IsIdleUnheld idle (s.handles ++ new ∷ [])) f s.objects
             (All-weaker (IsIdleUnheld idle s.handles) (λ x. IsIdleUnheld idle (s.handles ++ new ∷ []) (f x)) (opened_unheld new refl) s.objects h.unheld);
         own = All-push (λ x. x.process ≡ 1) s.handles new h.own first;
@@ -130,6 +165,13 @@ module _ {K T F I : Type 0} (g : Procedures K T F I) (idle : I → Type 0) where
         few = omega (arith, length-append s.handles (new ∷ []), room, own_size s h p first);
       }
     where
+      opened_named : (x : Object F I) → IsNamedPermanent s x → IsNamedPermanent s (opened_object g s.set o reason x)
+      opened_named x before = go (x.id == o)
+        where
+          go : (b : Bool) → IsNamedPermanent s (cond b (record x { body = opened_body g s.set x.body reason }) x)
+          go true = before
+          go false = before
+
       opened_unheld : (new : Held) → new.object ≡ o → (x : Object F I) → IsIdleUnheld idle s.handles x → IsIdleUnheld idle (s.handles ++ new ∷ []) (opened_object g s.set o reason x)
       opened_unheld new at x before = go (x.id == o) refl
         where
@@ -147,6 +189,8 @@ module _ {K T F I : Type 0} (g : Procedures K T F I) (idle : I → Type 0) where
     rising = h.rising;
     drawn = All-weaker (λ x. x.id < s.next_id) (λ x. x.id < s.next_id + 1) (λ x less. omega (arith, less)) s.objects h.drawn;
     descending = h.descending;
+    stamped = h.stamped;
+    named = h.named;
     unheld = h.unheld;
     own = h.own;
     distinct = h.distinct;
@@ -199,6 +243,8 @@ module _ {K T F I : Type 0} (g : Procedures K T F I) (idle : I → Type 0) (clos
             (subst (λ (n : ℕ). (get_or s.objects i d).id < n) (sym (closed_object-id g s.set h.object left total (get_or s.objects j d))) (orderly.rising i j d less below)));
         drawn = All-map (λ x. x.id < s.next_id) f s.objects (λ k d below. subst (λ (n : ℕ). n < s.next_id) (sym (closed_object-id g s.set h.object left total (get_or s.objects k d))) (orderly.drawn k d below));
         descending = orderly.descending;
+        stamped = orderly.stamped;
+        named = All-map (IsNamedPermanent s) f s.objects (All-weaker (IsNamedPermanent s) (λ x. IsNamedPermanent s (f x)) (closed_named left total) s.objects orderly.named);
         unheld = All-map (IsIdleUnheld idle kept) f s.objects
             (All-weaker (IsIdleUnheld idle s.handles) (λ x. IsIdleUnheld idle kept (f x)) (closed_unheld left total refl) s.objects orderly.unheld);
         own = All-filter (λ k. not (is_handle h.process h.value k)) (λ k. k.process ≡ 1) s.handles orderly.own;
@@ -206,6 +252,13 @@ module _ {K T F I : Type 0} (g : Procedures K T F I) (idle : I → Type 0) (clos
         few = omega (arith, orderly.few, length-filter (λ k. not (is_handle h.process h.value k)) s.handles, count_by-le-length (λ k. not (is_handle h.process h.value k)) s.handles);
       }
     where
+      closed_named : (left total : ℕ) (x : Object F I) → IsNamedPermanent s x → IsNamedPermanent s (closed_object g s.set h.object left total x)
+      closed_named left total x before = go (x.id == h.object)
+        where
+          go : (b : Bool) → IsNamedPermanent s (cond b (record x { body = closed_body g s.set left total x.body }) x)
+          go true = before
+          go false = before
+
       closed_unheld : (left total : ℕ) → total ≡ handle_count (without_handle s h.process h.value) h.object → (x : Object F I) → IsIdleUnheld idle s.handles x
           → IsIdleUnheld idle (without_handle s h.process h.value).handles (closed_object g s.set h.object left total x)
       closed_unheld left total counted x before = go (x.id == h.object) refl
@@ -242,15 +295,21 @@ module _ {K T F I : Type 0} (idle : I → Type 0) (s : State K T F I) (orderly :
   -- orderly state
   pub object_orderly : (set : T) (body : Body F I) (permanent exclusive : Bool) (spot : Spot) (p value : ℕ) (inherit : Bool)
       → p ≡ 1 → table_size s p < most_handles → IsFreeValue s p value → MatchOption spot (Unit {0}) (λ at. is_directory s at.0 ≡ true)
+      → (permanent ≡ true → is_some spot ≡ true)
       → IsOrderly idle (with_handle (with_row (with_object (record s { set = set }) body permanent exclusive) spot s.next_id) p value s.next_id inherit)
-  object_orderly set body permanent exclusive spot p value inherit first room free inside =
+  object_orderly set body permanent exclusive spot p value inherit first room free inside placed =
       let new : Object F I = record { id = s.next_id; body = body; permanent = permanent; exclusive = exclusive } in
       let handle : Held = record { process = p; value = value; object = s.next_id; inherit = inherit; order = s.next_order } in
+      let t : State K T F I = record s { rows = s.rows ++ new_rows spot s.next_stamp s.next_id } in
       record {
         root = is_directory-with_object s body permanent exclusive root_id orderly.root;
         rising = all_pairs_push (λ a b. a.id < b.id) s.objects new orderly.rising orderly.drawn;
         drawn = All-push (λ x. x.id < s.next_id + 1) s.objects new (All-weaker (λ x. x.id < s.next_id) (λ x. x.id < s.next_id + 1) (λ x less. omega (arith, less)) s.objects orderly.drawn) (omega arith);
         descending = All-append (λ r. r.directory < r.object) s.rows (new_rows spot s.next_stamp s.next_id) orderly.descending (row_descends spot inside);
+        stamped = All-append (λ r. r.stamp < s.next_stamp + length (new_rows spot s.next_stamp s.next_id)) s.rows (new_rows spot s.next_stamp s.next_id)
+            (All-weaker (λ r. r.stamp < s.next_stamp) (λ r. r.stamp < s.next_stamp + length (new_rows spot s.next_stamp s.next_id)) (λ r less. omega (arith, less)) s.rows orderly.stamped)
+            (row_stamped spot);
+        named = All-push (IsNamedPermanent t) s.objects new (All-weaker (IsNamedPermanent s) (IsNamedPermanent t) still_named s.objects orderly.named) (λ permanent. new_named spot (placed permanent));
         unheld = All-push (IsIdleUnheld idle (s.handles ++ handle ∷ [])) s.objects new
             (All-weaker (IsIdleUnheld idle s.handles) (IsIdleUnheld idle (s.handles ++ handle ∷ [])) (λ x before unheld. before (unheld_before s.handles handle x.id unheld).0) s.objects orderly.unheld)
             (λ unheld. held_itself handle refl unheld);
@@ -259,6 +318,31 @@ module _ {K T F I : Type 0} (idle : I → Type 0) (s : State K T F I) (orderly :
         few = omega (arith, length-append s.handles (handle ∷ []), room, own_size s orderly p first);
       }
     where
+      row_stamped : (spot : Spot) → All (λ r. r.stamp < s.next_stamp + length (new_rows spot s.next_stamp s.next_id)) (new_rows spot s.next_stamp s.next_id)
+      row_stamped None = All-nil (λ r. r.stamp < s.next_stamp + 0)
+      row_stamped (Some at) = All-push (λ r. r.stamp < s.next_stamp + 1) [] _ (All-nil (λ r. r.stamp < s.next_stamp + 1)) (omega arith)
+
+      -- a further row takes no name away, and names the new object
+      still_named : (x : Object F I) → IsNamedPermanent s x → IsNamedPermanent (record s { rows = s.rows ++ new_rows spot s.next_stamp s.next_id }) x
+      still_named x before permanent = go (x.id == root_id) (has_name s x.id) (list_any-append (λ r. r.object == x.id) s.rows (new_rows spot s.next_stamp s.next_id)) (before permanent)
+        where
+          go : (root named : Bool) → has_name (record s { rows = s.rows ++ new_rows spot s.next_stamp s.next_id }) x.id ≡ (named || list_any (λ r. r.object == x.id) (new_rows spot s.next_stamp s.next_id))
+              → (root || named) ≡ true → (root || has_name (record s { rows = s.rows ++ new_rows spot s.next_stamp s.next_id }) x.id) ≡ true
+          go true named e h = refl
+          go false true e h = e
+          go false false e h = cc
+
+      new_named : (spot : Spot) → is_some spot ≡ true → ((s.next_id == root_id) || has_name (record s { rows = s.rows ++ new_rows spot s.next_stamp s.next_id }) s.next_id) ≡ true
+      new_named None h = cc
+      new_named (Some at) h =
+          or_right (s.next_id == root_id) _
+          (list_any-append (λ r. r.object == s.next_id) s.rows (new_rows (Some at) s.next_stamp s.next_id)
+          ∙ or_right (list_any (λ r. r.object == s.next_id) s.rows) _ (ap (λ (b : Bool). b || false) (eq-eqb s.next_id s.next_id refl)))
+        where
+          or_right : (a b : Bool) → b ≡ true → (a || b) ≡ true
+          or_right true b h = refl
+          or_right false b h = h
+
       row_descends : (spot : Spot) → MatchOption spot (Unit {0}) (λ at. is_directory s at.0 ≡ true) → All (λ r. r.directory < r.object) (new_rows spot s.next_stamp s.next_id)
       row_descends None h = All-nil (λ r. r.directory < r.object)
       row_descends (Some at) h = All-push (λ r. r.directory < r.object) [] _ (All-nil (λ r. r.directory < r.object)) (directory_drawn at.0 h)

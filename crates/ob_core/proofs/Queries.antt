@@ -3,17 +3,17 @@ use Rattle.std.proofs.Common.{◌≡◌, ℕ, ◌<◌, ◌≤◌, Bool, true, no
 use Rattle.std.specs.Prelude.{Option, Some, None, MatchOption}
 use Rattle.std.specs.Option.{option_and_then}
 use Rattle.std.proofs.lemmas.Bool.{lt-ltb, le-ltb}
-use Rattle.ob_base.specs.declared.status.Status.TheVariants.{Success, NameTooLong, InvalidHandle, ProcessGone}
+use Rattle.ob_base.specs.declared.status.Status.TheVariants.{Success, ObjectTypeMismatch, NameTooLong, InvalidHandle, ProcessGone}
 use Rattle.ob_base.specs.Handle.{key_of}
 use Rattle.ob_model.specs.declared.reply.Answer.{Answer}
 use Rattle.ob_model.specs.declared.reply.Given.TheVariants.{Text}
 use Rattle.ob_model.specs.declared.state.Held.{Held}
 use Rattle.ob_model.specs.declared.state.Row.{Row}
 use Rattle.ob_model.specs.Names.{longest_name}
-use Rattle.ob_model.specs.State.{State, is_live, held_of}
-use Rattle.ob_model.specs.Naming.{IsWayUp, path_text, path_answer, TellsName}
+use Rattle.ob_model.specs.State.{State, is_live, held_of, body_of}
+use Rattle.ob_model.specs.Naming.{IsWayUp, path_text, path_answer, TellsName, target_of, TellsTarget}
 use Rattle.ob_model.specs.Refusals.{answers, gives, IsRefused, Unless}
-use Rattle.ob_model.specs.Step.{QueriesName}
+use Rattle.ob_model.specs.Step.{QueriesName, QueriesLink}
 use Rattle.ob_core.specs.Namespace.{rows_alone, handles_alone}
 
 -- what is told of an option, where it is none and where it has a value
@@ -62,3 +62,18 @@ module _ {K T F I : Type 0} (s : State K T F I) where
       let taken : Some held ≡ option_and_then (held_of s p) (key_of handle) = found ∙ ap (λ (hs : List Held). option_and_then (held_of (handles_alone hs) p) (key_of handle)) same in
       subst (λ (b : Bool). Unless ((not b, ProcessGone) ∷ []) s answer s Taken) (sym live)
       (subst (λ (o : Option Held). MatchOption o (IsRefused s InvalidHandle answer s) Does) taken (told, refl))
+
+  -- a live process asks for the target of the object of a handle that it has
+  pub queries_link : (p handle : ℕ) (answer : Answer) (held : Held) (handles : List Held) → is_live s p ≡ true → handles ≡ s.handles
+      → Some held ≡ option_and_then (held_of (handles_alone handles) p) (key_of handle) → TellsTarget s held.object answer → QueriesLink s p handle answer s
+  queries_link p handle answer held handles live same found told =
+      let Does = λ (h : Held). TellsTarget s h.object answer × (s ≡ s) in
+      let Taken = MatchOption (option_and_then (held_of s p) (key_of handle)) (IsRefused s InvalidHandle answer s) Does in
+      let taken : Some held ≡ option_and_then (held_of s p) (key_of handle) = found ∙ ap (λ (hs : List Held). option_and_then (held_of (handles_alone hs) p) (key_of handle)) same in
+      subst (λ (b : Bool). Unless ((not b, ProcessGone) ∷ []) s answer s Taken) (sym live)
+      (subst (λ (o : Option Held). MatchOption o (IsRefused s InvalidHandle answer s) Does) taken (told, refl))
+
+  -- the target of a link that has one is told, and else the type is another
+  pub tells_target : (o : ℕ) (answer : Answer) (target : Option (List ℕ)) → option_and_then target_of (body_of s o) ≡ target
+      → MatchOption target (answer ≡ answers ObjectTypeMismatch) (λ text. answer ≡ gives Success (Text text)) → TellsTarget s o answer
+  tells_target o answer target is told = subst (λ (t : Option (List ℕ)). MatchOption t (answer ≡ answers ObjectTypeMismatch) (λ text. answer ≡ gives Success (Text text))) (sym is) told

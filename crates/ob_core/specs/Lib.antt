@@ -1,6 +1,8 @@
 pub mod Namespace
 pub mod Orderly
 pub mod Settling
-pub mod Lookup
+pub mod Roots
+pub mod Opening
+pub mod Looking
 pub mod Values
 pub mod Making

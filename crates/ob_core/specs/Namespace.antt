@@ -6,15 +6,17 @@ use Rattle.ob_model.specs.declared.state.Held.{Held}
 use Rattle.ob_model.specs.State.{State}
 use Rattle.ob_model.specs.declared.reply.Answer.{Answer}
 use Rattle.ob_model.specs.declared.reply.Answer.TheVariants.{Done}
+use Rattle.ob_objects.specs.Store.{Entries, objects_of, rows_of}
 use Rattle.ob_core.specs.declared.space.Namespace.{Namespace}
 use Rattle.ob_core.specs.declared.commands.Started.{Started}
 use Rattle.ob_core.specs.declared.commands.Started.TheVariants as started
 
--- the state of these parts: process 1 alone is live, and nothing is pending
-abbrev pub state_of : (K : Type 0) {T F I : Type 0} → Namespace T F I → State K T F I
+-- the state of these parts: the objects and the rows are those of the store; process 1 alone is live,
+-- and nothing is pending
+abbrev pub state_of : (K : Type 0) {T F I : Type 0} → Namespace T (Entries F I) → State K T F I
 state_of K a = record {
-  objects = a.objects.items;
-  rows = a.rows.items;
+  objects = objects_of a.store;
+  rows = rows_of a.store;
   handles = a.handles.items;
   processes = record { number = 1; map = None } ∷ [];
   pending = [];

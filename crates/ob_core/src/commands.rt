@@ -5,20 +5,22 @@ ghost use Rattle.ob_base.specs.declared.Fault.TheVariants.{Memory};
 ghost use Rattle.ob_model.specs.declared.reply.Answer.TheVariants.{Done};
 ghost use Rattle.ob_model.specs.declared.reply.Event.TheVariants.{Start};
 ghost use Rattle.ob_model.specs.Opening.{opening};
-ghost use Rattle.ob_model.specs.Opens.{type_wanted};
+ghost use Rattle.ob_model.specs.Sound.{IsSound};
 ghost use Rattle.ob_model.specs.Step.{Step};
 ghost use Rattle.ob_core.specs.Namespace.{state_of, answer_of};
 ghost use Rattle.ob_core.specs.Orderly.{IsOrderly};
 
 use crate::closing::close;
 use crate::creating::create;
-use crate::making::Making;
-use crate::naming::query_name;
-use crate::opening::{opening_objects, opening_rows};
+use crate::making::{Making, link_to, object_of};
+use crate::naming::{query_link, query_name};
+use crate::opening::opening_store;
 use crate::opens::open_name;
 use crate::space::Namespace;
+use crate::wanted::type_wanted;
 use ob_base::{Fault, Proc};
 use ob_model::{Command, Reply, Wanted};
+use ob_objects::Store;
 use ob_types::TypeSet;
 use std::alloc::Global;
 use std::marker::Model;
@@ -30,19 +32,19 @@ use std::marker::Model;
 /// handles, and the numbers that the next ones get. Nothing else is visible.
 #[derive(Drop)]
 pub struct Core<T: TypeSet> {
-    space: Namespace<T, T::Face, T::Inner>,
+    space: Namespace<T, Store<T>>,
 }
 
 impl<T: TypeSet> Model for Core<T> {
     ghost use Rattle.ob_model.specs.State.{State};
     ghost use Rattle.ob_core.specs.Namespace.{state_of};
-    ghost use Rattle.ob_core.specs.Orderly.{IsOrderly};
+    ghost use Rattle.ob_core.specs.Orderly.{IsCore};
 
     ghost Value = { State T.Kind T T.Face T.Inner };
 
     ghost view = { λ a. state_of T.Kind a.space };
 
-    ghost invariant = { λ a. IsOrderly T.idle (state_of T.Kind a.space) };
+    ghost invariant = { λ a. IsCore T.idle (state_of T.Kind a.space) };
 }
 
 /// How the start of a command ends.
@@ -64,8 +66,7 @@ impl<T: TypeSet> Core<T> {
             space: Namespace {
                 alloc,
                 set: types,
-                objects: opening_objects(alloc)?,
-                rows: opening_rows(alloc)?,
+                store: opening_store(alloc)?,
                 handles: Vec::new(alloc),
                 next_id: 7,
                 next_stamp: 6,
@@ -91,7 +92,7 @@ impl<T: TypeSet> Core<T> {
     pub fn objects(&self) -> usize
         ensures { result ≡ length self.now.objects }
     {
-        self.space.objects.len()
+        self.space.store.len()
     }
 
     /// How many handles there are: at most 65,535.
@@ -111,11 +112,12 @@ impl<T: TypeSet> Core<T> {
 
 /// Makes the step of a command, and gives its reply.
 fn reply_to<T: TypeSet>(
-    space: &mut Namespace<T, T::Face, T::Inner>,
+    space: &mut Namespace<T, Store<T>>,
     process: Proc,
     command: &Command<T::Kind>,
 ) -> Result<Reply, Fault>
-    requires { IsOrderly T.idle (state_of T.Kind space.old) }
+    requires orderly { IsOrderly T.idle (state_of T.Kind space.old) }
+    requires sound { IsSound (state_of T.Kind space.old) }
     ensures orderly { IsOrderly T.idle (state_of T.Kind space.new) }
     ensures step { IfOk result (λ reply.
         Step T.procedures (state_of T.Kind space.old) (Start process command.now) (Done reply) (state_of T.Kind space.new)) }
@@ -126,18 +128,23 @@ fn reply_to<T: TypeSet>(
         Command::CreateDirectory { place, attrs } => {
             create(space, process, place, *attrs, Making::Directory)
         }
+        Command::CreateLink {
+            place,
+            attrs,
+            target,
+        } => create(space, process, place, *attrs, link_to(target)),
         Command::CreateObject {
             place,
             attrs,
             kind,
             args,
-        } => {
-            let args = args.as_slice();
-            let making = Making::Object { kind: *kind, args };
-            create(space, process, place, *attrs, making)
-        }
+        } => create(space, process, place, *attrs, object_of(*kind, args)),
         Command::OpenDirectory { root, name, attrs } => {
             let wanted = Wanted::Directory;
+            open_name(space, process, *root, name.as_slice(), *attrs, wanted)
+        }
+        Command::OpenLink { root, name, attrs } => {
+            let wanted = Wanted::Link;
             open_name(space, process, *root, name.as_slice(), *attrs, wanted)
         }
         Command::OpenObject {
@@ -150,16 +157,7 @@ fn reply_to<T: TypeSet>(
             open_name(space, process, *root, name.as_slice(), *attrs, wanted)
         }
         Command::Close { handle } => Ok(close(space, process, *handle)),
-        Command::QueryName { handle } => Ok(query_name::<T>(space, process, *handle)?),
-    }
-}
-
-/// The type that an open of an object asks for.
-fn type_wanted<K: Copy>(want: Option<K>) -> Wanted<K>
-    ensures { result ≡ type_wanted want }
-{
-    match want {
-        Some(kind) => Wanted::Kind(kind),
-        None => Wanted::Anything,
+        Command::QueryLink { handle } => Ok(query_link(space, process, *handle)?),
+        Command::QueryName { handle } => Ok(query_name(space, process, *handle)?),
     }
 }

@@ -1,64 +1,135 @@
 //! Creates.
 
-ghost use Rattle.std.specs.Prelude.{◌≡◌, IfOk, IfErr, OnErr};
+ghost use Rattle.std.specs.Prelude.{◌≡◌, Some, true, IfOk, IfErr, OnErr};
 ghost use Rattle.ob_base.specs.declared.Fault.TheVariants.{Memory};
+ghost use Rattle.ob_model.specs.declared.command.Place.TheVariants.{At};
 ghost use Rattle.ob_model.specs.declared.reply.Answer.TheVariants.{Done};
-ghost use Rattle.ob_model.specs.Step.{CreatesAt};
+ghost use Rattle.ob_model.specs.Creates as machine;
+ghost use Rattle.ob_model.specs.Creates.{create_mode};
+ghost use Rattle.ob_model.specs.Looks as looks;
+ghost use Rattle.ob_model.specs.Sound.{IsSound};
+ghost use Rattle.ob_model.specs.Step.{CreatesAt, CreatesIn};
+ghost use Rattle.ob_lookup.specs.Look.{mode_of};
 ghost use Rattle.ob_core.specs.Making.{making_of};
 ghost use Rattle.ob_core.specs.Namespace.{state_of};
 ghost use Rattle.ob_core.specs.Orderly.{IsOrderly};
 
 use crate::judge::judge_create;
-use crate::lookup::{Look, look_up};
-use crate::making::{Making, make_named, make_unnamed, type_made};
+use crate::looking::look_up;
+use crate::making::{Making, Spot, is_fit, make_named, make_unnamed, type_made};
 use crate::opens::open_at;
 use crate::replies::status_alone;
+use crate::roots::root_object;
 use crate::space::{Namespace, is_live};
-use ob_base::{Fault, Proc, Status};
+use ob_base::{Attrs, Fault, Handle, ObjId, Proc, Status};
+use ob_lookup::{Look, Mode};
 use ob_model::{Place, Reply};
+use ob_names::Name;
+use ob_objects::Store;
 use ob_types::TypeSet;
 
 /// Makes an object at a place; with OPENIF it opens what is there already.
 pub(crate) fn create<T: TypeSet>(
-    space: &mut Namespace<T, T::Face, T::Inner>,
+    space: &mut Namespace<T, Store<T>>,
     process: Proc,
     place: &Place,
     attrs: u32,
     making: Making<'_, T::Kind>,
 ) -> Result<Reply, Fault>
-    requires { IsOrderly T.idle (state_of T.Kind space.old) }
+    requires orderly { IsOrderly T.idle (state_of T.Kind space.old) }
+    requires sound { IsSound (state_of T.Kind space.old) }
     ensures orderly { IsOrderly T.idle (state_of T.Kind space.new) }
     ensures step { IfOk result (λ reply.
         CreatesAt T.procedures (state_of T.Kind space.old) process place.now attrs (making_of making.entry) (Done reply) (state_of T.Kind space.new)) }
     ensures err { OnErr result (state_of T.Kind space.new ≡ state_of T.Kind space.old) }
     ensures memory { IfErr result (λ fault. fault ≡ Memory) }
 {
-    let attrs = match judge_create(is_live(space, process), place, attrs) {
+    let live = is_live(space, process);
+    let attrs = match judge_create(live, is_fit(&making), place, attrs) {
         Ok(attrs) => attrs,
         Err(status) => return Ok(status_alone(status)),
     };
-    let Place::At { name, .. } = place else {
-        return make_unnamed(space, process, attrs, making);
-    };
-    match look_up(&space.objects, &space.rows, name.as_slice(), true) {
-        Look::Refused(status) => Ok(status_alone(status)),
-        Look::At(object) => {
-            if !attrs.is_open_if() {
-                return Ok(status_alone(Status::ObjectNameCollision));
-            }
-            let wanted = type_made(making);
-            open_at(
-                space,
-                process,
-                object,
-                attrs,
-                wanted,
-                Status::ObjectNameExists,
-            )
+    match place {
+        Place::At { root, name } => {
+            let name = Name::new(name.as_slice());
+            create_at_name(space, process, *root, name, attrs, making)
         }
+        Place::Unnamed => make_unnamed(space, process, attrs, making),
+    }
+}
+
+/// Makes an object at a name, or opens what is there already.
+fn create_at_name<T: TypeSet>(
+    space: &mut Namespace<T, Store<T>>,
+    process: Proc,
+    root: Option<Handle>,
+    name: Name<'_>,
+    attrs: Attrs,
+    making: Making<'_, T::Kind>,
+) -> Result<Reply, Fault>
+    requires orderly { IsOrderly T.idle (state_of T.Kind space.old) }
+    requires sound { IsSound (state_of T.Kind space.old) }
+    requires first { process ≡ 1 }
+    requires fit { machine.is_fit (making_of making) ≡ true }
+    ensures orderly { IsOrderly T.idle (state_of T.Kind space.new) }
+    ensures step { IfOk result (λ reply.
+        CreatesIn T.procedures (state_of T.Kind space.old) process (At root name.entry) attrs (making_of making.entry) (Done reply)
+        (state_of T.Kind space.new)) }
+    ensures err { OnErr result (state_of T.Kind space.new ≡ state_of T.Kind space.old) }
+    ensures memory { IfErr result (λ fault. fault ≡ Memory) }
+{
+    let root = match root_object(&space.handles, process, root) {
+        Ok(root) => root,
+        Err(status) => return Ok(status_alone(status)),
+    };
+    match look_up(space, process, root, name, create_mode(attrs))? {
+        Look::Refused(status) => Ok(status_alone(status)),
+        Look::At(object) => open_there(space, process, object, attrs, making),
         Look::Vacant {
             directory,
             component,
-        } => make_named(space, process, directory, component, attrs, making),
+        } => {
+            let spot = Spot {
+                directory,
+                name: component,
+            };
+            make_named(space, process, spot, attrs, making)
+        }
     }
+}
+
+/// How the name of a create is looked up.
+fn create_mode(attrs: Attrs) -> Mode
+    ensures { mode_of result ≡ create_mode attrs }
+{
+    Mode {
+        create: true,
+        fold: attrs.is_case_insensitive(),
+        follow: false,
+    }
+}
+
+/// What a create does at an object that is there already: with OPENIF it opens it.
+fn open_there<T: TypeSet>(
+    space: &mut Namespace<T, Store<T>>,
+    process: Proc,
+    object: ObjId,
+    attrs: Attrs,
+    making: Making<'_, T::Kind>,
+) -> Result<Reply, Fault>
+    requires orderly { IsOrderly T.idle (state_of T.Kind space.old) }
+    requires first { process ≡ 1 }
+    ensures orderly { IsOrderly T.idle (state_of T.Kind space.new) }
+    ensures step { IfOk result (λ reply.
+        machine.Creates T.procedures (state_of T.Kind space.old) process attrs (making_of making.entry) (looks.At object) (Done reply)
+        (state_of T.Kind space.new)) }
+    ensures err { OnErr result (state_of T.Kind space.new ≡ state_of T.Kind space.old) }
+    ensures memory { IfErr result (λ fault. fault ≡ Memory) }
+{
+    if !attrs.is_open_if() {
+        return Ok(status_alone(Status::ObjectNameCollision));
+    }
+    let wanted = type_made(making);
+    let status = Status::ObjectNameExists;
+    open_at(space, process, object, attrs, wanted, status)
 }

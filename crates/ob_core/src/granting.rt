@@ -1,31 +1,28 @@
 //! Granting a handle to an object that is there.
 
-ghost use Rattle.std.specs.Prelude.{◌≡◌, ◌&&◌, ◌<◌, ◌∷◌, [], not, None, Some, IfOk, IfErr, OnErr};
-ghost use Rattle.std.specs.List.{AllPairs};
+ghost use Rattle.std.specs.Prelude.{◌≡◌, ◌&&◌, ◌∷◌, [], not, None, Some, IfOk, OnErr};
 ghost use Rattle.ob_base.specs.declared.Status.TheVariants.{InvalidParameter, AccessDenied, InsufficientResources};
 ghost use Rattle.ob_base.specs.Attrs.{has_flag, inherit_flag, exclusive_flag};
-ghost use Rattle.ob_types.specs.Told.{reason_of};
 ghost use Rattle.ob_model.specs.Procedures as model;
-ghost use Rattle.ob_model.specs.Grants.{first_refusal, is_exclusive, has_other_holder, is_table_full, open_refusal, with_open, Grants};
+ghost use Rattle.ob_model.specs.Grants.{first_refusal, is_exclusive, has_other_holder, is_table_full, Grants};
 ghost use Rattle.ob_model.specs.Opens.{asked_by};
-ghost use Rattle.ob_core.specs.Namespace.{state_of, holding};
+ghost use Rattle.ob_core.specs.Namespace.{state_of};
 ghost use Rattle.ob_core.specs.Orderly.{IsOrderly};
 
-use crate::calls::open_body;
 use crate::handles::has_other_holder;
-use crate::objects::{is_exclusive, place_of};
 use crate::room::append;
 use crate::space::{Namespace, is_table_full};
 use crate::values::free_value;
 use ob_base::{Attrs, Handle, ObjId, Proc, Status};
-use ob_model::{Held, Object};
+use ob_model::Held;
+use ob_objects::Store;
 use ob_types::{Reason, TypeSet};
 use std::alloc::AllocError;
 
 /// Grants a process a handle to an object, by an open: any free value, or a refusal, which leaves
 /// the namespace as it was. Nothing settles yet.
 pub(crate) fn grant<T: TypeSet>(
-    space: &mut Namespace<T, T::Face, T::Inner>,
+    space: &mut Namespace<T, Store<T>>,
     process: Proc,
     object: ObjId,
     attrs: Attrs,
@@ -42,7 +39,7 @@ pub(crate) fn grant<T: TypeSet>(
     }
     let value = free_value(space.alloc, &space.handles, process)?;
     space.handles.reserve(1)?;
-    if let Err(code) = open_object(&mut space.set, &mut space.objects, object, Reason::Opened) {
+    if let Err(code) = space.store.open(object, &mut space.set, Reason::Opened) {
         return Ok(Err(Status::TypeRefused(code)));
     }
     append(
@@ -60,20 +57,20 @@ pub(crate) fn grant<T: TypeSet>(
 }
 
 /// The first refusal of a grant of those that come before the set's procedure.
-fn early_refusal<T, F, I>(
-    space: &Namespace<T, F, I>,
+fn early_refusal<T: TypeSet>(
+    space: &Namespace<T, Store<T>>,
     process: Proc,
     object: ObjId,
     attrs: Attrs,
 ) -> Option<Status>
-    ensures { let s = state_of (Unit {0}) space.now in
+    ensures { let s = state_of T.Kind space.now in
         result ≡ first_refusal (
         (has_flag exclusive_flag attrs && not (is_exclusive s object), InvalidParameter)
         ∷ (has_flag inherit_flag attrs && is_exclusive s object, InvalidParameter)
         ∷ (is_exclusive s object && has_other_holder s process object, AccessDenied)
         ∷ (is_table_full s process, InsufficientResources) ∷ []) }
 {
-    let exclusive = is_exclusive(&space.objects, object);
+    let exclusive = space.store.is_exclusive(object);
     if attrs.is_exclusive() && !exclusive {
         return Some(Status::InvalidParameter);
     }
@@ -87,29 +84,4 @@ fn early_refusal<T, F, I>(
         return Some(Status::InsufficientResources);
     }
     None
-}
-
-/// Opens the object of a number, by the set's procedure. A refusal leaves all as it was.
-fn open_object<T: TypeSet>(
-    set: &mut T,
-    objects: &mut Vec<Object<T::Face, T::Inner>>,
-    id: ObjId,
-    reason: Reason,
-) -> Result<(), u16>
-    requires { AllPairs (λ a b. a.id < b.id) objects.old.items }
-    ensures accepted { IfOk result (λ _.
-        open_refusal T.procedures (holding set.old objects.old.items [] []) id (reason_of reason) ≡ None) }
-    ensures refused { IfErr result (λ code.
-        open_refusal T.procedures (holding set.old objects.old.items [] []) id (reason_of reason) ≡ Some code) }
-    ensures set { IfOk result (λ _.
-        set.new ≡ (with_open T.procedures (holding set.old objects.old.items [] []) id (reason_of reason)).set) }
-    ensures objects { IfOk result (λ _.
-        objects.new.items ≡ (with_open T.procedures (holding set.old objects.old.items [] []) id (reason_of reason)).objects) }
-    ensures set_left { OnErr result (set.new ≡ set.old) }
-    ensures objects_left { OnErr result (objects.new.items ≡ objects.old.items) }
-{
-    let Some(place) = place_of(objects, id) else {
-        return Ok(());
-    };
-    open_body(set, &mut objects[place].body, reason)
 }

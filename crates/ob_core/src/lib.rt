@@ -4,25 +4,26 @@
 //! state lies in one plain struct; each file below has the steps of one kind over that struct.
 #![tactic(auto)]
 
-mod calls;
 mod closing;
 mod commands;
 mod creating;
 mod granting;
 mod handles;
 mod judge;
-mod lookup;
+mod looking;
 mod making;
 mod naming;
-mod objects;
 mod opening;
 mod opens;
+mod placing;
 mod replies;
 mod room;
+mod roots;
 mod settle;
 mod space;
 #[cfg(test)]
 mod tests;
 mod values;
+mod wanted;
 
 pub use commands::{Core, Started};

@@ -1,35 +1,69 @@
 //! Making an object: what is made, where it is to stand, and the making itself.
 
-ghost use Rattle.std.specs.Prelude.{◌≡◌, ◌+◌, ◌&&◌, ◌||◌, ◌++◌, ◌<◌, ◌≤◌, true, false, None, Some, IfOk, IfErr, OnErr, MatchOption, vec_len, vec_capacity, length};
+ghost use Rattle.std.specs.Prelude.{◌≡◌, ◌+◌, ◌<◌, ◌≤◌, ◌&&◌, ◌||◌, true, false, [], None, Some, cond};
+ghost use Rattle.std.specs.Prelude.{IfOk, IfErr, OnErr, vec_len, vec_capacity};
 ghost use Rattle.std.specs.Option.{is_some};
 ghost use Rattle.ob_base.specs.declared.Fault.TheVariants.{Memory};
-ghost use Rattle.ob_base.specs.Attrs.{has_flag, permanent_flag, exclusive_flag, inherit_flag};
+ghost use Rattle.ob_base.specs.Attrs.{has_flag, inherit_flag, permanent_flag, exclusive_flag};
 ghost use Rattle.ob_types.specs.Told.{IsTold};
 ghost use Rattle.ob_model.specs.declared.reply.Answer.TheVariants.{Done};
-ghost use Rattle.ob_model.specs.State.{is_directory, greatest_number};
+ghost use Rattle.ob_model.specs.State.{greatest_number};
 ghost use Rattle.ob_model.specs.Grants.{is_table_full, with_handle};
 ghost use Rattle.ob_model.specs.Creates as machine;
 ghost use Rattle.ob_model.specs.Creates.{is_store_full, is_stampless};
-ghost use Rattle.ob_core.specs.Making.{making_of, spot_of, row_listed, IsNextRow};
+ghost use Rattle.ob_objects.specs.Store.{body_of_stored, entries_in};
+ghost use Rattle.ob_core.specs.Making.{making_of, spot_of, IsVacantSpot, IsVacant};
 ghost use Rattle.ob_core.specs.Namespace.{state_of};
 ghost use Rattle.ob_core.specs.Orderly.{IsOrderly, IsIdleBody};
 
-use crate::calls::{delete_body, open_body};
+use crate::placing::place_new;
 use crate::replies::{status_alone, with_handle};
 use crate::room::append;
 use crate::settle::settle;
 use crate::space::{Namespace, is_stampless, is_store_full, is_table_full};
 use crate::values::free_value;
 use ob_base::{Attrs, Fault, Handle, ObjId, Proc, Status};
-use ob_model::{Body, Bytes, Held, Object, Reply, Row, Wanted};
-use ob_types::{Reason, Refusal, TypeSet, laws};
+use ob_dirs::Dir;
+use ob_model::{Bytes, Held, Reply, Wanted};
+use ob_names::{Name, NameBuf};
+use ob_objects::{Store, StoredBody, StoredObject};
+use ob_types::{Refusal, TypeSet, laws};
 use std::alloc::Global;
+use std::sync::Arc;
 
-/// What a create makes: a directory, or an object of a kind of the set with these arguments.
+/// What a create makes: a directory, a link to a target, or an object of a kind of the set with
+/// these arguments.
 #[derive(Clone, Copy)]
 pub(crate) enum Making<'a, K> {
     Directory,
+    Link { target: &'a [u8] },
     Object { kind: K, args: &'a [u8] },
+}
+
+/// Where a new object is to stand: at a name in a directory.
+#[derive(Drop)]
+pub(crate) struct Spot {
+    pub(crate) directory: ObjId,
+    pub(crate) name: NameBuf,
+}
+
+/// A link to a target, as it is handed in.
+pub(crate) fn link_to<K>(target: &Bytes) -> Making<'_, K>
+    ensures { making_of result ≡ machine.MakesLink target.now }
+{
+    Making::Link {
+        target: target.as_slice(),
+    }
+}
+
+/// An object of a kind, with arguments as they are handed in.
+pub(crate) fn object_of<K>(kind: K, args: &Bytes) -> Making<'_, K>
+    ensures { making_of result ≡ machine.MakesObject kind args.now }
+{
+    Making::Object {
+        kind,
+        args: args.as_slice(),
+    }
 }
 
 /// The type of what a create makes.
@@ -38,25 +72,36 @@ pub(crate) fn type_made<K: Copy>(making: Making<'_, K>) -> Wanted<K>
 {
     match making {
         Making::Directory => Wanted::Directory,
+        Making::Link { .. } => Wanted::Link,
         Making::Object { kind, .. } => Wanted::Kind(kind),
+    }
+}
+
+/// Whether a create's parameters are fit: a link's target has 1 to 32,767 bytes of the profile.
+pub(crate) fn is_fit<K>(making: &Making<'_, K>) -> bool
+    ensures { result ≡ machine.is_fit (making_of making.now) }
+{
+    match making {
+        Making::Link { target } => Name::read(target).is_ok() && !target.is_empty(),
+        Making::Directory | Making::Object { .. } => true,
     }
 }
 
 /// Makes an object at a name that is free in a directory, and opens a handle to it.
 pub(crate) fn make_named<T: TypeSet>(
-    space: &mut Namespace<T, T::Face, T::Inner>,
+    space: &mut Namespace<T, Store<T>>,
     process: Proc,
-    directory: ObjId,
-    component: &[u8],
+    spot: Spot,
     attrs: Attrs,
     making: Making<'_, T::Kind>,
 ) -> Result<Reply, Fault>
     requires orderly { IsOrderly T.idle (state_of T.Kind space.old) }
     requires first { process ≡ 1 }
-    requires inside { is_directory (state_of T.Kind space.old) directory ≡ true }
+    requires fit { machine.is_fit (making_of making) ≡ true }
+    requires vacant { IsVacant (state_of T.Kind space.old) spot.directory spot.name }
     ensures orderly { IsOrderly T.idle (state_of T.Kind space.new) }
     ensures step { IfOk result (λ reply.
-        machine.Makes T.procedures (state_of T.Kind space.old) process attrs (making_of making.entry) (Some (directory, component.now))
+        machine.Makes T.procedures (state_of T.Kind space.old) process attrs (making_of making.entry) (Some (spot.directory, spot.name))
         (Done reply) (state_of T.Kind space.new)) }
     ensures err { OnErr result (state_of T.Kind space.new ≡ state_of T.Kind space.old) }
     ensures memory { IfErr result (λ fault. fault ≡ Memory) }
@@ -64,24 +109,19 @@ pub(crate) fn make_named<T: TypeSet>(
     if is_full(space, process) || is_stampless(space) {
         return Ok(status_alone(Status::InsufficientResources));
     }
-    let row = Row {
-        stamp: space.next_stamp,
-        directory,
-        name: Bytes::from_slice(space.alloc, component)?,
-        object: ObjId(space.next_id),
-    };
-    make_in_room(space, process, Some(row), attrs, making)
+    make_in_room(space, process, Some(spot), attrs, making)
 }
 
 /// Makes an object without a name, and opens a handle to it.
 pub(crate) fn make_unnamed<T: TypeSet>(
-    space: &mut Namespace<T, T::Face, T::Inner>,
+    space: &mut Namespace<T, Store<T>>,
     process: Proc,
     attrs: Attrs,
     making: Making<'_, T::Kind>,
 ) -> Result<Reply, Fault>
     requires orderly { IsOrderly T.idle (state_of T.Kind space.old) }
     requires first { process ≡ 1 }
+    requires fit { machine.is_fit (making_of making) ≡ true }
     ensures orderly { IsOrderly T.idle (state_of T.Kind space.new) }
     ensures step { IfOk result (λ reply.
         machine.Makes T.procedures (state_of T.Kind space.old) process attrs (making_of making.entry) None (Done reply) (state_of T.Kind space.new)) }
@@ -95,48 +135,47 @@ pub(crate) fn make_unnamed<T: TypeSet>(
 }
 
 /// Whether no handle or no object more fits.
-fn is_full<T, F, I>(space: &Namespace<T, F, I>, process: Proc) -> bool
-    ensures { result ≡ (is_table_full (state_of (Unit {0}) space.now) process || is_store_full (state_of (Unit {0}) space.now)) }
+fn is_full<T: TypeSet>(space: &Namespace<T, Store<T>>, process: Proc) -> bool
+    ensures { result ≡ (is_table_full (state_of T.Kind space.now) process || is_store_full (state_of T.Kind space.now)) }
 {
     is_table_full(space, process) || is_store_full(space)
 }
 
-/// Makes an object for which there is room, with its row, where it has one, and opens a handle to
-/// it.
+/// Makes an object for which there is room, at a spot, where one is given, and opens a handle to it.
+/// All growths come before the first procedure of the set that changes it.
 fn make_in_room<T: TypeSet>(
-    space: &mut Namespace<T, T::Face, T::Inner>,
+    space: &mut Namespace<T, Store<T>>,
     process: Proc,
-    row: Option<Row>,
+    spot: Option<Spot>,
     attrs: Attrs,
     making: Making<'_, T::Kind>,
 ) -> Result<Reply, Fault>
     requires orderly { IsOrderly T.idle (state_of T.Kind space.old) }
     requires first { process ≡ 1 }
+    requires fit { machine.is_fit (making_of making) ≡ true }
     requires room { (is_table_full (state_of T.Kind space.old) process || is_store_full (state_of T.Kind space.old)) ≡ false }
-    requires stamp { is_some row ≡ true → is_stampless (state_of T.Kind space.old) ≡ false }
-    requires row { MatchOption row (Unit {0}) (IsNextRow (state_of T.Kind space.old)) }
+    requires stamp { is_some spot ≡ true → is_stampless (state_of T.Kind space.old) ≡ false }
+    requires vacant { IsVacantSpot (state_of T.Kind space.old) spot }
     ensures orderly { IsOrderly T.idle (state_of T.Kind space.new) }
     ensures step { IfOk result (λ reply.
-        machine.MakesInRoom T.procedures (state_of T.Kind space.old) process attrs (making_of making.entry) (spot_of row) (Done reply)
+        machine.MakesInRoom T.procedures (state_of T.Kind space.old) process attrs (making_of making.entry) (spot_of spot) (Done reply)
         (state_of T.Kind space.new)) }
     ensures err { OnErr result (state_of T.Kind space.new ≡ state_of T.Kind space.old) }
     ensures memory { IfErr result (λ fault. fault ≡ Memory) }
 {
     let value = free_value(space.alloc, &space.handles, process)?;
-    space.objects.reserve(1)?;
-    space.rows.reserve(1)?;
     space.handles.reserve(1)?;
-    let mut body = match make_body::<T>(space.alloc, making) {
+    let body = match make_body::<T>(space.alloc, making) {
         Ok(body) => body,
         Err(Refusal::Code(code)) => return Ok(status_alone(Status::TypeRefused(code))),
         Err(Refusal::Memory) => return Err(Fault::Memory),
     };
-    if let Err(code) = open_body(&mut space.set, &mut body, Reason::Created) {
-        space.next_id += 1;
-        delete_body(&mut space.set, body);
+    let named = spot.is_some();
+    let object = object_made(body, attrs, named);
+    if let Err(code) = place_new(space, spot, object)? {
         return Ok(status_alone(Status::TypeRefused(code)));
     }
-    add_object(space, process, row, attrs, body, value);
+    add_handle(space, process, value, attrs, named);
     settle(space);
     Ok(with_handle(Status::Success, value))
 }
@@ -145,74 +184,75 @@ fn make_in_room<T: TypeSet>(
 fn make_body<T: TypeSet>(
     alloc: Global,
     making: Making<'_, T::Kind>,
-) -> Result<Body<T::Face, T::Inner>, Refusal>
+) -> Result<StoredBody<T::Face, T::Inner>, Refusal>
+    requires fit { machine.is_fit (making_of making) ≡ true }
     ensures accepted { IfOk result (λ _. machine.make_refusal T.procedures (making_of making.entry) ≡ None) }
-    ensures made { IfOk result (λ body. body ≡ machine.body_made T.procedures (making_of making.entry)) }
-    ensures idle { IfOk result (λ body. IsIdleBody T.idle body) }
+    ensures made { IfOk result (λ body. body_of_stored body ≡ machine.body_made T.procedures (making_of making.entry)) }
+    ensures empty { IfOk result (λ body. entries_in body ≡ []) }
+    ensures idle { IfOk result (λ body. IsIdleBody T.idle (body_of_stored body)) }
     ensures refused { IfErr result (λ refusal. IsTold refusal (machine.make_refusal T.procedures (making_of making.entry))) }
 {
     match making {
-        Making::Directory => Ok(Body::Directory),
+        Making::Directory => Ok(StoredBody::Directory(Dir::new(alloc))),
+        Making::Link { target } => {
+            let target = NameBuf::from_name(alloc, Name::new(target))?;
+            Ok(StoredBody::Link(target))
+        }
         Making::Object { kind, args } => {
             laws::made_idle::<T>();
             let (face, inner) = T::make(alloc, kind, args)?;
-            Ok(Body::Other(face, inner))
+            let Ok(face) = Arc::new(alloc, face) else {
+                return Err(Refusal::Memory);
+            };
+            Ok(StoredBody::Other { face, inner })
         }
     }
 }
 
-/// Adds an object with its row, where it has one, and a handle to it, in room that was made.
-fn add_object<T, F: Drop, I: Drop>(
-    space: &mut Namespace<T, F, I>,
+/// A new object that stands at a name or nowhere: it is permanent only where it has a name.
+fn object_made<F, I>(body: StoredBody<F, I>, attrs: Attrs, named: bool) -> StoredObject<F, I>
+    ensures { result ≡ record {
+      permanent = named && has_flag permanent_flag attrs;
+      exclusive = has_flag exclusive_flag attrs;
+      body = body;
+    } }
+{
+    StoredObject {
+        permanent: named && attrs.is_permanent(),
+        exclusive: attrs.is_exclusive(),
+        body,
+    }
+}
+
+/// Draws the number of a new object that stands at a name or nowhere, and adds a handle to it, in
+/// room that was made.
+fn add_handle<T: TypeSet>(
+    space: &mut Namespace<T, Store<T>>,
     process: Proc,
-    row: Option<Row>,
-    attrs: Attrs,
-    body: Body<F, I>,
     value: Handle,
+    attrs: Attrs,
+    named: bool,
 )
-    requires objects { vec_len space.old.objects < vec_capacity space.old.objects }
-    requires rows { vec_len space.old.rows < vec_capacity space.old.rows }
     requires handles { vec_len space.old.handles < vec_capacity space.old.handles }
     requires id { space.old.next_id ≤ greatest_number }
-    requires stamp { is_some row ≡ true → space.old.next_stamp ≤ greatest_number }
+    requires stamp { named ≡ true → space.old.next_stamp ≤ greatest_number }
     requires order { space.old.next_order ≤ greatest_number }
-    ensures { let s = machine.with_object (state_of (Unit {0}) space.old) body (is_some row && has_flag permanent_flag attrs) (has_flag exclusive_flag attrs) in
-        state_of (Unit {0}) space.new ≡ with_handle
-        (record s { rows = s.rows ++ row_listed row; next_stamp = s.next_stamp + length (row_listed row) })
-        process value space.old.next_id (has_flag inherit_flag attrs) }
+    ensures { let s = state_of T.Kind space.old in
+        state_of T.Kind space.new ≡ with_handle
+        (record s { next_id = s.next_id + 1; next_stamp = s.next_stamp + cond named 1 0 })
+        process value s.next_id (has_flag inherit_flag attrs) }
 {
-    let object = ObjId(space.next_id);
-    append(
-        &mut space.objects,
-        Object {
-            id: object,
-            body,
-            permanent: row.is_some() && attrs.is_permanent(),
-            exclusive: attrs.is_exclusive(),
-        },
-    );
-    space.next_stamp += row.is_some() as u64;
-    append_row(&mut space.rows, row);
     append(
         &mut space.handles,
         Held {
             process,
             value,
-            object,
+            object: ObjId(space.next_id),
             inherit: attrs.is_inherit(),
             order: space.next_order,
         },
     );
     space.next_id += 1;
+    space.next_stamp += named as u64;
     space.next_order += 1;
-}
-
-/// Appends a row, where there is one, to rows that have room for it.
-fn append_row(rows: &mut Vec<Row>, row: Option<Row>)
-    requires { vec_len rows.old < vec_capacity rows.old }
-    ensures { rows.new.items ≡ rows.old.items ++ row_listed row }
-{
-    if let Some(row) = row {
-        append(rows, row);
-    }
 }

@@ -1,23 +1,24 @@
-//! The path of an object.
+//! What is told of an object: its path, and the target of a link.
 
-ghost use Rattle.std.specs.Prelude.{◌≡◌, ℕ, List, [], ◌∷◌, ◌<◌, map, All, IfOk, MatchOption};
-ghost use Rattle.std.specs.Option.{option_copied};
+ghost use Rattle.std.specs.Prelude.{◌≡◌, ℕ, List, ◌<◌, map, All, IfOk, MatchOption};
+ghost use Rattle.std.specs.Option.{option_map};
 ghost use Rattle.ob_model.specs.declared.reply.Answer.TheVariants.{Done};
 ghost use Rattle.ob_model.specs.Naming.{row_of, IsWayUp, path_text};
-ghost use Rattle.ob_model.specs.Step.{QueriesName};
+ghost use Rattle.ob_model.specs.Step.{QueriesName, QueriesLink};
+ghost use Rattle.ob_objects.specs.Named.{row_of_named};
+ghost use Rattle.ob_objects.specs.Store.{rows_of};
 ghost use Rattle.ob_core.specs.Namespace.{state_of, rows_alone};
 
 use crate::handles::held_of;
-use crate::objects::ROOT;
 use crate::replies::{status_alone, with_text};
-use crate::space::{Namespace, is_live};
+use crate::space::{Namespace, ROOT, is_live};
 use ob_base::{Handle, ObjId, Proc, Status};
-use ob_model::{Bytes, Reply, Row};
+use ob_dirs::DirEntry;
+use ob_model::{Bytes, Reply};
+use ob_names::LONGEST_NAME;
+use ob_objects::{Store, StoredBody, laws};
 use ob_types::TypeSet;
 use std::alloc::{AllocError, Global};
-
-/// The most bytes of a path (this profile).
-const LONGEST_NAME: usize = 32_767;
 
 /// Tells the path of the object of a handle of the caller: the names on the way from the root to it,
 /// each behind a `\`, or `\` alone for the root. An object has the empty text where it, or a directory
@@ -29,11 +30,11 @@ const LONGEST_NAME: usize = 32_767;
 ///
 /// Source: ObQueryNameString (Windows Driver Kit); the empty text and the limit are this profile.
 pub(crate) fn query_name<T: TypeSet>(
-    space: &Namespace<T, T::Face, T::Inner>,
+    space: &Namespace<T, Store<T>>,
     process: Proc,
     handle: Handle,
 ) -> Result<Reply, AllocError>
-    requires { All (λ r. r.directory < r.object) space.now.rows.items }
+    requires { All (λ r. r.directory < r.object) (rows_of space.now.store) }
     ensures { IfOk result (λ reply.
         QueriesName (state_of T.Kind space.now) process handle (Done reply) (state_of T.Kind space.now)) }
 {
@@ -43,7 +44,7 @@ pub(crate) fn query_name<T: TypeSet>(
     let Some(held) = held_of(&space.handles, process, handle) else {
         return Ok(status_alone(Status::InvalidHandle));
     };
-    let Some(way) = way_up(space.alloc, &space.rows, held.object)? else {
+    let Some(way) = way_up(space.alloc, &space.store, held.object)? else {
         return Ok(with_text(Bytes::new(Vec::new(space.alloc))));
     };
     let text = path_text(space.alloc, &way)?;
@@ -53,44 +54,74 @@ pub(crate) fn query_name<T: TypeSet>(
     Ok(with_text(Bytes::new(text)))
 }
 
-/// The rows on the way up from an object to the root, its own first; none where a directory on the
+/// The names on the way up from an object to the root, its own first; none where a directory on the
 /// way has no name.
-fn way_up(alloc: Global, rows: &[Row], object: ObjId) -> Result<Option<Vec<&Row>>, AllocError>
-    requires { All (λ r. r.directory < r.object) rows.now }
+fn way_up<T: TypeSet>(
+    alloc: Global,
+    store: &Store<T>,
+    object: ObjId,
+) -> Result<Option<Vec<&DirEntry>>, AllocError>
+    requires { All (λ r. r.directory < r.object) (rows_of store.now) }
     ensures { IfOk result (λ way. MatchOption way
-        ((names : List (List ℕ)) → IsWayUp (rows_alone rows.now) object names → ⊥)
-        (λ way. IsWayUp (rows_alone rows.now) object (map (λ row. row.now.name) way.items))) }
+        ((names : List (List ℕ)) → IsWayUp (rows_alone (rows_of store.now)) object names → ⊥)
+        (λ way. IsWayUp (rows_alone (rows_of store.now)) object (map (λ entry. entry.now.name) way.items))) }
 {
     let mut way = Vec::new(alloc);
     let mut current = object;
     while current != ROOT {
-        let Some(row) = row_of(rows, current) else {
+        let Some(named) = store.name_of(current) else {
             return Ok(None);
         };
-        way.push(row)?;
-        current = row.directory;
+        way.push(named.entry)?;
+        current = named.directory;
     }
     Ok(Some(way))
 }
 
-/// The row that names an object.
-fn row_of(rows: &[Row], object: ObjId) -> Option<&Row>
-    ensures { option_copied result ≡ row_of (rows_alone rows.now) object }
-{
-    rows.iter().find(|row| row.object == object)
-}
-
 /// The path that a way up says.
-fn path_text(alloc: Global, way: &[&Row]) -> Result<Vec<u8>, AllocError>
-    ensures { IfOk result (λ text. text.items ≡ path_text (map (λ row. row.now.name) way.now)) }
+fn path_text(alloc: Global, way: &[&DirEntry]) -> Result<Vec<u8>, AllocError>
+    ensures { IfOk result (λ text. text.items ≡ path_text (map (λ entry. entry.now.name) way.now)) }
 {
     if way.is_empty() {
         return b"\\".to_vec(alloc);
     }
     let mut text = Vec::new(alloc);
-    for row in way.iter().rev() {
+    for entry in way.iter().rev() {
         text.push(b'\\')?;
-        text.extend_from_slice(row.name.as_slice())?;
+        text.extend_from_slice(entry.name.as_slice())?;
     }
     Ok(text)
+}
+
+/// Tells the target of the symbolic link of a handle of the caller, as it was stored. Nothing is
+/// changed.
+///
+/// Refusals, in their order: `ProcessGone` for a process that isn't live, `InvalidHandle` where the
+/// process has no such handle, and `ObjectTypeMismatch` where its object is no link. The only fault is
+/// want of memory.
+///
+/// Source: ZwQuerySymbolicLinkObject (Windows Driver Kit).
+pub(crate) fn query_link<T: TypeSet>(
+    space: &Namespace<T, Store<T>>,
+    process: Proc,
+    handle: Handle,
+) -> Result<Reply, AllocError>
+    ensures { IfOk result (λ reply.
+        QueriesLink (state_of T.Kind space.now) process handle (Done reply) (state_of T.Kind space.now)) }
+{
+    if !is_live(space, process) {
+        return Ok(status_alone(Status::ProcessGone));
+    }
+    let Some(held) = held_of(&space.handles, process, handle) else {
+        return Ok(status_alone(Status::InvalidHandle));
+    };
+    laws::stored_is_the_object::<T::Kind, T, T::Face, T::Inner>();
+    let Some(stored) = space.store.get(held.object) else {
+        return Ok(status_alone(Status::ObjectTypeMismatch));
+    };
+    let StoredBody::Link(target) = &stored.body else {
+        return Ok(status_alone(Status::ObjectTypeMismatch));
+    };
+    let target = Bytes::from_slice(space.alloc, target.as_slice())?;
+    Ok(with_text(target))
 }

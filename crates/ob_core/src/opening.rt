@@ -1,65 +1,79 @@
-//! The opening state's objects and rows.
+//! The opening state's objects and names.
 
-ghost use Rattle.std.specs.Prelude.{◌≡◌, IfOk, IfErr, ◌∷◌, [], true, false};
-ghost use Rattle.ob_model.specs.declared.state.Body.{Body};
-ghost use Rattle.ob_model.specs.State.{State};
-ghost use Rattle.ob_model.specs.Opening.{opening, standing, root_row};
+ghost use Rattle.std.specs.Prelude.{◌≡◌, ◌≢◌, ◌<◌, All, IsSome, IsTrue, IfOk, IfErr};
+ghost use Rattle.ob_base.specs.declared.Fault.TheVariants.{Memory};
+ghost use Rattle.ob_model.specs.Names.{is_name};
+ghost use Rattle.ob_model.specs.State.{root_id};
+ghost use Rattle.ob_objects.specs.Store.{directory_at, entries_at};
+ghost use Rattle.ob_objects.specs.Changes.{with_name};
+ghost use Rattle.ob_core.specs.Opening.{standing, opening_objects, opening_entries};
 
-use crate::objects::ROOT;
-use ob_base::ObjId;
-use ob_model::{Body, Bytes, Object, Row};
-use std::alloc::{AllocError, Global};
+use crate::space::ROOT;
+use ob_base::{Fault, ObjId};
+use ob_dirs::Dir;
+use ob_names::{Name, NameBuf};
+use ob_objects::{Store, StoredBody, StoredObject};
+use ob_types::TypeSet;
+use std::alloc::Global;
+
+/// The store of the opening state: its objects, all permanent, and their names in the root directory.
+/// The only fault is want of memory.
+pub(crate) fn opening_store<T: TypeSet>(alloc: Global) -> Result<Store<T>, Fault>
+    ensures store { IfOk result (λ store. store ≡ opening_entries) }
+    ensures memory { IfErr result (λ fault. fault ≡ Memory) }
+{
+    let mut store = opening_objects(alloc)?;
+    name_in_root(alloc, &mut store, 1, b"GLOBAL??", 2)?;
+    name_in_root(alloc, &mut store, 2, b"DosDevices", 3)?;
+    name_in_root(alloc, &mut store, 3, b"Device", 4)?;
+    name_in_root(alloc, &mut store, 4, b"BaseNamedObjects", 5)?;
+    name_in_root(alloc, &mut store, 5, b"Sessions", 6)?;
+    Ok(store)
+}
+
+/// The store of the opening state's objects, without their names.
+fn opening_objects<T: TypeSet>(alloc: Global) -> Result<Store<T>, Fault>
+    ensures store { IfOk result (λ store. store ≡ opening_objects) }
+    ensures memory { IfErr result (λ fault. fault ≡ Memory) }
+{
+    let view = NameBuf::from_name(alloc, Name::new(b"\\??"))?;
+    let mut store = Store::new(alloc);
+    store.insert(ObjId(1), standing(StoredBody::Directory(Dir::new(alloc))))?;
+    store.insert(ObjId(2), standing(StoredBody::Directory(Dir::new(alloc))))?;
+    store.insert(ObjId(3), standing(StoredBody::Link(view)))?;
+    store.insert(ObjId(4), standing(StoredBody::Directory(Dir::new(alloc))))?;
+    store.insert(ObjId(5), standing(StoredBody::Directory(Dir::new(alloc))))?;
+    store.insert(ObjId(6), standing(StoredBody::Directory(Dir::new(alloc))))?;
+    Ok(store)
+}
 
 /// An object of the opening state: permanent, and not exclusive.
-fn standing<F, I>(id: u64, body: Body<F, I>) -> Object<F, I>
-    ensures { result ≡ standing id body }
+fn standing<F, I>(body: StoredBody<F, I>) -> StoredObject<F, I>
+    ensures { result ≡ standing body }
 {
-    Object {
-        id: ObjId(id),
-        body,
+    StoredObject {
         permanent: true,
         exclusive: false,
+        body,
     }
 }
 
-/// A row of the opening state: it stands in the root directory.
-fn root_row(alloc: Global, stamp: u64, name: &[u8], object: u64) -> Result<Row, AllocError>
-    ensures { IfOk result (λ row. row ≡ root_row stamp name.now object) }
-{
-    Ok(Row {
-        stamp,
-        directory: ROOT,
-        name: Bytes::from_slice(alloc, name)?,
-        object: ObjId(object),
-    })
-}
-
-/// The objects of the opening state.
-pub(crate) fn opening_objects<F: Drop, I: Drop>(
+/// Puts a name into the root directory, in which that spelling must be free and all stamps lower.
+fn name_in_root<T: TypeSet>(
     alloc: Global,
-) -> Result<Vec<Object<F, I>>, AllocError>
-    ensures { IfOk result (λ objects. objects.items ≡ (opening {K = Unit {0}} (tt {0})).objects) }
+    store: &mut Store<T>,
+    stamp: u64,
+    name: &[u8],
+    object: u64,
+) -> Result<(), Fault>
+    requires name { IsTrue (is_name name.now) }
+    requires there { IsSome (directory_at store.old root_id) }
+    requires free { All (λ entry. entry.name ≢ name.now) (entries_at store.old root_id) }
+    requires newest { All (λ entry. entry.stamp < stamp) (entries_at store.old root_id) }
+    ensures put { IfOk result (λ _. store.new
+        ≡ with_name store.old root_id (record { stamp = stamp; name = name.now; object = object })) }
+    ensures memory { IfErr result (λ fault. fault ≡ Memory) }
 {
-    let view = Bytes::from_slice(alloc, b"\\??")?;
-    let mut objects = Vec::new(alloc);
-    objects.push(standing(1, Body::Directory))?;
-    objects.push(standing(2, Body::Directory))?;
-    objects.push(standing(3, Body::Link(view)))?;
-    objects.push(standing(4, Body::Directory))?;
-    objects.push(standing(5, Body::Directory))?;
-    objects.push(standing(6, Body::Directory))?;
-    Ok(objects)
-}
-
-/// The rows of the opening state.
-pub(crate) fn opening_rows(alloc: Global) -> Result<Vec<Row>, AllocError>
-    ensures { IfOk result (λ rows. rows.items ≡ (opening {K = Unit {0}} {F = Unit {0}} {I = Unit {0}} (tt {0})).rows) }
-{
-    Ok(vec![in alloc;
-        root_row(alloc, 1, b"GLOBAL??", 2)?,
-        root_row(alloc, 2, b"DosDevices", 3)?,
-        root_row(alloc, 3, b"Device", 4)?,
-        root_row(alloc, 4, b"BaseNamedObjects", 5)?,
-        root_row(alloc, 5, b"Sessions", 6)?,
-    ]?)
+    let name = NameBuf::from_name(alloc, Name::new(name))?;
+    store.insert_name(ROOT, stamp, name, ObjId(object))
 }

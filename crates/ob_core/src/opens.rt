@@ -1,55 +1,80 @@
 //! Opens, by name and of an object that was found.
 
-ghost use Rattle.std.specs.Prelude.{◌≡◌, IfOk, IfErr, OnErr};
+ghost use Rattle.std.specs.Prelude.{◌≡◌, Some, None, IsTrue, IfOk, IfErr, OnErr};
 ghost use Rattle.ob_base.specs.declared.Fault.TheVariants.{Memory};
 ghost use Rattle.ob_model.specs.declared.reply.Answer.TheVariants.{Done};
-ghost use Rattle.ob_model.specs.Opens.{OpensAt};
+ghost use Rattle.ob_model.specs.Opens.{OpensAt, Opens, open_mode};
 ghost use Rattle.ob_model.specs.Step.{OpensName};
+ghost use Rattle.ob_model.specs.Sound.{IsSound};
+ghost use Rattle.ob_model.specs.Looks as machine;
+ghost use Rattle.ob_model.specs.Procedures.{without_parse};
+ghost use Rattle.ob_lookup.specs.Look.{mode_of, look_of};
 ghost use Rattle.ob_core.specs.Namespace.{state_of};
 ghost use Rattle.ob_core.specs.Orderly.{IsOrderly};
 
 use crate::granting::grant;
 use crate::judge::judge_open;
-use crate::lookup::{Look, look_up};
-use crate::objects::is_wanted_at;
+use crate::looking::look_up;
 use crate::replies::{status_alone, with_handle};
+use crate::roots::root_object;
 use crate::settle::settle;
 use crate::space::{Namespace, is_live};
+use crate::wanted::is_wanted_at;
 use ob_base::{Attrs, Fault, Handle, ObjId, Proc, Status};
+use ob_lookup::{Look, Mode};
 use ob_model::{Reply, Wanted};
+use ob_names::Name;
+use ob_objects::Store;
 use ob_types::TypeSet;
 
 /// Opens an object by name, of the type that is asked for.
 pub(crate) fn open_name<T: TypeSet>(
-    space: &mut Namespace<T, T::Face, T::Inner>,
+    space: &mut Namespace<T, Store<T>>,
     process: Proc,
     root: Option<Handle>,
     name: &[u8],
     attrs: u32,
     wanted: Wanted<T::Kind>,
 ) -> Result<Reply, Fault>
-    requires { IsOrderly T.idle (state_of T.Kind space.old) }
+    requires orderly { IsOrderly T.idle (state_of T.Kind space.old) }
+    requires sound { IsSound (state_of T.Kind space.old) }
     ensures orderly { IsOrderly T.idle (state_of T.Kind space.new) }
     ensures step { IfOk result (λ reply.
         OpensName T.procedures (state_of T.Kind space.old) process root name.now attrs wanted (Done reply) (state_of T.Kind space.new)) }
     ensures err { OnErr result (state_of T.Kind space.new ≡ state_of T.Kind space.old) }
     ensures memory { IfErr result (λ fault. fault ≡ Memory) }
 {
-    let attrs = match judge_open(is_live(space, process), root, name, attrs) {
+    let attrs = match judge_open(is_live(space, process), name, attrs) {
         Ok(attrs) => attrs,
         Err(status) => return Ok(status_alone(status)),
     };
-    match look_up(&space.objects, &space.rows, name, false) {
+    let root = match root_object(&space.handles, process, root) {
+        Ok(root) => root,
+        Err(status) => return Ok(status_alone(status)),
+    };
+    let mode = open_mode(wanted, attrs);
+    match look_up(space, process, root, Name::new(name), mode)? {
         Look::Refused(status) => Ok(status_alone(status)),
         Look::At(object) => open_at(space, process, object, attrs, wanted, Status::Success),
         Look::Vacant { .. } => unreachable!(),
     }
 }
 
+/// How the name of an open is looked up.
+fn open_mode<K: Copy>(wanted: Wanted<K>, attrs: Attrs) -> Mode
+    ensures { mode_of result ≡ open_mode wanted attrs }
+{
+    Mode {
+        create: false,
+        fold: attrs.is_case_insensitive(),
+        follow: !matches!(wanted, Wanted::Link) && !attrs.is_open_link(),
+    }
+}
+
 /// Opens an object that was found, where it is of the type that is asked for. The handle is given
 /// with this status.
 pub(crate) fn open_at<T: TypeSet>(
-    space: &mut Namespace<T, T::Face, T::Inner>,
+    space: &mut Namespace<T, Store<T>>,
     process: Proc,
     object: ObjId,
     attrs: Attrs,
@@ -64,7 +89,7 @@ pub(crate) fn open_at<T: TypeSet>(
     ensures err { OnErr result (state_of T.Kind space.new ≡ state_of T.Kind space.old) }
     ensures memory { IfErr result (λ fault. fault ≡ Memory) }
 {
-    if !is_wanted_at::<T>(&space.objects, object, wanted) {
+    if !is_wanted_at(space, object, wanted) {
         return Ok(status_alone(Status::ObjectTypeMismatch));
     }
     match grant(space, process, object, attrs)? {

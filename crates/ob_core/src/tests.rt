@@ -11,6 +11,22 @@ use std::test::Fail;
 
 const FIRST: Proc = Proc(1);
 
+/// A root handle, the name that is relative to it, and the flags of an open.
+#[derive(Clone, Copy)]
+struct Way<'a> {
+    root: Option<Handle>,
+    name: &'a [u8],
+    attrs: u32,
+}
+
+fn named(name: &[u8]) -> Way<'_> {
+    Way {
+        root: None,
+        name,
+        attrs: 0,
+    }
+}
+
 fn place(alloc: Global, name: &[u8]) -> Result<Place, AllocError> {
     let name = Bytes::from_slice(alloc, name)?;
     Ok(Place::At { root: None, name })
@@ -48,6 +64,54 @@ fn open_door(alloc: Global, name: &[u8], want: Option<bool>) -> Result<Command<b
         attrs: 0,
         want,
     })
+}
+
+fn open_directory(alloc: Global, way: Way<'_>) -> Result<Command<bool>, AllocError> {
+    let name = Bytes::from_slice(alloc, way.name)?;
+    Ok(Command::OpenDirectory {
+        root: way.root,
+        name,
+        attrs: way.attrs,
+    })
+}
+
+fn open_link(alloc: Global, way: Way<'_>) -> Result<Command<bool>, AllocError> {
+    let name = Bytes::from_slice(alloc, way.name)?;
+    Ok(Command::OpenLink {
+        root: way.root,
+        name,
+        attrs: way.attrs,
+    })
+}
+
+fn open_any(alloc: Global, way: Way<'_>) -> Result<Command<bool>, AllocError> {
+    let name = Bytes::from_slice(alloc, way.name)?;
+    Ok(Command::OpenObject {
+        root: way.root,
+        name,
+        attrs: way.attrs,
+        want: None,
+    })
+}
+
+fn link(alloc: Global, way: Way<'_>, target: &[u8]) -> Result<Command<bool>, AllocError> {
+    let name = Bytes::from_slice(alloc, way.name)?;
+    let target = Bytes::from_slice(alloc, target)?;
+    Ok(Command::CreateLink {
+        place: Place::At {
+            root: way.root,
+            name,
+        },
+        attrs: way.attrs,
+        target,
+    })
+}
+
+fn is_text(reply: &Reply, wanted: &[u8]) -> bool {
+    match &reply.given {
+        Given::Text(text) => reply.status == Status::Success && text.as_slice() == wanted,
+        _ => false,
+    }
 }
 
 fn reply(core: &mut Core<Doors>, process: Proc, command: &Command<bool>) -> Result<Reply, Fault> {
@@ -234,5 +298,258 @@ fn the_table_ends_at_65535_handles(rt: HostRuntime) -> Result<(), Fail> {
     assert_eq!(rt; reply(&mut core, FIRST, &close)?.status, Status::Success);
     let opened = reply(&mut core, FIRST, &root)?;
     assert_eq!(rt; (opened.status, value(&opened)), (Status::Success, 262_140));
+    Ok(())
+}
+
+#[test]
+fn a_link_is_made_opened_and_told(rt: HostRuntime) -> Result<(), Fail> {
+    let alloc = rt.alloc();
+    let mut core = Core::new(alloc, Doors { last: 0 })?;
+    let made = reply(&mut core, FIRST, &link(alloc, named(b"\\L"), b"\\Device")?)?;
+    assert_eq!(rt; made.status, Status::Success);
+    let opened = reply(&mut core, FIRST, &open_link(alloc, named(b"\\L"))?)?;
+    assert_eq!(rt; opened.status, Status::Success);
+    for given in [value(&made), value(&opened)] {
+        let handle = Handle(given);
+        let target = reply(&mut core, FIRST, &Command::QueryLink { handle })?;
+        assert!(rt; is_text(&target, b"\\Device"));
+        let path = reply(&mut core, FIRST, &Command::QueryName { handle })?;
+        assert!(rt; is_text(&path, b"\\L"));
+    }
+
+    let view = reply(&mut core, FIRST, &open_link(alloc, named(b"\\DosDevices"))?)?;
+    let handle = Handle(value(&view));
+    let target = reply(&mut core, FIRST, &Command::QueryLink { handle })?;
+    assert!(rt; is_text(&target, b"\\??"));
+    Ok(())
+}
+
+#[test]
+fn a_link_leads_to_its_target(rt: HostRuntime) -> Result<(), Fail> {
+    let alloc = rt.alloc();
+    let mut core = Core::new(alloc, Doors { last: 0 })?;
+    reply(&mut core, FIRST, &link(alloc, named(b"\\L"), b"\\Device")?)?;
+    let opened = reply(&mut core, FIRST, &open_directory(alloc, named(b"\\L"))?)?;
+    assert_eq!(rt; opened.status, Status::Success);
+    let handle = Handle(value(&opened));
+    let path = reply(&mut core, FIRST, &Command::QueryName { handle })?;
+    assert!(rt; is_text(&path, b"\\Device"));
+    let target = reply(&mut core, FIRST, &Command::QueryLink { handle })?;
+    assert_eq!(rt; target.status, Status::ObjectTypeMismatch);
+
+    let made = reply(&mut core, FIRST, &directory(alloc, b"\\L\\E", 0)?)?;
+    assert_eq!(rt; made.status, Status::Success);
+    let handle = Handle(value(&made));
+    let path = reply(&mut core, FIRST, &Command::QueryName { handle })?;
+    assert!(rt; is_text(&path, b"\\Device\\E"));
+    Ok(())
+}
+
+#[test]
+fn openlink_opens_the_link_itself(rt: HostRuntime) -> Result<(), Fail> {
+    let alloc = rt.alloc();
+    let mut core = Core::new(alloc, Doors { last: 0 })?;
+    reply(&mut core, FIRST, &link(alloc, named(b"\\L"), b"\\Device")?)?;
+    let itself = Way {
+        attrs: Attrs::OPENLINK,
+        ..named(b"\\L")
+    };
+    let refused = reply(&mut core, FIRST, &open_directory(alloc, itself)?)?;
+    assert_eq!(rt; refused.status, Status::ObjectTypeMismatch);
+    for (way, path) in [
+        (itself, b"\\L".as_slice()),
+        (named(b"\\L"), b"\\Device".as_slice()),
+    ] {
+        let opened = reply(&mut core, FIRST, &open_any(alloc, way)?)?;
+        assert_eq!(rt; opened.status, Status::Success);
+        let handle = Handle(value(&opened));
+        let told = reply(&mut core, FIRST, &Command::QueryName { handle })?;
+        assert!(rt; is_text(&told, path));
+    }
+    let refused = reply(&mut core, FIRST, &open_link(alloc, named(b"\\Device"))?)?;
+    assert_eq!(rt; refused.status, Status::ObjectTypeMismatch);
+    Ok(())
+}
+
+#[test]
+fn a_link_needs_a_target_of_the_profile(rt: HostRuntime) -> Result<(), Fail> {
+    let alloc = rt.alloc();
+    let mut core = Core::new(alloc, Doors { last: 0 })?;
+    for target in [b"".as_slice(), b"\\\n".as_slice()] {
+        let refused = reply(&mut core, FIRST, &link(alloc, named(b"\\L"), target)?)?;
+        assert_eq!(rt; refused.status, Status::InvalidParameter);
+    }
+    assert_eq!(rt; (core.objects(), core.handles()), (6, 0));
+
+    let made = reply(&mut core, FIRST, &link(alloc, named(b"\\L"), b"no path")?)?;
+    assert_eq!(rt; made.status, Status::Success);
+    let refused = reply(&mut core, FIRST, &open_directory(alloc, named(b"\\L"))?)?;
+    assert_eq!(rt; refused.status, Status::ObjectPathSyntaxBad);
+    Ok(())
+}
+
+#[test]
+fn a_lookup_makes_32_reparses(rt: HostRuntime) -> Result<(), Fail> {
+    let alloc = rt.alloc();
+    let mut core = Core::new(alloc, Doors { last: 0 })?;
+    let mut target = [b'\\', b'\\'];
+    for count in 0..33u8 {
+        let name = [b'\\', b'0' + count];
+        let text = if count == 0 {
+            b"\\Device".as_slice()
+        } else {
+            target.as_slice()
+        };
+        let made = reply(
+            &mut core,
+            FIRST,
+            &link(alloc, named(name.as_slice()), text)?,
+        )?;
+        assert_eq!(rt; made.status, Status::Success);
+        let status = if count < 32 {
+            Status::Success
+        } else {
+            Status::ReparseLimit
+        };
+        let way = named(name.as_slice());
+        let opened = reply(&mut core, FIRST, &open_directory(alloc, way)?)?;
+        assert_eq!(rt; opened.status, status);
+        target = name;
+    }
+    Ok(())
+}
+
+#[test]
+fn a_name_is_relative_to_its_root_handle(rt: HostRuntime) -> Result<(), Fail> {
+    let alloc = rt.alloc();
+    let mut core = Core::new(alloc, Doors { last: 0 })?;
+    let device = reply(&mut core, FIRST, &open(alloc, b"\\Device")?)?;
+    let root = Some(Handle(value(&device)));
+    let below = Way {
+        root,
+        ..named(b"L")
+    };
+    let made = reply(&mut core, FIRST, &link(alloc, below, b"\\Sessions")?)?;
+    assert_eq!(rt; made.status, Status::Success);
+    let handle = Handle(value(&made));
+    let path = reply(&mut core, FIRST, &Command::QueryName { handle })?;
+    assert!(rt; is_text(&path, b"\\Device\\L"));
+    assert_eq!(rt;
+        reply(&mut core, FIRST, &open_link(alloc, below)?)?.status,
+        Status::Success
+    );
+    assert_eq!(rt;
+        reply(&mut core, FIRST, &open_link(alloc, named(b"\\L"))?)?.status,
+        Status::ObjectNameNotFound
+    );
+
+    let itself = Way { root, ..named(b"") };
+    let opened = reply(&mut core, FIRST, &open_directory(alloc, itself)?)?;
+    let handle = Handle(value(&opened));
+    let path = reply(&mut core, FIRST, &Command::QueryName { handle })?;
+    assert!(rt; is_text(&path, b"\\Device"));
+    let led = reply(&mut core, FIRST, &open_directory(alloc, below)?)?;
+    let handle = Handle(value(&led));
+    let path = reply(&mut core, FIRST, &Command::QueryName { handle })?;
+    assert!(rt; is_text(&path, b"\\Sessions"));
+    Ok(())
+}
+
+#[test]
+fn a_root_handle_is_refused(rt: HostRuntime) -> Result<(), Fail> {
+    let alloc = rt.alloc();
+    let mut core = Core::new(alloc, Doors { last: 0 })?;
+    let device = reply(&mut core, FIRST, &open(alloc, b"\\Device")?)?;
+    let view = reply(&mut core, FIRST, &open_link(alloc, named(b"\\DosDevices"))?)?;
+    for (root, name, status) in [
+        (Handle(400), b"A".as_slice(), Status::InvalidHandle),
+        (Handle(0), b"A".as_slice(), Status::InvalidHandle),
+        (
+            Handle(value(&view)),
+            b"A".as_slice(),
+            Status::ObjectTypeMismatch,
+        ),
+        (
+            Handle(value(&device)),
+            b"\\Device".as_slice(),
+            Status::ObjectPathSyntaxBad,
+        ),
+        (
+            Handle(value(&device)),
+            b"A".as_slice(),
+            Status::ObjectNameNotFound,
+        ),
+    ] {
+        let way = Way {
+            root: Some(root),
+            ..named(name)
+        };
+        let refused = reply(&mut core, FIRST, &open_any(alloc, way)?)?;
+        assert_eq!(rt; refused.status, status);
+    }
+    let unrooted = reply(&mut core, FIRST, &open_any(alloc, named(b"Device"))?)?;
+    assert_eq!(rt; unrooted.status, Status::ObjectPathSyntaxBad);
+    let below = Way {
+        root: Some(Handle(400)),
+        ..named(b"A")
+    };
+    let unmade = reply(&mut core, FIRST, &link(alloc, below, b"\\")?)?;
+    assert_eq!(rt; unmade.status, Status::InvalidHandle);
+    assert_eq!(rt; (core.objects(), core.handles()), (6, 2));
+    Ok(())
+}
+
+#[test]
+fn case_counts_unless_a_command_says_not(rt: HostRuntime) -> Result<(), Fail> {
+    let alloc = rt.alloc();
+    let mut core = Core::new(alloc, Doors { last: 0 })?;
+    let folded = Way {
+        attrs: Attrs::CASE_INSENSITIVE,
+        ..named(b"\\dEVICE")
+    };
+    let missed = reply(
+        &mut core,
+        FIRST,
+        &open_directory(alloc, named(b"\\dEVICE"))?,
+    )?;
+    assert_eq!(rt; missed.status, Status::ObjectNameNotFound);
+    let opened = reply(&mut core, FIRST, &open_directory(alloc, folded)?)?;
+    assert_eq!(rt; opened.status, Status::Success);
+
+    let collided = reply(&mut core, FIRST, &link(alloc, folded, b"\\")?)?;
+    assert_eq!(rt; collided.status, Status::ObjectNameCollision);
+    let made = reply(&mut core, FIRST, &link(alloc, named(b"\\dEVICE"), b"\\")?)?;
+    assert_eq!(rt; made.status, Status::Success);
+    let first = reply(&mut core, FIRST, &open_any(alloc, folded)?)?;
+    let handle = Handle(value(&first));
+    let path = reply(&mut core, FIRST, &Command::QueryName { handle })?;
+    assert!(rt; is_text(&path, b"\\Device"));
+    Ok(())
+}
+
+#[test]
+fn openif_opens_what_is_there(rt: HostRuntime) -> Result<(), Fail> {
+    let alloc = rt.alloc();
+    let mut core = Core::new(alloc, Doors { last: 0 })?;
+    let either = Way {
+        attrs: Attrs::OPENIF | Attrs::PERMANENT,
+        ..named(b"\\L")
+    };
+    let made = reply(&mut core, FIRST, &link(alloc, named(b"\\L"), b"\\Device")?)?;
+    let opened = reply(&mut core, FIRST, &link(alloc, either, b"\\Sessions")?)?;
+    assert_eq!(rt; opened.status, Status::ObjectNameExists);
+    let handle = Handle(value(&opened));
+    let target = reply(&mut core, FIRST, &Command::QueryLink { handle })?;
+    assert!(rt; is_text(&target, b"\\Device"));
+    let other = directory(alloc, b"\\L", Attrs::OPENIF)?;
+    assert_eq!(rt;
+        reply(&mut core, FIRST, &other)?.status,
+        Status::ObjectTypeMismatch
+    );
+    for given in [value(&made), value(&opened)] {
+        let handle = Handle(given);
+        reply(&mut core, FIRST, &Command::Close { handle })?;
+    }
+    assert_eq!(rt; (core.objects(), core.handles()), (6, 0));
     Ok(())
 }

@@ -11,3 +11,4 @@ pub mod Earliest
 pub mod Settled
 pub mod Soundness
 pub mod Steps
+pub mod Vacant

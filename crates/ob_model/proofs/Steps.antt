@@ -8,7 +8,7 @@ use Rattle.ob_base.specs.Attrs.{has_flag, open_if_flag}
 use Rattle.ob_base.specs.Handle.{key_of}
 use Rattle.ob_model.specs.declared.command.Place.{Place}
 use Rattle.ob_model.specs.declared.command.Place.TheVariants as place
-use Rattle.ob_model.specs.declared.command.Command.TheVariants.{CreateDirectory, CreateObject, OpenDirectory, OpenObject, Close, QueryName}
+use Rattle.ob_model.specs.declared.command.Command.TheVariants.{CreateDirectory, CreateLink, CreateObject, OpenDirectory, OpenLink, OpenObject, Close, QueryLink, QueryName}
 use Rattle.ob_model.specs.declared.reply.Answer.{Answer}
 use Rattle.ob_model.specs.declared.reply.Event.{Event}
 use Rattle.ob_model.specs.declared.reply.Event.TheVariants.{Start}
@@ -18,18 +18,17 @@ use Rattle.ob_model.specs.declared.state.Object.{Object}
 use Rattle.ob_model.specs.declared.state.Wanted.{Wanted}
 use Rattle.ob_model.specs.declared.state.Wanted.TheVariants as wanted
 use Rattle.ob_model.specs.State.{State, is_live, held_of, object_of}
-use Rattle.ob_model.specs.Looks.{Look, At, Vacant, Parse, Refused}
-use Rattle.ob_model.specs.FirstLooks.{FirstLooks}
-use Rattle.ob_model.specs.Procedures.{Procedures, Opened, Created}
+use Rattle.ob_model.specs.Looks.{Look, At, Vacant, Parse, Refused, LooksUp, most_reparses}
+use Rattle.ob_model.specs.Procedures.{Procedures, Opened, Created, without_parse}
 use Rattle.ob_model.specs.Settle.{settle}
 use Rattle.ob_model.specs.Grants.{first_refusal, Grants, IsFreeValue, Asked, open_refusal_of}
 use Rattle.ob_model.specs.Closing.{closed_handle}
 use Rattle.ob_model.specs.Types.{is_wanted, is_wanted_at}
 use Rattle.ob_model.specs.Refusals.{gives, answers, IsRefused, Unless, create_refusals, open_refusals}
-use Rattle.ob_model.specs.Opens.{OpensAt, Opens, asked_by, type_wanted}
-use Rattle.ob_model.specs.Creates.{Making, MakesDirectory, MakesObject, type_made, Spot, room_refusals, make_refusal, body_made, created, dropped, Makes, Creates}
-use Rattle.ob_model.specs.Naming.{TellsName}
-use Rattle.ob_model.specs.Step.{WithHandle, CreatesIn, CreatesAt, OpensName, Step}
+use Rattle.ob_model.specs.Opens.{OpensAt, Opens, asked_by, type_wanted, open_mode}
+use Rattle.ob_model.specs.Creates.{Making, MakesDirectory, MakesLink, MakesObject, is_fit, create_mode, type_made, Spot, room_refusals, make_refusal, body_made, created, dropped, Makes, Creates}
+use Rattle.ob_model.specs.Naming.{TellsName, TellsTarget}
+use Rattle.ob_model.specs.Step.{WithHandle, WithRoot, CreatesIn, CreatesAt, OpensName, Step}
 use Rattle.ob_model.specs.Sound.{IsSound, Stands}
 use Rattle.ob_model.proofs.Soundness.{settled_sound, created_sound, dropped_sound, granted_sound, closed_sound}
 
@@ -64,6 +63,16 @@ module _ {K T F I : Type 0} where
       go : (o : Option Held) → MatchOption o (IsRefused s InvalidHandle answer t) Does → IsSound t
       go None h = refused_sound s t InvalidHandle answer sound h
       go (Some x) h = does x h
+
+  -- a step that uses a root handle
+  with_root_sound : (s t : State K T F I) (p : ℕ) (root : Option ℕ) (answer : Answer) (Does : Option ℕ → Type 0)
+      → IsSound s → ((at : Option ℕ) → Does at → IsSound t) → WithRoot s p root answer t Does → IsSound t
+  with_root_sound s t p None answer Does sound does h = does None h
+  with_root_sound s t p (Some handle) answer Does sound does h = go (option_and_then (held_of s p) (key_of handle)) h
+    where
+      go : (o : Option Held) → MatchOption o (IsRefused s InvalidHandle answer t) (λ x. Does (Some x.object)) → IsSound t
+      go None h = refused_sound s t InvalidHandle answer sound h
+      go (Some x) h = does (Some x.object) h
 
 module _ {K T F I : Type 0} (g : Procedures K T F I) where
   -- an object that is of the type that is asked for stands
@@ -133,30 +142,39 @@ module _ {K T F I : Type 0} (g : Procedures K T F I) where
 
   creates_in_sound : (s t : State K T F I) (p : ℕ) (where_to : Place) (attrs : ℕ) (making : Making K) (answer : Answer)
       → IsSound s → CreatesIn g s p where_to attrs making answer t → IsSound t
-  creates_in_sound s t p (place.At root name) attrs making answer sound h = creates_sound s t p attrs making h.0 answer sound h.2
+  creates_in_sound s t p (place.At root name) attrs making answer sound h =
+      with_root_sound s t p root answer
+      (λ at. (look : Look) × LooksUp (without_parse g) s p (create_mode attrs) most_reparses at name look × Creates g s p attrs making look answer t) sound
+      (λ at does. creates_sound s t p attrs making does.0 answer sound does.2) h
   creates_in_sound s t p place.Unnamed attrs making answer sound h = makes_sound s t p attrs making None answer sound h
 
   creates_at_sound : (s t : State K T F I) (p : ℕ) (where_to : Place) (attrs : ℕ) (making : Making K) (answer : Answer)
       → IsSound s → CreatesAt g s p where_to attrs making answer t → IsSound t
   creates_at_sound s t p where_to attrs making answer sound h =
-      unless_sound (create_refusals (is_live s p) where_to attrs) s t answer (CreatesIn g s p where_to attrs making answer t) sound
+      unless_sound (create_refusals (is_live s p) (is_fit making) where_to attrs) s t answer (CreatesIn g s p where_to attrs making answer t) sound
       (creates_in_sound s t p where_to attrs making answer sound) h
 
   opens_name_sound : (s t : State K T F I) (p : ℕ) (root : Option ℕ) (name : List ℕ) (attrs : ℕ) (wanted : Wanted K) (answer : Answer)
       → IsSound s → OpensName g s p root name attrs wanted answer t → IsSound t
   opens_name_sound s t p root name attrs wanted answer sound h =
-      unless_sound (open_refusals (is_live s p) root name attrs) s t answer
-      ((look : Look) × FirstLooks s false name look × Opens g s p attrs wanted look answer t) sound
-      (λ does. opens_sound s t p attrs wanted does.0 answer sound does.2) h
+      unless_sound (open_refusals (is_live s p) name attrs) s t answer (WithRoot s p root answer t Does) sound
+      (with_root_sound s t p root answer Does sound (λ at does. opens_sound s t p attrs wanted does.0 answer sound does.2)) h
+    where
+      Does : Option ℕ → Type 0
+      Does at = (look : Look) × LooksUp (without_parse g) s p (open_mode wanted attrs) most_reparses at name look × Opens g s p attrs wanted look answer t
 
   -- a step from a sound state leads to a sound one
   pub step_sound : (s t : State K T F I) (event : Event K) (answer : Answer) → IsSound s → Step g s event answer t → IsSound t
   step_sound s t (Start p (CreateDirectory where_to attrs)) answer sound h = creates_at_sound s t p where_to attrs MakesDirectory answer sound h
+  step_sound s t (Start p (CreateLink where_to attrs target)) answer sound h = creates_at_sound s t p where_to attrs (MakesLink target) answer sound h
   step_sound s t (Start p (CreateObject where_to attrs kind args)) answer sound h = creates_at_sound s t p where_to attrs (MakesObject kind args) answer sound h
   step_sound s t (Start p (OpenDirectory root name attrs)) answer sound h = opens_name_sound s t p root name attrs wanted.Directory answer sound h
+  step_sound s t (Start p (OpenLink root name attrs)) answer sound h = opens_name_sound s t p root name attrs wanted.Link answer sound h
   step_sound s t (Start p (OpenObject root name attrs want)) answer sound h = opens_name_sound s t p root name attrs (type_wanted want) answer sound h
   step_sound s t (Start p (Close handle)) answer sound h =
       with_handle_sound s t p handle answer (λ x. (answer ≡ answers Success) × (t ≡ settle g (closed_handle g s x))) sound
       (λ x does. subst IsSound (sym does.1) (settled_sound g (closed_handle g s x) (closed_sound g s x sound))) h
+  step_sound s t (Start p (QueryLink handle)) answer sound h =
+      with_handle_sound s t p handle answer (λ x. TellsTarget s x.object answer × (t ≡ s)) sound (λ x does. subst IsSound (sym does.1) sound) h
   step_sound s t (Start p (QueryName handle)) answer sound h =
       with_handle_sound s t p handle answer (λ x. TellsName s x.object answer × (t ≡ s)) sound (λ x does. subst IsSound (sym does.1) sound) h

@@ -1,14 +1,15 @@
 -- What a create does past its refusals: it finds its place taken, and is refused or opens what is
 -- there, or it makes the object that it asks for.
 --
--- Sources: ZwCreateDirectoryObject, ZwCreateEvent and OBJECT_ATTRIBUTES structure (OBJ_OPENIF, OBJ_PERMANENT;
--- Windows Driver Kit); Windows Internals, Object Manager (object types and their methods). The order
+-- Sources: ZwCreateDirectoryObject, ZwCreateSymbolicLinkObject, ZwCreateEvent and OBJECT_ATTRIBUTES structure
+-- (OBJ_OPENIF, OBJ_PERMANENT, OBJ_CASE_INSENSITIVE; Windows Driver Kit); Windows Internals, Object Manager (object types and their methods). The order
 -- of refusals, and that a new object whose open is refused is deleted under its number, are this profile.
-use Rattle.std.specs.Prelude.{◌≡◌, ℕ, ◌+◌, Bool, ◌&&◌, ◌||◌, nat_lt, nat_le, List, [], ◌∷◌, ◌++◌, length, Option, None, Some, MatchOption, MatchBool}
+use Rattle.std.specs.Prelude.{◌≡◌, ℕ, ◌+◌, Bool, true, false, ◌&&◌, ◌||◌, not, nat_lt, nat_le, List, [], ◌∷◌, ◌++◌, length, Option, None, Some, MatchOption, MatchBool}
 use Rattle.std.specs.Option.{is_some}
+use Rattle.std.specs.Str.{bytes_eq}
 use Rattle.ob_base.specs.declared.status.Status.{Status}
 use Rattle.ob_base.specs.declared.status.Status.TheVariants.{Success, ObjectNameExists, ObjectNameCollision, InsufficientResources, TypeRefused}
-use Rattle.ob_base.specs.Attrs.{has_flag, inherit_flag, permanent_flag, exclusive_flag, open_if_flag}
+use Rattle.ob_base.specs.Attrs.{has_flag, inherit_flag, permanent_flag, exclusive_flag, case_insensitive_flag, open_if_flag}
 use Rattle.ob_model.specs.declared.reply.Answer.{Answer}
 use Rattle.ob_model.specs.declared.reply.Given.TheVariants.{Handle}
 use Rattle.ob_model.specs.declared.state.Body.{Body}
@@ -16,23 +17,38 @@ use Rattle.ob_model.specs.declared.state.Body.TheVariants as body
 use Rattle.ob_model.specs.declared.state.Row.{Row}
 use Rattle.ob_model.specs.declared.state.Wanted.{Wanted}
 use Rattle.ob_model.specs.declared.state.Wanted.TheVariants as wanted
+use Rattle.ob_model.specs.Names.{is_name}
 use Rattle.ob_model.specs.State.{State, greatest_number, most_objects}
-use Rattle.ob_model.specs.Looks.{Look, At, Vacant, Parse, Refused}
+use Rattle.ob_model.specs.Looks.{Mode, Look, At, Vacant, Parse, Refused}
 use Rattle.ob_model.specs.Procedures.{Procedures, Created}
 use Rattle.ob_model.specs.Settle.{settle, deleted_one}
 use Rattle.ob_model.specs.Grants.{is_table_full, IsFreeValue, with_handle, open_refusal_of, opened_body, opened_set}
 use Rattle.ob_model.specs.Refusals.{gives, answers, IsRefused, Unless}
 use Rattle.ob_model.specs.Opens.{OpensAt}
 
--- what a create makes: a directory, or an object of a kind of the set with these arguments
+-- what a create makes: a directory, a link with this target, or an object of a kind of the set with
+-- these arguments
 pub data Making (K : Type 0) : Type 0 where
   MakesDirectory : Making K
+  MakesLink : List ℕ → Making K
   MakesObject : K → List ℕ → Making K
 
 -- the type of what a create makes
 abbrev pub type_made : {K : Type 0} → Making K → Wanted K
 type_made MakesDirectory = wanted.Directory
+type_made (MakesLink target) = wanted.Link
 type_made (MakesObject kind args) = wanted.Kind kind
+
+-- whether its parameters are fit: a link's target has 1 to 32,767 bytes of the profile; the arguments
+-- of an object of the set are for the set to judge
+abbrev pub is_fit : {K : Type 0} → Making K → Bool
+is_fit MakesDirectory = true
+is_fit (MakesLink target) = is_name target && not (bytes_eq target [])
+is_fit (MakesObject kind args) = true
+
+-- how the name of a create is looked up: a link that the last component names is not followed
+abbrev pub create_mode : ℕ → Mode
+create_mode attrs = record { create = true; fold = has_flag case_insensitive_flag attrs; follow = false; views = false }
 
 -- where what a create makes is to stand: at a name in a directory, or nowhere
 abbrev pub Spot : Type 0
@@ -70,14 +86,16 @@ module _ {K T F I : Type 0} where
   }
 
 module _ {K T F I : Type 0} (g : Procedures K T F I) where
-  -- the number with which the set refuses to make it; directories are not the set's
+  -- the number with which the set refuses to make it; directories and links are not the set's
   abbrev pub make_refusal : Making K → Option ℕ
   make_refusal MakesDirectory = None
+  make_refusal (MakesLink target) = None
   make_refusal (MakesObject kind args) = g.refuses_to_make kind args
 
   -- the body of what is made
   abbrev pub body_made : Making K → Body F I
   body_made MakesDirectory = body.Directory
+  body_made (MakesLink target) = body.Link target
   body_made (MakesObject kind args) = let made = g.made kind args in body.Other made.0 made.1
 
   -- the state with a new object of this body, as its open left it, with its row and the creator's

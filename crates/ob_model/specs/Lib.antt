@@ -4,7 +4,6 @@ pub mod Opening
 pub mod Paths
 pub mod Procedures
 pub mod Looks
-pub mod FirstLooks
 pub mod Settle
 pub mod Grants
 pub mod Enumeration

@@ -1,15 +1,20 @@
--- The path of an object: the names on the way from it up to the root.
+-- What is told of an object: its path, which is the names on the way from it up to the root, and the
+-- target of a link.
 --
--- Sources: ObQueryNameString (Windows Driver Kit); Windows Internals, Object Manager (object names). That
--- an object without a path has the empty text, and the refusal of a long one, are this profile.
-use Rattle.std.specs.Prelude.{◌≡◌, ◌≢◌, ℕ, ◌==◌, nat_lt, if◌then◌else◌, List, [], ◌∷◌, ◌++◌, length, Option, Some, ◌⊎◌}
+-- Sources: ObQueryNameString, ZwQuerySymbolicLinkObject (Windows Driver Kit); Windows Internals, Object
+-- Manager (object names, symbolic links). That an object without a path has the empty text, and the
+-- refusals, are this profile.
+use Rattle.std.specs.Prelude.{◌≡◌, ◌≢◌, ℕ, ◌==◌, nat_lt, if◌then◌else◌, List, [], ◌∷◌, ◌++◌, length, Option, None, Some, ◌⊎◌, MatchOption}
 use Rattle.std.specs.List.{find}
-use Rattle.ob_base.specs.declared.status.Status.TheVariants.{Success, NameTooLong}
+use Rattle.std.specs.Option.{option_and_then}
+use Rattle.ob_base.specs.declared.status.Status.TheVariants.{Success, ObjectTypeMismatch, NameTooLong}
 use Rattle.ob_model.specs.declared.reply.Answer.{Answer}
 use Rattle.ob_model.specs.declared.reply.Given.TheVariants.{Text}
+use Rattle.ob_model.specs.declared.state.Body.{Body}
+use Rattle.ob_model.specs.declared.state.Body.TheVariants.{Directory, Link, Other}
 use Rattle.ob_model.specs.declared.state.Row.{Row}
 use Rattle.ob_model.specs.Names.{separator, longest_name}
-use Rattle.ob_model.specs.State.{State, root_id}
+use Rattle.ob_model.specs.State.{State, root_id, body_of}
 use Rattle.ob_model.specs.Refusals.{gives, answers}
 
 module _ {K T F I : Type 0} where
@@ -42,3 +47,14 @@ abbrev pub TellsName : {K T F I : Type 0} → State K T F I → ℕ → Answer �
 TellsName s o answer =
     ((cs : List (List ℕ)) × IsWayUp s o cs × (answer ≡ path_answer (path_text cs)))
     ⊎ (((cs : List (List ℕ)) → IsWayUp s o cs → ⊥) × (answer ≡ gives Success (Text [])))
+
+-- the target of a link
+abbrev pub target_of : {F I : Type 0} → Body F I → Option (List ℕ)
+target_of Directory = None
+target_of (Link target) = Some target
+target_of (Other face inner) = None
+
+-- the target of a link is told, as it was stored; any other object is of another type
+abbrev pub TellsTarget : {K T F I : Type 0} → State K T F I → ℕ → Answer → Type 0
+TellsTarget s o answer =
+    MatchOption (option_and_then target_of (body_of s o)) (answer ≡ answers ObjectTypeMismatch) (λ target. answer ≡ gives Success (Text target))

@@ -1,17 +1,18 @@
 -- What an open does past its refusals: the type test, and a grant.
 --
--- Sources: ZwOpenDirectoryObject, ZwOpenEvent (Windows Driver Kit); Windows Internals, Object Manager
+-- Sources: ZwOpenDirectoryObject, ZwOpenEvent, OBJECT_ATTRIBUTES structure (OBJ_CASE_INSENSITIVE,
+-- OBJ_OPENLINK; Windows Driver Kit); Windows Internals, Object Manager
 -- (object handles). The order of refusals is this profile.
-use Rattle.std.specs.Prelude.{◌≡◌, ℕ, not, [], ◌∷◌, Option, None, Some, Result, MatchResult}
+use Rattle.std.specs.Prelude.{◌≡◌, ℕ, Bool, true, false, ◌||◌, not, [], ◌∷◌, Option, None, Some, Result, MatchResult}
 use Rattle.ob_base.specs.declared.status.Status.{Status}
 use Rattle.ob_base.specs.declared.status.Status.TheVariants.{Success, ObjectTypeMismatch}
-use Rattle.ob_base.specs.Attrs.{has_flag, inherit_flag, exclusive_flag}
+use Rattle.ob_base.specs.Attrs.{has_flag, inherit_flag, exclusive_flag, case_insensitive_flag, open_link_flag}
 use Rattle.ob_model.specs.declared.reply.Answer.{Answer}
 use Rattle.ob_model.specs.declared.reply.Given.TheVariants.{Handle}
 use Rattle.ob_model.specs.declared.state.Wanted.{Wanted}
-use Rattle.ob_model.specs.declared.state.Wanted.TheVariants.{Anything, Kind}
+use Rattle.ob_model.specs.declared.state.Wanted.TheVariants.{Anything, Directory, Link, Kind}
 use Rattle.ob_model.specs.State.{State}
-use Rattle.ob_model.specs.Looks.{Look, At, Vacant, Parse, Refused}
+use Rattle.ob_model.specs.Looks.{Mode, Look, At, Vacant, Parse, Refused}
 use Rattle.ob_model.specs.Procedures.{Procedures, Opened}
 use Rattle.ob_model.specs.Settle.{settle}
 use Rattle.ob_model.specs.Grants.{Grants, Asked}
@@ -26,6 +27,23 @@ asked_by attrs = record { inherit = has_flag inherit_flag attrs; exclusive = has
 abbrev pub type_wanted : {K : Type 0} → Option K → Wanted K
 type_wanted None = Anything
 type_wanted (Some kind) = Kind kind
+
+-- whether a link is asked for
+abbrev pub is_link_wanted : {K : Type 0} → Wanted K → Bool
+is_link_wanted Anything = false
+is_link_wanted Directory = false
+is_link_wanted Link = true
+is_link_wanted (Kind kind) = false
+
+-- how the name of an open is looked up: a link that the last component names is followed, unless a
+-- link is asked for or the flag OPENLINK is set
+abbrev pub open_mode : {K : Type 0} → Wanted K → ℕ → Mode
+open_mode wanted attrs = record {
+  create = false;
+  fold = has_flag case_insensitive_flag attrs;
+  follow = not (is_link_wanted wanted || has_flag open_link_flag attrs);
+  views = false;
+}
 
 module _ {K T F I : Type 0} (g : Procedures K T F I) where
   -- an object that was found is opened where it is of the type that is asked for: a grant is given

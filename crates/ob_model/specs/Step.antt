@@ -1,17 +1,18 @@
 -- The steps of the abstract machine: for each command the refusals in their order, and then what it
 -- answers and what it leaves. The value of a new handle is the one free choice.
 --
--- Sources: ZwCreateDirectoryObject, ZwOpenDirectoryObject, ZwCreateEvent, ZwOpenEvent, ZwClose,
--- ObQueryNameString and OBJECT_ATTRIBUTES structure (Windows Driver Kit); Windows Internals, Object Manager.
+-- Sources: ZwCreateDirectoryObject, ZwOpenDirectoryObject, ZwCreateSymbolicLinkObject,
+-- ZwOpenSymbolicLinkObject, ZwQuerySymbolicLinkObject, ZwCreateEvent, ZwOpenEvent, ZwClose, ObQueryNameString
+-- and OBJECT_ATTRIBUTES structure (Windows Driver Kit); Windows Internals, Object Manager.
 -- The order of refusals is this profile.
-use Rattle.std.specs.Prelude.{◌≡◌, ℕ, true, false, not, [], ◌∷◌, List, Option, None, MatchOption}
+use Rattle.std.specs.Prelude.{◌≡◌, ℕ, not, [], ◌∷◌, List, Option, None, Some, MatchOption}
 use Rattle.std.specs.Option.{option_and_then}
 use Rattle.ob_base.specs.declared.status.Status.TheVariants.{Success, InvalidHandle, ProcessGone}
 use Rattle.ob_base.specs.Handle.{key_of}
 use Rattle.ob_model.specs.declared.command.Place.{Place}
 use Rattle.ob_model.specs.declared.command.Place.TheVariants as place
 use Rattle.ob_model.specs.declared.command.Command.{Command}
-use Rattle.ob_model.specs.declared.command.Command.TheVariants.{CreateDirectory, CreateObject, OpenDirectory, OpenObject, Close, QueryName}
+use Rattle.ob_model.specs.declared.command.Command.TheVariants.{CreateDirectory, CreateLink, CreateObject, OpenDirectory, OpenLink, OpenObject, Close, QueryLink, QueryName}
 use Rattle.ob_model.specs.declared.reply.Answer.{Answer}
 use Rattle.ob_model.specs.declared.reply.Event.{Event}
 use Rattle.ob_model.specs.declared.reply.Event.TheVariants.{Start}
@@ -19,15 +20,14 @@ use Rattle.ob_model.specs.declared.state.Held.{Held}
 use Rattle.ob_model.specs.declared.state.Wanted.{Wanted}
 use Rattle.ob_model.specs.declared.state.Wanted.TheVariants as wanted
 use Rattle.ob_model.specs.State.{State, is_live, held_of}
-use Rattle.ob_model.specs.Looks.{Look}
-use Rattle.ob_model.specs.FirstLooks.{FirstLooks}
-use Rattle.ob_model.specs.Procedures.{Procedures}
+use Rattle.ob_model.specs.Looks.{Look, LooksUp, most_reparses}
+use Rattle.ob_model.specs.Procedures.{Procedures, without_parse}
 use Rattle.ob_model.specs.Settle.{settle}
 use Rattle.ob_model.specs.Closing.{closed_handle}
 use Rattle.ob_model.specs.Refusals.{answers, create_refusals, open_refusals, IsRefused, Unless}
-use Rattle.ob_model.specs.Creates.{Making, MakesDirectory, MakesObject, Makes, Creates}
-use Rattle.ob_model.specs.Opens.{Opens, type_wanted}
-use Rattle.ob_model.specs.Naming.{TellsName}
+use Rattle.ob_model.specs.Creates.{Making, MakesDirectory, MakesLink, MakesObject, is_fit, create_mode, Makes, Creates}
+use Rattle.ob_model.specs.Opens.{Opens, type_wanted, open_mode}
+use Rattle.ob_model.specs.Naming.{TellsName, TellsTarget}
 
 module _ {K T F I : Type 0} where
   -- a step that uses a handle of the caller, its low two bits ignored: the process is gone, it has no
@@ -37,7 +37,18 @@ module _ {K T F I : Type 0} where
       Unless ((not (is_live s p), ProcessGone) ∷ []) s answer t
       (MatchOption (option_and_then (held_of s p) (key_of handle)) (IsRefused s InvalidHandle answer t) Does)
 
-  -- a query of an object's path changes nothing
+  -- a step that uses a root handle of the caller, where one is given, past the refusals of its name:
+  -- the process has no such handle, or what the step does with the object that it leads to
+  abbrev pub WithRoot : State K T F I → ℕ → (root : Option ℕ) → Answer → State K T F I → (Option ℕ → Type 0) → Type 0
+  WithRoot s p None answer t Does = Does None
+  WithRoot s p (Some handle) answer t Does =
+      MatchOption (option_and_then (held_of s p) (key_of handle)) (IsRefused s InvalidHandle answer t) (λ h. Does (Some h.object))
+
+  -- a query of a link's target changes nothing
+  abbrev pub QueriesLink : State K T F I → ℕ → ℕ → Answer → State K T F I → Type 0
+  QueriesLink s p handle answer t = WithHandle s p handle answer t (λ h. TellsTarget s h.object answer × (t ≡ s))
+
+  -- nor does one of an object's path
   abbrev pub QueriesName : State K T F I → ℕ → ℕ → Answer → State K T F I → Type 0
   QueriesName s p handle answer t = WithHandle s p handle answer t (λ h. TellsName s h.object answer × (t ≡ s))
 
@@ -45,19 +56,21 @@ module _ {K T F I : Type 0} (g : Procedures K T F I) where
   -- what a create does past its refusals, at a name and without one
   abbrev pub CreatesIn : State K T F I → ℕ → Place → ℕ → Making K → Answer → State K T F I → Type 0
   CreatesIn s p (place.At root name) attrs making answer t =
-      (look : Look) × FirstLooks s true name look × Creates g s p attrs making look answer t
+      WithRoot s p root answer t
+      (λ at. (look : Look) × LooksUp (without_parse g) s p (create_mode attrs) most_reparses at name look × Creates g s p attrs making look answer t)
   CreatesIn s p place.Unnamed attrs making answer t = Makes g s p attrs making None answer t
 
   -- a create
   abbrev pub CreatesAt : State K T F I → ℕ → Place → ℕ → Making K → Answer → State K T F I → Type 0
   CreatesAt s p where_to attrs making answer t =
-      Unless (create_refusals (is_live s p) where_to attrs) s answer t (CreatesIn s p where_to attrs making answer t)
+      Unless (create_refusals (is_live s p) (is_fit making) where_to attrs) s answer t (CreatesIn s p where_to attrs making answer t)
 
   -- an open
   abbrev pub OpensName : State K T F I → ℕ → Option ℕ → List ℕ → ℕ → Wanted K → Answer → State K T F I → Type 0
   OpensName s p root name attrs wanted answer t =
-      Unless (open_refusals (is_live s p) root name attrs) s answer t
-      ((look : Look) × FirstLooks s false name look × Opens g s p attrs wanted look answer t)
+      Unless (open_refusals (is_live s p) name attrs) s answer t
+      (WithRoot s p root answer t
+      (λ at. (look : Look) × LooksUp (without_parse g) s p (open_mode wanted attrs) most_reparses at name look × Opens g s p attrs wanted look answer t))
 
   -- a close takes a handle of the caller
   abbrev pub Closes : State K T F I → ℕ → ℕ → Answer → State K T F I → Type 0
@@ -66,10 +79,13 @@ module _ {K T F I : Type 0} (g : Procedures K T F I) where
   -- a step for a command that a process starts
   abbrev pub Starts : State K T F I → ℕ → Command K → Answer → State K T F I → Type 0
   Starts s p (CreateDirectory where_to attrs) answer t = CreatesAt s p where_to attrs MakesDirectory answer t
+  Starts s p (CreateLink where_to attrs target) answer t = CreatesAt s p where_to attrs (MakesLink target) answer t
   Starts s p (CreateObject where_to attrs kind args) answer t = CreatesAt s p where_to attrs (MakesObject kind args) answer t
   Starts s p (OpenDirectory root name attrs) answer t = OpensName s p root name attrs wanted.Directory answer t
+  Starts s p (OpenLink root name attrs) answer t = OpensName s p root name attrs wanted.Link answer t
   Starts s p (OpenObject root name attrs want) answer t = OpensName s p root name attrs (type_wanted want) answer t
   Starts s p (Close handle) answer t = Closes s p handle answer t
+  Starts s p (QueryLink handle) answer t = QueriesLink s p handle answer t
   Starts s p (QueryName handle) answer t = QueriesName s p handle answer t
 
   -- From the state s the machine may answer the event so, and go on to the state t.

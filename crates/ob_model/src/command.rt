@@ -19,7 +19,8 @@ pub enum Place {
 
 /// A command of a process. Flags are raw: a lookup and its refusals judge them. The commands are
 /// those of the Windows Driver Kit's `Zw` routines (`ZwCreateDirectoryObject`,
-/// `ZwOpenDirectoryObject`, `ZwCreateEvent` and its like, `ZwClose`) and of `ObQueryNameString`,
+/// `ZwCreateSymbolicLinkObject`, `ZwCreateEvent` and its like, `ZwOpenDirectoryObject`,
+/// `ZwOpenSymbolicLinkObject`, `ZwClose`, `ZwQuerySymbolicLinkObject`) and of `ObQueryNameString`,
 /// without access masks. `K` is the kind of an object of the set of types.
 #[derive(Debug, Drop)]
 pub enum Command<K> {
@@ -29,6 +30,16 @@ pub enum Command<K> {
         place: Place,
         /// The attribute flags, as raw bits.
         attrs: u32,
+    },
+    /// Makes a symbolic link at a place and opens a handle to it. Uses every flag but OPENLINK.
+    CreateLink {
+        /// Where the link is to stand.
+        place: Place,
+        /// The attribute flags, as raw bits.
+        attrs: u32,
+        /// What is looked up in its place: 1 to 32,767 bytes, each 0x20 to 0x7E, or else the create
+        /// is refused. Whether it is a name is judged when the link is followed.
+        target: Bytes,
     },
     /// Makes an object of a kind of the set at a place and opens a handle to it. Uses every flag
     /// but OPENLINK.
@@ -51,6 +62,16 @@ pub enum Command<K> {
         /// The attribute flags, as raw bits.
         attrs: u32,
     },
+    /// Opens a handle to a symbolic link, which is not followed. Uses INHERIT, EXCLUSIVE,
+    /// CASE_INSENSITIVE and OPENLINK.
+    OpenLink {
+        /// The handle that the name is relative to; none for an absolute name.
+        root: Option<Handle>,
+        /// The name, as handed in.
+        name: Bytes,
+        /// The attribute flags, as raw bits.
+        attrs: u32,
+    },
     /// Opens a handle to an object. Uses INHERIT, EXCLUSIVE, CASE_INSENSITIVE and OPENLINK.
     OpenObject {
         /// The handle that the name is relative to; none for an absolute name.
@@ -64,6 +85,12 @@ pub enum Command<K> {
     },
     /// Closes a handle of the caller. The low two bits of the value are ignored.
     Close {
+        /// The handle.
+        handle: Handle,
+    },
+    /// Asks for the target of the symbolic link of a handle of the caller. The low two bits of the
+    /// value are ignored.
+    QueryLink {
         /// The handle.
         handle: Handle,
     },

@@ -18,8 +18,8 @@ overflow_cast-system_left g c =
 pub settle-requires-after_bounds : goal.settle-requires-after_bounds
 settle-requires-after_bounds g c κs within =
     closed_is_orderly g.row.T-Kind.Denot g.T.TypeSet.procedures g.T.TypeSet.idle c.args.space.now c.requires c.args.process c.args.handle c.in-Some.held c.deref.result.now c.deref.ensures.value (sym c.in-Some.ensures)
-    c.take.new.handles.items c.deref-2.result.now c.deref-3.result.now c.take.ensures c.handle_count_in-process_left.result c.handle_count-system_left.result c.close_object.new.set c.close_object.new.objects.items
-    c.deref-2.ensures.value c.handle_count_in-process_left.ensures c.deref-3.ensures.value c.handle_count-system_left.ensures c.close_object.ensures.set c.close_object.ensures.objects c.closed_idle.ensures
+    c.take.new.handles.items c.deref-2.result.now c.deref-3.result.now c.take.ensures c.handle_count_in-process_left.result c.handle_count-system_left.result c.close.new.set c.close.new.self
+    c.deref-2.ensures.value c.handle_count_in-process_left.ensures c.deref-3.ensures.value c.handle_count-system_left.ensures c.close.ensures.set c.close.ensures.closed c.closed_idle.ensures
 
 pub returns-clause-step : goal.returns-clause-step
 returns-clause-step g c =
@@ -28,5 +28,5 @@ returns-clause-step g c =
     (ap Done c.status_alone-2.ensures)
     (c.settle.ensures.settled ∙ ap (settle g.T.TypeSet.procedures)
     (is_closed g.row.T-Kind.Denot g.T.TypeSet.procedures g.T.TypeSet.idle c.args.space.now c.requires c.args.process c.args.handle c.in-Some.held c.deref.result.now c.deref.ensures.value (sym c.in-Some.ensures)
-    c.take.new.handles.items c.deref-2.result.now c.deref-3.result.now c.take.ensures c.handle_count_in-process_left.result c.handle_count-system_left.result c.close_object.new.set c.close_object.new.objects.items
-    c.deref-2.ensures.value c.handle_count_in-process_left.ensures c.deref-3.ensures.value c.handle_count-system_left.ensures c.close_object.ensures.set c.close_object.ensures.objects))
+    c.take.new.handles.items c.deref-2.result.now c.deref-3.result.now c.take.ensures c.handle_count_in-process_left.result c.handle_count-system_left.result c.close.new.set c.close.new.self
+    c.deref-2.ensures.value c.handle_count_in-process_left.ensures c.deref-3.ensures.value c.handle_count-system_left.ensures c.close.ensures.set c.close.ensures.closed))

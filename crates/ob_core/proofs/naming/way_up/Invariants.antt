@@ -2,16 +2,17 @@
 -- the object; and where the object has a way up, that directory has one.
 use Rattle.std.proofs.Common.{ℕ, List, ◌++◌, map}
 use Rattle.ob_model.specs.Naming.{IsWayUp}
+use Rattle.ob_objects.specs.Store.{rows_of}
 use Rattle.ob_core.specs.Namespace.{rows_alone}
 use Rattle.ob_core.proofs.naming.way_up.Given as goal
 
 abbrev pub invariant-loop-current : goal.invariant-loop-current
-invariant-loop-current l =
-    let s = rows_alone l.rows in
+invariant-loop-current g l =
+    let s = rows_alone (rows_of l.store) in
     record {
-      behind : (cs : List (List ℕ)) → IsWayUp s l.current cs → IsWayUp s l.fn.object (map (λ row. row.now.name) l.way.items ++ cs);
+      behind : (cs : List (List ℕ)) → IsWayUp s l.current cs → IsWayUp s l.fn.object (map (λ entry. entry.now.name) l.way.items ++ cs);
       onward : (cs : List (List ℕ)) → IsWayUp s l.fn.object cs → (ds : List (List ℕ)) × IsWayUp s l.current ds;
     }
 
 abbrev pub decreases-loop-current : goal.decreases-loop-current
-decreases-loop-current l = l.current
+decreases-loop-current g l = l.current

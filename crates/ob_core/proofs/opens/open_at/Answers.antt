@@ -1,5 +1,5 @@
 -- An open of an object that was found is granted or denied.
-use Rattle.std.proofs.Common.{ap, ◌∙◌, subst, refl}
+use Rattle.std.proofs.Common.{ap, sym, ◌∙◌, subst, refl}
 use Rattle.std.specs.Prelude.{Result}
 use Rattle.ob_model.specs.Procedures as model
 use Rattle.ob_model.specs.declared.reply.Answer.TheVariants.{Done}
@@ -7,7 +7,6 @@ use Rattle.ob_model.specs.Grants.{Grants}
 use Rattle.ob_model.specs.Opens.{asked_by}
 use Rattle.ob_core.specs.Namespace.{state_of}
 use Rattle.ob_core.proofs.Stepping.{opens_granted, opens_denied}
-use Rattle.ob_core.proofs.Judged.{wanted_is}
 use Rattle.ob_core.proofs.opens.open_at.Goals as goal
 
 pub returns-in-Ok-clause-step : goal.returns-in-Ok-clause-step
@@ -15,7 +14,7 @@ returns-in-Ok-clause-step g c =
     let s = state_of g.row.T-Kind.Denot c.args.space.now in
     let u = state_of g.row.T-Kind.Denot c.grant.new.space in
     opens_granted g.T.TypeSet.procedures s c.args.process c.args.object c.args.attrs c.args.wanted c.args.status _
-    (wanted_is g.row.T-Kind.Denot c.args.space.now g.T.TypeSet.procedures c.args.object c.args.wanted c.deref.result.now c.is_wanted_at.result c.deref.ensures.value c.is_wanted_at.ensures ∙ c.if-not-is_wanted_at.false)
+    (sym c.is_wanted_at.ensures ∙ c.if-not-is_wanted_at.false)
     _ u c.in-Ok.value (subst (λ (answer : Result _ _). Grants g.T.TypeSet.procedures s c.args.process c.args.object (asked_by c.args.attrs) model.Opened answer u) c.in-Ok.is c.in_ok-value.ensures.granted)
     (ap Done c.with_handle.ensures) c.settle.ensures.settled
 
@@ -24,6 +23,6 @@ returns-in-Err-clause-step g c =
     let s = state_of g.row.T-Kind.Denot c.args.space.now in
     let u = state_of g.row.T-Kind.Denot c.grant.new.space in
     opens_denied g.T.TypeSet.procedures s c.args.process c.args.object c.args.attrs c.args.wanted c.args.status _
-    (wanted_is g.row.T-Kind.Denot c.args.space.now g.T.TypeSet.procedures c.args.object c.args.wanted c.deref.result.now c.is_wanted_at.result c.deref.ensures.value c.is_wanted_at.ensures ∙ c.if-not-is_wanted_at.false)
+    (sym c.is_wanted_at.ensures ∙ c.if-not-is_wanted_at.false)
     _ u c.in-Err.refusal (subst (λ (answer : Result _ _). Grants g.T.TypeSet.procedures s c.args.process c.args.object (asked_by c.args.attrs) model.Opened answer u) c.in-Err.is c.in_ok-value.ensures.granted)
     (ap Done c.status_alone-in-Err.ensures) refl

@@ -1,0 +1,19 @@
+-- A step leaves a sound state, and so does none.
+use Rattle.ob_model.specs.declared.reply.Answer.TheVariants.{Done}
+use Rattle.ob_model.specs.declared.reply.Event.TheVariants.{Start}
+use Rattle.ob_model.proofs.Steps.{step_sound}
+use Rattle.ob_core.specs.Namespace.{state_of}
+use Rattle.ob_core.proofs.Results.{from_result}
+use Rattle.ob_core.proofs.Looked.{same_sound}
+use Rattle.ob_core.proofs.commands.Core.start.Goals as goal
+
+pub invariant_of-self-2 : goal.invariant_of-self-2
+invariant_of-self-2 g c =
+    let s = state_of g.row.T-Kind.Denot c.self.inside.space in
+    let t = state_of g.row.T-Kind.Denot c.reply_to.new.space in
+    record {
+      orderly = c.reply_to.ensures.orderly;
+      sound = from_result c.reply_to.result _ _ _
+          (λ reply step. step_sound g.T.TypeSet.procedures s t (Start c.args.process c.args.command.now) (Done reply) c.self.invariant.sound step)
+          (λ same. same_sound s t c.self.invariant.sound same) c.reply_to.ensures.step c.reply_to.ensures.err;
+    }
