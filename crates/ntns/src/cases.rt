@@ -13,7 +13,7 @@ struct Case {
     status: u8,
 }
 
-const CASES: [Case; 22] = [
+const CASES: [Case; 37] = [
     Case {
         shows: b"an empty script prints nothing",
         script: b"",
@@ -27,9 +27,9 @@ const CASES: [Case; 22] = [
         status: 0,
     },
     Case {
-        shows: b"an absolute name is fully qualified, and has no empty component",
-        script: b"p1 dir \"\\A\" - =a\np1 opendir \"\\\" - =r\np1 opendir \"\" - =x\np1 opendir \"A\" - =x\np1 opendir \"\\A\\\" - =x\np1 opendir \"\\A\\\\B\" - =x\n",
-        prints: b"1: SUCCESS\n2: SUCCESS\n3: OBJECT_PATH_SYNTAX_BAD\n4: OBJECT_PATH_SYNTAX_BAD\n5: OBJECT_NAME_INVALID\n6: OBJECT_NAME_INVALID\n",
+        shows: b"an absolute name is fully qualified, a relative one isn't, and neither has an empty component",
+        script: b"p1 dir \"\\A\" - =a\np1 opendir \"\\\" - =r\np1 opendir \"\" - =x\np1 opendir \"A\" - =x\np1 opendir \"\\A\\\" - =x\np1 opendir \"\\A\\\\B\" - =x\np1 opendir a:\"\" - =x\np1 opendir a:\"\\B\" - =x\n",
+        prints: b"1: SUCCESS\n2: SUCCESS\n3: OBJECT_PATH_SYNTAX_BAD\n4: OBJECT_PATH_SYNTAX_BAD\n5: OBJECT_NAME_INVALID\n6: OBJECT_NAME_INVALID\n7: SUCCESS\n8: OBJECT_PATH_SYNTAX_BAD\n",
         status: 0,
     },
     Case {
@@ -52,14 +52,14 @@ const CASES: [Case; 22] = [
     },
     Case {
         shows: b"a name that is there collides, and flags that aren't served are refused",
-        script: b"p1 dir \"\\Device\" - =d\np1 dir \"\\A\" OC =a\np1 dir \"\\A\" C =a\np1 dir \"\\A\" IE =a\np1 opendir \"\\Device\" L =a\np1 opendir \"\\Device\" PO =a\n",
-        prints: b"1: OBJECT_NAME_COLLISION\n2: INVALID_PARAMETER\n3: INVALID_PARAMETER\n4: INVALID_PARAMETER\n5: INVALID_PARAMETER\n6: SUCCESS\n",
+        script: b"p1 dir \"\\Device\" - =d\np1 dir \"\\A\" OI =a\np1 dir \"\\A\" E =a\np1 dir \"\\A\" IE =a\np1 opendir \"\\Device\" I =a\np1 openlink \"\\DosDevices\" E =a\np1 opendir \"\\Device\" PO =a\n",
+        prints: b"1: OBJECT_NAME_COLLISION\n2: INVALID_PARAMETER\n3: INVALID_PARAMETER\n4: INVALID_PARAMETER\n5: INVALID_PARAMETER\n6: INVALID_PARAMETER\n7: SUCCESS\n",
         status: 0,
     },
     Case {
-        shows: b"a link isn't followed yet, and the view of device names has no meaning of its own",
-        script: b"p1 opendir \"\\DosDevices\" - =x\np1 opendir \"\\DosDevices\\C:\" - =x\np1 dir \"\\DosDevices\\C:\" - =x\np1 opendir \"\\??\" - =x\np1 dir \"\\??\" - =x\np1 opendir \"\\??\\C:\" - =x\n",
-        prints: b"1: OBJECT_TYPE_MISMATCH\n2: OBJECT_TYPE_MISMATCH\n3: OBJECT_TYPE_MISMATCH\n4: OBJECT_NAME_NOT_FOUND\n5: OBJECT_NAME_INVALID\n6: OBJECT_PATH_NOT_FOUND\n",
+        shows: b"the view of device names has no meaning of its own yet, by its name and behind the link to it",
+        script: b"p1 opendir \"\\??\" - =x\np1 dir \"\\??\" - =x\np1 opendir \"\\??\\C:\" - =x\np1 opendir \"\\DosDevices\" - =x\np1 opendir \"\\DosDevices\\C:\" - =x\np1 dir \"\\DosDevices\\C:\" - =x\np1 openlink \"\\DosDevices\" - =x\np1 target x\n",
+        prints: b"1: OBJECT_NAME_NOT_FOUND\n2: OBJECT_NAME_INVALID\n3: OBJECT_PATH_NOT_FOUND\n4: OBJECT_NAME_NOT_FOUND\n5: OBJECT_PATH_NOT_FOUND\n6: OBJECT_PATH_NOT_FOUND\n7: SUCCESS\n8: SUCCESS \"\\??\"\n",
         status: 0,
     },
     Case {
@@ -141,6 +141,96 @@ const CASES: [Case; 22] = [
         status: 0,
     },
     Case {
+        shows: b"a relative name goes on from the directory of a handle",
+        script: b"p1 dir \"\\A\" - =a\np1 dir a:\"B\" - =b\np1 make Event b:\"E\" - \"\" =e\np1 name e\np1 open Event a:\"B\\E\" - =f\np1 open any a:\"B\" - =g\np1 name g\np1 opendir a:\"b\" - =x\np1 opendir a:\"C\\D\" - =x\np1 opendir a:\"B\\\" - =x\np1 opendir a:\"B\" - =a\np1 name a\n",
+        prints: b"1: SUCCESS\n2: SUCCESS\n3: SUCCESS\n4: SUCCESS \"\\A\\B\\E\"\n5: SUCCESS\n6: SUCCESS\n7: SUCCESS \"\\A\\B\"\n8: OBJECT_NAME_NOT_FOUND\n9: OBJECT_PATH_NOT_FOUND\n10: OBJECT_NAME_INVALID\n11: SUCCESS\n12: SUCCESS \"\\A\\B\"\n",
+        status: 0,
+    },
+    Case {
+        shows: b"a word that spells none is a handle word before a colon",
+        script: b"p1 dir \"\\N\" - =none\np1 dir none:\"M\" - =m\np1 name m\np1 dir none - =none\np1 name none\n",
+        prints: b"1: SUCCESS\n2: SUCCESS\n3: SUCCESS \"\\N\\M\"\n4: SUCCESS\n5: SUCCESS \"\"\n",
+        status: 0,
+    },
+    Case {
+        shows: b"a root handle to a link or to an event leads nowhere, and one that was never set is none",
+        script: b"p1 link \"\\L\" - \"\\Device\" =l\np1 make Event \"\\E\" - \"\" =e\np1 opendir l:\"\" - =x\np1 openlink l:\"\" - =x\np1 dir l:\"A\" - =x\np1 open any e:\"\" - =x\np1 link e:\"A\" - \"\\A\" =x\np1 opendir e:\"\\A\" - =x\np1 opendir z:\"A\" - =x\np1 opendir z:\"\\A\" - =x\np1 make Event z:\"A\" - \"\" =x\np1 openlink z:\"%07\" - =x\nq opendir l:\"A\" - =x\n",
+        prints: b"1: SUCCESS\n2: SUCCESS\n3: OBJECT_TYPE_MISMATCH\n4: OBJECT_TYPE_MISMATCH\n5: OBJECT_TYPE_MISMATCH\n6: OBJECT_TYPE_MISMATCH\n7: OBJECT_TYPE_MISMATCH\n8: OBJECT_PATH_SYNTAX_BAD\n9: INVALID_HANDLE\n10: INVALID_HANDLE\n11: INVALID_HANDLE\n12: OBJECT_NAME_INVALID\n13: PROCESS_GONE\n",
+        status: 0,
+    },
+    Case {
+        shows: b"the one that was made first is found where two spellings match without case",
+        script: b"p1 make Event \"\\Foo\" - \"\" =a\np1 make Event \"\\foo\" - \"\" =b\np1 open Event \"\\FOO\" C =c\np1 name c\np1 close c\np1 close a\np1 open Event \"\\FOO\" C =c\np1 name c\np1 make Event \"\\FOO\" C \"\" =d\n",
+        prints: b"1: SUCCESS\n2: SUCCESS\n3: SUCCESS\n4: SUCCESS \"\\Foo\"\n5: SUCCESS\n6: SUCCESS\n7: SUCCESS\n8: SUCCESS \"\\foo\"\n9: OBJECT_NAME_COLLISION\n",
+        status: 0,
+    },
+    Case {
+        shows: b"case is folded in every component, of a target too",
+        script: b"p1 dir \"\\A\" - =a\np1 dir a:\"B\" - =b\np1 link \"\\L\" - \"\\a\" =l\np1 opendir \"\\l\\b\" C =x\np1 name x\np1 opendir \"\\L\\B\" - =x\np1 openlink \"\\l\" C =x\np1 target x\np1 dir a:\"b\" C =x\np1 dir a:\"b\" - =x\n",
+        prints: b"1: SUCCESS\n2: SUCCESS\n3: SUCCESS\n4: SUCCESS\n5: SUCCESS \"\\A\\B\"\n6: OBJECT_PATH_NOT_FOUND\n7: SUCCESS\n8: SUCCESS \"\\a\"\n9: OBJECT_NAME_COLLISION\n10: SUCCESS\n",
+        status: 0,
+    },
+    Case {
+        shows: b"a link to itself isn't followed for ever, and can be opened as a link",
+        script: b"p1 link \"\\S\" - \"\\S\" =s\np1 opendir \"\\S\" - =x\np1 opendir \"\\S\" L =x\np1 openlink \"\\S\" - =x\np1 target x\n",
+        prints: b"1: SUCCESS\n2: REPARSE_LIMIT\n3: OBJECT_TYPE_MISMATCH\n4: SUCCESS\n5: SUCCESS \"\\S\"\n",
+        status: 0,
+    },
+    Case {
+        shows: b"a target may end in a backslash, and one that is no absolute name leads nowhere",
+        script: b"p1 dir \"\\A\" - =a\np1 dir \"\\A\\B\" - =b\np1 link \"\\K\" - \"\\A\\\" =k\np1 link \"\\M\" - \"A\" =m\np1 opendir \"\\K\\B\" - =x\np1 opendir \"\\K\" - =x\np1 opendir \"\\M\\B\" - =x\n",
+        prints: b"1: SUCCESS\n2: SUCCESS\n3: SUCCESS\n4: SUCCESS\n5: SUCCESS\n6: OBJECT_NAME_INVALID\n7: OBJECT_PATH_SYNTAX_BAD\n",
+        status: 0,
+    },
+    Case {
+        shows: b"a link is followed in the midst of a path, and what is made behind it stands where it leads",
+        script: b"p1 dir \"\\A\" - =a\np1 dir \"\\A\\B\" - =b\np1 dir \"\\A\\B\\C\" - =c\np1 link a:\"L\" - \"\\A\\B\" =l\np1 opendir \"\\A\\L\\C\" - =x\np1 name x\np1 opendir a:\"L\\C\" - =x\np1 dir \"\\A\\L\\New\" - =n\np1 name n\np1 make Event a:\"L\\E\" - \"\" =e\np1 name e\np1 opendir \"\\A\\L\\No\" - =x\np1 opendir \"\\A\\L\\No\\C\" - =x\np1 openlink \"\\A\\L\\\" - =x\n",
+        prints: b"1: SUCCESS\n2: SUCCESS\n3: SUCCESS\n4: SUCCESS\n5: SUCCESS\n6: SUCCESS \"\\A\\B\\C\"\n7: SUCCESS\n8: SUCCESS\n9: SUCCESS \"\\A\\B\\New\"\n10: SUCCESS\n11: SUCCESS \"\\A\\B\\E\"\n12: OBJECT_NAME_NOT_FOUND\n13: OBJECT_PATH_NOT_FOUND\n14: OBJECT_NAME_INVALID\n",
+        status: 0,
+    },
+    Case {
+        shows: b"a create at the name of a link doesn't go where it leads",
+        script: b"p1 link \"\\L\" - \"\\New\" =l\np1 dir \"\\L\" - =x\np1 make Event \"\\L\" - \"\" =x\np1 link \"\\L\" - \"\\A\" =x\np1 dir \"\\L\" O =x\np1 link \"\\L\" O \"\\A\" =x\np1 target x\np1 opendir \"\\L\" - =x\np1 opendir \"\\L\\A\" - =x\np1 dir \"\\New\" - =n\np1 opendir \"\\L\" - =x\np1 name x\n",
+        prints: b"1: SUCCESS\n2: OBJECT_NAME_COLLISION\n3: OBJECT_NAME_COLLISION\n4: OBJECT_NAME_COLLISION\n5: OBJECT_TYPE_MISMATCH\n6: OBJECT_NAME_EXISTS\n7: SUCCESS \"\\New\"\n8: OBJECT_NAME_NOT_FOUND\n9: OBJECT_PATH_NOT_FOUND\n10: SUCCESS\n11: SUCCESS\n12: SUCCESS \"\\New\"\n",
+        status: 0,
+    },
+    Case {
+        shows: b"an open of any object follows a link, and with OPENLINK opens it",
+        script: b"p1 link \"\\L\" - \"\\Device\" =l\np1 open any \"\\L\" - =x\np1 name x\np1 target x\np1 open any \"\\L\" L =y\np1 name y\np1 target y\np1 open Event \"\\L\" L =z\np1 openlink \"\\Device\" - =z\np1 openlink \"\\No\" - =z\np1 opendir \"\\L\" L =z\np1 opendir \"\\Device\" L =z\n",
+        prints: b"1: SUCCESS\n2: SUCCESS\n3: SUCCESS \"\\Device\"\n4: OBJECT_TYPE_MISMATCH\n5: SUCCESS\n6: SUCCESS \"\\L\"\n7: SUCCESS \"\\Device\"\n8: OBJECT_TYPE_MISMATCH\n9: OBJECT_TYPE_MISMATCH\n10: OBJECT_NAME_NOT_FOUND\n11: OBJECT_TYPE_MISMATCH\n12: SUCCESS\n",
+        status: 0,
+    },
+    Case {
+        shows: b"a target that is empty, or has a byte that no name has, is refused before the name",
+        script: b"p1 link \"\\L\" - \"\" =l\np1 link \"\\L\" - \"\\%07\" =l\np1 link \"\\%07\" - \"\" =l\np1 link none - \"\\%7F\" =l\np1 link \"\\L\" - \" \" =l\np1 target l\n",
+        prints: b"1: INVALID_PARAMETER\n2: INVALID_PARAMETER\n3: INVALID_PARAMETER\n4: INVALID_PARAMETER\n5: SUCCESS\n6: SUCCESS \" \"\n",
+        status: 0,
+    },
+    Case {
+        shows: b"the target of a link is told, and of nothing else",
+        script: b"p1 link none - \"%22a%25 %5B\" =l\np1 target l\np1 name l\np1 target l\np1 opendir \"\\Device\" - =d\np1 target d\np1 make Event none - \"\" =e\np1 target e\np1 target z\nq target l\n",
+        prints: b"1: SUCCESS\n2: SUCCESS \"%22a%25 [\"\n3: SUCCESS \"\"\n4: SUCCESS \"%22a%25 [\"\n5: SUCCESS\n6: OBJECT_TYPE_MISMATCH\n7: SUCCESS\n8: OBJECT_TYPE_MISMATCH\n9: INVALID_HANDLE\n10: PROCESS_GONE\n",
+        status: 0,
+    },
+    Case {
+        shows: b"a link goes with its last handle, or stays where it is permanent, and counts as an object",
+        script: b"p1 link \"\\T\" - \"\\Device\" =t\np1 link \"\\P\" P \"\\Device\" =p\nstat\np1 close t\np1 close p\nstat\np1 openlink \"\\T\" - =t\np1 opendir \"\\T\" - =t\np1 openlink \"\\P\" - =p\np1 opendir \"\\P\" - =d\n",
+        prints: b"1: SUCCESS\n2: SUCCESS\n3: objects 8 handles 2 opens 0 closes 0 deletes 0\n4: SUCCESS\n5: SUCCESS\n6: objects 7 handles 0 opens 0 closes 0 deletes 0\n7: OBJECT_NAME_NOT_FOUND\n8: OBJECT_NAME_NOT_FOUND\n9: SUCCESS\n10: SUCCESS\n",
+        status: 0,
+    },
+    Case {
+        shows: b"the root has no entry of two question marks, by whichever name",
+        script: b"p1 dir \"\\??\" - =c\np1 opendir \"\\\" - =r\np1 dir r:\"??\" - =c\np1 link r:\"??\" - \"\\A\" =c\np1 dir \"\\A\" - =a\np1 dir a:\"??\" - =c\np1 name c\n",
+        prints: b"1: OBJECT_NAME_INVALID\n2: SUCCESS\n3: OBJECT_NAME_INVALID\n4: OBJECT_NAME_INVALID\n5: SUCCESS\n6: SUCCESS\n7: SUCCESS \"\\A\\??\"\n",
+        status: 0,
+    },
+    Case {
+        shows: b"a name without a text behind its colon makes no script line",
+        script: b"p1 dir \"\\A\" - =a\np1 opendir a: - =x\n",
+        prints: b"1: SUCCESS\n2: not a script line\n",
+        status: 1,
+    },
+    Case {
         shows: b"a kind that isn't served makes no script line, behind lines that were run",
         script: b"stat\np1 make Device \"\\D\" - \"\" =d\nstat\n",
         prints: b"1: objects 6 handles 0 opens 0 closes 0 deletes 0\n2: not a script line\n",
@@ -213,6 +303,54 @@ fn long_names_and_lines_end_where_the_rules_say(rt: HostRuntime) -> Result<(), F
             0,
         ),
         (
+            b"p1 link \"\\N\" - \"\\",
+            b'a',
+            32_764,
+            b"\" =n\np1 opendir \"\\N\\B\" - =x\n",
+            b"1: SUCCESS\n2: OBJECT_PATH_NOT_FOUND\n",
+            0,
+        ),
+        (
+            b"p1 link \"\\N\" - \"\\",
+            b'a',
+            32_765,
+            b"\" =n\np1 opendir \"\\N\\B\" - =x\n",
+            b"1: SUCCESS\n2: NAME_TOO_LONG\n",
+            0,
+        ),
+        (
+            b"p1 link \"\\N\" - \"\\",
+            b'a',
+            32_766,
+            b"\" =n\np1 opendir \"\\N\" - =x\n",
+            b"1: SUCCESS\n2: OBJECT_NAME_NOT_FOUND\n",
+            0,
+        ),
+        (
+            b"p1 link \"\\N\" - \"\\",
+            b'a',
+            32_767,
+            b"\" =n\np1 openlink \"\\N\" - =x\n",
+            b"1: INVALID_PARAMETER\n2: OBJECT_NAME_NOT_FOUND\n",
+            0,
+        ),
+        (
+            b"p1 opendir \"\\\" - =r\np1 opendir r:\"",
+            b'a',
+            32_767,
+            b"\" - =x\n",
+            b"1: SUCCESS\n2: OBJECT_NAME_NOT_FOUND\n",
+            0,
+        ),
+        (
+            b"p1 opendir \"\\\" - =r\np1 opendir r:\"",
+            b'a',
+            32_768,
+            b"\" - =x\n",
+            b"1: SUCCESS\n2: NAME_TOO_LONG\n",
+            0,
+        ),
+        (
             b"#",
             b'a',
             262_143,
@@ -244,6 +382,64 @@ fn long_names_and_lines_end_where_the_rules_say(rt: HostRuntime) -> Result<(), F
         assert_eq!(rt; output.as_slice(), prints, "at {times}");
         assert_eq!(rt; status, wanted, "at {times}");
         assert_eq!(rt; errors.len(), 0, "at {times}");
+    }
+    Ok(())
+}
+
+// A script that makes a directory `\A` and links, each to the next one, the last of which, `\L32`, leads
+// to the directory; and opens the first.
+fn chain(alloc: Global, first: u32) -> Result<Vec<u8>, AllocError> {
+    let mut script = Vec::new(alloc);
+    script.extend_from_slice(b"p1 dir \"\\A\" - =a\n")?;
+    for number in first..32 {
+        let next = number + 1;
+        let line = format!(in alloc; "p1 link \"\\L{number}\" - \"\\L{next}\" =l\n")?;
+        script.extend_from_slice(line.as_bytes())?;
+    }
+    script.extend_from_slice(b"p1 link \"\\L32\" - \"\\A\" =l\n")?;
+    let line = format!(in alloc; "p1 opendir \"\\L{first}\" - =x\n")?;
+    script.extend_from_slice(line.as_bytes())?;
+    Ok(script)
+}
+
+// What it prints: a success for each line but the last one, of this number, and this reply for it.
+fn chain_prints(alloc: Global, last: u32, reply: &[u8]) -> Result<Vec<u8>, AllocError> {
+    let mut prints = Vec::new(alloc);
+    for number in 1..last {
+        let line = format!(in alloc; "{number}: SUCCESS\n")?;
+        prints.extend_from_slice(line.as_bytes())?;
+    }
+    let front = format!(in alloc; "{last}: ")?;
+    prints.extend_from_slice(front.as_bytes())?;
+    prints.extend_from_slice(reply)?;
+    prints.push(b'\n')?;
+    Ok(prints)
+}
+
+#[test]
+fn a_chain_of_32_links_is_followed_and_no_longer_one(rt: HostRuntime) -> Result<(), Fail> {
+    let table = [
+        (32, 3, b"SUCCESS".as_slice()),
+        (2, 33, b"SUCCESS"),
+        (1, 34, b"SUCCESS"),
+        (0, 35, b"REPARSE_LIMIT"),
+    ];
+    for (first, last, reply) in table {
+        let script = chain(rt.alloc(), first)?;
+        let prints = chain_prints(rt.alloc(), last, reply)?;
+        let mut reader = script.as_slice();
+        let mut output = Vec::new(rt.alloc());
+        let mut errors = Vec::new(rt.alloc());
+        let status = perform(
+            rt.alloc(),
+            Task::Script,
+            &mut reader,
+            &mut output,
+            &mut errors,
+        );
+        assert_eq!(rt; output.as_slice(), prints.as_slice(), "from {first}");
+        assert_eq!(rt; status, 0, "from {first}");
+        assert_eq!(rt; errors.len(), 0, "from {first}");
     }
     Ok(())
 }

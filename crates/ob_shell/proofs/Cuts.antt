@@ -30,6 +30,14 @@ lacks_no_cut m [] (c ∷ a) b l e = cc
 lacks_no_cut m (c ∷ bytes) [] b l e = let h : c ≡ m = cc in l.0 h
 lacks_no_cut m (c ∷ bytes) (d ∷ a) b l e = let t : bytes ≡ a ++ (m ∷ b) = cc in lacks_no_cut m bytes a b l.1 t
 
+-- a cut at one byte is no cut at another, where neither front has the other's byte
+pub cuts_apart : (m n : ℕ) (a b x y : List ℕ) → m ≢ n → Lacks n a → Lacks m x → a ++ (m ∷ b) ≡ x ++ (n ∷ y) → ⊥
+cuts_apart m n [] b [] y d la lx e = let h : m ≡ n = cc in d h
+cuts_apart m n [] b (c ∷ x) y d la lx e = let h : c ≡ m = cc in lx.0 h
+cuts_apart m n (c ∷ a) b [] y d la lx e = let h : c ≡ n = cc in la.0 h
+cuts_apart m n (c ∷ a) b (c' ∷ x) y d la lx e =
+    let tails : a ++ (m ∷ b) ≡ x ++ (n ∷ y) = cc in cuts_apart m n a b x y d la.1 lx.1 tails
+
 -- what stands before the first byte of a value has none of it
 pub lacks_before : (m : ℕ) (xs : List ℕ) → Lacks m (take (position_or_len (λ b. eqb b m) xs) xs)
 lacks_before m xs =

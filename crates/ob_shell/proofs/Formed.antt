@@ -7,34 +7,45 @@ use Rattle.std.proofs.lemmas.Slice.Eq.{bytes_eq-Decides}
 use Rattle.ob_plain.specs.declared.plain.PlainKind.{PlainKind}
 use Rattle.ob_shell.specs.declared.form.Form.{Form}
 use Rattle.ob_shell.specs.declared.form.Form.TheVariants.{Nothing, Stat, Asks}
+use Rattle.ob_shell.specs.declared.request.NameForm.{NameForm}
+use Rattle.ob_shell.specs.declared.request.NameForm.TheVariants.{Absolute, Relative}
 use Rattle.ob_shell.specs.declared.request.PlaceForm.{PlaceForm}
+use Rattle.ob_shell.specs.declared.request.PlaceForm.TheVariants.{Named, Unnamed}
 use Rattle.ob_shell.specs.declared.request.Request.{Request}
-use Rattle.ob_shell.specs.declared.request.Request.TheVariants.{CreateDirectory, CreateObject, OpenDirectory, OpenObject, Close, QueryName}
+use Rattle.ob_shell.specs.declared.request.Request.TheVariants.{CreateDirectory, CreateLink, CreateObject, OpenDirectory, OpenLink, OpenObject, Close, QueryLink, QueryName}
 use Rattle.ob_shell.specs.declared.verb.Verb.{Verb}
 use Rattle.ob_shell.specs.declared.verb.Verb.TheVariants as verb
-use Rattle.ob_shell.specs.Text.{Lacks, IsProcessWord}
-use Rattle.ob_shell.specs.Parts.{BeginsWithPlace, BeginsWithText}
-use Rattle.ob_shell.specs.Grammar.{verb_text, verb_of, IsOperands, IsRequest, IsFlagsAndWord, IsFlagsTextAndWord, IsIdle, IsLine, LinesHaveOneForm}
+use Rattle.ob_shell.specs.Text.{Lacks, IsText, IsProcessWord}
+use Rattle.ob_shell.specs.Parts.{BeginsWithName, BeginsWithPlace}
+use Rattle.ob_shell.specs.Grammar.{verb_text, verb_of, IsOperands, IsRequest, IsFlagsAndWord, IsFlagsTextAndWord, IsNameFlagsAndWord, IsPlaceFlagsTextAndWord, IsIdle, IsLine, LinesHaveOneForm}
+use Rattle.ob_shell.specs.Commands.{text_of}
+use Rattle.ob_shell.specs.Running.{HasPlaceText, HasTexts}
 use Rattle.ob_shell.proofs.Cuts.{cut_alike, lacks_no_cut}
 use Rattle.ob_shell.proofs.Spelled.{word_lacks}
 use Rattle.ob_shell.proofs.Flagged.{lacks_from_test}
-use Rattle.ob_shell.proofs.Parted.{apart, differ, moved, spaced, spaced_alike, text_alike, place_alike, kind_alike, want_alike, ends_alike, text_ends_alike}
+use Rattle.ob_shell.proofs.Parted.{apart, differ, moved, spaced, spaced_alike, place_alike, kind_alike, want_alike, ends_alike, name_ends_alike, place_ends_alike}
 
 -- the words of verbs have no space, and no two verbs share one
 pub verb_lacks : (v : Verb) → Lacks 0x20 (verb_text v)
 verb_lacks verb.Dir = lacks_from_test 0x20 (codes "dir") refl
+verb_lacks verb.Link = lacks_from_test 0x20 (codes "link") refl
 verb_lacks verb.Make = lacks_from_test 0x20 (codes "make") refl
 verb_lacks verb.OpenDir = lacks_from_test 0x20 (codes "opendir") refl
+verb_lacks verb.OpenLink = lacks_from_test 0x20 (codes "openlink") refl
 verb_lacks verb.Open = lacks_from_test 0x20 (codes "open") refl
 verb_lacks verb.Close = lacks_from_test 0x20 (codes "close") refl
+verb_lacks verb.Target = lacks_from_test 0x20 (codes "target") refl
 verb_lacks verb.Name = lacks_from_test 0x20 (codes "name") refl
 
 pub verb_same : (a b : Verb) → verb_text a ≡ verb_text b → a ≡ b
 verb_same verb.Dir verb.Dir e = refl
+verb_same verb.Link verb.Link e = refl
 verb_same verb.Make verb.Make e = refl
 verb_same verb.OpenDir verb.OpenDir e = refl
+verb_same verb.OpenLink verb.OpenLink e = refl
 verb_same verb.Open verb.Open e = refl
 verb_same verb.Close verb.Close e = refl
+verb_same verb.Target verb.Target e = refl
 verb_same verb.Name verb.Name e = refl
 verb_same a b e = absurd (differ (verb_text a) (verb_text b) refl e)
 
@@ -44,27 +55,44 @@ pub no_directory : (bytes : List ℕ) (v : Verb) → v ≡ verb.Dir → ((p : Pl
 no_directory bytes v d none (CreateDirectory p a w) e s = none p a w s
 no_directory bytes v d none r e s = absurd (differ (verb_text (verb_of r)) (verb_text verb.Dir) refl (ap verb_text (e ∙ d)))
 
+pub no_link : (bytes : List ℕ) (v : Verb) → v ≡ verb.Link
+    → ((p : PlaceForm (List ℕ)) (a : ℕ) (t w : List ℕ) → ¬ IsOperands bytes (CreateLink p a t w))
+    → (r : Request (List ℕ)) → verb_of r ≡ v → ¬ IsOperands bytes r
+no_link bytes v d none (CreateLink p a t w) e s = none p a t w s
+no_link bytes v d none r e s = absurd (differ (verb_text (verb_of r)) (verb_text verb.Link) refl (ap verb_text (e ∙ d)))
+
 pub no_object : (bytes : List ℕ) (v : Verb) → v ≡ verb.Make
     → ((k : PlainKind) (p : PlaceForm (List ℕ)) (a : ℕ) (t w : List ℕ) → ¬ IsOperands bytes (CreateObject k p a t w))
     → (r : Request (List ℕ)) → verb_of r ≡ v → ¬ IsOperands bytes r
 no_object bytes v d none (CreateObject k p a t w) e s = none k p a t w s
 no_object bytes v d none r e s = absurd (differ (verb_text (verb_of r)) (verb_text verb.Make) refl (ap verb_text (e ∙ d)))
 
-pub no_open_directory : (bytes : List ℕ) (v : Verb) → v ≡ verb.OpenDir → ((t : List ℕ) (a : ℕ) (w : List ℕ) → ¬ IsOperands bytes (OpenDirectory t a w))
+pub no_open_directory : (bytes : List ℕ) (v : Verb) → v ≡ verb.OpenDir
+    → ((n : NameForm (List ℕ)) (a : ℕ) (w : List ℕ) → ¬ IsOperands bytes (OpenDirectory n a w))
     → (r : Request (List ℕ)) → verb_of r ≡ v → ¬ IsOperands bytes r
-no_open_directory bytes v d none (OpenDirectory t a w) e s = none t a w s
+no_open_directory bytes v d none (OpenDirectory n a w) e s = none n a w s
 no_open_directory bytes v d none r e s = absurd (differ (verb_text (verb_of r)) (verb_text verb.OpenDir) refl (ap verb_text (e ∙ d)))
 
-pub no_open_object : (bytes : List ℕ) (v : Verb) → v ≡ verb.Open
-    → ((k : Option PlainKind) (t : List ℕ) (a : ℕ) (w : List ℕ) → ¬ IsOperands bytes (OpenObject k t a w))
+pub no_open_link : (bytes : List ℕ) (v : Verb) → v ≡ verb.OpenLink → ((n : NameForm (List ℕ)) (a : ℕ) (w : List ℕ) → ¬ IsOperands bytes (OpenLink n a w))
     → (r : Request (List ℕ)) → verb_of r ≡ v → ¬ IsOperands bytes r
-no_open_object bytes v d none (OpenObject k t a w) e s = none k t a w s
+no_open_link bytes v d none (OpenLink n a w) e s = none n a w s
+no_open_link bytes v d none r e s = absurd (differ (verb_text (verb_of r)) (verb_text verb.OpenLink) refl (ap verb_text (e ∙ d)))
+
+pub no_open_object : (bytes : List ℕ) (v : Verb) → v ≡ verb.Open
+    → ((k : Option PlainKind) (n : NameForm (List ℕ)) (a : ℕ) (w : List ℕ) → ¬ IsOperands bytes (OpenObject k n a w))
+    → (r : Request (List ℕ)) → verb_of r ≡ v → ¬ IsOperands bytes r
+no_open_object bytes v d none (OpenObject k n a w) e s = none k n a w s
 no_open_object bytes v d none r e s = absurd (differ (verb_text (verb_of r)) (verb_text verb.Open) refl (ap verb_text (e ∙ d)))
 
 pub no_close : (bytes : List ℕ) (v : Verb) → v ≡ verb.Close → ((w : List ℕ) → ¬ IsOperands bytes (Close w))
     → (r : Request (List ℕ)) → verb_of r ≡ v → ¬ IsOperands bytes r
 no_close bytes v d none (Close w) e s = none w s
 no_close bytes v d none r e s = absurd (differ (verb_text (verb_of r)) (verb_text verb.Close) refl (ap verb_text (e ∙ d)))
+
+pub no_link_query : (bytes : List ℕ) (v : Verb) → v ≡ verb.Target → ((w : List ℕ) → ¬ IsOperands bytes (QueryLink w))
+    → (r : Request (List ℕ)) → verb_of r ≡ v → ¬ IsOperands bytes r
+no_link_query bytes v d none (QueryLink w) e s = none w s
+no_link_query bytes v d none r e s = absurd (differ (verb_text (verb_of r)) (verb_text verb.Target) refl (ap verb_text (e ∙ d)))
 
 pub no_name_query : (bytes : List ℕ) (v : Verb) → v ≡ verb.Name → ((w : List ℕ) → ¬ IsOperands bytes (QueryName w))
     → (r : Request (List ℕ)) → verb_of r ≡ v → ¬ IsOperands bytes r
@@ -77,21 +105,25 @@ operands_alike bytes (CreateDirectory p a w) (CreateDirectory p' a' w') e (r, b,
     let place = place_alike bytes p r p' r' b b' in
     let same = ends_alike r a w a' w' f (moved (λ x. IsFlagsAndWord x a' w') r r' place.1 f') in
     rw (place.0, same.0, same.1) refl
-operands_alike bytes (CreateObject k p a t w) (CreateObject k' p' a' t' w') e (r, m, c, b, f) (r', m', c', b', f') =
+operands_alike bytes (CreateLink p a t w) (CreateLink p' a' t' w') e s s' =
+    let same = place_ends_alike bytes p a t w p' a' t' w' s s' in
+    rw (same.0, same.1, same.2, same.3) refl
+operands_alike bytes (CreateObject k p a t w) (CreateObject k' p' a' t' w') e (r, c, s) (r', c', s') =
     let kind = kind_alike bytes k r k' r' c c' in
-    let place = place_alike r p m p' m' b (moved (λ x. BeginsWithPlace x p' m') r r' kind.1 b') in
-    let same = text_ends_alike m a t w a' t' w' f (moved (λ x. IsFlagsTextAndWord x a' t' w') m m' place.1 f') in
-    rw (kind.0, place.0, same.0, same.1, same.2) refl
-operands_alike bytes (OpenDirectory t a w) (OpenDirectory t' a' w') e (r, b, f) (r', b', f') =
-    let text = text_alike bytes t r t' r' b b' in
-    let same = ends_alike r a w a' w' f (moved (λ x. IsFlagsAndWord x a' w') r r' text.1 f') in
-    rw (text.0, same.0, same.1) refl
-operands_alike bytes (OpenObject k t a w) (OpenObject k' t' a' w') e (r, m, c, b, f) (r', m', c', b', f') =
+    let same = place_ends_alike r p a t w p' a' t' w' s (moved (λ x. IsPlaceFlagsTextAndWord x p' a' t' w') r r' kind.1 s') in
+    rw (kind.0, same.0, same.1, same.2, same.3) refl
+operands_alike bytes (OpenDirectory n a w) (OpenDirectory n' a' w') e s s' =
+    let same = name_ends_alike bytes n a w n' a' w' s s' in
+    rw (same.0, same.1, same.2) refl
+operands_alike bytes (OpenLink n a w) (OpenLink n' a' w') e s s' =
+    let same = name_ends_alike bytes n a w n' a' w' s s' in
+    rw (same.0, same.1, same.2) refl
+operands_alike bytes (OpenObject k n a w) (OpenObject k' n' a' w') e (r, c, s) (r', c', s') =
     let want = want_alike bytes k r k' r' c c' in
-    let text = text_alike r t m t' m' b (moved (λ x. BeginsWithText x t' m') r r' want.1 b') in
-    let same = ends_alike m a w a' w' f (moved (λ x. IsFlagsAndWord x a' w') m m' text.1 f') in
-    rw (want.0, text.0, same.0, same.1) refl
+    let same = name_ends_alike r n a w n' a' w' s (moved (λ x. IsNameFlagsAndWord x n' a' w') r r' want.1 s') in
+    rw (want.0, same.0, same.1, same.2) refl
 operands_alike bytes (Close w) (Close w') e (f, s) (f', s') = ap Close (sym f ∙ f')
+operands_alike bytes (QueryLink w) (QueryLink w') e (f, s) (f', s') = ap QueryLink (sym f ∙ f')
 operands_alike bytes (QueryName w) (QueryName w') e (f, s) (f', s') = ap QueryName (sym f ∙ f')
 operands_alike bytes a b e s s' = absurd (differ (verb_text (verb_of a)) (verb_text (verb_of b)) refl (ap verb_text e))
 
@@ -179,3 +211,29 @@ no_form line long first stat none (Asks p r) s = none p r s
 no_form line long first stat none Stat s = stat s
 no_form line long first stat none Nothing (inl e, short) = let empty = rw e at long in cc
 no_form line long first stat none Nothing (inr (comment, e), short) = first (ap (λ (z : List ℕ). get_or z 0 0) e)
+
+-- the texts of what a line asks for are texts
+name_has_text : (bytes : List ℕ) (n : NameForm (List ℕ)) (rest : List ℕ) → BeginsWithName bytes n rest → IsText (text_of n)
+name_has_text bytes (Absolute t) rest b = b.0
+name_has_text bytes (Relative w t) rest (more, word, e, b) = b.0
+
+place_has_text : (bytes : List ℕ) (p : PlaceForm (List ℕ)) (rest : List ℕ) → BeginsWithPlace bytes p rest → HasPlaceText p
+place_has_text bytes (Named n) rest b = name_has_text bytes n rest b
+place_has_text bytes Unnamed rest b = tt
+
+ends_have_text : (bytes : List ℕ) (a : ℕ) (t w : List ℕ) → IsFlagsTextAndWord bytes a t w → IsText t
+ends_have_text bytes a t w (rest, more, f, b, s) = b.0
+
+request_has_texts : (bytes : List ℕ) (r : Request (List ℕ)) → IsOperands bytes r → HasTexts r
+request_has_texts bytes (CreateDirectory p a w) (rest, b, f) = place_has_text bytes p rest b
+request_has_texts bytes (CreateLink p a t w) (rest, b, f) = (place_has_text bytes p rest b, ends_have_text rest a t w f)
+request_has_texts bytes (CreateObject k p a t w) (more, c, (rest, b, f)) = (place_has_text more p rest b, ends_have_text rest a t w f)
+request_has_texts bytes (OpenDirectory n a w) (rest, b, f) = name_has_text bytes n rest b
+request_has_texts bytes (OpenLink n a w) (rest, b, f) = name_has_text bytes n rest b
+request_has_texts bytes (OpenObject k n a w) (more, c, (rest, b, f)) = name_has_text more n rest b
+request_has_texts bytes (Close w) s = tt
+request_has_texts bytes (QueryLink w) s = tt
+request_has_texts bytes (QueryName w) s = tt
+
+pub line_has_texts : (line p : List ℕ) (r : Request (List ℕ)) → IsLine line (Asks p r) → HasTexts r
+line_has_texts line p r (rest, e, word, (operands, f, s), short) = request_has_texts operands r s

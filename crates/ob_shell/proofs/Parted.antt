@@ -1,19 +1,21 @@
 -- Parts of a line, each with one reading.
-use Rattle.std.proofs.Common.{◌≡◌, ◌≢◌, ℕ, List, ◌∷◌, ◌++◌, Option, None, Some, false, get_or, drop, refl, ap, sym, subst, ◌∙◌, codes, append_assoc, arith}
+use Rattle.std.proofs.Common.{◌≡◌, ◌≢◌, ℕ, List, [], ◌∷◌, ◌++◌, Option, None, Some, false, get_or, drop, refl, ap, sym, subst, ◌∙◌, codes, append_assoc, arith}
 use Rattle.std.specs.Str.{bytes_eq}
 use Rattle.std.proofs.lemmas.Bool.{both_ways}
 use Rattle.std.proofs.lemmas.Slice.Eq.{bytes_eq-Decides}
 use Rattle.ob_plain.specs.declared.plain.PlainKind.{PlainKind}
 use Rattle.ob_plain.specs.declared.plain.PlainKind.TheVariants.{Event, Mutant, Section}
 use Rattle.ob_plain.specs.Plain.{name_of}
+use Rattle.ob_shell.specs.declared.request.NameForm.{NameForm}
+use Rattle.ob_shell.specs.declared.request.NameForm.TheVariants.{Absolute, Relative}
 use Rattle.ob_shell.specs.declared.request.PlaceForm.{PlaceForm}
 use Rattle.ob_shell.specs.declared.request.PlaceForm.TheVariants.{Named, Unnamed}
-use Rattle.ob_shell.specs.Text.{Lacks}
+use Rattle.ob_shell.specs.Text.{Lacks, IsWord}
 use Rattle.ob_shell.specs.Flags.{IsFlags}
-use Rattle.ob_shell.specs.Parts.{BeginsWithText, BeginsWithPlace, BeginsWithKind, BeginsWithWant, BeginsWithFlags, SetsWord}
-use Rattle.ob_shell.specs.Grammar.{IsFlagsAndWord, IsFlagsTextAndWord}
-use Rattle.ob_shell.proofs.Cuts.{cut_alike, lacks_no_cut}
-use Rattle.ob_shell.proofs.Spelled.{text_lacks}
+use Rattle.ob_shell.specs.Parts.{BeginsWithText, BeginsWithName, BeginsWithPlace, BeginsWithKind, BeginsWithWant, BeginsWithFlags, SetsWord}
+use Rattle.ob_shell.specs.Grammar.{IsFlagsAndWord, IsFlagsTextAndWord, IsNameFlagsAndWord, IsPlaceFlagsTextAndWord}
+use Rattle.ob_shell.proofs.Cuts.{cut_alike, cuts_apart, lacks_no_cut}
+use Rattle.ob_shell.proofs.Spelled.{text_lacks, word_lacks, word_lacks_colon, word_lacks_quote}
 use Rattle.ob_shell.proofs.Flagged.{flags_lack, flags_alike, lacks_from_test}
 
 -- lists with two first bytes are two, and so are lists that a test tells apart
@@ -30,6 +32,10 @@ moved P a b e p = subst P (sym e) p
 -- a word and a space, cut behind the word
 pub spaced : (bytes word rest : List ℕ) → bytes ≡ word ++ codes " " ++ rest → bytes ≡ word ++ (0x20 ∷ rest)
 spaced bytes word rest e = e ∙ simp append_assoc
+
+-- a word and a colon, cut behind the word
+pub coloned : (bytes word rest : List ℕ) → bytes ≡ word ++ codes ":" ++ rest → bytes ≡ word ++ (0x3A ∷ rest)
+coloned bytes word rest e = e ∙ simp append_assoc
 
 -- two cuts at the first space are one cut
 pub spaced_alike : (bytes word rest w r : List ℕ) → Lacks 0x20 word → Lacks 0x20 w → bytes ≡ word ++ (0x20 ∷ rest) → bytes ≡ w ++ codes " " ++ r
@@ -63,24 +69,65 @@ text_alike bytes t r t' r' ((name, spelled), e) b =
     let rests : 0x20 ∷ r ≡ 0x20 ∷ r' = parts.1 in
     (parts.0, (cc))
 
--- `none` is no text
+-- `none` and a space are no text
 none_no_text : (bytes rest t r : List ℕ) → bytes ≡ codes "none " ++ rest → ¬ BeginsWithText bytes t r
 none_no_text bytes rest t r e (text, f) = apart 0x6E 0x22 (sym e ∙ quoted bytes t r f) (omega arith)
 
--- and with one place
+-- a name that is relative is cut at its colon, and no other is
+pub relative_parts : (bytes root quoted w t r : List ℕ) → bytes ≡ root ++ (0x3A ∷ quoted) → Lacks 0x3A root → BeginsWithName bytes (Relative w t) r
+    → (root ≡ w) × IsWord root × BeginsWithText quoted t r
+relative_parts bytes root quoted w t r e l (more, word, f, text) =
+    let cuts : root ++ (0x3A ∷ quoted) ≡ w ++ (0x3A ∷ more) = sym e ∙ coloned bytes w more f in
+    let same : (root ≡ w) × (quoted ≡ more) = cut_alike 0x3A root quoted w more l (word_lacks_colon w word) cuts in
+    (same.0, moved IsWord root w same.0 word, moved (λ x. BeginsWithText x t r) quoted more same.1 text)
+
+-- a text is no relative name
+text_no_relative : (bytes t r w t' r' : List ℕ) → BeginsWithText bytes t r → ¬ BeginsWithName bytes (Relative w t') r'
+text_no_relative bytes t r [] t' r' text (more, word, f, b) = absurd word
+text_no_relative bytes t r (c ∷ w) t' r' (text, e) (more, word, f, b) =
+    apart c 0x22 (sym (coloned bytes (c ∷ w) more f) ∙ quoted bytes t r e) (word_lacks_quote (c ∷ w) word).0
+
+-- bytes begin with one name at most
+pub name_alike : (bytes : List ℕ) (n : NameForm (List ℕ)) (r : List ℕ) (n' : NameForm (List ℕ)) (r' : List ℕ)
+    → BeginsWithName bytes n r → BeginsWithName bytes n' r' → (n ≡ n') × (r ≡ r')
+name_alike bytes (Absolute t) r (Absolute t') r' a b = let same = text_alike bytes t r t' r' a b in (ap Absolute same.0, same.1)
+name_alike bytes (Absolute t) r (Relative w t') r' a b = absurd (text_no_relative bytes t r w t' r' a b)
+name_alike bytes (Relative w t) r (Absolute t') r' a b = absurd (text_no_relative bytes t' r' w t r b a)
+name_alike bytes (Relative w t) r (Relative w' t') r' (more, word, e, a) b =
+    let parts = relative_parts bytes w more w' t' r' (coloned bytes w more e) (word_lacks_colon w word) b in
+    let same = text_alike more t r t' r' a parts.2 in
+    (rw (parts.0, same.0) refl, same.1)
+
+-- bytes that begin with no text, and with no relative name, begin with no name
+pub no_name : (bytes : List ℕ) → ((t r : List ℕ) → ¬ BeginsWithText bytes t r) → ((w t r : List ℕ) → ¬ BeginsWithName bytes (Relative w t) r)
+    → (n : NameForm (List ℕ)) (r : List ℕ) → ¬ BeginsWithName bytes n r
+no_name bytes text relative (Absolute t) r b = text t r b
+no_name bytes text relative (Relative w t) r b = relative w t r b
+
+pub relative_uncut : (bytes w t r : List ℕ) → Lacks 0x3A bytes → ¬ BeginsWithName bytes (Relative w t) r
+relative_uncut bytes w t r l (more, word, f, text) = lacks_no_cut 0x3A bytes w more l (coloned bytes w more f)
+
+-- `none` and a space are no name
+none_no_name : (bytes rest : List ℕ) (n : NameForm (List ℕ)) (r : List ℕ) → bytes ≡ codes "none " ++ rest → ¬ BeginsWithName bytes n r
+none_no_name bytes rest (Absolute t) r e b = none_no_text bytes rest t r e b
+none_no_name bytes rest (Relative w t) r e (more, word, f, b) =
+    cuts_apart 0x20 0x3A (codes "none") rest w more (λ h. omega (arith, h)) (lacks_from_test 0x3A (codes "none") refl) (word_lacks w word)
+    (sym e ∙ coloned bytes w more f)
+
+-- bytes begin with one place at most
 pub place_alike : (bytes : List ℕ) (p : PlaceForm (List ℕ)) (r : List ℕ) (p' : PlaceForm (List ℕ)) (r' : List ℕ)
     → BeginsWithPlace bytes p r → BeginsWithPlace bytes p' r' → (p ≡ p') × (r ≡ r')
-place_alike bytes (Named t) r (Named t') r' a b = let same = text_alike bytes t r t' r' a b in (ap Named same.0, same.1)
-place_alike bytes (Named t) r Unnamed r' a e = absurd (none_no_text bytes r' t r e a)
-place_alike bytes Unnamed r (Named t) r' e b = absurd (none_no_text bytes r t r' e b)
+place_alike bytes (Named n) r (Named n') r' a b = let same = name_alike bytes n r n' r' a b in (ap Named same.0, same.1)
+place_alike bytes (Named n) r Unnamed r' a e = absurd (none_no_name bytes r' n r e a)
+place_alike bytes Unnamed r (Named n) r' e b = absurd (none_no_name bytes r n r' e b)
 place_alike bytes Unnamed r Unnamed r' e f =
     (refl, ap (drop 5) (sym e ∙ f))
 
--- bytes that begin with neither `none` nor a text begin with no place
-pub no_place : (bytes : List ℕ) → ((rest : List ℕ) → bytes ≢ codes "none " ++ rest) → ((t r : List ℕ) → ¬ BeginsWithText bytes t r)
+-- bytes that begin with neither `none` nor a name begin with no place
+pub no_place : (bytes : List ℕ) → ((rest : List ℕ) → bytes ≢ codes "none " ++ rest) → ((n : NameForm (List ℕ)) (r : List ℕ) → ¬ BeginsWithName bytes n r)
     → (p : PlaceForm (List ℕ)) (r : List ℕ) → ¬ BeginsWithPlace bytes p r
-no_place bytes none text (Named t) r b = text t r b
-no_place bytes none text Unnamed r e = none r e
+no_place bytes none name (Named n) r b = name n r b
+no_place bytes none name Unnamed r e = none r e
 
 -- the names of kinds have no space, and no two kinds share one
 pub kind_lacks : (kind : PlainKind) → Lacks 0x20 (name_of kind)
@@ -162,3 +209,18 @@ text_ends_alike bytes a t w a' t' w' (r, m, f, q, s) (r', m', f', q', s') =
     let same = flags_first_alike bytes a r a' r' f f' in
     let text = text_alike r t m t' m' q (moved (λ x. BeginsWithText x t' m') r r' same.1 q') in
     (same.0, text.0, set_alike m w w' s (moved (λ x. SetsWord x w') m m' text.1 s'))
+
+-- and so have a NAME FLAGS =V and a PLACE FLAGS TEXT =V
+pub name_ends_alike : (bytes : List ℕ) (n : NameForm (List ℕ)) (a : ℕ) (w : List ℕ) (n' : NameForm (List ℕ)) (a' : ℕ) (w' : List ℕ)
+    → IsNameFlagsAndWord bytes n a w → IsNameFlagsAndWord bytes n' a' w' → (n ≡ n') × (a ≡ a') × (w ≡ w')
+name_ends_alike bytes n a w n' a' w' (r, b, f) (r', b', f') =
+    let name = name_alike bytes n r n' r' b b' in
+    let same = ends_alike r a w a' w' f (moved (λ x. IsFlagsAndWord x a' w') r r' name.1 f') in
+    (name.0, same.0, same.1)
+
+pub place_ends_alike : (bytes : List ℕ) (p : PlaceForm (List ℕ)) (a : ℕ) (t w : List ℕ) (p' : PlaceForm (List ℕ)) (a' : ℕ) (t' w' : List ℕ)
+    → IsPlaceFlagsTextAndWord bytes p a t w → IsPlaceFlagsTextAndWord bytes p' a' t' w' → (p ≡ p') × (a ≡ a') × (t ≡ t') × (w ≡ w')
+place_ends_alike bytes p a t w p' a' t' w' (r, b, f) (r', b', f') =
+    let place = place_alike bytes p r p' r' b b' in
+    let same = text_ends_alike r a t w a' t' w' f (moved (λ x. IsFlagsTextAndWord x a' t' w') r r' place.1 f') in
+    (place.0, same.0, same.1, same.2)

@@ -1,5 +1,5 @@
 -- Texts and what they spell.
-use Rattle.std.proofs.Common.{◌≡◌, ◌≢◌, ℕ, ◌+◌, ◌*◌, inl, inr, List, [], ◌∷◌, refl, arith}
+use Rattle.std.proofs.Common.{◌≡◌, ◌≢◌, ℕ, ◌+◌, ◌*◌, inl, inr, List, [], ◌∷◌, refl, subst, arith}
 use Rattle.std.specs.List.{AllByRecursion}
 use Rattle.std.specs.Char.{IsAsciiAlphabetic, IsAsciiAlphanumeric, digit_value}
 use Rattle.ob_shell.specs.Text.{Lacks, IsWord, IsHexDigit, WritesByte, SpellsByte, Spells, IsText, TextsSpellOneThing}
@@ -41,23 +41,46 @@ text_lacks text (b ∷ bs) (rest, inr (digits, e, (high, low, h, l, v, f)), t) =
     not_quote : (c : ℕ) → IsHexDigit c → c ≢ 0x22
     not_quote c h e = let bad = rw e at h in omega (arith, bad)
 
--- a word has no space
-pub word_lacks : (word : List ℕ) → IsWord word → Lacks 0x20 word
-word_lacks [] w = absurd w
-word_lacks (c ∷ cs) w = (first c w.0, others cs w.1)
+-- a word has no byte that is neither a letter nor a digit
+word_lacks_other : (m : ℕ) (word : List ℕ) → (IsAsciiAlphanumeric m → ⊥) → IsWord word → Lacks m word
+word_lacks_other m [] foreign w = absurd w
+word_lacks_other m (c ∷ cs) foreign w = (one c (first c w.0), others cs w.1)
   where
-    first : (c : ℕ) → IsAsciiAlphabetic c → c ≢ 0x20
-    first c (inl h) e = omega arith
-    first c (inr h) e = omega arith
+    first : (c : ℕ) → IsAsciiAlphabetic c → IsAsciiAlphanumeric c
+    first c (inl h) = inl (inr h)
+    first c (inr h) = inr h
 
-    one : (c : ℕ) → IsAsciiAlphanumeric c → c ≢ 0x20
-    one c (inl (inl h)) e = omega arith
-    one c (inl (inr h)) e = omega arith
-    one c (inr h) e = omega arith
+    one : (c : ℕ) → IsAsciiAlphanumeric c → c ≢ m
+    one c h e = foreign (subst IsAsciiAlphanumeric e h)
 
-    others : (cs : List ℕ) → AllByRecursion IsAsciiAlphanumeric cs → Lacks 0x20 cs
+    others : (cs : List ℕ) → AllByRecursion IsAsciiAlphanumeric cs → Lacks m cs
     others [] w = tt
     others (c ∷ cs) w = (one c w.0, others cs w.1)
+
+-- a word has no space, no colon and no quote
+pub word_lacks : (word : List ℕ) → IsWord word → Lacks 0x20 word
+word_lacks word w = word_lacks_other 0x20 word space w
+  where
+    space : IsAsciiAlphanumeric 0x20 → ⊥
+    space (inl (inl h)) = omega arith
+    space (inl (inr h)) = omega arith
+    space (inr h) = omega arith
+
+pub word_lacks_colon : (word : List ℕ) → IsWord word → Lacks 0x3A word
+word_lacks_colon word w = word_lacks_other 0x3A word colon w
+  where
+    colon : IsAsciiAlphanumeric 0x3A → ⊥
+    colon (inl (inl h)) = omega arith
+    colon (inl (inr h)) = omega arith
+    colon (inr h) = omega arith
+
+pub word_lacks_quote : (word : List ℕ) → IsWord word → Lacks 0x22 word
+word_lacks_quote word w = word_lacks_other 0x22 word quote w
+  where
+    quote : IsAsciiAlphanumeric 0x22 → ⊥
+    quote (inl (inl h)) = omega arith
+    quote (inl (inr h)) = omega arith
+    quote (inr h) = omega arith
 
 -- behind the spelling of a byte stands a text where the whole is one, and the other way round
 pub text_goes_on : (text rest : List ℕ) (b : ℕ) → SpellsByte text b rest → IsText rest → IsText text

@@ -1,7 +1,7 @@
 -- Commands: what a request asks of the namespace, and the words after its reply.
 --
 -- Source: this profile.
-use Rattle.std.specs.Prelude.{◌≡◌, ℕ, List, Bool, true, false, Option, None, if◌then◌else◌}
+use Rattle.std.specs.Prelude.{◌≡◌, ℕ, List, Bool, true, false, Option, None, Some, if◌then◌else◌}
 use Rattle.ob_base.specs.declared.status.Status.{Status}
 use Rattle.ob_base.specs.declared.status.Status.TheVariants.{Success}
 use Rattle.ob_model.specs.declared.command.Command.{Command}
@@ -12,36 +12,67 @@ use Rattle.ob_model.specs.declared.reply.Given.{Given}
 use Rattle.ob_model.specs.declared.reply.Given.TheVariants as given
 use Rattle.ob_model.specs.declared.reply.Reply.{Reply}
 use Rattle.ob_plain.specs.declared.plain.PlainKind.{PlainKind}
+use Rattle.ob_shell.specs.declared.request.NameForm.{NameForm}
+use Rattle.ob_shell.specs.declared.request.NameForm.TheVariants.{Absolute, Relative}
 use Rattle.ob_shell.specs.declared.request.PlaceForm.{PlaceForm}
 use Rattle.ob_shell.specs.declared.request.PlaceForm.TheVariants.{Named, Unnamed}
 use Rattle.ob_shell.specs.declared.request.Request.{Request}
-use Rattle.ob_shell.specs.declared.request.Request.TheVariants.{CreateDirectory, CreateObject, OpenDirectory, OpenObject, Close, QueryName}
+use Rattle.ob_shell.specs.declared.request.Request.TheVariants.{CreateDirectory, CreateLink, CreateObject, OpenDirectory, OpenLink, OpenObject, Close, QueryLink, QueryName}
 use Rattle.ob_shell.specs.Text.{Spells}
 use Rattle.ob_shell.specs.Words.{Words, with_word}
 
--- the place that is meant: the absolute name that a text spells, or nowhere
-abbrev pub IsPlace : PlaceForm (List ℕ) → Place → Type 0
-IsPlace (Named text) where_to = (name : List ℕ) × Spells text name × (where_to ≡ place.At None name)
-IsPlace Unnamed where_to = where_to ≡ place.Unnamed
+-- the text of a name
+abbrev pub text_of : NameForm (List ℕ) → List ℕ
+text_of (Absolute text) = text
+text_of (Relative root text) = text
 
--- the create, and the open, of an object that these parts of a line spell
-abbrev pub IsCreateObject : PlainKind → PlaceForm (List ℕ) → ℕ → List ℕ → Command PlainKind → Type 0
-IsCreateObject kind place attrs args c =
-    (where_to : Place) × (bytes : List ℕ) × IsPlace place where_to × Spells args bytes
+-- the handle that a name is relative to, with these values of its process's words; an absolute name has
+-- none
+abbrev pub root_of : NameForm (List ℕ) → (List ℕ → ℕ) → Option ℕ
+root_of (Absolute text) values = None
+root_of (Relative root text) values = Some (values root)
+
+-- the place that is meant, with these values: the name that a text spells, by its root handle, or nowhere
+abbrev pub IsPlace : PlaceForm (List ℕ) → (List ℕ → ℕ) → Place → Type 0
+IsPlace (Named name) values where_to = (bytes : List ℕ) × Spells (text_of name) bytes × (where_to ≡ place.At (root_of name values) bytes)
+IsPlace Unnamed values where_to = where_to ≡ place.Unnamed
+
+-- the creates, and the opens, that these parts of a line spell
+abbrev pub IsCreateDirectory : PlaceForm (List ℕ) → ℕ → (List ℕ → ℕ) → Command PlainKind → Type 0
+IsCreateDirectory place attrs values c = (where_to : Place) × IsPlace place values where_to × (c ≡ command.CreateDirectory where_to attrs)
+
+abbrev pub IsCreateLink : PlaceForm (List ℕ) → ℕ → List ℕ → (List ℕ → ℕ) → Command PlainKind → Type 0
+IsCreateLink place attrs target values c =
+    (where_to : Place) × (bytes : List ℕ) × IsPlace place values where_to × Spells target bytes
+    × (c ≡ command.CreateLink where_to attrs bytes)
+
+abbrev pub IsCreateObject : PlainKind → PlaceForm (List ℕ) → ℕ → List ℕ → (List ℕ → ℕ) → Command PlainKind → Type 0
+IsCreateObject kind place attrs args values c =
+    (where_to : Place) × (bytes : List ℕ) × IsPlace place values where_to × Spells args bytes
     × (c ≡ command.CreateObject where_to attrs kind bytes)
 
-abbrev pub IsOpenObject : Option PlainKind → List ℕ → ℕ → Command PlainKind → Type 0
-IsOpenObject want text attrs c = (name : List ℕ) × Spells text name × (c ≡ command.OpenObject None name attrs want)
+abbrev pub IsOpenDirectory : NameForm (List ℕ) → ℕ → (List ℕ → ℕ) → Command PlainKind → Type 0
+IsOpenDirectory name attrs values c =
+    (bytes : List ℕ) × Spells (text_of name) bytes × (c ≡ command.OpenDirectory (root_of name values) bytes attrs)
+
+abbrev pub IsOpenLink : NameForm (List ℕ) → ℕ → (List ℕ → ℕ) → Command PlainKind → Type 0
+IsOpenLink name attrs values c =
+    (bytes : List ℕ) × Spells (text_of name) bytes × (c ≡ command.OpenLink (root_of name values) bytes attrs)
+
+abbrev pub IsOpenObject : Option PlainKind → NameForm (List ℕ) → ℕ → (List ℕ → ℕ) → Command PlainKind → Type 0
+IsOpenObject want name attrs values c =
+    (bytes : List ℕ) × Spells (text_of name) bytes × (c ≡ command.OpenObject (root_of name values) bytes attrs want)
 
 -- the command that a request spells, with these values of its process's words
 abbrev pub IsCommand : Request (List ℕ) → (List ℕ → ℕ) → Command PlainKind → Type 0
-IsCommand (CreateDirectory place attrs word) values c =
-    (where_to : Place) × IsPlace place where_to × (c ≡ command.CreateDirectory where_to attrs)
-IsCommand (CreateObject kind place attrs args word) values c = IsCreateObject kind place attrs args c
-IsCommand (OpenDirectory text attrs word) values c =
-    (name : List ℕ) × Spells text name × (c ≡ command.OpenDirectory None name attrs)
-IsCommand (OpenObject want text attrs word) values c = IsOpenObject want text attrs c
+IsCommand (CreateDirectory place attrs word) values c = IsCreateDirectory place attrs values c
+IsCommand (CreateLink place attrs target word) values c = IsCreateLink place attrs target values c
+IsCommand (CreateObject kind place attrs args word) values c = IsCreateObject kind place attrs args values c
+IsCommand (OpenDirectory name attrs word) values c = IsOpenDirectory name attrs values c
+IsCommand (OpenLink name attrs word) values c = IsOpenLink name attrs values c
+IsCommand (OpenObject want name attrs word) values c = IsOpenObject want name attrs values c
 IsCommand (Close word) values c = c ≡ command.Close (values word)
+IsCommand (QueryLink word) values c = c ≡ command.QueryLink (values word)
 IsCommand (QueryName word) values c = c ≡ command.QueryName (values word)
 
 -- whether a status is SUCCESS
@@ -58,20 +89,26 @@ given_handle (given.Text text) = 0
 -- the handle word of a request
 abbrev pub word_of : Request (List ℕ) → List ℕ
 word_of (CreateDirectory place attrs word) = word
+word_of (CreateLink place attrs target word) = word
 word_of (CreateObject kind place attrs args word) = word
-word_of (OpenDirectory text attrs word) = word
-word_of (OpenObject want text attrs word) = word
+word_of (OpenDirectory name attrs word) = word
+word_of (OpenLink name attrs word) = word
+word_of (OpenObject want name attrs word) = word
 word_of (Close word) = word
+word_of (QueryLink word) = word
 word_of (QueryName word) = word
 
 -- the value of that word after the reply, where it had this one before: a create or an open sets it to
 -- the handle that was given, a close that succeeds gives it up, and any other close and a query leave it
 abbrev pub value_after : Request (List ℕ) → Reply → ℕ → ℕ
 value_after (CreateDirectory place attrs word) reply before = given_handle reply.given
+value_after (CreateLink place attrs target word) reply before = given_handle reply.given
 value_after (CreateObject kind place attrs args word) reply before = given_handle reply.given
-value_after (OpenDirectory text attrs word) reply before = given_handle reply.given
-value_after (OpenObject want text attrs word) reply before = given_handle reply.given
+value_after (OpenDirectory name attrs word) reply before = given_handle reply.given
+value_after (OpenLink name attrs word) reply before = given_handle reply.given
+value_after (OpenObject want name attrs word) reply before = given_handle reply.given
 value_after (Close word) reply before = if is_success reply.status then 0 else before
+value_after (QueryLink word) reply before = before
 value_after (QueryName word) reply before = before
 
 -- the words after the reply

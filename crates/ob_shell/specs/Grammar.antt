@@ -6,12 +6,14 @@ use Rattle.std.specs.Prelude.{◌≡◌, ℕ, ◌≤◌, ◌⊎◌, List, [], �
 use Rattle.std.specs.Borrow.{Bor}
 use Rattle.ob_shell.specs.declared.form.Form.{Form}
 use Rattle.ob_shell.specs.declared.form.Form.TheVariants.{Nothing, Stat, Asks}
+use Rattle.ob_shell.specs.declared.request.NameForm.{NameForm}
+use Rattle.ob_shell.specs.declared.request.PlaceForm.{PlaceForm}
 use Rattle.ob_shell.specs.declared.request.Request.{Request}
-use Rattle.ob_shell.specs.declared.request.Request.TheVariants.{CreateDirectory, CreateObject, OpenDirectory, OpenObject, Close, QueryName}
+use Rattle.ob_shell.specs.declared.request.Request.TheVariants.{CreateDirectory, CreateLink, CreateObject, OpenDirectory, OpenLink, OpenObject, Close, QueryLink, QueryName}
 use Rattle.ob_shell.specs.declared.verb.Verb.{Verb}
 use Rattle.ob_shell.specs.declared.verb.Verb.TheVariants as verb
 use Rattle.ob_shell.specs.Text.{IsWord, IsProcessWord}
-use Rattle.ob_shell.specs.Parts.{BeginsWithText, BeginsWithPlace, BeginsWithKind, BeginsWithWant, BeginsWithFlags, SetsWord, place_seen}
+use Rattle.ob_shell.specs.Parts.{BeginsWithText, BeginsWithName, BeginsWithPlace, BeginsWithKind, BeginsWithWant, BeginsWithFlags, SetsWord, name_seen, place_seen}
 
 -- the most bytes that a line may have, without its LF
 abbrev pub longest_line : ℕ
@@ -26,38 +28,54 @@ abbrev pub IsFlagsTextAndWord : List ℕ → ℕ → List ℕ → List ℕ → T
 IsFlagsTextAndWord bytes attrs text word =
     (rest more : List ℕ) × BeginsWithFlags bytes attrs rest × BeginsWithText rest text more × SetsWord more word
 
+-- `NAME FLAGS =V`
+abbrev pub IsNameFlagsAndWord : List ℕ → NameForm (List ℕ) → ℕ → List ℕ → Type 0
+IsNameFlagsAndWord bytes name attrs word = (rest : List ℕ) × BeginsWithName bytes name rest × IsFlagsAndWord rest attrs word
+
+-- `PLACE FLAGS TEXT =V`
+abbrev pub IsPlaceFlagsTextAndWord : List ℕ → PlaceForm (List ℕ) → ℕ → List ℕ → List ℕ → Type 0
+IsPlaceFlagsTextAndWord bytes place attrs text word =
+    (rest : List ℕ) × BeginsWithPlace bytes place rest × IsFlagsTextAndWord rest attrs text word
+
 -- the word of a verb
 abbrev pub verb_text : Verb → List ℕ
 verb_text verb.Dir = codes "dir"
+verb_text verb.Link = codes "link"
 verb_text verb.Make = codes "make"
 verb_text verb.OpenDir = codes "opendir"
+verb_text verb.OpenLink = codes "openlink"
 verb_text verb.Open = codes "open"
 verb_text verb.Close = codes "close"
+verb_text verb.Target = codes "target"
 verb_text verb.Name = codes "name"
 
 -- the verb of a request
 abbrev pub verb_of : Request (List ℕ) → Verb
 verb_of (CreateDirectory place attrs word) = verb.Dir
+verb_of (CreateLink place attrs target word) = verb.Link
 verb_of (CreateObject kind place attrs args word) = verb.Make
-verb_of (OpenDirectory text attrs word) = verb.OpenDir
-verb_of (OpenObject want text attrs word) = verb.Open
+verb_of (OpenDirectory name attrs word) = verb.OpenDir
+verb_of (OpenLink name attrs word) = verb.OpenLink
+verb_of (OpenObject want name attrs word) = verb.Open
 verb_of (Close word) = verb.Close
+verb_of (QueryLink word) = verb.Target
 verb_of (QueryName word) = verb.Name
 
 -- what stands behind the verb of a request and a space: `PLACE FLAGS =V` behind `dir`,
--- `KIND PLACE FLAGS TEXT =V` behind `make`, `NAME FLAGS =V` behind `opendir`, `WANT NAME FLAGS =V` behind
--- `open`, and `V` behind `close` and `name`
+-- `PLACE FLAGS TEXT =V` behind `link`, `KIND PLACE FLAGS TEXT =V` behind `make`, `NAME FLAGS =V` behind
+-- `opendir` and `openlink`, `WANT NAME FLAGS =V` behind `open`, and `V` behind `close`, `target` and `name`
 abbrev pub IsOperands : List ℕ → Request (List ℕ) → Type 0
 IsOperands bytes (CreateDirectory place attrs word) =
     (rest : List ℕ) × BeginsWithPlace bytes place rest × IsFlagsAndWord rest attrs word
+IsOperands bytes (CreateLink place attrs target word) = IsPlaceFlagsTextAndWord bytes place attrs target word
 IsOperands bytes (CreateObject kind place attrs args word) =
-    (rest more : List ℕ) × BeginsWithKind bytes kind rest × BeginsWithPlace rest place more
-    × IsFlagsTextAndWord more attrs args word
-IsOperands bytes (OpenDirectory text attrs word) =
-    (rest : List ℕ) × BeginsWithText bytes text rest × IsFlagsAndWord rest attrs word
-IsOperands bytes (OpenObject want text attrs word) =
-    (rest more : List ℕ) × BeginsWithWant bytes want rest × BeginsWithText rest text more × IsFlagsAndWord more attrs word
+    (rest : List ℕ) × BeginsWithKind bytes kind rest × IsPlaceFlagsTextAndWord rest place attrs args word
+IsOperands bytes (OpenDirectory name attrs word) = IsNameFlagsAndWord bytes name attrs word
+IsOperands bytes (OpenLink name attrs word) = IsNameFlagsAndWord bytes name attrs word
+IsOperands bytes (OpenObject want name attrs word) =
+    (rest : List ℕ) × BeginsWithWant bytes want rest × IsNameFlagsAndWord rest name attrs word
 IsOperands bytes (Close word) = (bytes ≡ word) × IsWord word
+IsOperands bytes (QueryLink word) = (bytes ≡ word) × IsWord word
 IsOperands bytes (QueryName word) = (bytes ≡ word) × IsWord word
 
 -- what a process asks for, behind its process word and a space: a verb, a space and its operands
@@ -84,10 +102,13 @@ LinesHaveOneForm = (line : List ℕ) (a b : Form (List ℕ)) → IsLine line a �
 -- a request, and a form, whose slices of bytes are seen as the lists that they hold
 abbrev pub request_seen : Request (Bor (List ℕ)) → Request (List ℕ)
 request_seen (CreateDirectory place attrs word) = CreateDirectory (place_seen place) attrs word.now
+request_seen (CreateLink place attrs target word) = CreateLink (place_seen place) attrs target.now word.now
 request_seen (CreateObject kind place attrs args word) = CreateObject kind (place_seen place) attrs args.now word.now
-request_seen (OpenDirectory text attrs word) = OpenDirectory text.now attrs word.now
-request_seen (OpenObject want text attrs word) = OpenObject want text.now attrs word.now
+request_seen (OpenDirectory name attrs word) = OpenDirectory (name_seen name) attrs word.now
+request_seen (OpenLink name attrs word) = OpenLink (name_seen name) attrs word.now
+request_seen (OpenObject want name attrs word) = OpenObject want (name_seen name) attrs word.now
 request_seen (Close word) = Close word.now
+request_seen (QueryLink word) = QueryLink word.now
 request_seen (QueryName word) = QueryName word.now
 
 abbrev pub form_seen : Form (Bor (List ℕ)) → Form (List ℕ)

@@ -1,12 +1,14 @@
--- The parts of a line: texts, places, kinds, flags and the word that is set, each at the front of bytes
--- that go on behind it and a space.
+-- The parts of a line: texts, names, places, kinds, flags and the word that is set, each at the front of
+-- bytes that go on behind it and a space.
 --
--- A place is generic in how it holds bytes: in the code as slices of the line, here as lists.
+-- Names and places are generic in how they hold bytes: in the code as slices of the line, here as lists.
 -- Source: this profile.
 use Rattle.std.specs.Prelude.{◌≡◌, ℕ, List, ◌++◌, Option, None, Some, codes}
 use Rattle.std.specs.Borrow.{Bor}
 use Rattle.ob_plain.specs.declared.plain.PlainKind.{PlainKind}
 use Rattle.ob_plain.specs.Plain.{name_of}
+use Rattle.ob_shell.specs.declared.request.NameForm.{NameForm}
+use Rattle.ob_shell.specs.declared.request.NameForm.TheVariants.{Absolute, Relative}
 use Rattle.ob_shell.specs.declared.request.PlaceForm.{PlaceForm}
 use Rattle.ob_shell.specs.declared.request.PlaceForm.TheVariants.{Named, Unnamed}
 use Rattle.ob_shell.specs.Text.{IsWord, IsText}
@@ -16,9 +18,15 @@ use Rattle.ob_shell.specs.Flags.{IsFlags}
 abbrev pub BeginsWithText : List ℕ → List ℕ → List ℕ → Type 0
 BeginsWithText bytes text rest = IsText text × (bytes ≡ codes "\"" ++ text ++ codes "\" " ++ rest)
 
--- a place: `NAME`, which is a text between double quotes, or `none`
+-- a name: `TEXT`, which is absolute; or `H:TEXT`, which is relative to the handle of a word
+abbrev pub BeginsWithName : List ℕ → NameForm (List ℕ) → List ℕ → Type 0
+BeginsWithName bytes (Absolute text) rest = BeginsWithText bytes text rest
+BeginsWithName bytes (Relative root text) rest =
+    (quoted : List ℕ) × IsWord root × (bytes ≡ root ++ codes ":" ++ quoted) × BeginsWithText quoted text rest
+
+-- a place: `NAME` or `none`
 abbrev pub BeginsWithPlace : List ℕ → PlaceForm (List ℕ) → List ℕ → Type 0
-BeginsWithPlace bytes (Named text) rest = BeginsWithText bytes text rest
+BeginsWithPlace bytes (Named name) rest = BeginsWithName bytes name rest
 BeginsWithPlace bytes Unnamed rest = bytes ≡ codes "none " ++ rest
 
 -- a kind, by the name of its type
@@ -38,7 +46,11 @@ BeginsWithFlags bytes attrs rest = (flags : List ℕ) × IsFlags flags attrs × 
 abbrev pub SetsWord : List ℕ → List ℕ → Type 0
 SetsWord bytes word = IsWord word × (bytes ≡ codes "=" ++ word)
 
--- a place whose slice of bytes is seen as the list that it holds
+-- a name, and a place, whose slices of bytes are seen as the lists that they hold
+abbrev pub name_seen : NameForm (Bor (List ℕ)) → NameForm (List ℕ)
+name_seen (Absolute text) = Absolute text.now
+name_seen (Relative root text) = Relative root.now text.now
+
 abbrev pub place_seen : PlaceForm (Bor (List ℕ)) → PlaceForm (List ℕ)
-place_seen (Named text) = Named text.now
+place_seen (Named name) = Named (name_seen name)
 place_seen Unnamed = Unnamed

@@ -11,7 +11,7 @@ use Rattle.ob_shell.specs.declared.form.Form.TheVariants.{Nothing, Stat, Asks}
 use Rattle.ob_shell.specs.declared.request.PlaceForm.{PlaceForm}
 use Rattle.ob_shell.specs.declared.request.PlaceForm.TheVariants.{Named, Unnamed}
 use Rattle.ob_shell.specs.declared.request.Request.{Request}
-use Rattle.ob_shell.specs.declared.request.Request.TheVariants.{CreateDirectory, CreateObject, OpenDirectory, OpenObject, Close, QueryName}
+use Rattle.ob_shell.specs.declared.request.Request.TheVariants.{CreateDirectory, CreateLink, CreateObject, OpenDirectory, OpenLink, OpenObject, Close, QueryLink, QueryName}
 use Rattle.ob_shell.specs.declared.line.Outcome.{Outcome}
 use Rattle.ob_shell.specs.declared.line.Outcome.TheVariants as outcome
 use Rattle.ob_shell.specs.declared.run.Ending.{Ending}
@@ -20,7 +20,7 @@ use Rattle.ob_shell.specs.Text.{IsText}
 use Rattle.ob_shell.specs.Grammar.{IsLine}
 use Rattle.ob_shell.specs.Words.{Words, process_of}
 use Rattle.ob_shell.specs.Machine.{standard, Space, counts_of}
-use Rattle.ob_shell.specs.Commands.{IsCommand, words_after}
+use Rattle.ob_shell.specs.Commands.{text_of, IsCommand, words_after}
 use Rattle.ob_shell.specs.Printed.{output_line, reply_text, counts_text}
 use Rattle.ob_shell.specs.Shown.{PlaysPartTo}
 use Rattle.ob_shell.specs.declared.fault.ShellFault.{ShellFault}
@@ -28,16 +28,19 @@ use Rattle.ob_shell.specs.declared.fault.ShellFault.TheVariants as fault
 
 -- the text of a place, where it has one, is a text
 abbrev pub HasPlaceText : PlaceForm (List ℕ) → Type 0
-HasPlaceText (Named text) = IsText text
+HasPlaceText (Named name) = IsText (text_of name)
 HasPlaceText Unnamed = Unit {0}
 
 -- the texts of a request, where it has some, are texts
 abbrev pub HasTexts : Request (List ℕ) → Type 0
 HasTexts (CreateDirectory place attrs word) = HasPlaceText place
+HasTexts (CreateLink place attrs target word) = HasPlaceText place × IsText target
 HasTexts (CreateObject kind place attrs args word) = HasPlaceText place × IsText args
-HasTexts (OpenDirectory text attrs word) = IsText text
-HasTexts (OpenObject want text attrs word) = IsText text
+HasTexts (OpenDirectory name attrs word) = IsText (text_of name)
+HasTexts (OpenLink name attrs word) = IsText (text_of name)
+HasTexts (OpenObject want name attrs word) = IsText (text_of name)
 HasTexts (Close word) = Unit {0}
+HasTexts (QueryLink word) = Unit {0}
 HasTexts (QueryName word) = Unit {0}
 
 -- a request of a process was answered by a step of the machine, which left these words and states

@@ -1,23 +1,23 @@
 //! The command that a request spells.
 
 ghost use Rattle.std.specs.Prelude.{◌≡◌, IfOk};
-ghost use Rattle.ob_shell.specs.Parts.{place_seen};
+ghost use Rattle.ob_shell.specs.Parts.{name_seen, place_seen};
 ghost use Rattle.ob_shell.specs.Grammar.{request_seen};
 ghost use Rattle.ob_shell.specs.Words.{values_of};
-ghost use Rattle.ob_shell.specs.Text.{IsText};
-ghost use Rattle.ob_shell.specs.Commands.{IsCommand, IsCreateObject, IsOpenObject, IsPlace};
+ghost use Rattle.ob_shell.specs.Text.{IsText, Spells};
+ghost use Rattle.ob_shell.specs.Commands.{text_of, root_of, IsCommand, IsCreateDirectory, IsCreateLink, IsCreateObject, IsOpenDirectory, IsOpenLink, IsOpenObject, IsPlace};
 ghost use Rattle.ob_shell.specs.Running.{HasPlaceText, HasTexts};
 
-use crate::request::{PlaceForm, Request};
+use crate::request::{NameForm, PlaceForm, Request};
 use crate::text::decode;
 use crate::words::{Word, value_of, word_in};
 use ob_base::{Handle, Proc};
-use ob_model::{Command, Place};
+use ob_model::{Bytes, Command, Place};
 use ob_plain::PlainKind;
 use std::alloc::{AllocError, Global};
 use std::collections::BTreeMap;
 
-// The command that a request spells.
+// The command that a request spells, with the words of its process.
 pub fn command_of(
     alloc: Global,
     words: &BTreeMap<Word, Handle>,
@@ -28,34 +28,39 @@ pub fn command_of(
     ensures { IfOk result (IsCommand (request_seen request.entry) (values_of words.now process)) }
 {
     match request {
-        Request::CreateDirectory { place, attrs, .. } => {
-            let place = place_of(alloc, place)?;
-            Ok(Command::CreateDirectory { place, attrs })
-        }
+        Request::CreateDirectory { place, attrs, .. } => create_directory(
+            alloc, words, process, place, attrs,
+        ),
+        Request::CreateLink {
+            place,
+            attrs,
+            target,
+            ..
+        } => create_link(alloc, words, process, place, attrs, target),
         Request::CreateObject {
             kind,
             place,
             attrs,
             args,
             ..
-        } => create_object(alloc, kind, place, attrs, args),
-        Request::OpenDirectory { text, attrs, .. } => {
-            let name = decode(alloc, text)?;
-            Ok(Command::OpenDirectory {
-                root: None,
-                name,
-                attrs,
-            })
-        }
+        } => create_object(alloc, words, process, kind, place, attrs, args),
+        Request::OpenDirectory { name, attrs, .. } => open_directory(
+            alloc, words, process, name, attrs,
+        ),
+        Request::OpenLink { name, attrs, .. } => open_link(alloc, words, process, name, attrs),
         Request::OpenObject {
             want,
-            text,
+            name,
             attrs,
             ..
-        } => open_object(alloc, want, text, attrs),
+        } => open_object(alloc, words, process, want, name, attrs),
         Request::Close { word } => {
             let handle = handle_of(alloc, words, process, word)?;
             Ok(Command::Close { handle })
+        }
+        Request::QueryLink { word } => {
+            let handle = handle_of(alloc, words, process, word)?;
+            Ok(Command::QueryLink { handle })
         }
         Request::QueryName { word } => {
             let handle = handle_of(alloc, words, process, word)?;
@@ -64,9 +69,48 @@ pub fn command_of(
     }
 }
 
+// The create of a directory.
+fn create_directory(
+    alloc: Global,
+    words: &BTreeMap<Word, Handle>,
+    process: Proc,
+    place: PlaceForm<&[u8]>,
+    attrs: u32,
+) -> Result<Command<PlainKind>, AllocError>
+    requires { HasPlaceText (place_seen place) }
+    ensures { IfOk result (IsCreateDirectory (place_seen place.entry) attrs (values_of words.now process)) }
+{
+    let place = place_of(alloc, words, process, place)?;
+    Ok(Command::CreateDirectory { place, attrs })
+}
+
+// The create of a symbolic link.
+fn create_link(
+    alloc: Global,
+    words: &BTreeMap<Word, Handle>,
+    process: Proc,
+    place: PlaceForm<&[u8]>,
+    attrs: u32,
+    target: &[u8],
+) -> Result<Command<PlainKind>, AllocError>
+    requires place { HasPlaceText (place_seen place) }
+    requires target { IsText target.now }
+    ensures { IfOk result (IsCreateLink (place_seen place.entry) attrs target.now (values_of words.now process)) }
+{
+    let place = place_of(alloc, words, process, place)?;
+    let target = decode(alloc, target)?;
+    Ok(Command::CreateLink {
+        place,
+        attrs,
+        target,
+    })
+}
+
 // The create of an object.
 fn create_object(
     alloc: Global,
+    words: &BTreeMap<Word, Handle>,
+    process: Proc,
     kind: PlainKind,
     place: PlaceForm<&[u8]>,
     attrs: u32,
@@ -74,9 +118,9 @@ fn create_object(
 ) -> Result<Command<PlainKind>, AllocError>
     requires place { HasPlaceText (place_seen place) }
     requires args { IsText args.now }
-    ensures { IfOk result (IsCreateObject kind (place_seen place.entry) attrs args.now) }
+    ensures { IfOk result (IsCreateObject kind (place_seen place.entry) attrs args.now (values_of words.now process)) }
 {
-    let place = place_of(alloc, place)?;
+    let place = place_of(alloc, words, process, place)?;
     let args = decode(alloc, args)?;
     Ok(Command::CreateObject {
         place,
@@ -86,19 +130,54 @@ fn create_object(
     })
 }
 
+// The open of a directory.
+fn open_directory(
+    alloc: Global,
+    words: &BTreeMap<Word, Handle>,
+    process: Proc,
+    name: NameForm<&[u8]>,
+    attrs: u32,
+) -> Result<Command<PlainKind>, AllocError>
+    requires { IsText (text_of (name_seen name)) }
+    ensures { IfOk result (IsOpenDirectory (name_seen name.entry) attrs (values_of words.now process)) }
+{
+    let root = root_of(alloc, words, process, name)?;
+    let name = bytes_of(alloc, name)?;
+    Ok(Command::OpenDirectory { root, name, attrs })
+}
+
+// The open of a symbolic link.
+fn open_link(
+    alloc: Global,
+    words: &BTreeMap<Word, Handle>,
+    process: Proc,
+    name: NameForm<&[u8]>,
+    attrs: u32,
+) -> Result<Command<PlainKind>, AllocError>
+    requires { IsText (text_of (name_seen name)) }
+    ensures { IfOk result (IsOpenLink (name_seen name.entry) attrs (values_of words.now process)) }
+{
+    let root = root_of(alloc, words, process, name)?;
+    let name = bytes_of(alloc, name)?;
+    Ok(Command::OpenLink { root, name, attrs })
+}
+
 // The open of an object.
 fn open_object(
     alloc: Global,
+    words: &BTreeMap<Word, Handle>,
+    process: Proc,
     want: Option<PlainKind>,
-    text: &[u8],
+    name: NameForm<&[u8]>,
     attrs: u32,
 ) -> Result<Command<PlainKind>, AllocError>
-    requires { IsText text.now }
-    ensures { IfOk result (IsOpenObject want text.now attrs) }
+    requires { IsText (text_of (name_seen name)) }
+    ensures { IfOk result (IsOpenObject want (name_seen name.entry) attrs (values_of words.now process)) }
 {
-    let name = decode(alloc, text)?;
+    let root = root_of(alloc, words, process, name)?;
+    let name = bytes_of(alloc, name)?;
     Ok(Command::OpenObject {
-        root: None,
+        root,
         name,
         attrs,
         want,
@@ -106,16 +185,51 @@ fn open_object(
 }
 
 // The place that a line means.
-fn place_of(alloc: Global, place: PlaceForm<&[u8]>) -> Result<Place, AllocError>
+fn place_of(
+    alloc: Global,
+    words: &BTreeMap<Word, Handle>,
+    process: Proc,
+    place: PlaceForm<&[u8]>,
+) -> Result<Place, AllocError>
     requires { HasPlaceText (place_seen place) }
-    ensures { IfOk result (IsPlace (place_seen place.entry)) }
+    ensures { IfOk result (IsPlace (place_seen place.entry) (values_of words.now process)) }
 {
     match place {
-        PlaceForm::Named(text) => {
-            let name = decode(alloc, text)?;
-            Ok(Place::At { root: None, name })
+        PlaceForm::Named(name) => {
+            let root = root_of(alloc, words, process, name)?;
+            let name = bytes_of(alloc, name)?;
+            Ok(Place::At { root, name })
         }
         PlaceForm::Unnamed => Ok(Place::Unnamed),
+    }
+}
+
+// The handle that a name is relative to; none for an absolute name.
+fn root_of(
+    alloc: Global,
+    words: &BTreeMap<Word, Handle>,
+    process: Proc,
+    name: NameForm<&[u8]>,
+) -> Result<Option<Handle>, AllocError>
+    ensures { IfOk result (λ root. root ≡ root_of (name_seen name.entry) (values_of words.now process)) }
+{
+    match name {
+        NameForm::Absolute(_) => Ok(None),
+        NameForm::Relative { root, .. } => {
+            let handle = handle_of(alloc, words, process, root)?;
+            Ok(Some(handle))
+        }
+    }
+}
+
+// The bytes that the text of a name spells.
+fn bytes_of(alloc: Global, name: NameForm<&[u8]>) -> Result<Bytes, AllocError>
+    requires { IsText (text_of (name_seen name)) }
+    ensures { IfOk result (λ bytes. Spells (text_of (name_seen name.entry)) bytes) }
+{
+    match name {
+        NameForm::Absolute(text) => decode(alloc, text),
+        NameForm::Relative { text, .. } => decode(alloc, text),
     }
 }
 

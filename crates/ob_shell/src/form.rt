@@ -65,3 +65,6 @@ fn asking_of(line: &[u8]) -> Option<Form<&[u8]>>
 pub fn lines_have_one_form()
     ensures { LinesHaveOneForm }
 {}
+
+#[cfg(test)]
+mod tests;

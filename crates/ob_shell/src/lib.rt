@@ -25,7 +25,7 @@ mod writing;
 pub use fault::ShellFault;
 pub use form::{Form, LONGEST_LINE, form_of, lines_have_one_form};
 pub use reading::{SCRIPT_LIMIT, read_script};
-pub use request::{PlaceForm, Request};
+pub use request::{NameForm, PlaceForm, Request};
 pub use run::{Ending, run_script};
 pub use text::{decode, texts_spell_one_thing};
 pub use writing::write_out;

@@ -100,10 +100,13 @@ fn word_of<'a>(request: Request<&'a [u8]>) -> &'a [u8]
 {
     match request {
         Request::CreateDirectory { word, .. } => word,
+        Request::CreateLink { word, .. } => word,
         Request::CreateObject { word, .. } => word,
         Request::OpenDirectory { word, .. } => word,
+        Request::OpenLink { word, .. } => word,
         Request::OpenObject { word, .. } => word,
         Request::Close { word } => word,
+        Request::QueryLink { word } => word,
         Request::QueryName { word } => word,
     }
 }
@@ -114,8 +117,10 @@ fn value_after(request: Request<&[u8]>, reply: &Reply, before: Handle) -> Handle
 {
     match request {
         Request::CreateDirectory { .. } => given_handle(&reply.given),
+        Request::CreateLink { .. } => given_handle(&reply.given),
         Request::CreateObject { .. } => given_handle(&reply.given),
         Request::OpenDirectory { .. } => given_handle(&reply.given),
+        Request::OpenLink { .. } => given_handle(&reply.given),
         Request::OpenObject { .. } => given_handle(&reply.given),
         Request::Close { .. } => {
             if reply.status == Status::Success {
@@ -124,6 +129,7 @@ fn value_after(request: Request<&[u8]>, reply: &Reply, before: Handle) -> Handle
                 before
             }
         }
+        Request::QueryLink { .. } => before,
         Request::QueryName { .. } => before,
     }
 }

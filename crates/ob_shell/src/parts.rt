@@ -1,17 +1,18 @@
 //! Parts of a line that several requests have.
 
 ghost use Rattle.std.specs.Prelude.{◌≡◌, ◌≤◌, ℕ, List, length, IfSome, IfNone};
+ghost use Rattle.ob_shell.specs.declared.request.NameForm.{NameForm};
 ghost use Rattle.ob_shell.specs.declared.request.PlaceForm.{PlaceForm};
-ghost use Rattle.ob_shell.specs.Parts.{BeginsWithText, BeginsWithPlace, BeginsWithFlags, SetsWord, place_seen};
-ghost use Rattle.ob_shell.specs.Grammar.{IsFlagsAndWord, IsFlagsTextAndWord};
+ghost use Rattle.ob_shell.specs.Parts.{BeginsWithText, BeginsWithName, BeginsWithPlace, BeginsWithFlags, SetsWord, name_seen, place_seen};
+ghost use Rattle.ob_shell.specs.Grammar.{IsFlagsAndWord, IsFlagsTextAndWord, IsNameFlagsAndWord, IsPlaceFlagsTextAndWord};
 
 use crate::flags::flags_of;
-use crate::request::PlaceForm;
+use crate::request::{NameForm, PlaceForm};
 use crate::split::{behind, split_at};
 use crate::text::{is_text, is_word};
 
 // The text between double quotes with which the bytes begin, and what stands behind it and a space.
-pub fn take_text(bytes: &[u8]) -> Option<(&[u8], &[u8])>
+fn take_text(bytes: &[u8]) -> Option<(&[u8], &[u8])>
     ensures found { IfSome result (λ found. BeginsWithText bytes.now found.0.now found.1.now) }
     ensures shorter { IfSome result (λ found. length found.1.now ≤ length bytes.now) }
     ensures none { IfNone result ((text rest : List ℕ) → ¬ BeginsWithText bytes.now text rest) }
@@ -25,6 +26,23 @@ pub fn take_text(bytes: &[u8]) -> Option<(&[u8], &[u8])>
     Some((text, rest))
 }
 
+// The name with which the bytes begin, and what stands behind it and a space.
+fn take_name(bytes: &[u8]) -> Option<(NameForm<&[u8]>, &[u8])>
+    ensures found { IfSome result (λ found. BeginsWithName bytes.now (name_seen found.0) found.1.now) }
+    ensures shorter { IfSome result (λ found. length found.1.now ≤ length bytes.now) }
+    ensures none { IfNone result ((name : NameForm (List ℕ)) (rest : List ℕ) → ¬ BeginsWithName bytes.now name rest) }
+{
+    if let Some((text, rest)) = take_text(bytes) {
+        return Some((NameForm::Absolute(text), rest));
+    }
+    let (root, quoted) = split_at(bytes, b':')?;
+    if !is_word(root) {
+        return None;
+    }
+    let (text, rest) = take_text(quoted)?;
+    Some((NameForm::Relative { root, text }, rest))
+}
+
 // The place with which the bytes begin, and what stands behind it and a space.
 pub fn take_place(bytes: &[u8]) -> Option<(PlaceForm<&[u8]>, &[u8])>
     ensures found { IfSome result (λ found. BeginsWithPlace bytes.now (place_seen found.0) found.1.now) }
@@ -34,8 +52,8 @@ pub fn take_place(bytes: &[u8]) -> Option<(PlaceForm<&[u8]>, &[u8])>
     if let Some(rest) = behind(bytes, b"none ") {
         return Some((PlaceForm::Unnamed, rest));
     }
-    let (text, rest) = take_text(bytes)?;
-    Some((PlaceForm::Named(text), rest))
+    let (name, rest) = take_name(bytes)?;
+    Some((PlaceForm::Named(name), rest))
 }
 
 // The bits of the flags with which the bytes begin, and what stands behind them and a space.
@@ -74,7 +92,7 @@ pub fn flags_and_word(bytes: &[u8]) -> Option<(u32, &[u8])>
 }
 
 // The parts of `FLAGS TEXT =V`.
-pub fn flags_text_and_word(bytes: &[u8]) -> Option<(u32, &[u8], &[u8])>
+fn flags_text_and_word(bytes: &[u8]) -> Option<(u32, &[u8], &[u8])>
     requires { length bytes.now ≤ 262144 }
     ensures found { IfSome result (λ parts. IsFlagsTextAndWord bytes.now parts.0 parts.1.now parts.2.now) }
     ensures none { IfNone result ((attrs : ℕ) (text word : List ℕ) → ¬ IsFlagsTextAndWord bytes.now attrs text word) }
@@ -83,4 +101,28 @@ pub fn flags_text_and_word(bytes: &[u8]) -> Option<(u32, &[u8], &[u8])>
     let (text, rest) = take_text(rest)?;
     let word = word_set(rest)?;
     Some((attrs, text, word))
+}
+
+// The parts of `NAME FLAGS =V`.
+pub fn name_flags_and_word(bytes: &[u8]) -> Option<(NameForm<&[u8]>, u32, &[u8])>
+    requires { length bytes.now ≤ 262144 }
+    ensures found { IfSome result (λ parts. IsNameFlagsAndWord bytes.now (name_seen parts.0) parts.1 parts.2.now) }
+    ensures none { IfNone result ((name : NameForm (List ℕ)) (attrs : ℕ) (word : List ℕ)
+        → ¬ IsNameFlagsAndWord bytes.now name attrs word) }
+{
+    let (name, rest) = take_name(bytes)?;
+    let (attrs, word) = flags_and_word(rest)?;
+    Some((name, attrs, word))
+}
+
+// The parts of `PLACE FLAGS TEXT =V`.
+pub fn place_flags_text_and_word(bytes: &[u8]) -> Option<(PlaceForm<&[u8]>, u32, &[u8], &[u8])>
+    requires { length bytes.now ≤ 262144 }
+    ensures found { IfSome result (λ parts. IsPlaceFlagsTextAndWord bytes.now (place_seen parts.0) parts.1 parts.2.now parts.3.now) }
+    ensures none { IfNone result ((place : PlaceForm (List ℕ)) (attrs : ℕ) (text word : List ℕ)
+        → ¬ IsPlaceFlagsTextAndWord bytes.now place attrs text word) }
+{
+    let (place, rest) = take_place(bytes)?;
+    let (attrs, text, word) = flags_text_and_word(rest)?;
+    Some((place, attrs, text, word))
 }

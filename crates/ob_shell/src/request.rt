@@ -2,24 +2,39 @@
 
 ghost use Rattle.std.specs.Prelude.{◌≡◌, ◌≤◌, ℕ, List, Option, length, IfSome, IfNone};
 ghost use Rattle.ob_plain.specs.declared.plain.PlainKind.{PlainKind};
+ghost use Rattle.ob_shell.specs.declared.request.NameForm.{NameForm};
 ghost use Rattle.ob_shell.specs.declared.request.PlaceForm.{PlaceForm};
 ghost use Rattle.ob_shell.specs.declared.request.Request.{Request};
 ghost use Rattle.ob_shell.specs.declared.verb.Verb.{Verb};
 ghost use Rattle.ob_shell.specs.Grammar.{IsOperands, IsRequest, request_seen, verb_of};
 
 use crate::kind::{take_kind, take_want};
-use crate::parts::{flags_and_word, flags_text_and_word, take_place, take_text};
+use crate::parts::{flags_and_word, name_flags_and_word, place_flags_text_and_word, take_place};
 use crate::split::split_at;
 use crate::text::is_word;
 use crate::verb::{Verb, verb_of};
 use ob_plain::PlainKind;
 
+/// A name in a line. `T` is how bytes are held: as slices of the line, or, in contracts, as lists.
+#[derive(Clone, Copy, PartialEq, Eq, Debug)]
+pub enum NameForm<T> {
+    /// `TEXT`: the absolute name that the text spells.
+    Absolute(T),
+    /// `H:TEXT`: the name that the text spells, relative to the object of a handle.
+    Relative {
+        /// The handle word that holds it.
+        root: T,
+        /// The text that spells the name.
+        text: T,
+    },
+}
+
 /// Where a create puts what it makes. `T` is how bytes are held: as slices of the line, or, in
 /// contracts, as lists.
 #[derive(Clone, Copy, PartialEq, Eq, Debug)]
 pub enum PlaceForm<T> {
-    /// `"TEXT"`: at the absolute name that the text spells.
-    Named(T),
+    /// `NAME`: at this name.
+    Named(NameForm<T>),
     /// `none`: nowhere, without a name.
     Unnamed,
 }
@@ -34,6 +49,17 @@ pub enum Request<T> {
         place: PlaceForm<T>,
         /// The attribute flags, as raw bits.
         attrs: u32,
+        /// The handle word that is set.
+        word: T,
+    },
+    /// `link PLACE FLAGS TEXT =V`: a new symbolic link.
+    CreateLink {
+        /// Where the link is to stand.
+        place: PlaceForm<T>,
+        /// The attribute flags, as raw bits.
+        attrs: u32,
+        /// The text that spells the link's target.
+        target: T,
         /// The handle word that is set.
         word: T,
     },
@@ -52,8 +78,17 @@ pub enum Request<T> {
     },
     /// `opendir NAME FLAGS =V`: a handle to a directory.
     OpenDirectory {
-        /// The text that spells its absolute name.
-        text: T,
+        /// The directory's name.
+        name: NameForm<T>,
+        /// The attribute flags, as raw bits.
+        attrs: u32,
+        /// The handle word that is set.
+        word: T,
+    },
+    /// `openlink NAME FLAGS =V`: a handle to a symbolic link, which isn't followed.
+    OpenLink {
+        /// The link's name.
+        name: NameForm<T>,
         /// The attribute flags, as raw bits.
         attrs: u32,
         /// The handle word that is set.
@@ -63,8 +98,8 @@ pub enum Request<T> {
     OpenObject {
         /// The kind that the object must have; none for `any`.
         want: Option<PlainKind>,
-        /// The text that spells its absolute name.
-        text: T,
+        /// The object's name.
+        name: NameForm<T>,
         /// The attribute flags, as raw bits.
         attrs: u32,
         /// The handle word that is set.
@@ -72,6 +107,11 @@ pub enum Request<T> {
     },
     /// `close V`: a handle is closed.
     Close {
+        /// The handle word that holds it.
+        word: T,
+    },
+    /// `target V`: the target of a handle's symbolic link.
+    QueryLink {
         /// The handle word that holds it.
         word: T,
     },
@@ -102,10 +142,13 @@ fn operands_of(verb: Verb, operands: &[u8]) -> Option<Request<&[u8]>>
 {
     match verb {
         Verb::Dir => directory_of(operands),
+        Verb::Link => link_of(operands),
         Verb::Make => object_of(operands),
         Verb::OpenDir => open_directory_of(operands),
+        Verb::OpenLink => open_link_of(operands),
         Verb::Open => open_object_of(operands),
         Verb::Close => close_of(operands),
+        Verb::Target => link_query_of(operands),
         Verb::Name => name_query_of(operands),
     }
 }
@@ -123,6 +166,23 @@ fn directory_of(operands: &[u8]) -> Option<Request<&[u8]>>
     Some(Request::CreateDirectory { place, attrs, word })
 }
 
+// The create of a symbolic link: `PLACE FLAGS TEXT =V`.
+fn link_of(operands: &[u8]) -> Option<Request<&[u8]>>
+    requires { length operands.now ≤ 262144 }
+    ensures verb { IfSome result (λ request. verb_of (request_seen request) ≡ Verb.Link) }
+    ensures found { IfSome result (λ request. IsOperands operands.now (request_seen request)) }
+    ensures none { IfNone result ((place : PlaceForm (List ℕ)) (attrs : ℕ) (target word : List ℕ)
+        → ¬ IsOperands operands.now (Request.CreateLink place attrs target word)) }
+{
+    let (place, attrs, target, word) = place_flags_text_and_word(operands)?;
+    Some(Request::CreateLink {
+        place,
+        attrs,
+        target,
+        word,
+    })
+}
+
 // The create of an object: `KIND PLACE FLAGS TEXT =V`.
 fn object_of(operands: &[u8]) -> Option<Request<&[u8]>>
     requires { length operands.now ≤ 262144 }
@@ -132,8 +192,7 @@ fn object_of(operands: &[u8]) -> Option<Request<&[u8]>>
         → ¬ IsOperands operands.now (Request.CreateObject kind place attrs args word)) }
 {
     let (kind, rest) = take_kind(operands)?;
-    let (place, rest) = take_place(rest)?;
-    let (attrs, args, word) = flags_text_and_word(rest)?;
+    let (place, attrs, args, word) = place_flags_text_and_word(rest)?;
     Some(Request::CreateObject {
         kind,
         place,
@@ -148,12 +207,23 @@ fn open_directory_of(operands: &[u8]) -> Option<Request<&[u8]>>
     requires { length operands.now ≤ 262144 }
     ensures verb { IfSome result (λ request. verb_of (request_seen request) ≡ Verb.OpenDir) }
     ensures found { IfSome result (λ request. IsOperands operands.now (request_seen request)) }
-    ensures none { IfNone result ((text : List ℕ) (attrs : ℕ) (word : List ℕ)
-        → ¬ IsOperands operands.now (Request.OpenDirectory text attrs word)) }
+    ensures none { IfNone result ((name : NameForm (List ℕ)) (attrs : ℕ) (word : List ℕ)
+        → ¬ IsOperands operands.now (Request.OpenDirectory name attrs word)) }
 {
-    let (text, rest) = take_text(operands)?;
-    let (attrs, word) = flags_and_word(rest)?;
-    Some(Request::OpenDirectory { text, attrs, word })
+    let (name, attrs, word) = name_flags_and_word(operands)?;
+    Some(Request::OpenDirectory { name, attrs, word })
+}
+
+// The open of a symbolic link: `NAME FLAGS =V`.
+fn open_link_of(operands: &[u8]) -> Option<Request<&[u8]>>
+    requires { length operands.now ≤ 262144 }
+    ensures verb { IfSome result (λ request. verb_of (request_seen request) ≡ Verb.OpenLink) }
+    ensures found { IfSome result (λ request. IsOperands operands.now (request_seen request)) }
+    ensures none { IfNone result ((name : NameForm (List ℕ)) (attrs : ℕ) (word : List ℕ)
+        → ¬ IsOperands operands.now (Request.OpenLink name attrs word)) }
+{
+    let (name, attrs, word) = name_flags_and_word(operands)?;
+    Some(Request::OpenLink { name, attrs, word })
 }
 
 // The open of an object: `WANT NAME FLAGS =V`.
@@ -161,15 +231,14 @@ fn open_object_of(operands: &[u8]) -> Option<Request<&[u8]>>
     requires { length operands.now ≤ 262144 }
     ensures verb { IfSome result (λ request. verb_of (request_seen request) ≡ Verb.Open) }
     ensures found { IfSome result (λ request. IsOperands operands.now (request_seen request)) }
-    ensures none { IfNone result ((want : Option PlainKind) (text : List ℕ) (attrs : ℕ) (word : List ℕ)
-        → ¬ IsOperands operands.now (Request.OpenObject want text attrs word)) }
+    ensures none { IfNone result ((want : Option PlainKind) (name : NameForm (List ℕ)) (attrs : ℕ) (word : List ℕ)
+        → ¬ IsOperands operands.now (Request.OpenObject want name attrs word)) }
 {
     let (want, rest) = take_want(operands)?;
-    let (text, rest) = take_text(rest)?;
-    let (attrs, word) = flags_and_word(rest)?;
+    let (name, attrs, word) = name_flags_and_word(rest)?;
     Some(Request::OpenObject {
         want,
-        text,
+        name,
         attrs,
         word,
     })
@@ -185,6 +254,18 @@ fn close_of(operands: &[u8]) -> Option<Request<&[u8]>>
         return None;
     }
     Some(Request::Close { word: operands })
+}
+
+// The query of a link's target: `V`.
+fn link_query_of(operands: &[u8]) -> Option<Request<&[u8]>>
+    ensures verb { IfSome result (λ request. verb_of (request_seen request) ≡ Verb.Target) }
+    ensures found { IfSome result (λ request. IsOperands operands.now (request_seen request)) }
+    ensures none { IfNone result ((word : List ℕ) → ¬ IsOperands operands.now (Request.QueryLink word)) }
+{
+    if !is_word(operands) {
+        return None;
+    }
+    Some(Request::QueryLink { word: operands })
 }
 
 // The query of a path: `V`.

@@ -92,8 +92,32 @@ fn objects_are_made_opened_named_and_counted(rt: HostRuntime) -> Result<(), Fail
 }
 
 #[test]
+fn links_are_made_followed_opened_and_told(rt: HostRuntime) -> Result<(), Fail> {
+    let script =
+        b"p1 link \"\\%22\" - \"\\Device\" =l\np1 opendir \"\\%22\" - =d\np1 name d\np1 target d\n\
+        p1 openlink \"\\%22\" - =k\np1 target k\np1 name k\np1 link none - \"%22%25\" =k\np1 target k\n\
+        p1 target k\np1 link none - \"\" =k\np1 target k\nq target l\n";
+    let output = b"1: SUCCESS\n2: SUCCESS\n3: SUCCESS \"\\Device\"\n4: OBJECT_TYPE_MISMATCH\n\
+        5: SUCCESS\n6: SUCCESS \"\\Device\"\n7: SUCCESS \"\\%22\"\n8: SUCCESS\n9: SUCCESS \"%22%25\"\n\
+        10: SUCCESS \"%22%25\"\n11: INVALID_PARAMETER\n12: INVALID_HANDLE\n13: PROCESS_GONE\n";
+    assert_plays(&rt, rt.alloc(), script, output, Ending::Done)
+}
+
+#[test]
+fn names_are_relative_to_the_words_of_the_process(rt: HostRuntime) -> Result<(), Fail> {
+    let script =
+        b"p1 dir a:\"B\" - =b\np1 dir \"\\A\" - =a\np1 dir a:\"B\" - =b\np1 opendir a:\"B\" - =a\np1 name a\n\
+        p1 opendir a:\"B\" - =a\np1 opendir a:\"B\" - =x\nq opendir b:\"\" - =x\np1 link b:\"L\" - \"\\Device\" =l\n\
+        p1 openlink b:\"L\" - =k\np1 name k\np1 make Event b:\"E\" - \"\" =e\np1 open Event b:\"E\" - =f\np1 name f\n";
+    let output = b"1: INVALID_HANDLE\n2: SUCCESS\n3: SUCCESS\n4: SUCCESS\n5: SUCCESS \"\\A\\B\"\n\
+        6: OBJECT_NAME_NOT_FOUND\n7: INVALID_HANDLE\n8: PROCESS_GONE\n9: SUCCESS\n\
+        10: SUCCESS\n11: SUCCESS \"\\A\\B\\L\"\n12: SUCCESS\n13: SUCCESS\n14: SUCCESS \"\\A\\B\\E\"\n";
+    assert_plays(&rt, rt.alloc(), script, output, Ending::Done)
+}
+
+#[test]
 fn other_lines_end_the_run(rt: HostRuntime) -> Result<(), Fail> {
-    let lines: [&[u8]; 33] = [
+    let lines: [&[u8]; 39] = [
         b" ",
         b"p1",
         b"p1 dir \\A - =a",
@@ -118,6 +142,12 @@ fn other_lines_end_the_run(rt: HostRuntime) -> Result<(), Fail> {
         b"p1 make Event \"\\E\" - =a",
         b"p1 make Event \"\\E\" \"\" - =a",
         b"p1 make Event none - \"%\" =a",
+        b"p1 dir a: - =a",
+        b"p1 dir :\"A\" - =a",
+        b"p1 dir 1a:\"A\" - =a",
+        b"p1 link \"\\L\" - =a",
+        b"p1 openlink none - =a",
+        b"p1 target a b",
         b"p1 name a b",
         b"p1 stat",
         b"stat ",

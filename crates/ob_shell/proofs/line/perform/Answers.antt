@@ -1,6 +1,10 @@
 use Rattle.ob_shell.specs.Words.{values_of}
 use Rattle.ob_shell.proofs.Behind.{replied}
+use Rattle.ob_shell.proofs.Formed.{line_has_texts}
 use Rattle.ob_shell.proofs.line.perform.Goals as goal
+
+pub ask-requires : goal.ask-requires
+ask-requires c = line_has_texts _ _ _ (rw c.in-Some-Asks.field-0-is at c.in-Some-Asks.ensures.found)
 
 pub returns-in-Ok : goal.returns-in-Ok
 returns-in-Ok c =
