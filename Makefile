@@ -18,6 +18,7 @@ build:
 
 bench: build
 	bench/lines.sh crates/ntns/out/ntns
+	bench/opens.sh crates/ntns/out/ntns
 
 hostile:
 	hostile/memory.sh examples/first.ntns
