@@ -11,9 +11,8 @@ use Rattle.ob_model.specs.Procedures.{Procedures, Created}
 use Rattle.ob_model.specs.Settle.{deleted_one}
 use Rattle.ob_model.specs.Grants.{open_refusal_of, open_refusal, with_open, opened_body, opened_set, opened_object}
 use Rattle.ob_model.specs.Creates.{new_rows, dropped}
-use Rattle.ob_dirs.specs.declared.entry.DirEntry.{DirEntry}
 use Rattle.ob_objects.specs.declared.object.StoredObject.{StoredObject}
-use Rattle.ob_objects.specs.Store.{Entries, IsStore, stored_at, directory_of, directory_at, entries_in, body_of_stored, object_of_stored, objects_of, rows_of}
+use Rattle.ob_objects.specs.Store.{Entries, NameEntry, IsStore, stored_at, directory_of, directory_at, entries_in, body_of_stored, object_of_stored, objects_of, rows_of}
 use Rattle.ob_objects.specs.Changes.{without_object, refusal_to_open, with_opened, set_after_open}
 use Rattle.ob_objects.proofs.Free.{name_may_be_inserted}
 use Rattle.ob_objects.proofs.Follow.{newest_is_newest, store_with_object, object_taken_back, name_taken_back, refusal_is_machines, set_after_open_is_machines, new_object_opens}
@@ -46,7 +45,7 @@ module _ {F I : Type 0} where
   free_behind store new more stamp spot at is put free =
       let here : IsFreeSpot store stamp (Some at) = subst (IsFreeSpot store stamp) is free in
       let same : directory_at new at.directory ≡ directory_at store at.directory = ap (λ (es : Entries F I). directory_at es at.directory) put ∙ directory_stays store more at.directory here.0 in
-      subst (λ (o : Option (List DirEntry)). IsSome o × All (λ e. e.name ≢ at.name) (unwrap_or o []) × All (λ e. e.stamp < stamp) (unwrap_or o [])) (sym same) here
+      subst (λ (o : Option (List NameEntry)). IsSome o × All (λ e. e.name ≢ at.name) (unwrap_or o []) × All (λ e. e.stamp < stamp) (unwrap_or o [])) (sym same) here
 
   -- an object that came last is taken back
   pub object_back : (store put kept left : Entries F I) (id : ℕ) (x : StoredObject F I) → All (λ e. e.0 < id) store

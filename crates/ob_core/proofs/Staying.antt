@@ -10,8 +10,7 @@ use Rattle.ob_model.specs.Procedures.{Procedures}
 use Rattle.ob_model.specs.State.{State, root_id, global_id}
 use Rattle.ob_model.specs.Settle.{is_kept, is_alive, is_permanent, has_handle, has_name, holds_kept, deleted_all, settle}
 use Rattle.ob_model.proofs.Finds.{filter_all}
-use Rattle.ob_dirs.specs.declared.entry.DirEntry.{DirEntry}
-use Rattle.ob_objects.specs.Store.{Entries, objects_of, rows_of}
+use Rattle.ob_objects.specs.Store.{Entries, NameEntry, objects_of, rows_of}
 use Rattle.ob_objects.specs.Changes.{without_name}
 use Rattle.ob_objects.specs.Named.{stands_at}
 use Rattle.ob_objects.proofs.Shown.{row_goes_with_name, names_change_no_object}
@@ -72,7 +71,7 @@ fewer gone (x ∷ xs) some = go (gone x) some (fewer gone xs)
     go true some rest = omega (arith, length-filter (λ y. not (gone y)) xs, count_by-le-length (λ y. not (gone y)) xs)
     go false some rest = let less = rest some in omega (arith, less)
 
-no_entry : DirEntry
+no_entry : NameEntry
 no_entry = record { stamp = 0; name = []; object = 0 }
 
 -- Names of objects that don't stay are forgotten one by one.

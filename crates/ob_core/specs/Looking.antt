@@ -1,5 +1,5 @@
 -- What a lookup of the core rests on, and what its end is good for.
-use Rattle.std.specs.Prelude.{◌≡◌, ℕ, true, List, Option, MatchOption}
+use Rattle.std.specs.Prelude.{◌≡◌, ℕ, true, Option, MatchOption}
 use Rattle.ob_model.specs.State.{State}
 use Rattle.ob_model.specs.Sound.{Stands}
 use Rattle.ob_model.specs.Looks.{Mode, Look, At, Vacant, Parse, Refused}

@@ -1,10 +1,9 @@
 -- The store of the opening state.
 use Rattle.std.specs.Prelude.{true, false, List, [], ◌∷◌, codes}
-use Rattle.ob_dirs.specs.declared.entry.DirEntry.{DirEntry}
 use Rattle.ob_objects.specs.declared.object.StoredBody.{StoredBody}
 use Rattle.ob_objects.specs.declared.object.StoredBody.TheVariants.{Directory, Link}
 use Rattle.ob_objects.specs.declared.object.StoredObject.{StoredObject}
-use Rattle.ob_objects.specs.Store.{Entries}
+use Rattle.ob_objects.specs.Store.{Entries, NameEntry}
 
 module _ {F I : Type 0} where
   -- an object of the opening state: permanent, and not exclusive
@@ -12,7 +11,7 @@ module _ {F I : Type 0} where
   standing body = record { permanent = true; exclusive = false; body = body }
 
   -- its objects behind the root, in which these entries lie
-  abbrev pub opening_with : List DirEntry → Entries F I
+  abbrev pub opening_with : List NameEntry → Entries F I
   opening_with entries =
       (1, standing (Directory entries)) ∷ (2, standing (Directory [])) ∷ (3, standing (Link (codes "\\??")))
       ∷ (4, standing (Directory [])) ∷ (5, standing (Directory [])) ∷ (6, standing (Directory [])) ∷ []

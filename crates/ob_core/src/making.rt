@@ -23,7 +23,6 @@ use crate::settle::settle;
 use crate::space::{Namespace, is_stampless, is_store_full, is_table_full};
 use crate::values::free_value;
 use ob_base::{Attrs, Fault, Handle, ObjId, Proc, Status};
-use ob_dirs::Dir;
 use ob_model::{Bytes, Held, Reply, Wanted};
 use ob_names::{Name, NameBuf};
 use ob_objects::{Store, StoredBody, StoredObject};
@@ -193,7 +192,7 @@ fn make_body<T: TypeSet>(
     ensures refused { IfErr result (λ refusal. IsTold refusal (machine.make_refusal T.procedures (making_of making.entry))) }
 {
     match making {
-        Making::Directory => Ok(StoredBody::Directory(Dir::new(alloc))),
+        Making::Directory => Ok(StoredBody::directory(alloc)),
         Making::Link { target } => {
             let target = NameBuf::from_name(alloc, Name::new(target))?;
             Ok(StoredBody::Link(target))

@@ -13,7 +13,6 @@ use crate::handles::held_of;
 use crate::replies::{status_alone, with_text};
 use crate::space::{Namespace, ROOT, is_live};
 use ob_base::{Handle, ObjId, Proc, Status};
-use ob_dirs::DirEntry;
 use ob_model::{Bytes, Reply};
 use ob_names::LONGEST_NAME;
 use ob_objects::{Store, StoredBody, laws};
@@ -60,11 +59,11 @@ fn way_up<T: TypeSet>(
     alloc: Global,
     store: &Store<T>,
     object: ObjId,
-) -> Result<Option<Vec<&DirEntry>>, AllocError>
+) -> Result<Option<Vec<&[u8]>>, AllocError>
     requires { All (λ r. r.directory < r.object) (rows_of store.now) }
     ensures { IfOk result (λ way. MatchOption way
         ((names : List (List ℕ)) → IsWayUp (rows_alone (rows_of store.now)) object names → ⊥)
-        (λ way. IsWayUp (rows_alone (rows_of store.now)) object (map (λ entry. entry.now.name) way.items))) }
+        (λ way. IsWayUp (rows_alone (rows_of store.now)) object (map (λ name. name.now) way.items))) }
 {
     let mut way = Vec::new(alloc);
     let mut current = object;
@@ -72,23 +71,23 @@ fn way_up<T: TypeSet>(
         let Some(named) = store.name_of(current) else {
             return Ok(None);
         };
-        way.push(named.entry)?;
+        way.push(named.name())?;
         current = named.directory;
     }
     Ok(Some(way))
 }
 
 /// The path that a way up says.
-fn path_text(alloc: Global, way: &[&DirEntry]) -> Result<Vec<u8>, AllocError>
-    ensures { IfOk result (λ text. text.items ≡ path_text (map (λ entry. entry.now.name) way.now)) }
+fn path_text(alloc: Global, way: &[&[u8]]) -> Result<Vec<u8>, AllocError>
+    ensures { IfOk result (λ text. text.items ≡ path_text (map (λ name. name.now) way.now)) }
 {
     if way.is_empty() {
         return b"\\".to_vec(alloc);
     }
     let mut text = Vec::new(alloc);
-    for entry in way.iter().rev() {
+    for name in way.iter().rev() {
         text.push(b'\\')?;
-        text.extend_from_slice(entry.name.as_slice())?;
+        text.extend_from_slice(name)?;
     }
     Ok(text)
 }

@@ -10,7 +10,6 @@ ghost use Rattle.ob_core.specs.Opening.{standing, opening_objects, opening_entri
 
 use crate::space::ROOT;
 use ob_base::{Fault, ObjId};
-use ob_dirs::Dir;
 use ob_names::{Name, NameBuf};
 use ob_objects::{Store, StoredBody, StoredObject};
 use ob_types::TypeSet;
@@ -38,12 +37,12 @@ fn opening_objects<T: TypeSet>(alloc: Global) -> Result<Store<T>, Fault>
 {
     let view = NameBuf::from_name(alloc, Name::new(b"\\??"))?;
     let mut store = Store::new(alloc);
-    store.insert(ObjId(1), standing(StoredBody::Directory(Dir::new(alloc))))?;
-    store.insert(ObjId(2), standing(StoredBody::Directory(Dir::new(alloc))))?;
+    store.insert(ObjId(1), standing(StoredBody::directory(alloc)))?;
+    store.insert(ObjId(2), standing(StoredBody::directory(alloc)))?;
     store.insert(ObjId(3), standing(StoredBody::Link(view)))?;
-    store.insert(ObjId(4), standing(StoredBody::Directory(Dir::new(alloc))))?;
-    store.insert(ObjId(5), standing(StoredBody::Directory(Dir::new(alloc))))?;
-    store.insert(ObjId(6), standing(StoredBody::Directory(Dir::new(alloc))))?;
+    store.insert(ObjId(4), standing(StoredBody::directory(alloc)))?;
+    store.insert(ObjId(5), standing(StoredBody::directory(alloc)))?;
+    store.insert(ObjId(6), standing(StoredBody::directory(alloc)))?;
     Ok(store)
 }
 

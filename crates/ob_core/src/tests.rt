@@ -1,6 +1,7 @@
 //! What no clause says: that calls succeed where memory is ample, and where a table ends.
 
 mod doors;
+mod links;
 
 use crate::{Core, Started};
 use doors::Doors;

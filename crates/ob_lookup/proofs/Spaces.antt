@@ -1,15 +1,13 @@
 -- The small namespaces of the tests, with an object more and then its name.
-use Rattle.std.proofs.Common.{◌≡◌, ◌≢◌, ◌∙◌, ℕ, ◌<◌, ◌+◌, ◌==◌, Bool, true, false, cond, List, [], ◌∷◌, ◌++◌, map, filter, Option, Some, All, IsSome, ap, sym, subst, arith}
+use Rattle.std.proofs.Common.{◌≡◌, ◌≢◌, ℕ, ◌<◌, ◌+◌, ◌==◌, Bool, true, false, cond, List, [], ◌∷◌, ◌++◌, map, Option, All, IsSome, sym, subst, arith}
 use Rattle.std.proofs.lemmas.List.Elements.{All-nil, All-cons, All-head, All-tail, All-weaker, All-push, All-filter}
 use Rattle.std.specs.Option.{unwrap_or}
-use Rattle.ob_model.specs.declared.state.Row.{Row}
 use Rattle.ob_dirs.specs.declared.entry.DirEntry.{DirEntry}
 use Rattle.ob_dirs.specs.Dir.{row_of}
 use Rattle.ob_objects.specs.declared.object.StoredObject.{StoredObject}
 use Rattle.ob_objects.specs.Store.{Entries, IsStore, stored_at, directory_at, entries_in, entries_at, rows_of}
 use Rattle.ob_objects.specs.Changes.{changed_at, body_with_name, with_name}
 use Rattle.ob_objects.proofs.Shown.{new_object_has_no_row, new_name_is_last, rows_are_entries}
-use Rattle.ob_lookup.specs.Closed.{IsClosed}
 use Rattle.ob_lookup.specs.Space.{IsSpace}
 use Rattle.ob_lookup.proofs.Stays.{closed_with_object, closed_with_name, directory_with_object, new_object_there}
 

@@ -1,7 +1,7 @@
 -- A closed store stays closed.
-use Rattle.std.proofs.Common.{◌≡◌, ◌∙◌, ℕ, ◌<◌, ◌==◌, ◌+◌, Bool, true, false, cond, List, [], ◌∷◌, ◌++◌, find, map, Option, None, Some, option_map, All, IsSome, refl, ap, sym, subst, arith, eq-eqb}
+use Rattle.std.proofs.Common.{◌≡◌, ◌∙◌, ℕ, ◌==◌, Bool, true, false, cond, [], ◌∷◌, ◌++◌, find, Option, None, Some, option_map, All, IsSome, refl, ap, sym, subst, eq-eqb}
 use Rattle.std.proofs.lemmas.Bool.{false≢true}
-use Rattle.std.proofs.lemmas.List.Elements.{All-nil, All-cons, All-head, All-tail, All-weaker, All-push}
+use Rattle.std.proofs.lemmas.List.Elements.{All-weaker, All-push}
 use Rattle.std.specs.Option.{option_and_then, is_some, unwrap_or}
 use Rattle.ob_model.specs.State.{root_id}
 use Rattle.ob_dirs.specs.declared.entry.DirEntry.{DirEntry}
@@ -9,10 +9,10 @@ use Rattle.ob_dirs.specs.Dir.{row_of}
 use Rattle.ob_objects.specs.declared.object.StoredBody.{StoredBody}
 use Rattle.ob_objects.specs.declared.object.StoredBody.TheVariants.{Directory, Link, Other}
 use Rattle.ob_objects.specs.declared.object.StoredObject.{StoredObject}
-use Rattle.ob_objects.specs.Store.{Entries, IsStore, stored_at, directory_of, directory_at, entries_in, entries_at, rows_of}
+use Rattle.ob_objects.specs.Store.{Entries, stored_at, directory_of, directory_at, rows_of}
 use Rattle.ob_objects.specs.Changes.{changed_at, body_with_name, with_name}
-use Rattle.ob_objects.proofs.Shown.{new_object_has_no_row, new_name_is_last, rows_are_entries}
-use Rattle.ob_lookup.specs.Closed.{IsClosed, ClosedWithObject, ClosedWithName}
+use Rattle.ob_objects.proofs.Shown.{new_object_has_no_row, new_name_is_last}
+use Rattle.ob_lookup.specs.Closed.{ClosedWithObject, ClosedWithName}
 
 -- what is there
 some_of : {X : Type 0} (o : Option X) → IsSome o → (x : X) × (o ≡ Some x)

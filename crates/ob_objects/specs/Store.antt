@@ -22,6 +22,10 @@ use Rattle.ob_objects.specs.declared.object.StoredBody.TheVariants.{Directory, L
 use Rattle.ob_objects.specs.declared.object.StoredObject.{StoredObject}
 use Rattle.ob_objects.specs.Rows.{by_stamp}
 
+-- an entry of a directory: its stamp, its name and the object that it names
+abbrev pub NameEntry : Type 0
+NameEntry = DirEntry
+
 -- the entries of a store
 abbrev pub Entries : Type 0 → Type 0 → Type 0
 Entries F I = List (ℕ × StoredObject F I)
@@ -32,20 +36,20 @@ module _ {F I : Type 0} where
   stored_at store id = option_map (λ e. e.1) (find (λ e. e.0 == id) store)
 
   -- the entries of a directory, and none where the body is no directory's
-  abbrev pub directory_of : StoredBody F I → Option (List DirEntry)
+  abbrev pub directory_of : StoredBody F I → Option (List NameEntry)
   directory_of (Directory entries) = Some entries
   directory_of (Link target) = None
   directory_of (Other face inner) = None
 
   -- the entries of the directory of an id, where it is one
-  abbrev pub directory_at : Entries F I → ℕ → Option (List DirEntry)
+  abbrev pub directory_at : Entries F I → ℕ → Option (List NameEntry)
   directory_at store id = option_and_then (λ x. directory_of x.body) (stored_at store id)
 
   -- the entries that lie in a body, and under an id: none where that is no directory
-  abbrev pub entries_in : StoredBody F I → List DirEntry
+  abbrev pub entries_in : StoredBody F I → List NameEntry
   entries_in body = unwrap_or (directory_of body) []
 
-  abbrev pub entries_at : Entries F I → ℕ → List DirEntry
+  abbrev pub entries_at : Entries F I → ℕ → List NameEntry
   entries_at store id = unwrap_or (directory_at store id) []
 
   -- What holds of every store: the ids rise strictly, and the entries of each directory are a

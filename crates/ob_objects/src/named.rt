@@ -5,7 +5,7 @@ ghost use Rattle.std.specs.List.{find};
 ghost use Rattle.std.specs.Option.{option_copied, option_map_or};
 ghost use Rattle.ob_dirs.specs.Dir.{IsDir};
 ghost use Rattle.ob_objects.specs.Store.{entries_in};
-ghost use Rattle.ob_objects.specs.Named.{FindsStamp};
+ghost use Rattle.ob_objects.specs.Named.{row_of_named, FindsStamp};
 
 use crate::{StoredBody, StoredObject};
 use ob_base::ObjId;
@@ -19,7 +19,16 @@ pub struct Named<'a> {
     /// The directory that the entry lies in.
     pub directory: ObjId,
     /// The entry: its stamp, its name and the object that it names.
-    pub entry: &'a DirEntry,
+    pub(crate) entry: &'a DirEntry,
+}
+
+impl<'a> Named<'a> {
+    /// The bytes of the name, in the spelling that was kept: at most 32,767, each from 0x20 to 0x7E.
+    pub fn name(&self) -> &'a [u8]
+        ensures { result.now ≡ (row_of_named self.now).name }
+    {
+        self.entry.name.as_slice()
+    }
 }
 
 /// The first entry of an object that names another one; none where no entry lies in it that does.

@@ -1,5 +1,7 @@
 //! What is stored for one object.
 
+ghost use Rattle.std.specs.Prelude.{◌≡◌, []};
+
 use ob_dirs::Dir;
 use ob_names::NameBuf;
 use std::alloc::Global;
@@ -23,6 +25,17 @@ pub enum StoredBody<F, I> {
         /// What its open, close and delete procedures change.
         inner: I,
     },
+}
+
+impl<F, I> StoredBody<F, I> {
+    /// A new object directory, in which no entry lies. Takes no memory.
+    ///
+    /// Source: Windows Driver Kit, ZwCreateDirectoryObject.
+    pub fn directory(alloc: Global) -> Self
+        ensures { result ≡ StoredBody.Directory [] }
+    {
+        StoredBody::Directory(Dir::new(alloc))
+    }
 }
 
 /// One object as a store keeps it, under its id.

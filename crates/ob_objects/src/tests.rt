@@ -4,7 +4,7 @@ ghost use Rattle.std.specs.Prelude.{◌≡◌, [], Some, IfOk};
 ghost use Rattle.std.specs.Prelude.{◌<◌, All};
 ghost use Rattle.ob_objects.specs.Store.{directory_at};
 
-use crate::{Named, Store, StoredBody, StoredObject, laws};
+use crate::{Store, StoredBody, StoredObject, laws};
 use ob_base::ObjId;
 use ob_dirs::Dir;
 use ob_names::{Name, NameBuf};
@@ -127,13 +127,11 @@ fn named(alloc: Global) -> Result<Store<Standard>, Fail> {
 #[test]
 fn the_first_name_is_told(rt: HostRuntime) -> Result<(), Fail> {
     let store = named(rt.alloc())?;
-    let Some(Named { directory, entry }) = store.name_of(ObjId(5)) else {
+    let Some(named) = store.name_of(ObjId(5)) else {
         return Err(Fail::from("no name"));
     };
-    assert_eq!(rt; directory, ObjId(4));
-    assert_eq!(rt; entry.stamp, 3);
-    assert_eq!(rt; entry.object, ObjId(5));
-    assert_eq!(rt; entry.name.as_slice(), b"Old".as_slice());
+    assert_eq!(rt; named.directory, ObjId(4));
+    assert_eq!(rt; named.name(), b"Old".as_slice());
     assert!(rt; store.name_of(ObjId(4)).is_none());
     assert!(rt; store.name_of(ObjId(9)).is_none());
     Ok(())

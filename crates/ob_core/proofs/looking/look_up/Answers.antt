@@ -2,7 +2,6 @@
 use Rattle.std.proofs.Common.{refl}
 use Rattle.ob_model.specs.Looks.{most_reparses}
 use Rattle.ob_model.proofs.Vacant.{usable_end}
-use Rattle.ob_objects.specs.Store.{Shows}
 use Rattle.ob_lookup.specs.Look.{mode_of, look_of}
 use Rattle.ob_core.specs.Namespace.{state_of}
 use Rattle.ob_core.proofs.Looked.{root_there, usable}

@@ -3,5 +3,5 @@ use Rattle.std.proofs.Common.{◌≡◌, map, reverse}
 use Rattle.ob_model.specs.Naming.{names_joined}
 use Rattle.ob_core.proofs.naming.path_text.Given as goal
 
-abbrev pub invariant-loop-entry : goal.invariant-loop-entry
-invariant-loop-entry l = l.text.items ≡ names_joined (map (λ entry. entry.now.name) (reverse (map (λ entry. entry.now) l.yielded)))
+abbrev pub invariant-loop-name : goal.invariant-loop-name
+invariant-loop-name l = l.text.items ≡ names_joined (map (λ name. name.now) (reverse (map (λ name. name.now) l.yielded)))

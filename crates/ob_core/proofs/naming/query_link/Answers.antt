@@ -1,7 +1,7 @@
 -- The target of what is stored is told, where it is a link.
 use Rattle.std.proofs.Common.{ℕ, List, ap, sym, refl, ◌∙◌}
-use Rattle.std.specs.Prelude.{Option, None, Some}
-use Rattle.std.specs.Option.{option_copied, option_and_then, option_map}
+use Rattle.std.specs.Prelude.{None, Some}
+use Rattle.std.specs.Option.{option_copied}
 use Rattle.ob_base.specs.declared.status.Status.TheVariants.{Success}
 use Rattle.ob_model.specs.declared.reply.Answer.TheVariants.{Done}
 use Rattle.ob_model.specs.declared.reply.Given.TheVariants.{Text}

@@ -1,5 +1,5 @@
 -- One name further; and where no name is for what was reached, there is no way up.
-use Rattle.std.proofs.Common.{ℕ, List, [], ◌∷◌, map, ap, sym, ◌∙◌, subst}
+use Rattle.std.proofs.Common.{ℕ, List, [], ◌∷◌, ◌++◌, map, ap, sym, ◌∙◌, subst}
 use Rattle.std.proofs.lemmas.List.{map-append, append-nil}
 use Rattle.ob_model.specs.Naming.{IsWayUp}
 use Rattle.ob_model.specs.State.{root_id}
@@ -21,7 +21,7 @@ loop-current-preserved g c =
     let current = c.loop-current.current in
     let named = c.in-Some.named in
     let other = differ current root_id c.loop-current-test.ensures in
-    let more = ap (map (λ entry. entry.now.name)) c.in_ok-push.ensures.items ∙ map-append (λ entry. entry.now.name) c.loop-current.way.items (named.entry ∷ []) in
+    let more = ap (map (λ name. name.now)) c.in_ok-push.ensures.items ∙ map-append (λ name. name.now) c.loop-current.way.items (c.name.result ∷ []) ∙ ap (λ name. map (λ name. name.now) c.loop-current.way.items ++ name ∷ []) c.name.ensures in
     record {
       behind = behind s c.args.object current (row_of_named named) _ _ other (sym c.in-Some.ensures) more c.loop-current.invariant.behind;
       onward = λ names way.
@@ -36,4 +36,4 @@ pub returns : goal.returns
 returns g c =
     let s = rows_alone (rows_of c.args.store.now) in
     let whole = c.loop-current.invariant.behind [] (agree c.loop-current.current root_id c.loop-current-test.ensures) in
-    subst (λ (names : List (List ℕ)). IsWayUp s c.args.object names) (append-nil (map (λ entry. entry.now.name) c.loop-current.way.items)) whole
+    subst (λ (names : List (List ℕ)). IsWayUp s c.args.object names) (append-nil (map (λ name. name.now) c.loop-current.way.items)) whole

@@ -10,7 +10,7 @@ abbrev pub invariant-loop-current : goal.invariant-loop-current
 invariant-loop-current g l =
     let s = rows_alone (rows_of l.store) in
     record {
-      behind : (cs : List (List ℕ)) → IsWayUp s l.current cs → IsWayUp s l.fn.object (map (λ entry. entry.now.name) l.way.items ++ cs);
+      behind : (cs : List (List ℕ)) → IsWayUp s l.current cs → IsWayUp s l.fn.object (map (λ name. name.now) l.way.items ++ cs);
       onward : (cs : List (List ℕ)) → IsWayUp s l.fn.object cs → (ds : List (List ℕ)) × IsWayUp s l.current ds;
     }
 

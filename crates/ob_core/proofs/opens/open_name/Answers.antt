@@ -2,7 +2,7 @@
 use Rattle.std.proofs.Common.{ap, sym, ◌∙◌, subst, refl, List, ℕ}
 use Rattle.ob_model.specs.declared.reply.Answer.TheVariants.{Done}
 use Rattle.ob_model.specs.Procedures.{without_parse}
-use Rattle.ob_model.specs.Looks.{Look, At, Refused, LooksUp, most_reparses}
+use Rattle.ob_model.specs.Looks.{At, Refused, LooksUp, most_reparses}
 use Rattle.ob_lookup.specs.Look.{mode_of, look_of}
 use Rattle.ob_core.specs.Namespace.{state_of, handles_alone}
 use Rattle.ob_core.specs.Roots.{root_of}
