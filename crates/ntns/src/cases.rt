@@ -13,7 +13,7 @@ struct Case {
     status: u8,
 }
 
-const CASES: [Case; 37] = [
+const CASES: [Case; 41] = [
     Case {
         shows: b"an empty script prints nothing",
         script: b"",
@@ -223,6 +223,30 @@ const CASES: [Case; 37] = [
         script: b"p1 dir \"\\??\" - =c\np1 opendir \"\\\" - =r\np1 dir r:\"??\" - =c\np1 link r:\"??\" - \"\\A\" =c\np1 dir \"\\A\" - =a\np1 dir a:\"??\" - =c\np1 name c\n",
         prints: b"1: OBJECT_NAME_INVALID\n2: SUCCESS\n3: OBJECT_NAME_INVALID\n4: OBJECT_NAME_INVALID\n5: SUCCESS\n6: SUCCESS\n7: SUCCESS \"\\A\\??\"\n",
         status: 0,
+    },
+    Case {
+        shows: b"a handle may be named with 1 to 3 more, also in a name, and a close by it sets its word to 0",
+        script: b"p1 make Event \"\\E\" - \"\" =e\np1 name e+3\np1 dir \"\\D\" - =d\np1 dir d+1:\"X\" - =x\np1 opendir d+2:\"X\" - =y\np1 name y+1\np1 link d+3:\"L\" - \"\\D\" =l\np1 target l+2\np1 close e+1\np1 close e\np1 close e+1\np1 open Event \"\\E\" - =e\np1 name x\n",
+        prints: b"1: SUCCESS\n2: SUCCESS \"\\E\"\n3: SUCCESS\n4: SUCCESS\n5: SUCCESS\n6: SUCCESS \"\\D\\X\"\n7: SUCCESS\n8: SUCCESS \"\\D\"\n9: SUCCESS\n10: INVALID_HANDLE\n11: INVALID_HANDLE\n12: OBJECT_NAME_NOT_FOUND\n13: SUCCESS \"\\D\\X\"\n",
+        status: 0,
+    },
+    Case {
+        shows: b"a word that was never set is no handle with 1 to 3 more either",
+        script: b"p1 close z+3\np1 name z+1\np1 target z+2\np1 opendir z+3:\"A\" - =x\np1 dir \"\\D\" - =d\nq close d+1\np1 name d+1\n",
+        prints: b"1: INVALID_HANDLE\n2: INVALID_HANDLE\n3: INVALID_HANDLE\n4: INVALID_HANDLE\n5: SUCCESS\n6: PROCESS_GONE\n7: SUCCESS \"\\D\"\n",
+        status: 0,
+    },
+    Case {
+        shows: b"a handle with 4 more makes no script line",
+        script: b"p1 make Event \"\\E\" - \"\" =e\np1 name e+4\np1 close e\n",
+        prints: b"1: SUCCESS\n2: not a script line\n",
+        status: 1,
+    },
+    Case {
+        shows: b"no word is set with 1 more",
+        script: b"p1 make Event \"\\E\" - \"\" =e\np1 open Event \"\\E\" - =f+1\n",
+        prints: b"1: SUCCESS\n2: not a script line\n",
+        status: 1,
     },
     Case {
         shows: b"a name without a text behind its colon makes no script line",

@@ -7,6 +7,7 @@ use Rattle.std.proofs.lemmas.Slice.Eq.{bytes_eq-Decides}
 use Rattle.ob_plain.specs.declared.plain.PlainKind.{PlainKind}
 use Rattle.ob_shell.specs.declared.form.Form.{Form}
 use Rattle.ob_shell.specs.declared.form.Form.TheVariants.{Nothing, Stat, Asks}
+use Rattle.ob_shell.specs.declared.handle.HandleForm.{HandleForm}
 use Rattle.ob_shell.specs.declared.request.NameForm.{NameForm}
 use Rattle.ob_shell.specs.declared.request.NameForm.TheVariants.{Absolute, Relative}
 use Rattle.ob_shell.specs.declared.request.PlaceForm.{PlaceForm}
@@ -23,6 +24,7 @@ use Rattle.ob_shell.specs.Running.{HasPlaceText, HasTexts}
 use Rattle.ob_shell.proofs.Cuts.{cut_alike, lacks_no_cut}
 use Rattle.ob_shell.proofs.Spelled.{word_lacks}
 use Rattle.ob_shell.proofs.Flagged.{lacks_from_test}
+use Rattle.ob_shell.proofs.Handles.{handle_alike}
 use Rattle.ob_shell.proofs.Parted.{apart, differ, moved, spaced, spaced_alike, place_alike, kind_alike, want_alike, ends_alike, name_ends_alike, place_ends_alike}
 
 -- the words of verbs have no space, and no two verbs share one
@@ -84,19 +86,19 @@ pub no_open_object : (bytes : List ℕ) (v : Verb) → v ≡ verb.Open
 no_open_object bytes v d none (OpenObject k n a w) e s = none k n a w s
 no_open_object bytes v d none r e s = absurd (differ (verb_text (verb_of r)) (verb_text verb.Open) refl (ap verb_text (e ∙ d)))
 
-pub no_close : (bytes : List ℕ) (v : Verb) → v ≡ verb.Close → ((w : List ℕ) → ¬ IsOperands bytes (Close w))
+pub no_close : (bytes : List ℕ) (v : Verb) → v ≡ verb.Close → ((h : HandleForm (List ℕ)) → ¬ IsOperands bytes (Close h))
     → (r : Request (List ℕ)) → verb_of r ≡ v → ¬ IsOperands bytes r
-no_close bytes v d none (Close w) e s = none w s
+no_close bytes v d none (Close h) e s = none h s
 no_close bytes v d none r e s = absurd (differ (verb_text (verb_of r)) (verb_text verb.Close) refl (ap verb_text (e ∙ d)))
 
-pub no_link_query : (bytes : List ℕ) (v : Verb) → v ≡ verb.Target → ((w : List ℕ) → ¬ IsOperands bytes (QueryLink w))
+pub no_link_query : (bytes : List ℕ) (v : Verb) → v ≡ verb.Target → ((h : HandleForm (List ℕ)) → ¬ IsOperands bytes (QueryLink h))
     → (r : Request (List ℕ)) → verb_of r ≡ v → ¬ IsOperands bytes r
-no_link_query bytes v d none (QueryLink w) e s = none w s
+no_link_query bytes v d none (QueryLink h) e s = none h s
 no_link_query bytes v d none r e s = absurd (differ (verb_text (verb_of r)) (verb_text verb.Target) refl (ap verb_text (e ∙ d)))
 
-pub no_name_query : (bytes : List ℕ) (v : Verb) → v ≡ verb.Name → ((w : List ℕ) → ¬ IsOperands bytes (QueryName w))
+pub no_name_query : (bytes : List ℕ) (v : Verb) → v ≡ verb.Name → ((h : HandleForm (List ℕ)) → ¬ IsOperands bytes (QueryName h))
     → (r : Request (List ℕ)) → verb_of r ≡ v → ¬ IsOperands bytes r
-no_name_query bytes v d none (QueryName w) e s = none w s
+no_name_query bytes v d none (QueryName h) e s = none h s
 no_name_query bytes v d none r e s = absurd (differ (verb_text (verb_of r)) (verb_text verb.Name) refl (ap verb_text (e ∙ d)))
 
 -- operands have one reading for each verb
@@ -122,9 +124,9 @@ operands_alike bytes (OpenObject k n a w) (OpenObject k' n' a' w') e (r, c, s) (
     let want = want_alike bytes k r k' r' c c' in
     let same = name_ends_alike r n a w n' a' w' s (moved (λ x. IsNameFlagsAndWord x n' a' w') r r' want.1 s') in
     rw (want.0, same.0, same.1, same.2) refl
-operands_alike bytes (Close w) (Close w') e (f, s) (f', s') = ap Close (sym f ∙ f')
-operands_alike bytes (QueryLink w) (QueryLink w') e (f, s) (f', s') = ap QueryLink (sym f ∙ f')
-operands_alike bytes (QueryName w) (QueryName w') e (f, s) (f', s') = ap QueryName (sym f ∙ f')
+operands_alike bytes (Close h) (Close h') e s s' = ap Close (handle_alike bytes h h' s s')
+operands_alike bytes (QueryLink h) (QueryLink h') e s s' = ap QueryLink (handle_alike bytes h h' s s')
+operands_alike bytes (QueryName h) (QueryName h') e s s' = ap QueryName (handle_alike bytes h h' s s')
 operands_alike bytes a b e s s' = absurd (differ (verb_text (verb_of a)) (verb_text (verb_of b)) refl (ap verb_text e))
 
 -- a request that is cut behind its verb is no other
@@ -215,7 +217,7 @@ no_form line long first stat none Nothing (inr (comment, e), short) = first (ap 
 -- the texts of what a line asks for are texts
 name_has_text : (bytes : List ℕ) (n : NameForm (List ℕ)) (rest : List ℕ) → BeginsWithName bytes n rest → IsText (text_of n)
 name_has_text bytes (Absolute t) rest b = b.0
-name_has_text bytes (Relative w t) rest (more, word, e, b) = b.0
+name_has_text bytes (Relative h t) rest (root, more, handle, e, b) = b.0
 
 place_has_text : (bytes : List ℕ) (p : PlaceForm (List ℕ)) (rest : List ℕ) → BeginsWithPlace bytes p rest → HasPlaceText p
 place_has_text bytes (Named n) rest b = name_has_text bytes n rest b
@@ -231,9 +233,9 @@ request_has_texts bytes (CreateObject k p a t w) (more, c, (rest, b, f)) = (plac
 request_has_texts bytes (OpenDirectory n a w) (rest, b, f) = name_has_text bytes n rest b
 request_has_texts bytes (OpenLink n a w) (rest, b, f) = name_has_text bytes n rest b
 request_has_texts bytes (OpenObject k n a w) (more, c, (rest, b, f)) = name_has_text more n rest b
-request_has_texts bytes (Close w) s = tt
-request_has_texts bytes (QueryLink w) s = tt
-request_has_texts bytes (QueryName w) s = tt
+request_has_texts bytes (Close h) s = tt
+request_has_texts bytes (QueryLink h) s = tt
+request_has_texts bytes (QueryName h) s = tt
 
 pub line_has_texts : (line p : List ℕ) (r : Request (List ℕ)) → IsLine line (Asks p r) → HasTexts r
 line_has_texts line p r (rest, e, word, (operands, f, s), short) = request_has_texts operands r s

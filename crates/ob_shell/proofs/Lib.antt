@@ -3,6 +3,7 @@ pub mod Writers
 pub mod Cuts
 pub mod Spelled
 pub mod Flagged
+pub mod Handles
 pub mod Parted
 pub mod Formed
 pub mod Worded

@@ -6,16 +6,18 @@ use Rattle.std.proofs.lemmas.Slice.Eq.{bytes_eq-Decides}
 use Rattle.ob_plain.specs.declared.plain.PlainKind.{PlainKind}
 use Rattle.ob_plain.specs.declared.plain.PlainKind.TheVariants.{Event, Mutant, Section}
 use Rattle.ob_plain.specs.Plain.{name_of}
+use Rattle.ob_shell.specs.declared.handle.HandleForm.{HandleForm}
 use Rattle.ob_shell.specs.declared.request.NameForm.{NameForm}
 use Rattle.ob_shell.specs.declared.request.NameForm.TheVariants.{Absolute, Relative}
 use Rattle.ob_shell.specs.declared.request.PlaceForm.{PlaceForm}
 use Rattle.ob_shell.specs.declared.request.PlaceForm.TheVariants.{Named, Unnamed}
-use Rattle.ob_shell.specs.Text.{Lacks, IsWord}
+use Rattle.ob_shell.specs.Text.{Lacks}
 use Rattle.ob_shell.specs.Flags.{IsFlags}
-use Rattle.ob_shell.specs.Parts.{BeginsWithText, BeginsWithName, BeginsWithPlace, BeginsWithKind, BeginsWithWant, BeginsWithFlags, SetsWord}
+use Rattle.ob_shell.specs.Parts.{IsHandle, BeginsWithText, BeginsWithName, BeginsWithPlace, BeginsWithKind, BeginsWithWant, BeginsWithFlags, SetsWord}
 use Rattle.ob_shell.specs.Grammar.{IsFlagsAndWord, IsFlagsTextAndWord, IsNameFlagsAndWord, IsPlaceFlagsTextAndWord}
 use Rattle.ob_shell.proofs.Cuts.{cut_alike, cuts_apart, lacks_no_cut}
-use Rattle.ob_shell.proofs.Spelled.{text_lacks, word_lacks, word_lacks_colon, word_lacks_quote}
+use Rattle.ob_shell.proofs.Spelled.{text_lacks}
+use Rattle.ob_shell.proofs.Handles.{handle_lacks, handle_lacks_colon, handle_lacks_quote, handle_alike}
 use Rattle.ob_shell.proofs.Flagged.{flags_lack, flags_alike, lacks_from_test}
 
 -- lists with two first bytes are two, and so are lists that a test tells apart
@@ -74,45 +76,45 @@ none_no_text : (bytes rest t r : List ℕ) → bytes ≡ codes "none " ++ rest �
 none_no_text bytes rest t r e (text, f) = apart 0x6E 0x22 (sym e ∙ quoted bytes t r f) (omega arith)
 
 -- a name that is relative is cut at its colon, and no other is
-pub relative_parts : (bytes root quoted w t r : List ℕ) → bytes ≡ root ++ (0x3A ∷ quoted) → Lacks 0x3A root → BeginsWithName bytes (Relative w t) r
-    → (root ≡ w) × IsWord root × BeginsWithText quoted t r
-relative_parts bytes root quoted w t r e l (more, word, f, text) =
-    let cuts : root ++ (0x3A ∷ quoted) ≡ w ++ (0x3A ∷ more) = sym e ∙ coloned bytes w more f in
-    let same : (root ≡ w) × (quoted ≡ more) = cut_alike 0x3A root quoted w more l (word_lacks_colon w word) cuts in
-    (same.0, moved IsWord root w same.0 word, moved (λ x. BeginsWithText x t r) quoted more same.1 text)
+pub relative_parts : (bytes spelled quoted : List ℕ) (h : HandleForm (List ℕ)) (t r : List ℕ) → bytes ≡ spelled ++ (0x3A ∷ quoted) → Lacks 0x3A spelled
+    → BeginsWithName bytes (Relative h t) r → IsHandle spelled h × BeginsWithText quoted t r
+relative_parts bytes spelled quoted h t r e l (root, more, handle, f, text) =
+    let cuts : spelled ++ (0x3A ∷ quoted) ≡ root ++ (0x3A ∷ more) = sym e ∙ coloned bytes root more f in
+    let same : (spelled ≡ root) × (quoted ≡ more) = cut_alike 0x3A spelled quoted root more l (handle_lacks_colon root h handle) cuts in
+    (moved (λ x. IsHandle x h) spelled root same.0 handle, moved (λ x. BeginsWithText x t r) quoted more same.1 text)
 
 -- a text is no relative name
-text_no_relative : (bytes t r w t' r' : List ℕ) → BeginsWithText bytes t r → ¬ BeginsWithName bytes (Relative w t') r'
-text_no_relative bytes t r [] t' r' text (more, word, f, b) = absurd word
-text_no_relative bytes t r (c ∷ w) t' r' (text, e) (more, word, f, b) =
-    apart c 0x22 (sym (coloned bytes (c ∷ w) more f) ∙ quoted bytes t r e) (word_lacks_quote (c ∷ w) word).0
+text_no_relative : (bytes t r : List ℕ) (h : HandleForm (List ℕ)) (t' r' : List ℕ) → BeginsWithText bytes t r → ¬ BeginsWithName bytes (Relative h t') r'
+text_no_relative bytes t r h t' r' (text, e) (root, more, handle, f, b) =
+    cuts_apart 0x22 0x3A [] (t ++ (0x22 ∷ (0x20 ∷ r))) root more (λ n. omega (arith, n)) tt (handle_lacks_quote root h handle)
+    (sym (quoted bytes t r e) ∙ coloned bytes root more f)
 
 -- bytes begin with one name at most
 pub name_alike : (bytes : List ℕ) (n : NameForm (List ℕ)) (r : List ℕ) (n' : NameForm (List ℕ)) (r' : List ℕ)
     → BeginsWithName bytes n r → BeginsWithName bytes n' r' → (n ≡ n') × (r ≡ r')
 name_alike bytes (Absolute t) r (Absolute t') r' a b = let same = text_alike bytes t r t' r' a b in (ap Absolute same.0, same.1)
-name_alike bytes (Absolute t) r (Relative w t') r' a b = absurd (text_no_relative bytes t r w t' r' a b)
-name_alike bytes (Relative w t) r (Absolute t') r' a b = absurd (text_no_relative bytes t' r' w t r b a)
-name_alike bytes (Relative w t) r (Relative w' t') r' (more, word, e, a) b =
-    let parts = relative_parts bytes w more w' t' r' (coloned bytes w more e) (word_lacks_colon w word) b in
-    let same = text_alike more t r t' r' a parts.2 in
-    (rw (parts.0, same.0) refl, same.1)
+name_alike bytes (Absolute t) r (Relative h t') r' a b = absurd (text_no_relative bytes t r h t' r' a b)
+name_alike bytes (Relative h t) r (Absolute t') r' a b = absurd (text_no_relative bytes t' r' h t r b a)
+name_alike bytes (Relative h t) r (Relative h' t') r' (root, more, handle, e, a) b =
+    let parts = relative_parts bytes root more h' t' r' (coloned bytes root more e) (handle_lacks_colon root h handle) b in
+    let same = text_alike more t r t' r' a parts.1 in
+    (rw (handle_alike root h h' handle parts.0, same.0) refl, same.1)
 
 -- bytes that begin with no text, and with no relative name, begin with no name
-pub no_name : (bytes : List ℕ) → ((t r : List ℕ) → ¬ BeginsWithText bytes t r) → ((w t r : List ℕ) → ¬ BeginsWithName bytes (Relative w t) r)
+pub no_name : (bytes : List ℕ) → ((t r : List ℕ) → ¬ BeginsWithText bytes t r) → ((h : HandleForm (List ℕ)) (t r : List ℕ) → ¬ BeginsWithName bytes (Relative h t) r)
     → (n : NameForm (List ℕ)) (r : List ℕ) → ¬ BeginsWithName bytes n r
 no_name bytes text relative (Absolute t) r b = text t r b
-no_name bytes text relative (Relative w t) r b = relative w t r b
+no_name bytes text relative (Relative h t) r b = relative h t r b
 
-pub relative_uncut : (bytes w t r : List ℕ) → Lacks 0x3A bytes → ¬ BeginsWithName bytes (Relative w t) r
-relative_uncut bytes w t r l (more, word, f, text) = lacks_no_cut 0x3A bytes w more l (coloned bytes w more f)
+pub relative_uncut : (bytes : List ℕ) (h : HandleForm (List ℕ)) (t r : List ℕ) → Lacks 0x3A bytes → ¬ BeginsWithName bytes (Relative h t) r
+relative_uncut bytes h t r l (root, more, handle, f, text) = lacks_no_cut 0x3A bytes root more l (coloned bytes root more f)
 
 -- `none` and a space are no name
 none_no_name : (bytes rest : List ℕ) (n : NameForm (List ℕ)) (r : List ℕ) → bytes ≡ codes "none " ++ rest → ¬ BeginsWithName bytes n r
 none_no_name bytes rest (Absolute t) r e b = none_no_text bytes rest t r e b
-none_no_name bytes rest (Relative w t) r e (more, word, f, b) =
-    cuts_apart 0x20 0x3A (codes "none") rest w more (λ h. omega (arith, h)) (lacks_from_test 0x3A (codes "none") refl) (word_lacks w word)
-    (sym e ∙ coloned bytes w more f)
+none_no_name bytes rest (Relative h t) r e (root, more, handle, f, b) =
+    cuts_apart 0x20 0x3A (codes "none") rest root more (λ n. omega (arith, n)) (lacks_from_test 0x3A (codes "none") refl) (handle_lacks root h handle)
+    (sym e ∙ coloned bytes root more f)
 
 -- bytes begin with one place at most
 pub place_alike : (bytes : List ℕ) (p : PlaceForm (List ℕ)) (r : List ℕ) (p' : PlaceForm (List ℕ)) (r' : List ℕ)

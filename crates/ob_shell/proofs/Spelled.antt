@@ -57,7 +57,7 @@ word_lacks_other m (c ∷ cs) foreign w = (one c (first c w.0), others cs w.1)
     others [] w = tt
     others (c ∷ cs) w = (one c w.0, others cs w.1)
 
--- a word has no space, no colon and no quote
+-- a word has no space, no colon, no plus and no quote
 pub word_lacks : (word : List ℕ) → IsWord word → Lacks 0x20 word
 word_lacks word w = word_lacks_other 0x20 word space w
   where
@@ -73,6 +73,14 @@ word_lacks_colon word w = word_lacks_other 0x3A word colon w
     colon (inl (inl h)) = omega arith
     colon (inl (inr h)) = omega arith
     colon (inr h) = omega arith
+
+pub word_lacks_plus : (word : List ℕ) → IsWord word → Lacks 0x2B word
+word_lacks_plus word w = word_lacks_other 0x2B word plus w
+  where
+    plus : IsAsciiAlphanumeric 0x2B → ⊥
+    plus (inl (inl h)) = omega arith
+    plus (inl (inr h)) = omega arith
+    plus (inr h) = omega arith
 
 pub word_lacks_quote : (word : List ℕ) → IsWord word → Lacks 0x22 word
 word_lacks_quote word w = word_lacks_other 0x22 word quote w

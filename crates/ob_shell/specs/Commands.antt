@@ -1,7 +1,7 @@
 -- Commands: what a request asks of the namespace, and the words after its reply.
 --
 -- Source: this profile.
-use Rattle.std.specs.Prelude.{◌≡◌, ℕ, List, Bool, true, false, Option, None, Some, if◌then◌else◌}
+use Rattle.std.specs.Prelude.{◌≡◌, ℕ, ◌+◌, min, List, Bool, true, false, Option, None, Some, if◌then◌else◌}
 use Rattle.ob_base.specs.declared.status.Status.{Status}
 use Rattle.ob_base.specs.declared.status.Status.TheVariants.{Success}
 use Rattle.ob_model.specs.declared.command.Command.{Command}
@@ -12,6 +12,9 @@ use Rattle.ob_model.specs.declared.reply.Given.{Given}
 use Rattle.ob_model.specs.declared.reply.Given.TheVariants as given
 use Rattle.ob_model.specs.declared.reply.Reply.{Reply}
 use Rattle.ob_plain.specs.declared.plain.PlainKind.{PlainKind}
+use Rattle.ob_shell.specs.declared.handle.HandleForm.{HandleForm}
+use Rattle.ob_shell.specs.declared.handle.Offset.{Offset}
+use Rattle.ob_shell.specs.declared.handle.Offset.TheVariants.{Zero, One, Two, Three}
 use Rattle.ob_shell.specs.declared.request.NameForm.{NameForm}
 use Rattle.ob_shell.specs.declared.request.NameForm.TheVariants.{Absolute, Relative}
 use Rattle.ob_shell.specs.declared.request.PlaceForm.{PlaceForm}
@@ -20,6 +23,22 @@ use Rattle.ob_shell.specs.declared.request.Request.{Request}
 use Rattle.ob_shell.specs.declared.request.Request.TheVariants.{CreateDirectory, CreateLink, CreateObject, OpenDirectory, OpenLink, OpenObject, Close, QueryLink, QueryName}
 use Rattle.ob_shell.specs.Text.{Spells}
 use Rattle.ob_shell.specs.Words.{Words, with_word}
+
+-- what is added to the value of a handle word
+abbrev pub offset_value : Offset → ℕ
+offset_value Zero = 0
+offset_value One = 1
+offset_value Two = 2
+offset_value Three = 3
+
+-- the greatest number that a handle is named by
+abbrev pub greatest_named : ℕ
+greatest_named = 4294967295
+
+-- the handle that is meant, with these values of its process's words: the word's value and what is added to
+-- it. A sum past the greatest number would be that number; the values of a run are far below it.
+abbrev pub handle_meant : HandleForm (List ℕ) → (List ℕ → ℕ) → ℕ
+handle_meant handle values = min (values handle.word + offset_value handle.offset) greatest_named
 
 -- the text of a name
 abbrev pub text_of : NameForm (List ℕ) → List ℕ
@@ -30,7 +49,7 @@ text_of (Relative root text) = text
 -- none
 abbrev pub root_of : NameForm (List ℕ) → (List ℕ → ℕ) → Option ℕ
 root_of (Absolute text) values = None
-root_of (Relative root text) values = Some (values root)
+root_of (Relative root text) values = Some (handle_meant root values)
 
 -- the place that is meant, with these values: the name that a text spells, by its root handle, or nowhere
 abbrev pub IsPlace : PlaceForm (List ℕ) → (List ℕ → ℕ) → Place → Type 0
@@ -71,9 +90,9 @@ IsCommand (CreateObject kind place attrs args word) values c = IsCreateObject ki
 IsCommand (OpenDirectory name attrs word) values c = IsOpenDirectory name attrs values c
 IsCommand (OpenLink name attrs word) values c = IsOpenLink name attrs values c
 IsCommand (OpenObject want name attrs word) values c = IsOpenObject want name attrs values c
-IsCommand (Close word) values c = c ≡ command.Close (values word)
-IsCommand (QueryLink word) values c = c ≡ command.QueryLink (values word)
-IsCommand (QueryName word) values c = c ≡ command.QueryName (values word)
+IsCommand (Close handle) values c = c ≡ command.Close (handle_meant handle values)
+IsCommand (QueryLink handle) values c = c ≡ command.QueryLink (handle_meant handle values)
+IsCommand (QueryName handle) values c = c ≡ command.QueryName (handle_meant handle values)
 
 -- whether a status is SUCCESS
 abbrev pub is_success : Status → Bool
@@ -94,9 +113,9 @@ word_of (CreateObject kind place attrs args word) = word
 word_of (OpenDirectory name attrs word) = word
 word_of (OpenLink name attrs word) = word
 word_of (OpenObject want name attrs word) = word
-word_of (Close word) = word
-word_of (QueryLink word) = word
-word_of (QueryName word) = word
+word_of (Close handle) = handle.word
+word_of (QueryLink handle) = handle.word
+word_of (QueryName handle) = handle.word
 
 -- the value of that word after the reply, where it had this one before: a create or an open sets it to
 -- the handle that was given, a close that succeeds gives it up, and any other close and a query leave it
@@ -107,9 +126,9 @@ value_after (CreateObject kind place attrs args word) reply before = given_handl
 value_after (OpenDirectory name attrs word) reply before = given_handle reply.given
 value_after (OpenLink name attrs word) reply before = given_handle reply.given
 value_after (OpenObject want name attrs word) reply before = given_handle reply.given
-value_after (Close word) reply before = if is_success reply.status then 0 else before
-value_after (QueryLink word) reply before = before
-value_after (QueryName word) reply before = before
+value_after (Close handle) reply before = if is_success reply.status then 0 else before
+value_after (QueryLink handle) reply before = before
+value_after (QueryName handle) reply before = before
 
 -- the words after the reply
 abbrev pub words_after : Request (List ℕ) → ℕ → Reply → Words → Words

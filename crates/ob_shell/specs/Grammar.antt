@@ -12,8 +12,8 @@ use Rattle.ob_shell.specs.declared.request.Request.{Request}
 use Rattle.ob_shell.specs.declared.request.Request.TheVariants.{CreateDirectory, CreateLink, CreateObject, OpenDirectory, OpenLink, OpenObject, Close, QueryLink, QueryName}
 use Rattle.ob_shell.specs.declared.verb.Verb.{Verb}
 use Rattle.ob_shell.specs.declared.verb.Verb.TheVariants as verb
-use Rattle.ob_shell.specs.Text.{IsWord, IsProcessWord}
-use Rattle.ob_shell.specs.Parts.{BeginsWithText, BeginsWithName, BeginsWithPlace, BeginsWithKind, BeginsWithWant, BeginsWithFlags, SetsWord, name_seen, place_seen}
+use Rattle.ob_shell.specs.Text.{IsProcessWord}
+use Rattle.ob_shell.specs.Parts.{IsHandle, BeginsWithText, BeginsWithName, BeginsWithPlace, BeginsWithKind, BeginsWithWant, BeginsWithFlags, SetsWord, handle_seen, name_seen, place_seen}
 
 -- the most bytes that a line may have, without its LF
 abbrev pub longest_line : ℕ
@@ -57,13 +57,13 @@ verb_of (CreateObject kind place attrs args word) = verb.Make
 verb_of (OpenDirectory name attrs word) = verb.OpenDir
 verb_of (OpenLink name attrs word) = verb.OpenLink
 verb_of (OpenObject want name attrs word) = verb.Open
-verb_of (Close word) = verb.Close
-verb_of (QueryLink word) = verb.Target
-verb_of (QueryName word) = verb.Name
+verb_of (Close handle) = verb.Close
+verb_of (QueryLink handle) = verb.Target
+verb_of (QueryName handle) = verb.Name
 
 -- what stands behind the verb of a request and a space: `PLACE FLAGS =V` behind `dir`,
 -- `PLACE FLAGS TEXT =V` behind `link`, `KIND PLACE FLAGS TEXT =V` behind `make`, `NAME FLAGS =V` behind
--- `opendir` and `openlink`, `WANT NAME FLAGS =V` behind `open`, and `V` behind `close`, `target` and `name`
+-- `opendir` and `openlink`, `WANT NAME FLAGS =V` behind `open`, and `H` behind `close`, `target` and `name`
 abbrev pub IsOperands : List ℕ → Request (List ℕ) → Type 0
 IsOperands bytes (CreateDirectory place attrs word) =
     (rest : List ℕ) × BeginsWithPlace bytes place rest × IsFlagsAndWord rest attrs word
@@ -74,9 +74,9 @@ IsOperands bytes (OpenDirectory name attrs word) = IsNameFlagsAndWord bytes name
 IsOperands bytes (OpenLink name attrs word) = IsNameFlagsAndWord bytes name attrs word
 IsOperands bytes (OpenObject want name attrs word) =
     (rest : List ℕ) × BeginsWithWant bytes want rest × IsNameFlagsAndWord rest name attrs word
-IsOperands bytes (Close word) = (bytes ≡ word) × IsWord word
-IsOperands bytes (QueryLink word) = (bytes ≡ word) × IsWord word
-IsOperands bytes (QueryName word) = (bytes ≡ word) × IsWord word
+IsOperands bytes (Close handle) = IsHandle bytes handle
+IsOperands bytes (QueryLink handle) = IsHandle bytes handle
+IsOperands bytes (QueryName handle) = IsHandle bytes handle
 
 -- what a process asks for, behind its process word and a space: a verb, a space and its operands
 abbrev pub IsRequest : List ℕ → Request (List ℕ) → Type 0
@@ -107,9 +107,9 @@ request_seen (CreateObject kind place attrs args word) = CreateObject kind (plac
 request_seen (OpenDirectory name attrs word) = OpenDirectory (name_seen name) attrs word.now
 request_seen (OpenLink name attrs word) = OpenLink (name_seen name) attrs word.now
 request_seen (OpenObject want name attrs word) = OpenObject want (name_seen name) attrs word.now
-request_seen (Close word) = Close word.now
-request_seen (QueryLink word) = QueryLink word.now
-request_seen (QueryName word) = QueryName word.now
+request_seen (Close handle) = Close (handle_seen handle)
+request_seen (QueryLink handle) = QueryLink (handle_seen handle)
+request_seen (QueryName handle) = QueryName (handle_seen handle)
 
 abbrev pub form_seen : Form (Bor (List ℕ)) → Form (List ℕ)
 form_seen Nothing = Nothing

@@ -39,9 +39,9 @@ HasTexts (CreateObject kind place attrs args word) = HasPlaceText place × IsTex
 HasTexts (OpenDirectory name attrs word) = IsText (text_of name)
 HasTexts (OpenLink name attrs word) = IsText (text_of name)
 HasTexts (OpenObject want name attrs word) = IsText (text_of name)
-HasTexts (Close word) = Unit {0}
-HasTexts (QueryLink word) = Unit {0}
-HasTexts (QueryName word) = Unit {0}
+HasTexts (Close handle) = Unit {0}
+HasTexts (QueryLink handle) = Unit {0}
+HasTexts (QueryName handle) = Unit {0}
 
 -- a request of a process was answered by a step of the machine, which left these words and states
 abbrev pub IsAnswered : Request (List ℕ) → ℕ → Words → Space → Reply → Words → Space → Type 0

@@ -1,13 +1,14 @@
 //! The command that a request spells.
 
 ghost use Rattle.std.specs.Prelude.{◌≡◌, IfOk};
-ghost use Rattle.ob_shell.specs.Parts.{name_seen, place_seen};
+ghost use Rattle.ob_shell.specs.Parts.{handle_seen, name_seen, place_seen};
 ghost use Rattle.ob_shell.specs.Grammar.{request_seen};
 ghost use Rattle.ob_shell.specs.Words.{values_of};
 ghost use Rattle.ob_shell.specs.Text.{IsText, Spells};
-ghost use Rattle.ob_shell.specs.Commands.{text_of, root_of, IsCommand, IsCreateDirectory, IsCreateLink, IsCreateObject, IsOpenDirectory, IsOpenLink, IsOpenObject, IsPlace};
+ghost use Rattle.ob_shell.specs.Commands.{handle_meant, text_of, root_of, IsCommand, IsCreateDirectory, IsCreateLink, IsCreateObject, IsOpenDirectory, IsOpenLink, IsOpenObject, IsPlace};
 ghost use Rattle.ob_shell.specs.Running.{HasPlaceText, HasTexts};
 
+use crate::handle::{HandleForm, added};
 use crate::request::{NameForm, PlaceForm, Request};
 use crate::text::decode;
 use crate::words::{Word, value_of, word_in};
@@ -54,16 +55,16 @@ pub fn command_of(
             attrs,
             ..
         } => open_object(alloc, words, process, want, name, attrs),
-        Request::Close { word } => {
-            let handle = handle_of(alloc, words, process, word)?;
+        Request::Close { handle } => {
+            let handle = handle_of(alloc, words, process, handle)?;
             Ok(Command::Close { handle })
         }
-        Request::QueryLink { word } => {
-            let handle = handle_of(alloc, words, process, word)?;
+        Request::QueryLink { handle } => {
+            let handle = handle_of(alloc, words, process, handle)?;
             Ok(Command::QueryLink { handle })
         }
-        Request::QueryName { word } => {
-            let handle = handle_of(alloc, words, process, word)?;
+        Request::QueryName { handle } => {
+            let handle = handle_of(alloc, words, process, handle)?;
             Ok(Command::QueryName { handle })
         }
     }
@@ -233,15 +234,16 @@ fn bytes_of(alloc: Global, name: NameForm<&[u8]>) -> Result<Bytes, AllocError>
     }
 }
 
-// The handle that a word of a process holds.
+// The handle that a line means: the value of its word, and the number that is added to it.
 fn handle_of(
     alloc: Global,
     words: &BTreeMap<Word, Handle>,
     process: Proc,
-    word: &[u8],
+    handle: HandleForm<&[u8]>,
 ) -> Result<Handle, AllocError>
-    ensures { IfOk result (λ handle. handle ≡ values_of words.now process word.now) }
+    ensures { IfOk result (λ meant. meant ≡ handle_meant (handle_seen handle.entry) (values_of words.now process)) }
 {
-    let word = word_in(alloc, process, word)?;
-    Ok(value_of(words, &word))
+    let word = word_in(alloc, process, handle.word)?;
+    let value = value_of(words, &word);
+    Ok(Handle(value.0.saturating_add(added(handle.offset))))
 }

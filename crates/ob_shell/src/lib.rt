@@ -6,6 +6,7 @@ mod counts;
 mod fault;
 mod flags;
 mod form;
+mod handle;
 mod kind;
 mod line;
 mod output;
@@ -24,6 +25,7 @@ mod writing;
 
 pub use fault::ShellFault;
 pub use form::{Form, LONGEST_LINE, form_of, lines_have_one_form};
+pub use handle::{HandleForm, Offset};
 pub use reading::{SCRIPT_LIMIT, read_script};
 pub use request::{NameForm, PlaceForm, Request};
 pub use run::{Ending, run_script};

@@ -105,9 +105,9 @@ fn word_of<'a>(request: Request<&'a [u8]>) -> &'a [u8]
         Request::OpenDirectory { word, .. } => word,
         Request::OpenLink { word, .. } => word,
         Request::OpenObject { word, .. } => word,
-        Request::Close { word } => word,
-        Request::QueryLink { word } => word,
-        Request::QueryName { word } => word,
+        Request::Close { handle } => handle.word,
+        Request::QueryLink { handle } => handle.word,
+        Request::QueryName { handle } => handle.word,
     }
 }
 

@@ -7,6 +7,7 @@ ghost use Rattle.ob_shell.specs.Parts.{BeginsWithText, BeginsWithName, BeginsWit
 ghost use Rattle.ob_shell.specs.Grammar.{IsFlagsAndWord, IsFlagsTextAndWord, IsNameFlagsAndWord, IsPlaceFlagsTextAndWord};
 
 use crate::flags::flags_of;
+use crate::handle::handle_of;
 use crate::request::{NameForm, PlaceForm};
 use crate::split::{behind, split_at};
 use crate::text::{is_text, is_word};
@@ -35,10 +36,8 @@ fn take_name(bytes: &[u8]) -> Option<(NameForm<&[u8]>, &[u8])>
     if let Some((text, rest)) = take_text(bytes) {
         return Some((NameForm::Absolute(text), rest));
     }
-    let (root, quoted) = split_at(bytes, b':')?;
-    if !is_word(root) {
-        return None;
-    }
+    let (spelled, quoted) = split_at(bytes, b':')?;
+    let root = handle_of(spelled)?;
     let (text, rest) = take_text(quoted)?;
     Some((NameForm::Relative { root, text }, rest))
 }

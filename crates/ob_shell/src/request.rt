@@ -2,16 +2,17 @@
 
 ghost use Rattle.std.specs.Prelude.{◌≡◌, ◌≤◌, ℕ, List, Option, length, IfSome, IfNone};
 ghost use Rattle.ob_plain.specs.declared.plain.PlainKind.{PlainKind};
+ghost use Rattle.ob_shell.specs.declared.handle.HandleForm.{HandleForm};
 ghost use Rattle.ob_shell.specs.declared.request.NameForm.{NameForm};
 ghost use Rattle.ob_shell.specs.declared.request.PlaceForm.{PlaceForm};
 ghost use Rattle.ob_shell.specs.declared.request.Request.{Request};
 ghost use Rattle.ob_shell.specs.declared.verb.Verb.{Verb};
 ghost use Rattle.ob_shell.specs.Grammar.{IsOperands, IsRequest, request_seen, verb_of};
 
+use crate::handle::{HandleForm, handle_of};
 use crate::kind::{take_kind, take_want};
 use crate::parts::{flags_and_word, name_flags_and_word, place_flags_text_and_word, take_place};
 use crate::split::split_at;
-use crate::text::is_word;
 use crate::verb::{Verb, verb_of};
 use ob_plain::PlainKind;
 
@@ -22,8 +23,8 @@ pub enum NameForm<T> {
     Absolute(T),
     /// `H:TEXT`: the name that the text spells, relative to the object of a handle.
     Relative {
-        /// The handle word that holds it.
-        root: T,
+        /// The handle.
+        root: HandleForm<T>,
         /// The text that spells the name.
         text: T,
     },
@@ -105,20 +106,20 @@ pub enum Request<T> {
         /// The handle word that is set.
         word: T,
     },
-    /// `close V`: a handle is closed.
+    /// `close H`: a handle is closed.
     Close {
-        /// The handle word that holds it.
-        word: T,
+        /// The handle.
+        handle: HandleForm<T>,
     },
-    /// `target V`: the target of a handle's symbolic link.
+    /// `target H`: the target of a handle's symbolic link.
     QueryLink {
-        /// The handle word that holds it.
-        word: T,
+        /// The handle.
+        handle: HandleForm<T>,
     },
-    /// `name V`: the path of a handle's object.
+    /// `name H`: the path of a handle's object.
     QueryName {
-        /// The handle word that holds it.
-        word: T,
+        /// The handle.
+        handle: HandleForm<T>,
     },
 }
 
@@ -244,38 +245,32 @@ fn open_object_of(operands: &[u8]) -> Option<Request<&[u8]>>
     })
 }
 
-// The close of a handle: `V`.
+// The close of a handle: `H`.
 fn close_of(operands: &[u8]) -> Option<Request<&[u8]>>
     ensures verb { IfSome result (λ request. verb_of (request_seen request) ≡ Verb.Close) }
     ensures found { IfSome result (λ request. IsOperands operands.now (request_seen request)) }
-    ensures none { IfNone result ((word : List ℕ) → ¬ IsOperands operands.now (Request.Close word)) }
+    ensures none { IfNone result ((handle : HandleForm (List ℕ)) → ¬ IsOperands operands.now (Request.Close handle)) }
 {
-    if !is_word(operands) {
-        return None;
-    }
-    Some(Request::Close { word: operands })
+    let handle = handle_of(operands)?;
+    Some(Request::Close { handle })
 }
 
-// The query of a link's target: `V`.
+// The query of a link's target: `H`.
 fn link_query_of(operands: &[u8]) -> Option<Request<&[u8]>>
     ensures verb { IfSome result (λ request. verb_of (request_seen request) ≡ Verb.Target) }
     ensures found { IfSome result (λ request. IsOperands operands.now (request_seen request)) }
-    ensures none { IfNone result ((word : List ℕ) → ¬ IsOperands operands.now (Request.QueryLink word)) }
+    ensures none { IfNone result ((handle : HandleForm (List ℕ)) → ¬ IsOperands operands.now (Request.QueryLink handle)) }
 {
-    if !is_word(operands) {
-        return None;
-    }
-    Some(Request::QueryLink { word: operands })
+    let handle = handle_of(operands)?;
+    Some(Request::QueryLink { handle })
 }
 
-// The query of a path: `V`.
+// The query of a path: `H`.
 fn name_query_of(operands: &[u8]) -> Option<Request<&[u8]>>
     ensures verb { IfSome result (λ request. verb_of (request_seen request) ≡ Verb.Name) }
     ensures found { IfSome result (λ request. IsOperands operands.now (request_seen request)) }
-    ensures none { IfNone result ((word : List ℕ) → ¬ IsOperands operands.now (Request.QueryName word)) }
+    ensures none { IfNone result ((handle : HandleForm (List ℕ)) → ¬ IsOperands operands.now (Request.QueryName handle)) }
 {
-    if !is_word(operands) {
-        return None;
-    }
-    Some(Request::QueryName { word: operands })
+    let handle = handle_of(operands)?;
+    Some(Request::QueryName { handle })
 }

@@ -1,9 +1,18 @@
 //! Lines of each form, and lines that are none.
 
 use super::*;
+use crate::handle::{HandleForm, Offset};
 use crate::request::{NameForm, PlaceForm};
 use ob_base::Attrs;
 use ob_plain::PlainKind;
+
+// The handle of a word alone.
+fn plain<'a>(word: &'a [u8]) -> HandleForm<&'a [u8]> {
+    HandleForm {
+        word,
+        offset: Offset::Zero,
+    }
+}
 
 // The name that a text spells alone, and behind a handle word and a colon.
 fn absolute<'a>(text: &'a [u8]) -> NameForm<&'a [u8]> {
@@ -11,7 +20,10 @@ fn absolute<'a>(text: &'a [u8]) -> NameForm<&'a [u8]> {
 }
 
 fn relative<'a>(root: &'a [u8], text: &'a [u8]) -> NameForm<&'a [u8]> {
-    NameForm::Relative { root, text }
+    NameForm::Relative {
+        root: plain(root),
+        text,
+    }
 }
 
 #[test]
@@ -149,9 +161,24 @@ fn opens_and_queries_have_their_parts_in_order(rt: HostRuntime) {
                 word: b"m",
             },
         ),
-        (b"p1 close l", Request::Close { word: b"l" }),
-        (b"p1 target l", Request::QueryLink { word: b"l" }),
-        (b"p1 name target", Request::QueryName { word: b"target" }),
+        (
+            b"p1 close l",
+            Request::Close {
+                handle: plain(b"l"),
+            },
+        ),
+        (
+            b"p1 target l",
+            Request::QueryLink {
+                handle: plain(b"l"),
+            },
+        ),
+        (
+            b"p1 name target",
+            Request::QueryName {
+                handle: plain(b"target"),
+            },
+        ),
     ];
     for (line, request) in table {
         let process = b"p1".as_slice();
@@ -159,6 +186,112 @@ fn opens_and_queries_have_their_parts_in_order(rt: HostRuntime) {
             form_of(line) == Some(Form::Asks { process, request }),
             "{line:?}"
         );
+    }
+}
+
+// The open of a directory by a name relative to a handle.
+fn open_from<'a>(root: HandleForm<&'a [u8]>) -> Request<&'a [u8]> {
+    Request::OpenDirectory {
+        name: NameForm::Relative { root, text: b"X" },
+        attrs: 0,
+        word: b"x",
+    }
+}
+
+#[test]
+fn a_handle_may_have_1_to_3_behind_its_word(rt: HostRuntime) {
+    let one = HandleForm {
+        word: b"a".as_slice(),
+        offset: Offset::One,
+    };
+    let two = HandleForm {
+        word: b"close".as_slice(),
+        offset: Offset::Two,
+    };
+    let three = HandleForm {
+        word: b"abcdefghijklmnopqrstuvwxyz012345".as_slice(),
+        offset: Offset::Three,
+    };
+    let table: [(&[u8], Request<&[u8]>); 13] = [
+        (b"p1 close a+1", Request::Close { handle: one }),
+        (b"p1 close close+2", Request::Close { handle: two }),
+        (
+            b"p1 close abcdefghijklmnopqrstuvwxyz012345+3",
+            Request::Close { handle: three },
+        ),
+        (b"p1 target a+1", Request::QueryLink { handle: one }),
+        (b"p1 target close+2", Request::QueryLink { handle: two }),
+        (
+            b"p1 target abcdefghijklmnopqrstuvwxyz012345+3",
+            Request::QueryLink { handle: three },
+        ),
+        (b"p1 name a+1", Request::QueryName { handle: one }),
+        (b"p1 name close+2", Request::QueryName { handle: two }),
+        (
+            b"p1 name abcdefghijklmnopqrstuvwxyz012345+3",
+            Request::QueryName { handle: three },
+        ),
+        (b"p1 opendir a+1:\"X\" - =x", open_from(one)),
+        (b"p1 opendir close+2:\"X\" - =x", open_from(two)),
+        (
+            b"p1 opendir abcdefghijklmnopqrstuvwxyz012345+3:\"X\" - =x",
+            open_from(three),
+        ),
+        (
+            b"p1 dir a+1:\"+2:\" - =x",
+            Request::CreateDirectory {
+                place: PlaceForm::Named(NameForm::Relative {
+                    root: one,
+                    text: b"+2:",
+                }),
+                attrs: 0,
+                word: b"x",
+            },
+        ),
+    ];
+    for (line, request) in table {
+        let process = b"p1".as_slice();
+        assert!(rt;
+            form_of(line) == Some(Form::Asks { process, request }),
+            "{line:?}"
+        );
+    }
+}
+
+#[test]
+fn nothing_else_stands_behind_a_plus(rt: HostRuntime) {
+    let lines: [&[u8]; 28] = [
+        b"p1 close a+",
+        b"p1 close a+0",
+        b"p1 close a+4",
+        b"p1 close a+9",
+        b"p1 close a+11",
+        b"p1 close a+01",
+        b"p1 close a+1 ",
+        b"p1 close a+a",
+        b"p1 close a+1+1",
+        b"p1 close a++1",
+        b"p1 close a-1",
+        b"p1 close a +1",
+        b"p1 close a+ 1",
+        b"p1 close +1",
+        b"p1 close +",
+        b"p1 close 1+1",
+        b"p1 close abcdefghijklmnopqrstuvwxyz0123456+1",
+        b"p1 target a+4",
+        b"p1 name a+",
+        b"p1 opendir a+:\"X\" - =x",
+        b"p1 opendir a+0:\"X\" - =x",
+        b"p1 opendir a+4:\"X\" - =x",
+        b"p1 opendir a+11:\"X\" - =x",
+        b"p1 opendir +1:\"X\" - =x",
+        b"p1 opendir a:+1\"X\" - =x",
+        b"p1 opendir \"X\"+1 - =x",
+        b"p1 opendir \"X\" - =x+1",
+        b"p1+1 close a",
+    ];
+    for line in lines {
+        assert!(rt; form_of(line) == None, "{line:?}");
     }
 }
 
@@ -175,7 +308,7 @@ fn a_relative_name_is_a_word_a_colon_and_a_text(rt: HostRuntime) {
         b"p1 opendir :\"x\" - =x",
         b"p1 opendir 1a:\"x\" - =x",
         b"p1 opendir a_:\"x\" - =x",
-        b"p1 opendir a+1:\"x\" - =x",
+        b"p1 opendir a+:\"x\" - =x",
         b"p1 opendir a :\"x\" - =x",
         b"p1 opendir a: \"x\" - =x",
         b"p1 opendir a::\"x\" - =x",
@@ -228,7 +361,7 @@ fn a_target_is_asked_of_one_word(rt: HostRuntime) {
         b"p1 target =l",
         b"p1 target l m",
         b"p1 target l ",
-        b"p1 target l+1",
+        b"p1 target l+4",
         b"p1 target \"\\L\"",
         b"p1 target l:\"\"",
         b"p1 targets l",

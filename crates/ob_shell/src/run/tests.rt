@@ -116,6 +116,17 @@ fn names_are_relative_to_the_words_of_the_process(rt: HostRuntime) -> Result<(),
 }
 
 #[test]
+fn handles_may_be_named_with_1_to_3_more(rt: HostRuntime) -> Result<(), Fail> {
+    let script =
+        b"p1 link \"\\L\" - \"\\Device\" =l\np1 target l+1\np1 name l+3\np1 opendir \"\\\" - =r\n\
+        p1 openlink r+2:\"L\" - =k\np1 close k+1\np1 target k\np1 close l+2\np1 close l+2\np1 close z+3\nq close r+1\n";
+    let output =
+        b"1: SUCCESS\n2: SUCCESS \"\\Device\"\n3: SUCCESS \"\\L\"\n4: SUCCESS\n5: SUCCESS\n6: SUCCESS\n\
+        7: INVALID_HANDLE\n8: SUCCESS\n9: INVALID_HANDLE\n10: INVALID_HANDLE\n11: PROCESS_GONE\n";
+    assert_plays(&rt, rt.alloc(), script, output, Ending::Done)
+}
+
+#[test]
 fn other_lines_end_the_run(rt: HostRuntime) -> Result<(), Fail> {
     let lines: [&[u8]; 39] = [
         b" ",
@@ -154,7 +165,7 @@ fn other_lines_end_the_run(rt: HostRuntime) -> Result<(), Fail> {
         b"stat dir \"\\A\" - =a",
         b"stat close a",
         b"thread",
-        b"p1 close a+1",
+        b"p1 close a+4",
         b"p1 close a\r",
         b"p1 closes a",
     ];
