@@ -11,3 +11,4 @@ pub mod Printed
 pub mod Told
 pub mod Lined
 pub mod Behind
+pub mod Offsets

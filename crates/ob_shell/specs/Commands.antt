@@ -36,7 +36,7 @@ abbrev pub greatest_named : ℕ
 greatest_named = 4294967295
 
 -- the handle that is meant, with these values of its process's words: the word's value and what is added to
--- it. A sum past the greatest number would be that number; the values of a run are far below it.
+-- it. A sum past the greatest number would be that number; in a run there is none (`Offsets`).
 abbrev pub handle_meant : HandleForm (List ℕ) → (List ℕ → ℕ) → ℕ
 handle_meant handle values = min (values handle.word + offset_value handle.offset) greatest_named
 
@@ -118,7 +118,8 @@ word_of (QueryLink handle) = handle.word
 word_of (QueryName handle) = handle.word
 
 -- the value of that word after the reply, where it had this one before: a create or an open sets it to
--- the handle that was given, a close that succeeds gives it up, and any other close and a query leave it
+-- the handle that was given, a close that succeeds gives it up, whatever was added to its value, and any
+-- other close and a query leave it
 abbrev pub value_after : Request (List ℕ) → Reply → ℕ → ℕ
 value_after (CreateDirectory place attrs word) reply before = given_handle reply.given
 value_after (CreateLink place attrs target word) reply before = given_handle reply.given

@@ -12,3 +12,4 @@ pub mod Commands
 pub mod Printed
 pub mod Shown
 pub mod Running
+pub mod Offsets

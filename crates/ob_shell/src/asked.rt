@@ -7,6 +7,7 @@ ghost use Rattle.ob_shell.specs.Words.{values_of};
 ghost use Rattle.ob_shell.specs.Text.{IsText, Spells};
 ghost use Rattle.ob_shell.specs.Commands.{handle_meant, text_of, root_of, IsCommand, IsCreateDirectory, IsCreateLink, IsCreateObject, IsOpenDirectory, IsOpenLink, IsOpenObject, IsPlace};
 ghost use Rattle.ob_shell.specs.Running.{HasPlaceText, HasTexts};
+ghost use Rattle.ob_shell.specs.Offsets.{OffsetsAreAddedInFull};
 
 use crate::handle::{HandleForm, added};
 use crate::request::{NameForm, PlaceForm, Request};
@@ -247,3 +248,10 @@ fn handle_of(
     let value = value_of(words, &word);
     Ok(Handle(value.0.saturating_add(added(handle.offset))))
 }
+
+/// The law that in a run what is added to the value of a handle word is added in full: no word holds more
+/// than the greatest handle value, 262,140, so no sum is cut. The call does nothing; a caller makes it to
+/// have the fact.
+pub fn offsets_are_added_in_full()
+    ensures { OffsetsAreAddedInFull }
+{}

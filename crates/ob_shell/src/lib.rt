@@ -23,6 +23,7 @@ mod verb;
 mod words;
 mod writing;
 
+pub use asked::offsets_are_added_in_full;
 pub use fault::ShellFault;
 pub use form::{Form, LONGEST_LINE, form_of, lines_have_one_form};
 pub use handle::{HandleForm, Offset};

@@ -1,0 +1,229 @@
+-- The handles that steps give, and the words that hold them.
+use Rattle.std.proofs.Common.{◌≡◌, ℕ, ◌+◌, ◌≤◌, min, Bool, true, false, cond, eqb, ◌&&◌, not, List, [], ◌∷◌, Option, None, Some, Result, Ok, Err, MatchOption, MatchResult, inl, inr, sym, subst, arith}
+use Rattle.std.specs.Prelude.{MatchBool, nat_lt, length}
+use Rattle.std.specs.Str.{bytes_eq}
+use Rattle.std.specs.Option.{option_and_then}
+use Rattle.ob_base.specs.declared.status.Status.{Status}
+use Rattle.ob_base.specs.declared.status.Status.TheVariants.{Success, InvalidHandle, NameTooLong, ObjectTypeMismatch, ObjectNameExists, ObjectNameCollision, ProcessGone, TypeRefused}
+use Rattle.ob_base.specs.Attrs.{has_flag, open_if_flag}
+use Rattle.ob_base.specs.Handle.{key_of}
+use Rattle.ob_model.specs.declared.command.Command.TheVariants as command
+use Rattle.ob_model.specs.declared.command.Place.{Place}
+use Rattle.ob_model.specs.declared.command.Place.TheVariants as place
+use Rattle.ob_model.specs.declared.reply.Answer.{Answer}
+use Rattle.ob_model.specs.declared.reply.Answer.TheVariants.{Done}
+use Rattle.ob_model.specs.declared.reply.Event.{Event}
+use Rattle.ob_model.specs.declared.reply.Event.TheVariants.{Start}
+use Rattle.ob_model.specs.declared.reply.Given.TheVariants.{Handle, Text}
+use Rattle.ob_model.specs.declared.reply.Reply.{Reply}
+use Rattle.ob_model.specs.declared.state.Held.{Held}
+use Rattle.ob_model.specs.declared.state.Wanted.{Wanted}
+use Rattle.ob_model.specs.declared.state.Wanted.TheVariants as wanted
+use Rattle.ob_model.specs.State.{State, is_live, held_of, body_of}
+use Rattle.ob_model.specs.Names.{longest_name}
+use Rattle.ob_model.specs.Looks.{Look, At, Vacant, Parse, Refused, LooksUp, most_reparses}
+use Rattle.ob_model.specs.Procedures.{Procedures, Opened, Created, without_parse}
+use Rattle.ob_model.specs.Settle.{settle}
+use Rattle.ob_model.specs.Grants.{first_refusal, Grants, IsFreeValue, Asked, open_refusal_of, greatest_handle}
+use Rattle.ob_model.specs.Closing.{closed_handle}
+use Rattle.ob_model.specs.Types.{is_wanted_at}
+use Rattle.ob_model.specs.Refusals.{gives, answers, IsRefused, Unless, create_refusals, open_refusals}
+use Rattle.ob_model.specs.Opens.{OpensAt, Opens, asked_by, type_wanted, open_mode}
+use Rattle.ob_model.specs.Creates.{Making, MakesDirectory, MakesLink, MakesObject, is_fit, create_mode, type_made, Spot, room_refusals, make_refusal, body_made, created, dropped, Makes, Creates}
+use Rattle.ob_model.specs.Naming.{TellsName, TellsTarget, target_of, path_text}
+use Rattle.ob_model.specs.Step.{WithHandle, WithRoot, CreatesIn, CreatesAt, OpensName, Step}
+use Rattle.ob_shell.specs.declared.handle.Offset.{Offset}
+use Rattle.ob_shell.specs.declared.handle.Offset.TheVariants.{Zero, One, Two, Three}
+use Rattle.ob_shell.specs.declared.request.Request.{Request}
+use Rattle.ob_shell.specs.declared.request.Request.TheVariants.{CreateDirectory, CreateLink, CreateObject, OpenDirectory, OpenLink, OpenObject, Close, QueryLink, QueryName}
+use Rattle.ob_shell.specs.Words.{Words, with_word}
+use Rattle.ob_shell.specs.Machine.{standard}
+use Rattle.ob_shell.specs.Commands.{is_success, given_handle, word_of, value_after, offset_value}
+use Rattle.ob_shell.specs.Offsets.{HoldHandles, OffsetsAreAddedInFull}
+
+-- an answer gives no more than the greatest handle value
+abbrev GivesHandle : Answer → Type 0
+GivesHandle (Done reply) = given_handle reply.given ≤ greatest_handle
+
+module _ {K T F I : Type 0} where
+  refused_gives : (s t : State K T F I) (status : Status) (answer : Answer) → IsRefused s status answer t → GivesHandle answer
+  refused_gives s t status answer h = subst GivesHandle (sym h.0) (omega arith)
+
+  unless_gives : (refusals : List (Bool × Status)) (s t : State K T F I) (answer : Answer) (Does : Type 0)
+      → (Does → GivesHandle answer) → Unless refusals s answer t Does → GivesHandle answer
+  unless_gives refusals s t answer Does does h = go (first_refusal refusals) h
+    where
+      go : (refusal : Option Status) → MatchOption refusal Does (λ status. IsRefused s status answer t) → GivesHandle answer
+      go None h = does h
+      go (Some status) h = refused_gives s t status answer h
+
+  with_handle_gives : (s t : State K T F I) (p handle : ℕ) (answer : Answer) (Does : Held → Type 0)
+      → ((h : Held) → Does h → GivesHandle answer) → WithHandle s p handle answer t Does → GivesHandle answer
+  with_handle_gives s t p handle answer Does does h =
+      unless_gives ((not (is_live s p), ProcessGone) ∷ []) s t answer
+      (MatchOption (option_and_then (held_of s p) (key_of handle)) (IsRefused s InvalidHandle answer t) Does)
+      (go (option_and_then (held_of s p) (key_of handle))) h
+    where
+      go : (o : Option Held) → MatchOption o (IsRefused s InvalidHandle answer t) Does → GivesHandle answer
+      go None h = refused_gives s t InvalidHandle answer h
+      go (Some x) h = does x h
+
+  with_root_gives : (s t : State K T F I) (p : ℕ) (root : Option ℕ) (answer : Answer) (Does : Option ℕ → Type 0)
+      → ((at : Option ℕ) → Does at → GivesHandle answer) → WithRoot s p root answer t Does → GivesHandle answer
+  with_root_gives s t p None answer Does does h = does None h
+  with_root_gives s t p (Some handle) answer Does does h = go (option_and_then (held_of s p) (key_of handle)) h
+    where
+      go : (o : Option Held) → MatchOption o (IsRefused s InvalidHandle answer t) (λ x. Does (Some x.object)) → GivesHandle answer
+      go None h = refused_gives s t InvalidHandle answer h
+      go (Some x) h = does (Some x.object) h
+
+  value_gives : (s : State K T F I) (p value : ℕ) (status : Status) (answer : Answer) → IsFreeValue s p value → answer ≡ gives status (Handle value) → GivesHandle answer
+  value_gives s p value status answer free e = subst GivesHandle (sym e) free.0.3
+
+  target_gives : (s : State K T F I) (o : ℕ) (answer : Answer) → TellsTarget s o answer → GivesHandle answer
+  target_gives s o answer h = go (option_and_then target_of (body_of s o)) h
+    where
+      go : (target : Option (List ℕ)) → MatchOption target (answer ≡ answers ObjectTypeMismatch) (λ target. answer ≡ gives Success (Text target)) → GivesHandle answer
+      go None e = subst GivesHandle (sym e) (omega arith)
+      go (Some target) e = subst GivesHandle (sym e) (omega arith)
+
+  name_gives : (s : State K T F I) (o : ℕ) (answer : Answer) → TellsName s o answer → GivesHandle answer
+  name_gives s o answer (inr h) = subst GivesHandle (sym h.1) (omega arith)
+  name_gives s o answer (inl (cs, way, e)) = go (nat_lt longest_name (length (path_text cs))) e
+    where
+      go : (long : Bool) → answer ≡ cond long (answers NameTooLong) (gives Success (Text (path_text cs))) → GivesHandle answer
+      go true e = subst GivesHandle (sym e) (omega arith)
+      go false e = subst GivesHandle (sym e) (omega arith)
+
+module _ {K T F I : Type 0} (g : Procedures K T F I) where
+  granted_gives : (s t u : State K T F I) (p o : ℕ) (asked : Asked) (status : Status) (answer : Answer) (result : Result ℕ Status)
+      → Grants g s p o asked Opened result u
+      → MatchResult result (λ value. (answer ≡ gives status (Handle value)) × (t ≡ settle g u)) (λ refusal. IsRefused s refusal answer t) → GivesHandle answer
+  granted_gives s t u p o asked status answer (Ok value) grants h = value_gives s p value status answer grants.1 h.0
+  granted_gives s t u p o asked status answer (Err refusal) grants h = refused_gives s t refusal answer h
+
+  opens_at_gives : (s t : State K T F I) (p attrs : ℕ) (wanted : Wanted K) (status : Status) (o : ℕ) (answer : Answer)
+      → OpensAt g s p attrs wanted status o answer t → GivesHandle answer
+  opens_at_gives s t p attrs wanted status o answer h =
+      unless_gives ((not (is_wanted_at g s o wanted), ObjectTypeMismatch) ∷ []) s t answer
+      ((result : Result ℕ Status) × (u : State K T F I) × Grants g s p o (asked_by attrs) Opened result u
+      × MatchResult result (λ value. (answer ≡ gives status (Handle value)) × (t ≡ settle g u)) (λ refusal. IsRefused s refusal answer t))
+      (λ does. granted_gives s t does.1 p o (asked_by attrs) status answer does.0 does.2 does.3) h
+
+  opens_gives : (s t : State K T F I) (p attrs : ℕ) (wanted : Wanted K) (look : Look) (answer : Answer)
+      → Opens g s p attrs wanted look answer t → GivesHandle answer
+  opens_gives s t p attrs wanted (Refused status) answer h = refused_gives s t status answer h
+  opens_gives s t p attrs wanted (Vacant d c) answer h = absurd h
+  opens_gives s t p attrs wanted (Parse o rest n) answer h = absurd h
+  opens_gives s t p attrs wanted (At o) answer h = opens_at_gives s t p attrs wanted Success o answer h
+
+  makes_gives : (s t : State K T F I) (p attrs : ℕ) (making : Making K) (spot : Spot) (answer : Answer)
+      → Makes g s p attrs making spot answer t → GivesHandle answer
+  makes_gives s t p attrs making spot answer h =
+      unless_gives (room_refusals s p spot) s t answer _ (go (make_refusal g making)) h
+    where
+      Given : Type 0
+      Given = (value : ℕ) × IsFreeValue s p value × (answer ≡ gives Success (Handle value)) × (t ≡ settle g (created g s p spot (body_made g making) attrs value))
+
+      DroppedFor : ℕ → Type 0
+      DroppedFor k = (answer ≡ answers (TypeRefused k)) × (t ≡ dropped g s (body_made g making))
+
+      opened : (refusal : Option ℕ) → MatchOption refusal Given DroppedFor → GivesHandle answer
+      opened None h = value_gives s p h.0 Success answer h.1 h.2
+      opened (Some k) h = subst GivesHandle (sym h.0) (omega arith)
+
+      go : (refusal : Option ℕ)
+          → MatchOption refusal (MatchOption (open_refusal_of g s.set (body_made g making) Created) Given DroppedFor) (λ k. IsRefused s (TypeRefused k) answer t) → GivesHandle answer
+      go None h = opened (open_refusal_of g s.set (body_made g making) Created) h
+      go (Some k) h = refused_gives s t (TypeRefused k) answer h
+
+  creates_gives : (s t : State K T F I) (p attrs : ℕ) (making : Making K) (look : Look) (answer : Answer)
+      → Creates g s p attrs making look answer t → GivesHandle answer
+  creates_gives s t p attrs making (Refused status) answer h = refused_gives s t status answer h
+  creates_gives s t p attrs making (At o) answer h = go (has_flag open_if_flag attrs) h
+    where
+      go : (opens : Bool) → MatchBool opens (OpensAt g s p attrs (type_made making) ObjectNameExists o answer t) (IsRefused s ObjectNameCollision answer t) → GivesHandle answer
+      go true h = opens_at_gives s t p attrs (type_made making) ObjectNameExists o answer h
+      go false h = refused_gives s t ObjectNameCollision answer h
+  creates_gives s t p attrs making (Parse o rest n) answer h = absurd h
+  creates_gives s t p attrs making (Vacant d c) answer h = makes_gives s t p attrs making (Some (d, c)) answer h
+
+  creates_in_gives : (s t : State K T F I) (p : ℕ) (where_to : Place) (attrs : ℕ) (making : Making K) (answer : Answer)
+      → CreatesIn g s p where_to attrs making answer t → GivesHandle answer
+  creates_in_gives s t p (place.At root name) attrs making answer h =
+      with_root_gives s t p root answer
+      (λ at. (look : Look) × LooksUp (without_parse g) s p (create_mode attrs) most_reparses at name look × Creates g s p attrs making look answer t)
+      (λ at does. creates_gives s t p attrs making does.0 answer does.2) h
+  creates_in_gives s t p place.Unnamed attrs making answer h = makes_gives s t p attrs making None answer h
+
+  creates_at_gives : (s t : State K T F I) (p : ℕ) (where_to : Place) (attrs : ℕ) (making : Making K) (answer : Answer)
+      → CreatesAt g s p where_to attrs making answer t → GivesHandle answer
+  creates_at_gives s t p where_to attrs making answer h =
+      unless_gives (create_refusals (is_live s p) (is_fit making) where_to attrs) s t answer (CreatesIn g s p where_to attrs making answer t)
+      (creates_in_gives s t p where_to attrs making answer) h
+
+  opens_name_gives : (s t : State K T F I) (p : ℕ) (root : Option ℕ) (name : List ℕ) (attrs : ℕ) (wanted : Wanted K) (answer : Answer)
+      → OpensName g s p root name attrs wanted answer t → GivesHandle answer
+  opens_name_gives s t p root name attrs wanted answer h =
+      unless_gives (open_refusals (is_live s p) name attrs) s t answer (WithRoot s p root answer t Does)
+      (with_root_gives s t p root answer Does (λ at does. opens_gives s t p attrs wanted does.0 answer does.2)) h
+    where
+      Does : Option ℕ → Type 0
+      Does at = (look : Look) × LooksUp (without_parse g) s p (open_mode wanted attrs) most_reparses at name look × Opens g s p attrs wanted look answer t
+
+  -- so does each step
+  step_gives : (s t : State K T F I) (event : Event K) (answer : Answer) → Step g s event answer t → GivesHandle answer
+  step_gives s t (Start p (command.CreateDirectory where_to attrs)) answer h = creates_at_gives s t p where_to attrs MakesDirectory answer h
+  step_gives s t (Start p (command.CreateLink where_to attrs target)) answer h = creates_at_gives s t p where_to attrs (MakesLink target) answer h
+  step_gives s t (Start p (command.CreateObject where_to attrs kind args)) answer h = creates_at_gives s t p where_to attrs (MakesObject kind args) answer h
+  step_gives s t (Start p (command.OpenDirectory root name attrs)) answer h = opens_name_gives s t p root name attrs wanted.Directory answer h
+  step_gives s t (Start p (command.OpenLink root name attrs)) answer h = opens_name_gives s t p root name attrs wanted.Link answer h
+  step_gives s t (Start p (command.OpenObject root name attrs want)) answer h = opens_name_gives s t p root name attrs (type_wanted want) answer h
+  step_gives s t (Start p (command.Close handle)) answer h =
+      with_handle_gives s t p handle answer (λ x. (answer ≡ answers Success) × (t ≡ settle g (closed_handle g s x)))
+      (λ x does. subst GivesHandle (sym does.0) (omega arith)) h
+  step_gives s t (Start p (command.QueryLink handle)) answer h =
+      with_handle_gives s t p handle answer (λ x. TellsTarget s x.object answer × (t ≡ s)) (λ x does. target_gives s x.object answer does.0) h
+  step_gives s t (Start p (command.QueryName handle)) answer h =
+      with_handle_gives s t p handle answer (λ x. TellsName s x.object answer × (t ≡ s)) (λ x does. name_gives s x.object answer does.0) h
+
+-- the value of a request's word stays a handle
+value_kept : (request : Request (List ℕ)) (reply : Reply) (before : ℕ) → given_handle reply.given ≤ greatest_handle → before ≤ greatest_handle
+    → value_after request reply before ≤ greatest_handle
+value_kept (CreateDirectory place attrs word) reply before given had = given
+value_kept (CreateLink place attrs target word) reply before given had = given
+value_kept (CreateObject kind place attrs args word) reply before given had = given
+value_kept (OpenDirectory name attrs word) reply before given had = given
+value_kept (OpenLink name attrs word) reply before given had = given
+value_kept (OpenObject want name attrs word) reply before given had = given
+value_kept (Close handle) reply before given had = go (is_success reply.status)
+  where
+    go : (closed : Bool) → cond closed 0 before ≤ greatest_handle
+    go true = omega arith
+    go false = had
+value_kept (QueryLink handle) reply before given had = had
+value_kept (QueryName handle) reply before given had = had
+
+-- so do all words where one is set to a handle
+with_word_kept : (words : Words) (process : ℕ) (word : List ℕ) (value : ℕ) → HoldHandles words → value ≤ greatest_handle → HoldHandles (with_word words process word value)
+with_word_kept words process word value had small p w = go (eqb process p && bytes_eq word w)
+  where
+    go : (here : Bool) → cond here value (words p w) ≤ greatest_handle
+    go true = small
+    go false = had p w
+
+-- a sum of such a value and an offset is below the bound
+sum_exact : (value : ℕ) (offset : Offset) → value ≤ greatest_handle → min (value + offset_value offset) 4294967295 ≡ value + offset_value offset
+sum_exact value Zero small = omega arith
+sum_exact value One small = omega arith
+sum_exact value Two small = omega arith
+sum_exact value Three small = omega arith
+
+pub added_in_full : OffsetsAreAddedInFull
+added_in_full = record {
+  first = λ process word. omega arith;
+  kept = λ request process c reply words s s' had step.
+      with_word_kept words process (word_of request) (value_after request reply (words process (word_of request))) had
+      (value_kept request reply (words process (word_of request)) (step_gives standard s s' (Start process c) (Done reply) step) (had process (word_of request)));
+  exact = λ handle process words had. sum_exact (words process handle.word) handle.offset (had process handle.word);
+}

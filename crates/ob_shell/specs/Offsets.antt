@@ -1,0 +1,29 @@
+-- Offsets: in a run what is added to the value of a handle word is added in full.
+--
+-- Source: this profile.
+use Rattle.std.specs.Prelude.{◌≡◌, ℕ, ◌+◌, ◌≤◌, List}
+use Rattle.ob_model.specs.declared.command.Command.{Command}
+use Rattle.ob_model.specs.declared.reply.Reply.{Reply}
+use Rattle.ob_model.specs.declared.reply.Answer.TheVariants.{Done}
+use Rattle.ob_model.specs.declared.reply.Event.TheVariants.{Start}
+use Rattle.ob_model.specs.Grants.{greatest_handle}
+use Rattle.ob_model.specs.Step.{Step}
+use Rattle.ob_plain.specs.declared.plain.PlainKind.{PlainKind}
+use Rattle.ob_shell.specs.declared.handle.HandleForm.{HandleForm}
+use Rattle.ob_shell.specs.declared.request.Request.{Request}
+use Rattle.ob_shell.specs.Words.{Words, no_words}
+use Rattle.ob_shell.specs.Machine.{standard, Space}
+use Rattle.ob_shell.specs.Commands.{offset_value, handle_meant, words_after}
+
+-- no word holds more than the greatest handle value
+abbrev pub HoldHandles : Words → Type 0
+HoldHandles words = (process : ℕ) (word : List ℕ) → words process word ≤ greatest_handle
+
+-- at first no word does, and none does after a step whose reply sets the word of a request; and with
+-- such words a handle is the sum of its word's value and what is added to it
+pub record OffsetsAreAddedInFull : Type 0 where
+  pub first : HoldHandles no_words
+  pub kept : (request : Request (List ℕ)) (process : ℕ) (c : Command PlainKind) (reply : Reply) (words : Words) (s s' : Space) → HoldHandles words
+      → Step standard s (Start process c) (Done reply) s' → HoldHandles (words_after request process reply words)
+  pub exact : (handle : HandleForm (List ℕ)) (process : ℕ) (words : Words) → HoldHandles words
+      → handle_meant handle (words process) ≡ words process handle.word + offset_value handle.offset
