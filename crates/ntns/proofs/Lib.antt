@@ -1,3 +1,5 @@
 pub mod Faults
+pub mod Flags
 pub mod Serving
+pub mod Tasks
 pub mod Words

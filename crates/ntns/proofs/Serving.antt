@@ -4,14 +4,15 @@ use Rattle.clap.specs.Words.{HasKind, Text, fault_of, kind_of, takes}
 use Rattle.clap.specs.declared.error.Error.{Error}
 use Rattle.clap.specs.declared.error.kind.ErrorKind.TheVariants.{OutOfMemory}
 use Rattle.ntns.specs.Plan.{ntns}
+use Rattle.ntns.specs.Opening.{Opened}
 use Rattle.ntns.specs.Serve.{Refuses, Serves}
 
 -- a fault that the parser states for the words, or want of memory, is told as its kind is
-pub serves_fault : (words : List Text) (fault : Error) (status : ℕ) (input written written' told told' : Option (List ℕ))
+pub serves_fault : (gives : Text → Opened → Type 0) (words : List Text) (fault : Error) (status : ℕ) (input written written' told told' : Option (List ℕ))
     → HasKind (fault_of ntns words) fault → (takes ntns words ≡ true → kind_of fault ≡ OutOfMemory)
-    → Refuses (kind_of fault) status written written' told told' → Serves words status input written written' told told'
-serves_fault words fault status input written written' told told' (inl want) taken refused = inr (inr (refused.want want))
-serves_fault words fault status input written written' told told' (inr stated) taken refused = inr (inl (record {
+    → Refuses (kind_of fault) status written written' told told' → Serves gives words status input written written' told told'
+serves_fault gives words fault status input written written' told told' (inl want) taken refused = inr (inr (refused.want want))
+serves_fault gives words fault status input written written' told told' (inr stated) taken refused = inr (inl (record {
   kind = kind_of fault;
   stated = stated;
   taken = taken;

@@ -1,3 +1,4 @@
+pub mod Opening
 pub mod Perform
 pub mod Plan
 pub mod Refuse

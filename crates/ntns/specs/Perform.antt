@@ -11,7 +11,7 @@ use Rattle.ob_shell.specs.declared.reading.TheConstants.{SCRIPT_LIMIT}
 use Rattle.ob_shell.specs.declared.run.Ending.{Ending}
 use Rattle.ob_shell.specs.declared.run.Ending.TheVariants.{Done, BadLine, NoMemoryAt}
 use Rattle.ntns.specs.declared.plan.Task.{Task}
-use Rattle.ntns.specs.declared.plan.Task.TheVariants.{Script}
+use Rattle.ntns.specs.declared.plan.Task.TheVariants.{Script, Run}
 
 -- the status that a run of a script ends with: 0 where all of it was run, else 1
 abbrev pub status_of : Result Ending ShellFault → ℕ
@@ -53,3 +53,4 @@ pub record PerformsScript (status : ℕ) (input written written' told told' : Op
 -- the task, with its status, its input, and what was written before and after
 abbrev pub Performs : Task → ℕ → Option (List ℕ) → Option (List ℕ) → Option (List ℕ) → Option (List ℕ) → Option (List ℕ) → Type 0
 Performs Script status input written written' told told' = PerformsScript status input written written' told told'
+Performs (Run file) status input written written' told told' = PerformsScript status input written written' told told'

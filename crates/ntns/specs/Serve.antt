@@ -1,20 +1,39 @@
 -- What the program does for its words: which task, or which fault of the words, and how it ends.
 -- Source: this profile. What words are is the parser's, the crate clap's.
-use Rattle.std.specs.Prelude.{◌≡◌, ◌≢◌, ◌⊎◌, ℕ, List, [], Option, Some, true}
+use Rattle.std.specs.Prelude.{◌≡◌, ◌≢◌, ◌⊎◌, ℕ, List, [], Option, Result, Some, true}
+use Rattle.std.specs.Borrow.{Bor}
+use Rattle.std.specs.Fn.{FnOnceReturnsAt, Once}
+use Rattle.std.specs.declared.io.Error.{Error}
 use Rattle.clap.specs.Words.{IsAmong, Text, fault_of, subcommand_of, takes}
 use Rattle.clap.specs.declared.error.kind.ErrorKind.{ErrorKind}
 use Rattle.clap.specs.declared.error.kind.ErrorKind.TheVariants.{OutOfMemory}
+use Rattle.ntns.specs.Opening.{Follows, Opened, opened_as}
 use Rattle.ntns.specs.Perform.{Performs}
-use Rattle.ntns.specs.Plan.{ntns, task_of}
+use Rattle.ntns.specs.Plan.{Named, named, ntns, script, run, task_of}
 use Rattle.ntns.specs.Refuse.{Blames, Fails, Helps, IsRequest, Starves}
 use Rattle.ntns.specs.declared.plan.Task.{Task}
 
+-- what opening the file of a path may give, by a function that opens it
+abbrev pub Gives : {F I : Type 0} → Once F (Bor Text × Unit {0}) (Result I Error) → F → (I → Option (List ℕ)) → Text → Opened → Type 0
+Gives {F} {I} calls opener remaining path gave = (opened : Result I Error) × FnOnceReturnsAt calls opener path opened × (gave ≡ opened_as remaining opened)
+
+-- the task is done over the file of this path, or the fault of opening it is told
+pub record ServesFile (gives : Text → Opened → Type 0) (path : Text) (task : Task) (status : ℕ) (written written' told told' : Option (List ℕ)) : Type 0 where
+  pub opened : Opened
+  pub given : gives path opened
+  pub done : Follows opened task status written written' told told'
+
+-- the task is done over the input, or over the file that it names
+abbrev pub ServesNamed : (Text → Opened → Type 0) → Named → Task → ℕ → Option (List ℕ) → Option (List ℕ) → Option (List ℕ) → Option (List ℕ) → Option (List ℕ) → Type 0
+ServesNamed gives script task status input written written' told told' = Performs task status input written written' told told'
+ServesNamed gives (run path) task status input written written' told told' = ServesFile gives path task status written written' told told'
+
 -- the words have no fault, and name the task that is done
-pub record ServesTask (words : List Text) (status : ℕ) (input written written' told told' : Option (List ℕ)) : Type 0 where
+pub record ServesTask (gives : Text → Opened → Type 0) (words : List Text) (status : ℕ) (input written written' told told' : Option (List ℕ)) : Type 0 where
   pub task : Task
-  pub named : task_of (subcommand_of ntns words) ≡ Some task
+  pub asked : task_of (subcommand_of ntns words) ≡ Some (named task)
   pub faultless : fault_of ntns words ≡ []
-  pub done : Performs task status input written written' told told'
+  pub done : ServesNamed gives (named task) task status input written written' told told'
 
 -- how a fault of this kind is told
 pub record Refuses (kind : ErrorKind) (status : ℕ) (written written' told told' : Option (List ℕ)) : Type 0 where
@@ -32,6 +51,6 @@ pub record ServesFault (words : List Text) (status : ℕ) (written written' told
   pub refused : Refuses kind status written written' told told'
 
 -- a task is done, or a fault of the words is told, or memory was wanting before
-abbrev pub Serves : List Text → ℕ → Option (List ℕ) → Option (List ℕ) → Option (List ℕ) → Option (List ℕ) → Option (List ℕ) → Type 0
-Serves words status input written written' told told' = ServesTask words status input written written' told told'
+abbrev pub Serves : (Text → Opened → Type 0) → List Text → ℕ → Option (List ℕ) → Option (List ℕ) → Option (List ℕ) → Option (List ℕ) → Option (List ℕ) → Type 0
+Serves gives words status input written written' told told' = ServesTask gives words status input written written' told told'
     ⊎ (ServesFault words status written written' told told' ⊎ Starves status written written' told told')

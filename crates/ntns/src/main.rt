@@ -1,9 +1,10 @@
-//! The program `ntns`: it reads its words for a task, does it over the standard streams, and ends
-//! with the task's status.
+//! The program `ntns`: it reads its words for a task, does it over the standard streams or the file
+//! that the words name, and ends with the task's status.
 #![tactic(auto)]
 
 #[cfg(test)]
 mod cases;
+mod opening;
 mod perform;
 mod plan;
 mod refuse;
@@ -16,9 +17,9 @@ use crate::plan::unreadable;
 use crate::refuse::refuse;
 use crate::serve::serve;
 use ob_shell::ShellFault;
-use std::env;
 use std::io::{ErrorKind, Write};
 use std::process::ExitCode;
+use std::{env, fs};
 
 fn main(rt: HostRuntime) -> ExitCode {
     let alloc = rt.alloc();
@@ -30,6 +31,7 @@ fn main(rt: HostRuntime) -> ExitCode {
             Ok(words) => serve(
                 alloc,
                 words.as_slice(),
+                |path| fs::open(&rt, path),
                 &mut reader,
                 &mut writer,
                 &mut errors,

@@ -12,22 +12,23 @@ use std::io::{Read, Write};
 
 /// Does the task, and gives the program's status: 0 where it was done to its end, and else 1.
 ///
-/// The input is the reader, and the output goes to the writer. To `errors` goes one line, `ntns: `
+/// The input is the reader, which is standard input or the file that was opened for the task, and
+/// the output goes to the writer. To `errors` goes one line, `ntns: `
 /// and the text of the fault, where a fault ended the task; an end that the output tells has none.
 /// A fault of writing that line is not told, and changes no status. (this profile)
 pub fn perform<R: Read, W: Write, E: Write>(
     alloc: Global,
-    task: Task,
+    task: Task<'_>,
     reader: &mut R,
     writer: &mut W,
     errors: &mut E,
 ) -> u8
-    ensures { Performs task result (R.remaining reader.old)
+    ensures { Performs task.entry result (R.remaining reader.old)
         (W.contents writer.old) (W.contents writer.new)
         (E.contents errors.old) (E.contents errors.new) }
 {
     match task {
-        Task::Script => match run_script(alloc, reader, writer) {
+        Task::Script | Task::Run(_) => match run_script(alloc, reader, writer) {
             Ok(Ending::Done) => 0,
             Ok(Ending::BadLine(_)) => 1,
             Ok(Ending::NoMemoryAt(_)) => 1,

@@ -1,12 +1,23 @@
-use Rattle.ntns.proofs.Faults.{faultless_as_stated, faultless_is_bare}
+use Rattle.std.proofs.Common.{map}
+use Rattle.clap.specs.Words.{subcommand_rows_of}
+use Rattle.ntns.proofs.Faults.{faultless_as_stated, some_task, task_is_spelled, used_as_stated}
 use Rattle.ntns.proofs.Words.{takes_alone, takes_as_stated}
+use Rattle.ntns.specs.Plan.{named}
 use Rattle.ntns.proofs.plan.plan.Goals as goal
 
-pub returns-clause-memory : goal.returns-clause-memory
-returns-clause-memory g c = takes_as_stated _ _ _ c.program.ensures c.in-Err.ensures.passes
+pub unreachable-requires : goal.unreachable-requires
+unreachable-requires g c =
+    let parsed = c.in-Ok-try_get_matches_from.ensures in
+    some_task (map g.S.AsStr.text c.args.words.now) (subcommand_rows_of c.in-Ok-try_get_matches_from.matches) (faultless_as_stated _ _ c.in-Ok.ensures parsed.kinds) (used_as_stated _ _ _ c.in-Ok.ensures parsed.matches) c.in-None.ensures
 
-pub returns-clause-alone : goal.returns-clause-alone
-returns-clause-alone g c = λ short. takes_as_stated _ _ _ c.program.ensures c.in-Err.ensures.passes (takes_alone g.S.AsStr.text c.args.words.now short)
+pub returns-in-Some-clause-spelled : goal.returns-in-Some-clause-spelled
+returns-in-Some-clause-spelled g c =
+    let parsed = c.in-Ok-try_get_matches_from.ensures in
+    task_is_spelled (map g.S.AsStr.text c.args.words.now) (subcommand_rows_of c.in-Ok-try_get_matches_from.matches) (named c.in-Some.task) (faultless_as_stated _ _ c.in-Ok.ensures parsed.kinds) (used_as_stated _ _ _ c.in-Ok.ensures parsed.matches) c.in-Some.ensures
 
-pub returns-in-Ok-clause-bare : goal.returns-in-Ok-clause-bare
-returns-in-Ok-clause-bare g c = faultless_is_bare _ (faultless_as_stated _ _ c.program.ensures c.in-Ok.ensures.kinds)
+pub returns-in-Err-try_get_matches_from-clause-memory : goal.returns-in-Err-try_get_matches_from-clause-memory
+returns-in-Err-try_get_matches_from-clause-memory g c = takes_as_stated _ _ _ c.in-Ok.ensures c.in-Err-try_get_matches_from.ensures.passes
+
+pub returns-in-Err-try_get_matches_from-clause-alone : goal.returns-in-Err-try_get_matches_from-clause-alone
+returns-in-Err-try_get_matches_from-clause-alone g c =
+    λ short. takes_as_stated _ _ _ c.in-Ok.ensures c.in-Err-try_get_matches_from.ensures.passes (takes_alone g.S.AsStr.text c.args.words.now short)
