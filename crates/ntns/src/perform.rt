@@ -13,9 +13,9 @@ use std::io::{Read, Write};
 /// Does the task, and gives the program's status: 0 where it was done to its end, and else 1.
 ///
 /// The input is the reader, which is standard input or the file that was opened for the task, and
-/// the output goes to the writer. To `errors` goes one line, `ntns: `
-/// and the text of the fault, where a fault ended the task; an end that the output tells has none.
-/// A fault of writing that line is not told, and changes no status. (this profile)
+/// the output goes to the writer. To `errors` goes one line, `ntns: ` and the text of the fault,
+/// where a fault ended the task; an end that the output tells has none. A fault of writing that
+/// line is not told, and changes no status. (this profile)
 pub fn perform<R: Read, W: Write, E: Write>(
     alloc: Global,
     task: Task<'_>,

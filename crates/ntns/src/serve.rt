@@ -15,10 +15,10 @@ use std::io::{Read, Write};
 /// Does what the words ask for, and gives the program's status. The first word is the program's
 /// name.
 ///
-/// Where the words name a task and have no fault, it is done: the script over the reader and the
-/// writer, and a task over a file over what `opener` gives for the file's path, which is opened only
-/// then. A fault of the words is told instead, and want of memory before there was a task.
-/// (this profile)
+/// Where the words name a task and have no fault, it is done: `Script` over the reader, and `Run`
+/// over the file that `opener` gives for its path, which isn't called before. A file that couldn't
+/// be opened is told as `perform_opened` says. A fault of the words is told instead, and want of
+/// memory before there was a task. (this profile)
 pub fn serve<
     'a,
     S: AsStr,
