@@ -12,3 +12,4 @@ pub mod Settled
 pub mod Soundness
 pub mod Steps
 pub mod Vacant
+pub mod Ids

@@ -1,5 +1,4 @@
 pub mod ByStamp
-pub mod Ids
 pub mod Written
 pub mod Bodies
 pub mod Shown

@@ -22,7 +22,7 @@ use Rattle.ob_objects.specs.Rows.{insert_row, by_stamp}
 use Rattle.ob_objects.specs.Named.{row_of_named, earlier_row, FindsName, FindsStamp, FindsLast}
 use Rattle.ob_objects.specs.Store.{Entries, IsStore, stored_at, directory_of, entries_in, entries_at, object_of_stored, objects_of, rows_in_turn, rows_of}
 use Rattle.ob_objects.proofs.ByStamp.{Rises, ComesFirst, by_stamp-Rises, by_stamp-same, All-by_stamp, above-leb}
-use Rattle.ob_objects.proofs.Ids.{Differ, Differ-from_rising}
+use Rattle.ob_model.proofs.Ids.{Differ, Differ-from_rising}
 use Rattle.ob_objects.proofs.Shown.{entry_rows-Rises, rows_in_turn-append, rows_are_entries}
 
 -- ---- the earlier of two rows

@@ -22,7 +22,7 @@ use Rattle.ob_objects.specs.Store.{Entries, stored_at, directory_of, directory_a
 use Rattle.ob_objects.specs.Changes.{changed_at, without_object, body_with_name, body_without_name, with_name, without_name, stored_opened, stored_closed}
 use Rattle.ob_objects.specs.Laws.{StoredIsTheObject, StoreFindsWhatTheStateFinds, OpenedIsTheMachines, ClosedIsTheMachines, RowsAreByStamp, RowsAreTheEntries, NewObjectHasNoRow, RowsGoWithTheirDirectory, NewNameIsTheLastRow, RowGoesWithItsName, NamesChangeNoObject, PermanenceIsTheObjects}
 use Rattle.ob_objects.proofs.ByStamp.{Rises, ComesFirst, by_stamp-Rises, by_stamp-same, filter-by_stamp, by_stamp-All, by_stamp-last, AreByStamp-from_Rises}
-use Rattle.ob_objects.proofs.Ids.{Differ, Differ-from_rising, changed, changed-none}
+use Rattle.ob_model.proofs.Ids.{Differ, Differ-from_rising, changed, changed-none}
 
 -- ---- the rows of one directory
 

@@ -18,7 +18,7 @@ use Rattle.ob_dirs.specs.Dir.{IsDir}
 use Rattle.ob_objects.specs.declared.object.StoredObject.{StoredObject}
 use Rattle.ob_objects.specs.Store.{Entries, IsStore, stored_at, directory_of, directory_at, entries_in, entries_at, body_of_stored}
 use Rattle.ob_objects.specs.Changes.{changed_at, without_object, refusal_to_open, set_after_open, set_after_close}
-use Rattle.ob_objects.proofs.Ids.{Differ-from_rising, lookup-id, insert_entry-last, remove_entry-id, changed-absent, set_value-id}
+use Rattle.ob_model.proofs.Ids.{Differ-from_rising, lookup-id, insert_entry-last, remove_entry-id, changed-absent, set_value-id}
 
 -- what an error leaves follows from what else it leaves, and from what holds in any case
 pub on_error : {X E : Type 0} (P Q : Type 0) (r : Result X E) → (P → Q) → OnErr r P → OnErr r Q

@@ -1,0 +1,82 @@
+//! What every handle table promises.
+
+ghost use Rattle.std.specs.Prelude.{◌≡◌, ◌<◌, ◌≤◌, ◌==◌, List, [], ◌∷◌, ◌++◌, Err};
+ghost use Rattle.std.specs.Prelude.{◌⊎◌, length, All, IfOk, IfErr, OnOk, OnErr};
+ghost use Rattle.std.specs.List.{find, slice_get};
+ghost use Rattle.ob_base.specs.declared.fault.Fault.TheVariants.{Memory, Refused};
+ghost use Rattle.ob_base.specs.declared.status.Status.TheVariants.{InsufficientResources};
+ghost use Rattle.ob_model.specs.declared.state.Held.{Held as AHandle};
+ghost use Rattle.ob_model.specs.State.{most_handles};
+ghost use Rattle.ob_handles.specs.Table.{IsTable, IsUnused, without};
+
+use ob_base::{Fault, Handle, ObjId, Proc};
+use ob_model::Held;
+use std::alloc::{AllocError, Global};
+
+/// The most handles of a process. (this profile)
+pub const MOST_HANDLES: usize = 65_535;
+
+/// The handles of one process (Windows Internals, Object Manager: handles and the process handle
+/// table). A contract sees a table as the list of its handles, in the order in which they were opened;
+/// no value stands in it twice.
+///
+/// Values are multiples of four from 4 to 262,140. Which unused one a new handle gets is the table's
+/// choice. (Windows Driver Kit; the range is this profile)
+pub trait HandleTable: Sized + Drop + Send {
+    /// The handles, in the order in which they were opened.
+    ghost handles: { Self → List AHandle };
+
+    /// A table without a handle. Takes no memory.
+    fn new(alloc: Global) -> Self
+        ensures { handles result ≡ [] };
+
+    /// Opens a handle of a process to an object, under an unused value of the table's choice, which it
+    /// gives. The order must be above those of the table.
+    ///
+    /// It is refused with `InsufficientResources` exactly where the table has 65,535 handles. The only
+    /// other fault is `Memory`. After either nothing has changed.
+    fn grant(
+        &mut self,
+        process: Proc,
+        object: ObjId,
+        inherit: bool,
+        order: u64,
+    ) -> Result<Handle, Fault>
+        requires newest { All (λ h. h.order < order) (handles self.old) }
+        ensures unused { IfOk result (λ value. IsUnused (handles self.old) value) }
+        ensures last { IfOk result (λ value. handles self.new
+            ≡ handles self.old ++ record { process = process; value = value; object = object; inherit = inherit; order = order } ∷ []) }
+        ensures full { most_handles ≤ length (handles self.old) → result ≡ Err (Refused InsufficientResources) }
+        ensures refused { IfErr result (λ fault. (fault ≡ Memory) ⊎ (most_handles ≤ length (handles self.old))) }
+        ensures unchanged { OnErr result (handles self.new ≡ handles self.old) };
+
+    /// Opens a handle under a value that is given, as a child does that inherits it. The value must be
+    /// unused, and the order above those of the table. Where memory is wanted nothing has changed.
+    fn put(&mut self, held: Held) -> Result<(), AllocError>
+        requires unused { IsUnused (handles self.old) held.value }
+        requires newest { All (λ h. h.order < held.order) (handles self.old) }
+        ensures last { OnOk result (handles self.new ≡ handles self.old ++ held ∷ []) }
+        ensures unchanged { OnErr result (handles self.new ≡ handles self.old) };
+
+    /// The handle of a value, and `None` exactly where there is none. Takes no memory.
+    fn get(&self, value: Handle) -> Option<Held>
+        ensures { result ≡ find (λ h. h.value == value) (handles self.now) };
+
+    /// Takes the handle of a value out, and gives it; `None` where there is none, and then nothing
+    /// changes. Takes no memory.
+    fn take(&mut self, value: Handle) -> Option<Held>
+        ensures there { result ≡ find (λ h. h.value == value) (handles self.old) }
+        ensures others { handles self.new ≡ without (handles self.old) value };
+
+    /// How many handles there are. Takes no memory.
+    fn len(&self) -> usize
+        ensures count { result ≡ length (handles self.now) }
+
+        // What holds of every table.
+        ensures table { IsTable (handles self.now) };
+
+    /// The handle that was opened before all others, and `None` exactly where there is none. Takes no
+    /// memory.
+    fn oldest(&self) -> Option<Held>
+        ensures { result ≡ slice_get (handles self.now) 0 };
+}
