@@ -13,3 +13,4 @@ pub mod Soundness
 pub mod Steps
 pub mod Vacant
 pub mod Ids
+pub mod Ends

@@ -12,7 +12,7 @@ use Rattle.ob_model.specs.declared.state.Body.TheVariants.{Directory, Link, Othe
 use Rattle.ob_model.specs.declared.state.Row.{Row}
 use Rattle.ob_model.specs.Names.{longest_name, substituted, begins_with_separator}
 use Rattle.ob_model.specs.State.{State, root_id, is_directory, body_of}
-use Rattle.ob_model.specs.Paths.{Origin, InDirectory, IsPath, entry, found, place_behind, origin_of, relative}
+use Rattle.ob_model.specs.Paths.{Origin, InDirectory, IsPath, entry, found, place_behind, origin_of}
 use Rattle.ob_model.specs.Procedures.{Procedures, without_parse}
 use Rattle.ob_model.specs.Looks.{Mode, Look, At, Vacant, Parse, Refused, Stop, Missed, Reached, Next, Over, Follow, at_miss, at_link, named_or_mismatch, at_body, IsNext, IsStop, Again, Ends, Looks, LooksFrom, LooksUp}
 

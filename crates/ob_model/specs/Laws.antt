@@ -13,6 +13,7 @@ use Rattle.ob_model.specs.Looks.{Look, Mode, Looks, LooksUp}
 use Rattle.ob_model.specs.Settle.{settle, has_handle}
 use Rattle.ob_model.specs.Sound.{IsSound, IsDirectory, Stands}
 use Rattle.ob_model.specs.Step.{Step}
+use Rattle.ob_model.specs.Run.{Entry, RunFrom}
 
 -- a text has one split at each length: as many components leave the same components and rest
 abbrev pub SplitIsUnique : Type 0
@@ -100,3 +101,14 @@ module _ (K T F I : Type 0) where
   StepStaysSound =
       (g : Procedures K T F I) (s t : State K T F I) (event : Event K) (answer : Answer)
       → IsSound s → Step g s event answer t → IsSound t
+
+  -- a step with its answer leads to one state alone, and so does a list of entries
+  abbrev pub StepHasOneEnd : Type 0
+  StepHasOneEnd =
+      (g : Procedures K T F I) (s t u : State K T F I) (event : Event K) (answer : Answer)
+      → Step g s event answer t → Step g s event answer u → t ≡ u
+
+  abbrev pub RunHasOneEnd : Type 0
+  RunHasOneEnd =
+      (g : Procedures K T F I) (s : State K T F I) (n : ℕ) (entries : List (Entry K)) (t u : State K T F I)
+      → RunFrom g s n entries t → RunFrom g s n entries u → t ≡ u

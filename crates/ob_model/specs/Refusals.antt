@@ -2,7 +2,7 @@
 --
 -- Sources: OBJECT_ATTRIBUTES structure (Windows Driver Kit). Which flags a command uses, and the order of
 -- refusals, are this profile.
-use Rattle.std.specs.Prelude.{◌≡◌, ℕ, Bool, ◌||◌, not, nat_lt, List, [], ◌∷◌, length, Option, MatchOption}
+use Rattle.std.specs.Prelude.{◌≡◌, ℕ, Bool, ◌||◌, not, nat_lt, List, [], ◌∷◌, length, MatchOption}
 use Rattle.ob_base.specs.declared.status.Status.{Status}
 use Rattle.ob_base.specs.declared.status.Status.TheVariants.{InvalidParameter, ObjectNameInvalid, NameTooLong, ProcessGone}
 use Rattle.ob_base.specs.Attrs.{are_lawful, has_flag, inherit_flag, exclusive_flag}

@@ -20,6 +20,8 @@ ghost use Rattle.ob_model.specs.Laws.{
   HeldStays,
   OpeningIsSound,
   StepStaysSound,
+  StepHasOneEnd,
+  RunHasOneEnd,
 };
 
 /// A text has one split at each length.
@@ -100,4 +102,15 @@ pub fn opening_is_sound<K, T, F, I>()
 /// A step from a sound state leads to a sound state.
 pub fn step_stays_sound<K, T, F, I>()
     ensures { StepStaysSound K T F I }
+{}
+
+/// A step with its answer leads to one state alone, from each state, sound or not: the value of a new
+/// handle is the machine's one choice, and the answer tells it.
+pub fn step_has_one_end<K, T, F, I>()
+    ensures { StepHasOneEnd K T F I }
+{}
+
+/// So does a list of entries: a history says which state it leads to.
+pub fn run_has_one_end<K, T, F, I>()
+    ensures { RunHasOneEnd K T F I }
 {}

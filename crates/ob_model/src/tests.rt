@@ -16,6 +16,8 @@ fn laws_hold_at_a_concrete_set() {
     laws::held_stays::<u8, u16, u32, u64>();
     laws::opening_is_sound::<u8, u16, u32, u64>();
     laws::step_stays_sound::<u8, u16, u32, u64>();
+    laws::step_has_one_end::<u8, u16, u32, u64>();
+    laws::run_has_one_end::<u8, u16, u32, u64>();
     examples::opening_is_settled::<u8, u16, u32, u64>();
 }
 
