@@ -14,3 +14,4 @@ pub mod Steps
 pub mod Vacant
 pub mod Ids
 pub mod Ends
+pub mod Ended

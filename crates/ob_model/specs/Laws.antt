@@ -5,13 +5,14 @@ use Rattle.ob_model.specs.declared.state.Row.{Row}
 use Rattle.ob_model.specs.declared.reply.Answer.{Answer}
 use Rattle.ob_model.specs.declared.reply.Event.{Event}
 use Rattle.ob_model.specs.Names.{separator, joined, IsRest, IsSplit, substituted, ends_in_separator, begins_with_separator}
-use Rattle.ob_model.specs.State.{State, root_id, object_of}
+use Rattle.ob_model.specs.State.{State, root_id, object_of, is_live}
 use Rattle.ob_model.specs.Opening.{opening}
 use Rattle.ob_model.specs.Paths.{Origin, found, is_match, IsPath, directory_at}
 use Rattle.ob_model.specs.Procedures.{Procedures}
 use Rattle.ob_model.specs.Looks.{Look, Mode, Looks, LooksUp}
 use Rattle.ob_model.specs.Settle.{settle, has_handle}
 use Rattle.ob_model.specs.Sound.{IsSound, IsDirectory, Stands}
+use Rattle.ob_model.specs.Processes.{handles_in, begun, ended, Duplicates}
 use Rattle.ob_model.specs.Step.{Step}
 use Rattle.ob_model.specs.Run.{Entry, RunFrom}
 
@@ -112,3 +113,25 @@ module _ (K T F I : Type 0) where
   RunHasOneEnd =
       (g : Procedures K T F I) (s : State K T F I) (n : ℕ) (entries : List (Entry K)) (t u : State K T F I)
       → RunFrom g s n entries t → RunFrom g s n entries u → t ≡ u
+
+  -- a process that begins or ends, and a duplicate of a handle, leave a sound state
+  abbrev pub ProcessesStaySound : Type 0
+  ProcessesStaySound =
+      (g : Procedures K T F I) (s : State K T F I) (p : ℕ) (inherit : Bool) → IsSound s
+      → IsSound (begun g s p inherit) × IsSound (ended g s p)
+
+  abbrev pub DuplicateStaysSound : Type 0
+  DuplicateStaysSound =
+      (g : Procedures K T F I) (s t : State K T F I) (p handle to : ℕ) (inherit : Bool) (answer : Answer)
+      → IsSound s → Duplicates g s p handle to inherit answer t → IsSound t
+
+  -- a process that has ended has no handle and is not live
+  abbrev pub EndedHoldsNothing : Type 0
+  EndedHoldsNothing = (g : Procedures K T F I) (s : State K T F I) (p : ℕ) → handles_in (ended g s p) p ≡ []
+
+  abbrev pub EndedIsGone : Type 0
+  EndedIsGone = (g : Procedures K T F I) (s : State K T F I) (p : ℕ) → is_live (ended g s p) p ≡ false
+
+  -- one that inherits nothing begins without a handle: the handles are as they were
+  abbrev pub BeginsWithoutHandles : Type 0
+  BeginsWithoutHandles = (g : Procedures K T F I) (s : State K T F I) (p : ℕ) → (begun g s p false).handles ≡ s.handles

@@ -14,6 +14,7 @@ pub mod Refusals
 pub mod Opens
 pub mod Creates
 pub mod Naming
+pub mod Processes
 pub mod Step
 pub mod Run
 pub mod Sound

@@ -23,6 +23,13 @@ ghost use Rattle.ob_model.specs.Laws.{
   StepHasOneEnd,
   RunHasOneEnd,
 };
+ghost use Rattle.ob_model.specs.Laws.{
+  ProcessesStaySound,
+  DuplicateStaysSound,
+  EndedHoldsNothing,
+  EndedIsGone,
+  BeginsWithoutHandles,
+};
 
 /// A text has one split at each length.
 pub fn split_is_unique()
@@ -113,4 +120,21 @@ pub fn step_has_one_end<K, T, F, I>()
 /// So does a list of entries: a history says which state it leads to.
 pub fn run_has_one_end<K, T, F, I>()
     ensures { RunHasOneEnd K T F I }
+{}
+
+/// A process that begins or ends leaves a sound state, and so does a handle that is duplicated.
+pub fn processes_stay_sound<K, T, F, I>()
+    ensures processes { ProcessesStaySound K T F I }
+    ensures duplicate { DuplicateStaysSound K T F I }
+{}
+
+/// A process that has ended has no handle, and is live no longer.
+pub fn ended_process_is_gone<K, T, F, I>()
+    ensures handles { EndedHoldsNothing K T F I }
+    ensures gone { EndedIsGone K T F I }
+{}
+
+/// A child that inherits nothing begins without a handle: the handles are as they were.
+pub fn child_begins_without_handles<K, T, F, I>()
+    ensures { BeginsWithoutHandles K T F I }
 {}

@@ -18,6 +18,9 @@ fn laws_hold_at_a_concrete_set() {
     laws::step_stays_sound::<u8, u16, u32, u64>();
     laws::step_has_one_end::<u8, u16, u32, u64>();
     laws::run_has_one_end::<u8, u16, u32, u64>();
+    laws::processes_stay_sound::<u8, u16, u32, u64>();
+    laws::ended_process_is_gone::<u8, u16, u32, u64>();
+    laws::child_begins_without_handles::<u8, u16, u32, u64>();
     examples::opening_is_settled::<u8, u16, u32, u64>();
 }
 

@@ -1,0 +1,185 @@
+-- A process that begins or ends, or is given a handle, leaves a sound state; and one that has ended holds
+-- nothing and is gone.
+use Rattle.std.proofs.Common.{◌≡◌, ◌∙◌, ℕ, ◌==◌, Bool, true, false, ◌&&◌, ◌||◌, not, cond, List, [], ◌∷◌, filter, get_or, find, Option, None, Some, Result, Ok, Err, MatchOption, MatchResult, All, refl, ap, sym, subst}
+use Rattle.std.proofs.Common.{eq-eqb}
+use Rattle.std.specs.List.{list_any}
+use Rattle.std.specs.Option.{option_and_then, option_map_or, is_some}
+use Rattle.std.proofs.lemmas.List.Folds.{list_any_at}
+use Rattle.std.proofs.lemmas.List.Elements.{All-head, All-tail, All-push, All-filter, All-weaker}
+use Rattle.ob_base.specs.declared.status.Status.{Status}
+use Rattle.ob_base.specs.declared.status.Status.TheVariants.{Success, InvalidHandle, ProcessGone}
+use Rattle.ob_base.specs.Handle.{key_of}
+use Rattle.ob_model.specs.declared.reply.Answer.{Answer}
+use Rattle.ob_model.specs.declared.reply.Given.TheVariants.{Handle}
+use Rattle.ob_model.specs.declared.state.Held.{Held}
+use Rattle.ob_model.specs.declared.state.Process.{Process}
+use Rattle.ob_model.specs.State.{State, is_live, process_of, held_of}
+use Rattle.ob_model.specs.Procedures.{Procedures, Duplicated, Inherited}
+use Rattle.ob_model.specs.Settle.{settle}
+use Rattle.ob_model.specs.Grants.{first_refusal, Grants, open_refusal, with_open, with_handle}
+use Rattle.ob_model.specs.Closing.{is_handle, closed_handle}
+use Rattle.ob_model.specs.Refusals.{gives, IsRefused}
+use Rattle.ob_model.specs.Processes.{handles_in, inherited_from, with_child, without_process, inherits_one, inherits, begun, closed_in_turn, ended, Duplicates}
+use Rattle.ob_model.specs.Sound.{IsSound, Stands, HasSoundMap, IsDirectory}
+use Rattle.ob_model.proofs.Finds.{All-kept, filter_none}
+use Rattle.ob_model.proofs.SoundPaths.{find_of}
+use Rattle.ob_model.proofs.Soundness.{settled_sound, granted_sound, closed_sound, stands-opened}
+
+-- a test of what another test leaves
+any_filter : {X : Type 0} (kept test : X → Bool) (xs : List X) → list_any (λ x. kept x && test x) xs ≡ true → list_any test (filter kept xs) ≡ true
+any_filter kept test [] some = some
+any_filter {X} kept test (x ∷ xs) some = go (kept x) some (any_filter kept test xs)
+  where
+    go : (k : Bool) → ((k && test x) || list_any (λ y. kept y && test y) xs) ≡ true → (list_any (λ y. kept y && test y) xs ≡ true → list_any test (filter kept xs) ≡ true)
+        → list_any test (cond k (x ∷ filter kept xs) (filter kept xs)) ≡ true
+    go true some more = first (test x) some
+      where
+        first : (t : Bool) → (t || list_any (λ y. kept y && test y) xs) ≡ true → (t || list_any test (filter kept xs)) ≡ true
+        first true some = refl
+        first false some = more some
+    go false some more = more some
+
+-- nothing is found where it was taken out
+nothing_found : {X : Type 0} (test : X → Bool) (xs : List X) → find test (filter (λ x. not (test x)) xs) ≡ None
+nothing_found test [] = refl
+nothing_found {X} test (x ∷ xs) = go (test x) refl (nothing_found test xs)
+  where
+    go : (b : Bool) → test x ≡ b → find test (filter (λ y. not (test y)) xs) ≡ None → find test (cond (not b) (x ∷ filter (λ y. not (test y)) xs) (filter (λ y. not (test y)) xs)) ≡ None
+    go true same more = more
+    go false other more = ap (λ t. cond t (Some x) (find test (filter (λ y. not (test y)) xs))) other ∙ more
+
+module _ {K T F I : Type 0} where
+  -- a child's map is its parent's
+  child_sound : (s : State K T F I) (p : ℕ) → IsSound s → IsSound (with_child s p)
+  child_sound s p sound = record {
+    root = sound.root;
+    global = sound.global;
+    maps = All-push (HasSoundMap s) s.processes (record { number = s.next_process; map = option_and_then (λ x. x.map) (process_of s p) }) sound.maps
+        (go (process_of s p) (find_of (HasSoundMap s) (λ x. x.number == p) s.processes sound.maps));
+    rows = sound.rows;
+    handles = sound.handles;
+  }
+    where
+      go : (o : Option Process) → MatchOption o (Unit {0}) (HasSoundMap s) → MatchOption (option_and_then (λ x. x.map) o) (Unit {0}) (IsDirectory s)
+      go None h = tt
+      go (Some x) h = h
+
+  parted_sound : (s : State K T F I) (p : ℕ) → IsSound s → IsSound (without_process s p)
+  parted_sound s p sound = record {
+    root = sound.root;
+    global = sound.global;
+    maps = All-filter (λ x. not (x.number == p)) (HasSoundMap s) s.processes sound.maps;
+    rows = sound.rows;
+    handles = sound.handles;
+  }
+
+module _ {K T F I : Type 0} (g : Procedures K T F I) where
+  -- what stands goes on to stand when a handle is inherited
+  inherits_one_sound : (s : State K T F I) (child : ℕ) (h : Held) → IsSound s → Stands s h.object → IsSound (inherits_one g s child h)
+  inherits_one_sound s child h sound stands = go (open_refusal g s h.object Inherited)
+    where
+      go : (o : Option ℕ) → IsSound (option_map_or (λ _. s) o (with_handle (with_open g s h.object Inherited) child h.value h.object true))
+      go None = granted_sound g s child h.value h.object Inherited true sound stands
+      go (Some k) = sound
+
+  inherits_one_stands : (s : State K T F I) (child : ℕ) (h : Held) (m : ℕ) → Stands s m → Stands (inherits_one g s child h) m
+  inherits_one_stands s child h m stands = go (open_refusal g s h.object Inherited)
+    where
+      go : (o : Option ℕ) → Stands (option_map_or (λ _. s) o (with_handle (with_open g s h.object Inherited) child h.value h.object true)) m
+      go None = stands-opened g s h.object m Inherited ∙ stands
+      go (Some k) = stands
+
+  inherits_sound : (s : State K T F I) (child : ℕ) (hs : List Held) → IsSound s → All (λ h. Stands s h.object) hs → IsSound (inherits g s child hs)
+  inherits_sound s child [] sound stand = sound
+  inherits_sound s child (h ∷ hs) sound stand =
+      inherits_sound (inherits_one g s child h) child hs (inherits_one_sound s child h sound (All-head (λ x. Stands s x.object) h hs stand))
+      (All-weaker (λ x. Stands s x.object) (λ x. Stands (inherits_one g s child h) x.object) (λ x there. inherits_one_stands s child h x.object there) hs
+      (All-tail (λ x. Stands s x.object) h hs stand))
+
+  pub begun_sound : (s : State K T F I) (p : ℕ) (inherit : Bool) → IsSound s → IsSound (begun g s p inherit)
+  begun_sound s p inherit sound =
+      inherits_sound (with_child s p) s.next_process (inherited_from s p inherit) (child_sound s p sound)
+      (All-filter (λ h. h.inherit && inherit) (λ h. Stands s h.object) (handles_in s p) (All-filter (λ h. h.process == p) (λ h. Stands s h.object) s.handles sound.handles))
+
+  closed_in_turn_sound : (s : State K T F I) (hs : List Held) → IsSound s → IsSound (closed_in_turn g s hs)
+  closed_in_turn_sound s [] sound = sound
+  closed_in_turn_sound s (h ∷ hs) sound = closed_in_turn_sound (closed_handle g s h) hs (closed_sound g s h sound)
+
+  pub ended_sound : (s : State K T F I) (p : ℕ) → IsSound s → IsSound (ended g s p)
+  ended_sound s p sound = parted_sound (closed_in_turn g s (handles_in s p)) p (closed_in_turn_sound s (handles_in s p) sound)
+
+  -- a duplicate leaves a sound state
+  pub duplicates_sound : (s t : State K T F I) (p handle to : ℕ) (inherit : Bool) (answer : Answer) → IsSound s → Duplicates g s p handle to inherit answer t → IsSound t
+  duplicates_sound s t p handle to inherit answer sound h = judged (first_refusal ((not (is_live s p), ProcessGone) ∷ (not (is_live s to), ProcessGone) ∷ [])) h
+    where
+      Does : Held → Type 0
+      Does x =
+          (result : Result ℕ Status) × (u : State K T F I) × Grants g s to x.object (record { inherit = inherit; exclusive = false }) Duplicated result u
+          × MatchResult result (λ value. (answer ≡ gives Success (Handle value)) × (t ≡ settle g u)) (λ refusal. IsRefused s refusal answer t)
+
+      granted : (x : Held) → Stands s x.object → Does x → IsSound t
+      granted x stands does = go does.0 does.1 does.2 does.3
+        where
+          go : (result : Result ℕ Status) (u : State K T F I) → Grants g s to x.object (record { inherit = inherit; exclusive = false }) Duplicated result u
+              → MatchResult result (λ value. (answer ≡ gives Success (Handle value)) × (t ≡ settle g u)) (λ refusal. IsRefused s refusal answer t) → IsSound t
+          go (Ok value) u grants end =
+              subst IsSound (sym end.1) (settled_sound g u (subst IsSound (sym grants.2) (granted_sound g s to value x.object Duplicated inherit sound stands)))
+          go (Err refusal) u grants end = subst IsSound (sym end.1) sound
+
+      found : (key : Option ℕ) → MatchOption (option_and_then (held_of s p) key) (IsRefused s InvalidHandle answer t) Does → IsSound t
+      found None h = subst IsSound (sym h.1) sound
+      found (Some key) h = go (held_of s p key) (find_of (λ x. Stands s x.object) (λ x. x.process == p && x.value == key) s.handles sound.handles) h
+        where
+          go : (o : Option Held) → MatchOption o (Unit {0}) (λ x. Stands s x.object) → MatchOption o (IsRefused s InvalidHandle answer t) Does → IsSound t
+          go None there h = subst IsSound (sym h.1) sound
+          go (Some x) there h = granted x there h
+
+      judged : (refusal : Option Status) → MatchOption refusal (MatchOption (option_and_then (held_of s p) (key_of handle)) (IsRefused s InvalidHandle answer t) Does) (λ status. IsRefused s status answer t)
+          → IsSound t
+      judged None h = found (key_of handle) h
+      judged (Some status) h = subst IsSound (sym h.1) sound
+
+  -- ---- one that has ended holds nothing, and is gone
+
+  -- a handle of a process is among some, by its value
+  abbrev Covered : ℕ → List Held → Held → Type 0
+  Covered p hs x = (x.process == p) ≡ true → list_any (λ h. is_handle h.process h.value x) hs ≡ true
+
+  -- where all of a process are among those that are closed, none of it is left
+  none_left : (s : State K T F I) (p : ℕ) (hs : List Held) → All (Covered p hs) s.handles → All (λ x. (x.process == p) ≡ false) (closed_in_turn g s hs).handles
+  none_left s p [] covered = All-weaker (Covered p []) (λ x. (x.process == p) ≡ false) (λ x none. go (x.process == p) none) s.handles covered
+    where
+      go : (b : Bool) → (b ≡ true → false ≡ true) → b ≡ false
+      go true none = sym (none refl)
+      go false none = refl
+  none_left s p (h ∷ hs) covered =
+      none_left (closed_handle g s h) p hs
+      (All-kept (λ x. not (is_handle h.process h.value x)) (Covered p (h ∷ hs)) (Covered p hs) (λ x kept one own. go (is_handle h.process h.value x) kept _ (one own)) s.handles covered)
+    where
+      go : (b : Bool) → not b ≡ true → (rest : Bool) → (b || rest) ≡ true → rest ≡ true
+      go true kept rest some = cc
+      go false kept rest some = some
+
+  ended_apart : (s : State K T F I) (p : ℕ) → All (λ x. (x.process == p) ≡ false) (ended g s p).handles
+  ended_apart s p = none_left s p (handles_in s p) (λ k d within own.
+      let x : Held = get_or s.handles k d in
+      any_filter (λ h. h.process == p) (λ h. is_handle h.process h.value x) s.handles
+      (list_any_at (λ h. (h.process == p) && is_handle h.process h.value x) s.handles k d within (itself x own)))
+    where
+      itself : (x : Held) → (x.process == p) ≡ true → ((x.process == p) && is_handle x.process x.value x) ≡ true
+      itself x own = ap (λ b. b && is_handle x.process x.value x) own ∙ ap (λ b. b && (x.value == x.value)) (eq-eqb x.process x.process refl) ∙ eq-eqb x.value x.value refl
+
+  pub ended_holds_nothing : (s : State K T F I) (p : ℕ) → handles_in (ended g s p) p ≡ []
+  ended_holds_nothing s p = filter_none (λ h. h.process == p) (ended g s p).handles (ended_apart s p)
+
+  pub ended_is_gone : (s : State K T F I) (p : ℕ) → is_live (ended g s p) p ≡ false
+  ended_is_gone s p = ap is_some (nothing_found (λ x. x.number == p) (closed_in_turn g s (handles_in s p)).processes)
+
+  -- a child that inherits nothing begins without a handle
+  pub begun_empty : (s : State K T F I) (p : ℕ) → (begun g s p false).handles ≡ s.handles
+  begun_empty s p =
+      ap (λ hs. (inherits g (with_child s p) s.next_process hs).handles) (filter_none (λ h. h.inherit && false) (handles_in s p) (λ k d within. neither (get_or (handles_in s p) k d).inherit))
+    where
+      neither : (b : Bool) → (b && false) ≡ false
+      neither true = refl
+      neither false = refl
