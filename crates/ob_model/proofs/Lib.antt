@@ -15,3 +15,5 @@ pub mod Vacant
 pub mod Ids
 pub mod Ends
 pub mod Ended
+pub mod Leads
+pub mod Staying

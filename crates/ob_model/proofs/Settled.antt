@@ -101,7 +101,7 @@ module _ {K T F I : Type 0} (g : Procedures K T F I) where
   is_permanent-settle s o alive = ap (λ (x : Option (Object F I)). option_map_or (λ y. y.permanent) x false) (object_of-settle s o alive)
 
   -- a row that stays would stay again
-  kept_twice : (s : State K T F I) → All (λ r. is_kept (settle g s) r ≡ true) (settle g s).rows
+  pub kept_twice : (s : State K T F I) → All (λ r. is_kept (settle g s) r ≡ true) (settle g s).rows
   kept_twice s =
       All-kept (is_kept s) (λ r. has_name s r.object ≡ true) (λ r. is_kept (settle g s) r ≡ true)
       (λ r kept named.
@@ -135,7 +135,7 @@ module _ {K T F I : Type 0} (g : Procedures K T F I) where
       and_from (is_permanent (settle g s) o) (has_name (settle g s) o) (is_permanent-settle s o alive ∙ parts.0) (has_name-settle s o parts.0 ∙ parts.1))
       (holds_kept-settle s o) alive
 
-  objects_alive : (s : State K T F I) → All (λ x. is_alive (settle g s) x.id ≡ true) (settle g s).objects
+  pub objects_alive : (s : State K T F I) → All (λ x. is_alive (settle g s) x.id ≡ true) (settle g s).objects
   objects_alive s k d within =
       alive_twice s (get_or (settle g s).objects k d).id (filter_passes (λ x. is_alive s x.id) s.objects k d within)
 

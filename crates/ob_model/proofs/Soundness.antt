@@ -56,7 +56,7 @@ module _ {K T F I : Type 0} (g : Procedures K T F I) where
   opened_body-is_directory set reason (Link target) = refl
   opened_body-is_directory set reason (Other face inner) = refl
 
-  opened_object-is_directory : (set : T) (o : ℕ) (reason : Reason) (x : Object F I) → is_directory_body (opened_object g set o reason x).body ≡ is_directory_body x.body
+  pub opened_object-is_directory : (set : T) (o : ℕ) (reason : Reason) (x : Object F I) → is_directory_body (opened_object g set o reason x).body ≡ is_directory_body x.body
   opened_object-is_directory set o reason x =
       elim (x.id == o) as (λ b. is_directory_body (if b then record x { body = opened_body g set x.body reason } else x).body ≡ is_directory_body x.body)
       [ true ↦ opened_body-is_directory set reason x.body | false ↦ refl ]

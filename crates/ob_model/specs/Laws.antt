@@ -1,6 +1,7 @@
 -- What shows that the definitions say what they should: the statements of the law functions in
 -- src/laws.rt, which prove them.
 use Rattle.std.specs.Prelude.{◌≡◌, ℕ, ◌+◌, ◌≤◌, Bool, true, false, ◌&&◌, List, [], ◌∷◌, ◌++◌, length, All, Contains, Option, MatchOption, if◌then◌else◌}
+use Rattle.ob_model.specs.declared.state.Body.{Body}
 use Rattle.ob_model.specs.declared.state.Row.{Row}
 use Rattle.ob_model.specs.declared.reply.Answer.{Answer}
 use Rattle.ob_model.specs.declared.reply.Event.{Event}
@@ -8,9 +9,11 @@ use Rattle.ob_model.specs.Names.{separator, joined, IsRest, IsSplit, substituted
 use Rattle.ob_model.specs.State.{State, root_id, object_of, is_live}
 use Rattle.ob_model.specs.Opening.{opening}
 use Rattle.ob_model.specs.Paths.{Origin, found, is_match, IsPath, directory_at}
-use Rattle.ob_model.specs.Procedures.{Procedures}
+use Rattle.ob_model.specs.Procedures.{Procedures, Reason}
 use Rattle.ob_model.specs.Looks.{Look, Mode, Looks, LooksUp}
-use Rattle.ob_model.specs.Settle.{settle, has_handle}
+use Rattle.ob_model.specs.Settle.{IsSettled, settle, has_handle}
+use Rattle.ob_model.specs.Grants.{with_open, with_handle}
+use Rattle.ob_model.specs.Creates.{Spot, created}
 use Rattle.ob_model.specs.Sound.{IsSound, IsDirectory, Stands}
 use Rattle.ob_model.specs.Processes.{handles_in, begun, ended, Duplicates}
 use Rattle.ob_model.specs.Step.{Step}
@@ -135,3 +138,30 @@ module _ (K T F I : Type 0) where
   -- one that inherits nothing begins without a handle: the handles are as they were
   abbrev pub BeginsWithoutHandles : Type 0
   BeginsWithoutHandles = (g : Procedures K T F I) (s : State K T F I) (p : ℕ) → (begun g s p false).handles ≡ s.handles
+
+  -- settling leaves a settled state, and a settled state as it is
+  abbrev pub SettlingSettles : Type 0
+  SettlingSettles = (g : Procedures K T F I) (s : State K T F I) → IsSettled (settle g s)
+
+  abbrev pub SettledStays : Type 0
+  SettledStays = (g : Procedures K T F I) (s : State K T F I) → IsSettled s → settle g s ≡ s
+
+  -- the opening state is settled, and a step from a settled state leads to a settled one
+  abbrev pub OpeningIsSettled : Type 0
+  OpeningIsSettled = (set : T) → IsSettled (opening {K = K} {F = F} {I = I} set)
+
+  abbrev pub StepStaysSettled : Type 0
+  StepStaysSettled =
+      (g : Procedures K T F I) (s t : State K T F I) (event : Event K) (answer : Answer)
+      → IsSettled s → Step g s event answer t → IsSettled t
+
+  -- a handle that is granted leaves a settled state, and so does an object that comes with one
+  abbrev pub GrantStaysSettled : Type 0
+  GrantStaysSettled =
+      (g : Procedures K T F I) (s : State K T F I) (p value o : ℕ) (reason : Reason) (inherit : Bool)
+      → IsSettled s → IsSettled (with_handle (with_open g s o reason) p value o inherit)
+
+  abbrev pub CreateStaysSettled : Type 0
+  CreateStaysSettled =
+      (g : Procedures K T F I) (s : State K T F I) (p : ℕ) (spot : Spot) (body : Body F I) (attrs value : ℕ)
+      → IsSettled s → IsSettled (created g s p spot body attrs value)

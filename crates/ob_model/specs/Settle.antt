@@ -3,7 +3,7 @@
 -- Sources: Windows Internals, Object Manager (object retention: handle and reference counts,
 -- temporary and permanent objects); ZwMakeTemporaryObject and ZwMakePermanentObject (Windows Driver
 -- Kit). That it is judged once, at the end of a step, and the order of the deletes, are this profile.
-use Rattle.std.specs.Prelude.{ℕ, Bool, false, ◌&&◌, ◌||◌, not, ◌==◌, List, [], ◌∷◌, filter}
+use Rattle.std.specs.Prelude.{◌≡◌, ℕ, Bool, true, false, ◌&&◌, ◌||◌, not, ◌==◌, List, [], ◌∷◌, All, filter}
 use Rattle.std.specs.List.{list_any}
 use Rattle.std.specs.Option.{option_map_or}
 use Rattle.ob_model.specs.declared.state.Body.{Body}
@@ -45,6 +45,11 @@ module _ {K T F I : Type 0} where
   -- an object stays
   abbrev pub is_alive : State K T F I → ℕ → Bool
   is_alive s o = (o == root_id) || has_handle s o || is_pinned s o || is_mapped s o || (is_permanent s o && has_name s o) || holds_kept s o
+
+  -- what is settled: each name stays, and each object does
+  pub record IsSettled (s : State K T F I) : Type 0 where
+    pub names : All (λ r. is_kept s r ≡ true) s.rows
+    pub objects : All (λ x. is_alive s x.id ≡ true) s.objects
 
 module _ {K T F I : Type 0} (g : Procedures K T F I) where
   -- what the delete of one object makes of the set's value

@@ -29,6 +29,12 @@ ghost use Rattle.ob_model.specs.Laws.{
   EndedHoldsNothing,
   EndedIsGone,
   BeginsWithoutHandles,
+  SettlingSettles,
+  SettledStays,
+  OpeningIsSettled,
+  StepStaysSettled,
+  GrantStaysSettled,
+  CreateStaysSettled,
 };
 
 /// A text has one split at each length.
@@ -137,4 +143,23 @@ pub fn ended_process_is_gone<K, T, F, I>()
 /// A child that inherits nothing begins without a handle: the handles are as they were.
 pub fn child_begins_without_handles<K, T, F, I>()
     ensures { BeginsWithoutHandles K T F I }
+{}
+
+/// Settling leaves a settled state, and leaves a settled state as it is.
+pub fn settling_settles<K, T, F, I>()
+    ensures settled { SettlingSettles K T F I }
+    ensures stays { SettledStays K T F I }
+{}
+
+/// The opening state is settled, and a step from a settled state leads to a settled one.
+pub fn step_stays_settled<K, T, F, I>()
+    ensures opening { OpeningIsSettled K T F I }
+    ensures step { StepStaysSettled K T F I }
+{}
+
+/// A handle that is granted leaves a settled state, and so does an object that comes with a handle: at
+/// the end of an open or a create there is nothing that doesn't stay.
+pub fn what_comes_stays<K, T, F, I>()
+    ensures grant { GrantStaysSettled K T F I }
+    ensures create { CreateStaysSettled K T F I }
 {}

@@ -21,6 +21,9 @@ fn laws_hold_at_a_concrete_set() {
     laws::processes_stay_sound::<u8, u16, u32, u64>();
     laws::ended_process_is_gone::<u8, u16, u32, u64>();
     laws::child_begins_without_handles::<u8, u16, u32, u64>();
+    laws::settling_settles::<u8, u16, u32, u64>();
+    laws::step_stays_settled::<u8, u16, u32, u64>();
+    laws::what_comes_stays::<u8, u16, u32, u64>();
     examples::opening_is_settled::<u8, u16, u32, u64>();
 }
 

@@ -1,0 +1,179 @@
+-- What is settled stays so when a handle or an object with one comes, and after each step.
+use Rattle.std.proofs.Common.{◌≡◌, ◌∙◌, ℕ, ◌==◌, Bool, true, false, ◌&&◌, ◌||◌, not, if◌then◌else◌, List, [], ◌∷◌, ◌++◌, find, All, Option, None, Some, option_map, refl, ap, sym, subst, eq-eqb}
+use Rattle.std.specs.List.{list_any}
+use Rattle.std.specs.Option.{option_map_or, option_or, is_some}
+use Rattle.std.proofs.lemmas.Bool.{and_from}
+use Rattle.std.proofs.lemmas.List.Elements.{All-nil, All-append, All-push, All-map, All-weaker, All-from_recursion}
+use Rattle.std.proofs.lemmas.List.{append-nil}
+use Rattle.std.proofs.lemmas.List.Folds.{find-append, list_any-append}
+use Rattle.ob_base.specs.Attrs.{has_flag, permanent_flag, exclusive_flag, inherit_flag}
+use Rattle.ob_model.specs.declared.reply.Answer.{Answer}
+use Rattle.ob_model.specs.declared.reply.Event.{Event}
+use Rattle.ob_model.specs.declared.state.Body.{Body}
+use Rattle.ob_model.specs.declared.state.Held.{Held}
+use Rattle.ob_model.specs.declared.state.Object.{Object}
+use Rattle.ob_model.specs.declared.state.Row.{Row}
+use Rattle.ob_model.specs.State.{State, root_id, object_of}
+use Rattle.ob_model.specs.Procedures.{Procedures, Reason, Created}
+use Rattle.ob_model.specs.Settle.{is_permanent, has_handle, is_kept, has_name, is_pinned, is_mapped, holds_kept, is_alive, IsSettled, deleted_all, settle}
+use Rattle.ob_model.specs.Grants.{opened_object, opened_body, with_open, with_handle}
+use Rattle.ob_model.specs.Creates.{Spot, new_rows, created}
+use Rattle.ob_model.specs.Opening.{opening}
+use Rattle.ob_model.specs.Step.{Step}
+use Rattle.ob_model.proofs.Finds.{filter_all, filter_none, list_any_weaker}
+use Rattle.ob_model.proofs.Settled.{alive_from_handle, kept_twice, objects_alive}
+use Rattle.ob_model.proofs.Soundness.{find_id-map, opened_object-id, opened_object-is_directory}
+use Rattle.ob_model.proofs.Leads.{step_leads}
+
+or_left : (a b : Bool) → a ≡ true → (a || b) ≡ true
+or_left a b h = ap (λ x. x || b) h
+
+or_right' : (a b : Bool) → b ≡ true → (a || b) ≡ true
+or_right' true b h = refl
+or_right' false b h = h
+
+or_grows : (a b a' b' : Bool) → (a ≡ true → a' ≡ true) → (b ≡ true → b' ≡ true) → (a || b) ≡ true → (a' || b') ≡ true
+or_grows true b a' b' first second h = ap (λ x. x || b') (first refl)
+or_grows false true true b' first second h = refl
+or_grows false true false b' first second h = second refl
+or_grows false false a' b' first second h = cc
+
+and_grows : (a b a' b' : Bool) → (a ≡ true → a' ≡ true) → (b ≡ true → b' ≡ true) → (a && b) ≡ true → (a' && b') ≡ true
+and_grows true true a' b' first second h = and_from a' b' (first refl) (second refl)
+and_grows true false a' b' first second h = cc
+and_grows false b a' b' first second h = cc
+
+-- A state that has what another one has, and more.
+module _ {K T F I : Type 0} (s u : State K T F I) (permanent : (o : ℕ) → is_permanent s o ≡ true → is_permanent u o ≡ true)
+    (held : (o : ℕ) → has_handle s o ≡ true → has_handle u o ≡ true) (pinned : (o : ℕ) → is_pinned s o ≡ true → is_pinned u o ≡ true)
+    (mapped : (o : ℕ) → is_mapped s o ≡ true → is_mapped u o ≡ true) (more : List Row) (rows : u.rows ≡ s.rows ++ more) where
+  kept_grows : (r : Row) → is_kept s r ≡ true → is_kept u r ≡ true
+  kept_grows r =
+      or_grows (is_permanent s r.object) (has_handle s r.object) (is_permanent u r.object) (has_handle u r.object) (permanent r.object) (held r.object)
+
+  any_grows : (p q : Row → Bool) → ((r : Row) → p r ≡ true → q r ≡ true) → list_any p s.rows ≡ true → list_any q u.rows ≡ true
+  any_grows p q weaker some =
+      ap (list_any q) rows ∙ list_any-append q s.rows more ∙ or_left (list_any q s.rows) (list_any q more)
+      (list_any_weaker p q s.rows (λ k d within. weaker _) some)
+
+  alive_grows : (o : ℕ) → is_alive s o ≡ true → is_alive u o ≡ true
+  alive_grows o =
+      or_grows _ (holds_kept s o) _ (holds_kept u o)
+      (or_grows _ (is_permanent s o && has_name s o) _ (is_permanent u o && has_name u o)
+      (or_grows _ (is_mapped s o) _ (is_mapped u o)
+      (or_grows _ (is_pinned s o) _ (is_pinned u o) (or_grows (o == root_id) (has_handle s o) (o == root_id) (has_handle u o) (λ h. h) (held o)) (pinned o)) (mapped o))
+      (and_grows (is_permanent s o) (has_name s o) (is_permanent u o) (has_name u o) (permanent o) (any_grows (λ r. r.object == o) (λ r. r.object == o) (λ r h. h))))
+      (any_grows (λ r. (r.directory == o) && is_kept s r) (λ r. (r.directory == o) && is_kept u r)
+      (λ r. and_grows (r.directory == o) (is_kept s r) (r.directory == o) (is_kept u r) (λ h. h) (kept_grows r)))
+
+module _ {K T F I : Type 0} (g : Procedures K T F I) where
+  -- an open leaves what is permanent
+  permanent-opened : (s : State K T F I) (o m : ℕ) (reason : Reason) → is_permanent s m ≡ true → is_permanent (with_open g s o reason) m ≡ true
+  permanent-opened s o m reason h =
+      ap (λ (x : Option (Object F I)). option_map_or (λ y. y.permanent) x false)
+      (find_id-map (opened_object g s.set o reason) (opened_object-id g s.set o reason) (opened_object-is_directory g s.set o reason) m s.objects)
+      ∙ go (object_of s m) h
+    where
+      stays : (x : Object F I) → (opened_object g s.set o reason x).permanent ≡ x.permanent
+      stays x = elim (x.id == o) as (λ b. (if b then record x { body = opened_body g s.set x.body reason } else x).permanent ≡ x.permanent) [ true ↦ refl | false ↦ refl ]
+
+      go : (x : Option (Object F I)) → option_map_or (λ y. y.permanent) x false ≡ true → option_map_or (λ y. y.permanent) (option_map (opened_object g s.set o reason) x) false ≡ true
+      go None h = cc
+      go (Some x) h = stays x ∙ h
+
+  -- a handle more leaves those that are there
+  handle_stays : (hs : List Held) (h : Held) (o : ℕ) → list_any (λ x. x.object == o) hs ≡ true → list_any (λ x. x.object == o) (hs ++ h ∷ []) ≡ true
+  handle_stays hs h o some = list_any-append (λ x. x.object == o) hs (h ∷ []) ∙ or_left (list_any (λ x. x.object == o) hs) _ some
+
+  -- a handle that is granted leaves a settled state
+  pub granted_settled : (s : State K T F I) (p value o : ℕ) (reason : Reason) (inherit : Bool) → IsSettled s → IsSettled (with_handle (with_open g s o reason) p value o inherit)
+  granted_settled s p value o reason inherit settled =
+      let u = with_handle (with_open g s o reason) p value o inherit in
+      let permanent = λ (m : ℕ). permanent-opened s o m reason in
+      let held = λ (m : ℕ). handle_stays s.handles (record { process = p; value = value; object = o; inherit = inherit; order = s.next_order }) m in
+      record {
+        names = All-weaker (λ r. is_kept s r ≡ true) (λ r. is_kept u r ≡ true) (λ r h. kept_grows s u permanent held (λ m h. h) (λ m h. h) [] (sym (append-nil s.rows)) r h) s.rows settled.names;
+        objects = All-map (λ x. is_alive u x.id ≡ true) (opened_object g s.set o reason) s.objects
+            (All-weaker (λ x. is_alive s x.id ≡ true) (λ x. is_alive u (opened_object g s.set o reason x).id ≡ true)
+            (λ x h. subst (λ n. is_alive u n ≡ true) (sym (opened_object-id g s.set o reason x)) (alive_grows s u permanent held (λ m h. h) (λ m h. h) [] (sym (append-nil s.rows)) x.id h))
+            s.objects settled.objects);
+      }
+
+  -- and so does an object that comes with a handle
+  pub created_settled : (s : State K T F I) (p : ℕ) (spot : Spot) (body : Body F I) (attrs value : ℕ) → IsSettled s → IsSettled (created g s p spot body attrs value)
+  created_settled s p spot body attrs value settled = record {
+    names = subst (All (λ r. is_kept u r ≡ true)) (sym refl)
+        (All-append (λ r. is_kept u r ≡ true) s.rows (new_rows spot s.next_stamp s.next_id)
+        (All-weaker (λ r. is_kept s r ≡ true) (λ r. is_kept u r ≡ true) (λ r h. kept_grows s u permanent held (λ m h. h) (λ m h. h) (new_rows spot s.next_stamp s.next_id) refl r h) s.rows settled.names)
+        (new spot));
+    objects = All-push (λ x. is_alive u x.id ≡ true) s.objects _
+        (All-weaker (λ x. is_alive s x.id ≡ true) (λ x. is_alive u x.id ≡ true)
+        (λ x h. alive_grows s u permanent held (λ m h. h) (λ m h. h) (new_rows spot s.next_stamp s.next_id) refl x.id h) s.objects settled.objects)
+        (alive_from_handle u s.next_id mine);
+  }
+    where
+      u : State K T F I
+      u = created g s p spot body attrs value
+
+      handle : Held
+      handle = record { process = p; value = value; object = s.next_id; inherit = has_flag inherit_flag attrs; order = s.next_order }
+
+      mine : has_handle u s.next_id ≡ true
+      mine =
+          list_any-append (λ x. x.object == s.next_id) s.handles (handle ∷ [])
+          ∙ or_right' (list_any (λ x. x.object == s.next_id) s.handles) _ (ap (λ b. b || false) (eq-eqb s.next_id s.next_id refl))
+
+      held : (m : ℕ) → has_handle s m ≡ true → has_handle u m ≡ true
+      held m = handle_stays s.handles handle m
+
+      object : Object F I
+      object = record { id = s.next_id; body = opened_body g s.set body Created; permanent = is_some spot && has_flag permanent_flag attrs; exclusive = has_flag exclusive_flag attrs }
+
+      permanent : (m : ℕ) → is_permanent s m ≡ true → is_permanent u m ≡ true
+      permanent m h =
+          ap (λ (x : Option (Object F I)). option_map_or (λ y. y.permanent) x false) (find-append (λ x. x.id == m) s.objects (object ∷ []))
+          ∙ go (object_of s m) h
+        where
+          go : (x : Option (Object F I)) → option_map_or (λ y. y.permanent) x false ≡ true
+              → option_map_or (λ y. y.permanent) (option_or x (find (λ y. y.id == m) (object ∷ []))) false ≡ true
+          go None h = cc
+          go (Some x) h = h
+
+      new : (spot : Spot) → All (λ r. is_kept u r ≡ true) (new_rows spot s.next_stamp s.next_id)
+      new None = All-nil (λ r. is_kept u r ≡ true)
+      new (Some at) =
+          All-push (λ r. is_kept u r ≡ true) [] _ (All-nil (λ r. is_kept u r ≡ true)) (or_right' (is_permanent u s.next_id) (has_handle u s.next_id) mine)
+
+  -- settling leaves what is settled as it is
+  pub settled_itself : (s : State K T F I) → IsSettled s → settle g s ≡ s
+  settled_itself s settled = λ i. record s { objects = objects_are i; rows = rows_are i; set = set_is i }
+    where
+      objects_are : (settle g s).objects ≡ s.objects
+      objects_are = filter_all (λ x. is_alive s x.id) s.objects settled.objects
+
+      rows_are : (settle g s).rows ≡ s.rows
+      rows_are = filter_all (is_kept s) s.rows settled.names
+
+      set_is : (settle g s).set ≡ s.set
+      set_is =
+          ap (deleted_all g s.set)
+          (filter_none (λ x. not (is_alive s x.id)) s.objects
+          (All-weaker (λ x. is_alive s x.id ≡ true) (λ x. not (is_alive s x.id) ≡ false) (λ x h. ap not h) s.objects settled.objects))
+
+  -- and leaves what is settled
+  pub settling_settles : (s : State K T F I) → IsSettled (settle g s)
+  settling_settles s = record { names = kept_twice g s; objects = objects_alive g s }
+
+  -- a step from a settled state leads to a settled one
+  pub step_settled : (s t : State K T F I) (event : Event K) (answer : Answer) → IsSettled s → Step g s event answer t → IsSettled t
+  step_settled s t event answer settled h =
+      step_leads g s IsSettled settled settling_settles (λ body. record { names = settled.names; objects = settled.objects }) t event answer h
+
+-- each name of the opening state names a permanent object, and each object is the root or has such a name
+pub opening_settled : {K T F I : Type 0} (set : T) → IsSettled (opening {K = K} {F = F} {I = I} set)
+opening_settled {K = K} {F = F} {I = I} set =
+    let s : State K _ F I = opening set in
+    record {
+      names = All-from_recursion (λ r. is_kept s r ≡ true) s.rows (refl, (refl, (refl, (refl, (refl, tt)))));
+      objects = All-from_recursion (λ x. is_alive s x.id ≡ true) s.objects (refl, (refl, (refl, (refl, (refl, (refl, tt))))));
+    }
