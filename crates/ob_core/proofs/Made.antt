@@ -10,11 +10,12 @@ use Rattle.ob_model.specs.declared.state.Body.{Body}
 use Rattle.ob_model.specs.declared.state.Held.{Held}
 use Rattle.ob_model.specs.State.{State, is_directory}
 use Rattle.ob_model.specs.Procedures.{Procedures, Created}
-use Rattle.ob_model.specs.Settle.{settle, deleted_one}
+use Rattle.ob_model.specs.Settle.{IsSettled, settle, deleted_one}
 use Rattle.ob_model.specs.Grants.{is_table_full, IsFreeValue, with_handle, open_refusal_of, opened_body, opened_set}
 use Rattle.ob_model.specs.Refusals.{gives, answers, IsRefused}
 use Rattle.ob_model.specs.Creates as machine
 use Rattle.ob_model.specs.Creates.{is_store_full, with_object, with_row, created, make_refusal, body_made, dropped, MakesInRoom}
+use Rattle.ob_model.proofs.Staying.{created_settled, settled_itself}
 use Rattle.ob_objects.specs.declared.object.StoredObject.{StoredObject}
 use Rattle.ob_objects.specs.Store.{body_of_stored}
 use Rattle.ob_core.specs.declared.making.Spot.{Spot}
@@ -89,14 +90,18 @@ module _ {K T F I : Type 0} (g : Procedures K T F I) (idle : I → Type 0) (s re
       (has_room s p (first_false (is_table_full s p) (is_store_full s) room)) (free_in_state s p value seen same free) (spot_inside s spot vacant)
       (first_true (is_some (spot_of spot)) (has_flag permanent_flag attrs)))
 
+  -- where all stays, all stays when it is made
+  made_stays : IsSettled s → after ≡ settle g after
+  made_stays settled = sym (settled_itself g after (subst IsSettled (sym is_created) (created_settled g s p (spot_of spot) (body_of_stored x.body) attrs value settled)))
+
   pub makes_given : (making : machine.Making K) (answer : Answer) (t : State K T F I) → body_of_stored x.body ≡ body_made g making → make_refusal g making ≡ None
       → open_refusal_of g reserved.set (body_of_stored x.body) Created ≡ None
-      → answer ≡ gives Success (Handle value) → t ≡ settle g after → MakesInRoom g s p attrs making (spot_of spot) answer t
-  makes_given making answer t is not_refused not_denied told left =
+      → answer ≡ gives Success (Handle value) → IsSettled s → t ≡ after → MakesInRoom g s p attrs making (spot_of spot) answer t
+  makes_given making answer t is not_refused not_denied told settled left =
       subst (λ (refusal : Option ℕ). MatchOption refusal (MatchOption (open_refusal_of g s.set (body_made g making) Created) Given DroppedFor) (λ k. IsRefused s (TypeRefused k) answer t)) (sym not_refused)
       (subst (λ (refusal : Option ℕ). MatchOption refusal Given DroppedFor)
       (sym (sym (λ i. open_refusal_of g ((reserved_is i).set) (is i) Created) ∙ not_denied))
-      (value, free_in_state s p value seen same free, told, left ∙ ap (settle g) (is_created ∙ ap (λ (b : Body F I). created g s p (spot_of spot) b attrs value) is)))
+      (value, free_in_state s p value seen same free, told, left ∙ made_stays settled ∙ ap (settle g) (is_created ∙ ap (λ (b : Body F I). created g s p (spot_of spot) b attrs value) is)))
     where
       Given : Type 0
       Given = (value : ℕ) × IsFreeValue s p value × (answer ≡ gives Success (Handle value)) × (t ≡ settle g (created g s p (spot_of spot) (body_made g making) attrs value))

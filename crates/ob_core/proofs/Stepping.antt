@@ -13,13 +13,14 @@ use Rattle.ob_model.specs.declared.state.Held.{Held}
 use Rattle.ob_model.specs.declared.state.Wanted.{Wanted}
 use Rattle.ob_model.specs.State.{State, is_live, held_of, body_of}
 use Rattle.ob_model.specs.Procedures.{Procedures, Opened}
-use Rattle.ob_model.specs.Settle.{settle}
-use Rattle.ob_model.specs.Grants.{first_refusal, Grants}
+use Rattle.ob_model.specs.Settle.{IsSettled, settle}
+use Rattle.ob_model.specs.Grants.{Asked, first_refusal, Grants}
 use Rattle.ob_model.specs.Closing.{is_handle, closed_set, closed_object, closed_handle}
 use Rattle.ob_model.specs.Types.{is_wanted_at}
 use Rattle.ob_model.specs.Refusals.{Unless, IsRefused, answers, gives}
 use Rattle.ob_model.specs.Opens.{OpensAt, asked_by}
 use Rattle.ob_model.specs.Step.{Closes}
+use Rattle.ob_model.proofs.Staying.{granted_settled, settled_itself}
 use Rattle.ob_core.proofs.Orders.{only_handle}
 
 module _ {K T F I : Type 0} (refusals : List (Bool × Status)) (s : State K T F I) (answer : Answer) (t : State K T F I) (Does : Type 0) where
@@ -81,6 +82,11 @@ module _ {K T F I : Type 0} (g : Procedures K T F I) where
       is_done ((not (is_live s p), ProcessGone) ∷ []) s answer t _ (ap (λ (b : Bool). first_refusal ((not b, ProcessGone) ∷ [])) live)
       (subst (λ (o : Option Held). MatchOption o (IsRefused s InvalidHandle answer t) (λ x. (answer ≡ answers Success) × (t ≡ settle g (closed_handle g s x)))) (sym found)
       (told, left))
+
+  -- where all stays, all stays when a handle is granted
+  pub granted_stays : (s u : State K T F I) (p o value : ℕ) (asked : Asked) → IsSettled s → Grants g s p o asked Opened (Ok value) u → u ≡ settle g u
+  granted_stays s u p o value asked settled granted =
+      sym (settled_itself g u (subst IsSettled (sym granted.2) (granted_settled g s p value o Opened asked.inherit settled)))
 
   -- an open of an object that is granted, and one that is denied
   module _ (s : State K T F I) (p o attrs : ℕ) (wanted : Wanted K) (status : Status) (answer : Answer) (is : is_wanted_at g s o wanted ≡ true) where

@@ -6,7 +6,7 @@ use Rattle.ob_model.specs.declared.state.Body.TheVariants.{Directory, Link, Othe
 use Rattle.ob_model.specs.declared.state.Object.{Object}
 use Rattle.ob_model.specs.declared.state.Held.{Held}
 use Rattle.ob_model.specs.State.{State, root_id, is_directory, most_handles}
-use Rattle.ob_model.specs.Settle.{has_name}
+use Rattle.ob_model.specs.Settle.{has_name, IsSettled}
 use Rattle.ob_model.specs.Sound.{IsSound}
 
 -- a body has no inner value, or one that stands for no open handle
@@ -43,7 +43,9 @@ pub record IsOrderly {K T F I : Type 0} (idle : I → Type 0) (s : State K T F I
   pub distinct : AllPairs (λ a b. a.value ≢ b.value) s.handles
   pub few : length s.handles ≤ most_handles
 
--- what a core keeps between its steps: it is also sound, so that each name may be looked up
+-- What a core keeps between its steps: it is also sound, so that each name may be looked up, and settled,
+-- so that only what a close lets go is looked for.
 pub record IsCore {K T F I : Type 0} (idle : I → Type 0) (s : State K T F I) : Type 0 where
   pub orderly : IsOrderly idle s
   pub sound : IsSound s
+  pub settled : IsSettled s

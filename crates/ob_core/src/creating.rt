@@ -7,6 +7,7 @@ ghost use Rattle.ob_model.specs.declared.reply.Answer.TheVariants.{Done};
 ghost use Rattle.ob_model.specs.Creates as machine;
 ghost use Rattle.ob_model.specs.Creates.{create_mode};
 ghost use Rattle.ob_model.specs.Looks as looks;
+ghost use Rattle.ob_model.specs.Settle.{IsSettled};
 ghost use Rattle.ob_model.specs.Sound.{IsSound};
 ghost use Rattle.ob_model.specs.Step.{CreatesAt, CreatesIn};
 ghost use Rattle.ob_lookup.specs.Look.{mode_of};
@@ -37,6 +38,7 @@ pub(crate) fn create<T: TypeSet>(
     making: Making<'_, T::Kind>,
 ) -> Result<Reply, Fault>
     requires orderly { IsOrderly T.idle (state_of T.Kind space.old) }
+    requires settled { IsSettled (state_of T.Kind space.old) }
     requires sound { IsSound (state_of T.Kind space.old) }
     ensures orderly { IsOrderly T.idle (state_of T.Kind space.new) }
     ensures step { IfOk result (λ reply.
@@ -68,6 +70,7 @@ fn create_at_name<T: TypeSet>(
     making: Making<'_, T::Kind>,
 ) -> Result<Reply, Fault>
     requires orderly { IsOrderly T.idle (state_of T.Kind space.old) }
+    requires settled { IsSettled (state_of T.Kind space.old) }
     requires sound { IsSound (state_of T.Kind space.old) }
     requires first { process ≡ 1 }
     requires fit { machine.is_fit (making_of making) ≡ true }
@@ -118,6 +121,7 @@ fn open_there<T: TypeSet>(
     making: Making<'_, T::Kind>,
 ) -> Result<Reply, Fault>
     requires orderly { IsOrderly T.idle (state_of T.Kind space.old) }
+    requires settled { IsSettled (state_of T.Kind space.old) }
     requires first { process ≡ 1 }
     ensures orderly { IsOrderly T.idle (state_of T.Kind space.new) }
     ensures step { IfOk result (λ reply.

@@ -9,6 +9,7 @@ ghost use Rattle.ob_types.specs.Told.{IsTold};
 ghost use Rattle.ob_model.specs.declared.reply.Answer.TheVariants.{Done};
 ghost use Rattle.ob_model.specs.State.{greatest_number};
 ghost use Rattle.ob_model.specs.Grants.{is_table_full, with_handle};
+ghost use Rattle.ob_model.specs.Settle.{IsSettled};
 ghost use Rattle.ob_model.specs.Creates as machine;
 ghost use Rattle.ob_model.specs.Creates.{is_store_full, is_stampless};
 ghost use Rattle.ob_objects.specs.Store.{body_of_stored, entries_in};
@@ -19,7 +20,6 @@ ghost use Rattle.ob_core.specs.Orderly.{IsOrderly, IsIdleBody};
 use crate::placing::place_new;
 use crate::replies::{status_alone, with_handle};
 use crate::room::append;
-use crate::settle::settle;
 use crate::space::{Namespace, is_stampless, is_store_full, is_table_full};
 use crate::values::free_value;
 use ob_base::{Attrs, Fault, Handle, ObjId, Proc, Status};
@@ -95,6 +95,7 @@ pub(crate) fn make_named<T: TypeSet>(
     making: Making<'_, T::Kind>,
 ) -> Result<Reply, Fault>
     requires orderly { IsOrderly T.idle (state_of T.Kind space.old) }
+    requires settled { IsSettled (state_of T.Kind space.old) }
     requires first { process ≡ 1 }
     requires fit { machine.is_fit (making_of making) ≡ true }
     requires vacant { IsVacant (state_of T.Kind space.old) spot.directory spot.name }
@@ -119,6 +120,7 @@ pub(crate) fn make_unnamed<T: TypeSet>(
     making: Making<'_, T::Kind>,
 ) -> Result<Reply, Fault>
     requires orderly { IsOrderly T.idle (state_of T.Kind space.old) }
+    requires settled { IsSettled (state_of T.Kind space.old) }
     requires first { process ≡ 1 }
     requires fit { machine.is_fit (making_of making) ≡ true }
     ensures orderly { IsOrderly T.idle (state_of T.Kind space.new) }
@@ -141,7 +143,8 @@ fn is_full<T: TypeSet>(space: &Namespace<T, Store<T>>, process: Proc) -> bool
 }
 
 /// Makes an object for which there is room, at a spot, where one is given, and opens a handle to it.
-/// All growths come before the first procedure of the set that changes it.
+/// All growths come before the first procedure of the set that changes it. What is there stays: an
+/// object more, with its handle, lets nothing go.
 fn make_in_room<T: TypeSet>(
     space: &mut Namespace<T, Store<T>>,
     process: Proc,
@@ -150,6 +153,7 @@ fn make_in_room<T: TypeSet>(
     making: Making<'_, T::Kind>,
 ) -> Result<Reply, Fault>
     requires orderly { IsOrderly T.idle (state_of T.Kind space.old) }
+    requires settled { IsSettled (state_of T.Kind space.old) }
     requires first { process ≡ 1 }
     requires fit { machine.is_fit (making_of making) ≡ true }
     requires room { (is_table_full (state_of T.Kind space.old) process || is_store_full (state_of T.Kind space.old)) ≡ false }
@@ -175,7 +179,6 @@ fn make_in_room<T: TypeSet>(
         return Ok(status_alone(Status::TypeRefused(code)));
     }
     add_handle(space, process, value, attrs, named);
-    settle(space);
     Ok(with_handle(Status::Success, value))
 }
 

@@ -5,6 +5,7 @@ ghost use Rattle.ob_base.specs.declared.Fault.TheVariants.{Memory};
 ghost use Rattle.ob_model.specs.declared.reply.Answer.TheVariants.{Done};
 ghost use Rattle.ob_model.specs.Opens.{OpensAt, Opens, open_mode};
 ghost use Rattle.ob_model.specs.Step.{OpensName};
+ghost use Rattle.ob_model.specs.Settle.{IsSettled};
 ghost use Rattle.ob_model.specs.Sound.{IsSound};
 ghost use Rattle.ob_model.specs.Looks as machine;
 ghost use Rattle.ob_model.specs.Procedures.{without_parse};
@@ -17,7 +18,6 @@ use crate::judge::judge_open;
 use crate::looking::look_up;
 use crate::replies::{status_alone, with_handle};
 use crate::roots::root_object;
-use crate::settle::settle;
 use crate::space::{Namespace, is_live};
 use crate::wanted::is_wanted_at;
 use ob_base::{Attrs, Fault, Handle, ObjId, Proc, Status};
@@ -37,6 +37,7 @@ pub(crate) fn open_name<T: TypeSet>(
     wanted: Wanted<T::Kind>,
 ) -> Result<Reply, Fault>
     requires orderly { IsOrderly T.idle (state_of T.Kind space.old) }
+    requires settled { IsSettled (state_of T.Kind space.old) }
     requires sound { IsSound (state_of T.Kind space.old) }
     ensures orderly { IsOrderly T.idle (state_of T.Kind space.new) }
     ensures step { IfOk result (λ reply.
@@ -72,7 +73,7 @@ fn open_mode<K: Copy>(wanted: Wanted<K>, attrs: Attrs) -> Mode
 }
 
 /// Opens an object that was found, where it is of the type that is asked for. The handle is given
-/// with this status.
+/// with this status. What is there stays: a handle more lets nothing go.
 pub(crate) fn open_at<T: TypeSet>(
     space: &mut Namespace<T, Store<T>>,
     process: Proc,
@@ -82,6 +83,7 @@ pub(crate) fn open_at<T: TypeSet>(
     status: Status,
 ) -> Result<Reply, Fault>
     requires orderly { IsOrderly T.idle (state_of T.Kind space.old) }
+    requires settled { IsSettled (state_of T.Kind space.old) }
     requires first { process ≡ 1 }
     ensures orderly { IsOrderly T.idle (state_of T.Kind space.new) }
     ensures step { IfOk result (λ reply.
@@ -93,10 +95,7 @@ pub(crate) fn open_at<T: TypeSet>(
         return Ok(status_alone(Status::ObjectTypeMismatch));
     }
     match grant(space, process, object, attrs)? {
-        Ok(value) => {
-            settle(space);
-            Ok(with_handle(status, value))
-        }
+        Ok(value) => Ok(with_handle(status, value)),
         Err(refusal) => Ok(status_alone(refusal)),
     }
 }

@@ -1,5 +1,5 @@
 -- The object is placed, with its name and a handle, or dropped.
-use Rattle.std.proofs.Common.{◌∙◌, ap}
+use Rattle.std.proofs.Common.{◌∙◌, ap, refl}
 use Rattle.ob_model.specs.declared.reply.Answer.TheVariants.{Done}
 use Rattle.ob_objects.specs.Store.{body_of_stored}
 use Rattle.ob_core.specs.Making.{making_of}
@@ -15,8 +15,8 @@ returns-in-Err-clause-orderly g c =
     (state_of g.row.T-Kind.Denot c.place_new.new.space) (body_of_stored c.object_made-object.result.body) c.requires.orderly
     (λ i. record s { handles = c.in_ok-reserve.ensures.items i }) (of_err _ _ c.in-Err.code c.in-Err.is c.in_ok-code.ensures.refused).1
 
-pub settle-requires-after_bounds : goal.settle-requires-after_bounds
-settle-requires-after_bounds g c κs within =
+pub returns-clause-orderly : goal.returns-clause-orderly
+returns-clause-orderly g c =
     let s = state_of g.row.T-Kind.Denot c.args.space.now in
     created_is_orderly g.T.TypeSet.procedures g.T.TypeSet.idle s (state_of g.row.T-Kind.Denot (record c.args.space.now { handles = c.reserve.new.self }))
     (state_of g.row.T-Kind.Denot c.place_new.new.space) (state_of g.row.T-Kind.Denot c.add_handle.new.space) c.requires.orderly
@@ -37,5 +37,5 @@ returns-clause-step g c =
     c.is_some-named.result c.is_some-named.ensures
     (ap (λ x. x.permanent) c.object_made-object.ensures) (ap (λ x. x.exclusive) c.object_made-object.ensures)
     (λ i. record s { handles = c.in_ok-reserve.ensures.items i }) accepted.1 c.add_handle.ensures
-    (making_of c.args.making) (Done c.with_handle.result) (state_of g.row.T-Kind.Denot c.settle.new.space) (ap (λ x. body_of_stored x.body) c.object_made-object.ensures ∙ c.in-Ok.ensures.made) c.in-Ok.ensures.accepted accepted.0
-    (ap Done c.with_handle.ensures) c.settle.ensures.settled
+    (making_of c.args.making) (Done c.with_handle.result) (state_of g.row.T-Kind.Denot c.add_handle.new.space) (ap (λ x. body_of_stored x.body) c.object_made-object.ensures ∙ c.in-Ok.ensures.made) c.in-Ok.ensures.accepted accepted.0
+    (ap Done c.with_handle.ensures) c.requires.settled refl

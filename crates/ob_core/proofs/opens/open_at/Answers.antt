@@ -6,7 +6,7 @@ use Rattle.ob_model.specs.declared.reply.Answer.TheVariants.{Done}
 use Rattle.ob_model.specs.Grants.{Grants}
 use Rattle.ob_model.specs.Opens.{asked_by}
 use Rattle.ob_core.specs.Namespace.{state_of}
-use Rattle.ob_core.proofs.Stepping.{opens_granted, opens_denied}
+use Rattle.ob_core.proofs.Stepping.{granted_stays, opens_granted, opens_denied}
 use Rattle.ob_core.proofs.opens.open_at.Goals as goal
 
 pub returns-in-Ok-clause-step : goal.returns-in-Ok-clause-step
@@ -16,7 +16,9 @@ returns-in-Ok-clause-step g c =
     opens_granted g.T.TypeSet.procedures s c.args.process c.args.object c.args.attrs c.args.wanted c.args.status _
     (sym c.is_wanted_at.ensures ∙ c.if-not-is_wanted_at.false)
     _ u c.in-Ok.value (subst (λ (answer : Result _ _). Grants g.T.TypeSet.procedures s c.args.process c.args.object (asked_by c.args.attrs) model.Opened answer u) c.in-Ok.is c.in_ok-value.ensures.granted)
-    (ap Done c.with_handle.ensures) c.settle.ensures.settled
+    (ap Done c.with_handle.ensures)
+    (granted_stays g.T.TypeSet.procedures s u c.args.process c.args.object c.in-Ok.value (asked_by c.args.attrs) c.requires.settled
+    (subst (λ (answer : Result _ _). Grants g.T.TypeSet.procedures s c.args.process c.args.object (asked_by c.args.attrs) model.Opened answer u) c.in-Ok.is c.in_ok-value.ensures.granted))
 
 pub returns-in-Err-clause-step : goal.returns-in-Err-clause-step
 returns-in-Err-clause-step g c =

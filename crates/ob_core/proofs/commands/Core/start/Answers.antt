@@ -1,7 +1,10 @@
--- A step leaves a sound state, and so does none.
+-- A step leaves a sound and settled state, and so does none.
+use Rattle.std.proofs.Common.{sym, subst}
 use Rattle.ob_model.specs.declared.reply.Answer.TheVariants.{Done}
 use Rattle.ob_model.specs.declared.reply.Event.TheVariants.{Start}
+use Rattle.ob_model.specs.Settle.{IsSettled}
 use Rattle.ob_model.proofs.Steps.{step_sound}
+use Rattle.ob_model.proofs.Staying.{step_settled}
 use Rattle.ob_core.specs.Namespace.{state_of}
 use Rattle.ob_core.proofs.Results.{from_result}
 use Rattle.ob_core.proofs.Looked.{same_sound}
@@ -16,4 +19,7 @@ invariant_of-self-2 g c =
       sound = from_result c.reply_to.result _ _ _
           (λ reply step. step_sound g.T.TypeSet.procedures s t (Start c.args.process c.args.command.now) (Done reply) c.self.invariant.sound step)
           (λ same. same_sound s t c.self.invariant.sound same) c.reply_to.ensures.step c.reply_to.ensures.err;
+      settled = from_result c.reply_to.result _ _ _
+          (λ reply step. step_settled g.T.TypeSet.procedures s t (Start c.args.process c.args.command.now) (Done reply) c.self.invariant.settled step)
+          (λ same. subst IsSettled (sym same) c.self.invariant.settled) c.reply_to.ensures.step c.reply_to.ensures.err;
     }
