@@ -26,7 +26,7 @@ use Rattle.ob_model.proofs.SoundPaths.{find_of}
 use Rattle.ob_model.proofs.Soundness.{settled_sound, granted_sound, closed_sound, stands-opened}
 
 -- a test of what another test leaves
-any_filter : {X : Type 0} (kept test : X → Bool) (xs : List X) → list_any (λ x. kept x && test x) xs ≡ true → list_any test (filter kept xs) ≡ true
+pub any_filter : {X : Type 0} (kept test : X → Bool) (xs : List X) → list_any (λ x. kept x && test x) xs ≡ true → list_any test (filter kept xs) ≡ true
 any_filter kept test [] some = some
 any_filter {X} kept test (x ∷ xs) some = go (kept x) some (any_filter kept test xs)
   where

@@ -55,6 +55,10 @@ both true b h = (refl, h)
 both false b h = cc
 
 module _ {K T F I : Type 0} where
+  -- the root is alive
+  pub alive_from_root : (s : State K T F I) (o : ℕ) → (o == root_id) ≡ true → is_alive s o ≡ true
+  alive_from_root s o h = ap (λ b. b || has_handle s o || is_pinned s o || is_mapped s o || (is_permanent s o && has_name s o) || holds_kept s o) h
+
   -- an object with a handle is alive
   pub alive_from_handle : (s : State K T F I) (o : ℕ) → has_handle s o ≡ true → is_alive s o ≡ true
   alive_from_handle s o h = alive_second (o == root_id) (has_handle s o) (is_pinned s o) (is_mapped s o) (is_permanent s o && has_name s o) (holds_kept s o) h

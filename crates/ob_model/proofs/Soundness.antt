@@ -69,7 +69,7 @@ module _ {K T F I : Type 0} (g : Procedures K T F I) where
   closed_body-is_directory set left total (Link target) = refl
   closed_body-is_directory set left total (Other face inner) = refl
 
-  closed_object-is_directory : (set : T) (o left total : ℕ) (x : Object F I) → is_directory_body (closed_object g set o left total x).body ≡ is_directory_body x.body
+  pub closed_object-is_directory : (set : T) (o left total : ℕ) (x : Object F I) → is_directory_body (closed_object g set o left total x).body ≡ is_directory_body x.body
   closed_object-is_directory set o left total x =
       elim (x.id == o) as (λ b. is_directory_body (if b then record x { body = closed_body g set left total x.body } else x).body ≡ is_directory_body x.body)
       [ true ↦ closed_body-is_directory set left total x.body | false ↦ refl ]

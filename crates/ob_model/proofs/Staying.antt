@@ -1,8 +1,8 @@
 -- What is settled stays so when a handle or an object with one comes, and after each step.
-use Rattle.std.proofs.Common.{◌≡◌, ◌∙◌, ℕ, ◌==◌, Bool, true, false, ◌&&◌, ◌||◌, not, if◌then◌else◌, List, [], ◌∷◌, ◌++◌, find, All, Option, None, Some, option_map, refl, ap, sym, subst, eq-eqb}
+use Rattle.std.proofs.Common.{◌≡◌, ◌∙◌, ℕ, ◌==◌, Bool, true, false, ◌&&◌, ◌||◌, not, if◌then◌else◌, List, [], ◌∷◌, ◌++◌, find, All, Option, None, Some, option_map, refl, ap, sym, subst, eq-eqb, eqb-true, get_or}
 use Rattle.std.specs.List.{list_any}
 use Rattle.std.specs.Option.{option_map_or, option_or, is_some}
-use Rattle.std.proofs.lemmas.Bool.{and_from}
+use Rattle.std.proofs.lemmas.Bool.{and_from, false≢true}
 use Rattle.std.proofs.lemmas.List.Elements.{All-nil, All-append, All-push, All-map, All-weaker, All-from_recursion}
 use Rattle.std.proofs.lemmas.List.{append-nil}
 use Rattle.std.proofs.lemmas.List.Folds.{find-append, list_any-append}
@@ -13,16 +13,18 @@ use Rattle.ob_model.specs.declared.state.Body.{Body}
 use Rattle.ob_model.specs.declared.state.Held.{Held}
 use Rattle.ob_model.specs.declared.state.Object.{Object}
 use Rattle.ob_model.specs.declared.state.Row.{Row}
-use Rattle.ob_model.specs.State.{State, root_id, object_of}
+use Rattle.ob_model.specs.State.{State, root_id, object_of, handle_count, handle_count_in}
 use Rattle.ob_model.specs.Procedures.{Procedures, Reason, Created}
 use Rattle.ob_model.specs.Settle.{is_permanent, has_handle, is_kept, has_name, is_pinned, is_mapped, holds_kept, is_alive, IsSettled, deleted_all, settle}
 use Rattle.ob_model.specs.Grants.{opened_object, opened_body, with_open, with_handle}
+use Rattle.ob_model.specs.Closing.{is_handle, without_handle, closed_body, closed_object, closed_handle}
 use Rattle.ob_model.specs.Creates.{Spot, new_rows, created}
 use Rattle.ob_model.specs.Opening.{opening}
 use Rattle.ob_model.specs.Step.{Step}
 use Rattle.ob_model.proofs.Finds.{filter_all, filter_none, list_any_weaker}
-use Rattle.ob_model.proofs.Settled.{alive_from_handle, kept_twice, objects_alive}
-use Rattle.ob_model.proofs.Soundness.{find_id-map, opened_object-id, opened_object-is_directory}
+use Rattle.ob_model.proofs.Ended.{any_filter}
+use Rattle.ob_model.proofs.Settled.{alive_from_root, alive_from_handle, alive_from_name, kept_twice, objects_alive}
+use Rattle.ob_model.proofs.Soundness.{find_id-map, opened_object-id, opened_object-is_directory, closed_object-id, closed_object-is_directory}
 use Rattle.ob_model.proofs.Leads.{step_leads}
 
 or_left : (a b : Bool) → a ≡ true → (a || b) ≡ true
@@ -177,3 +179,94 @@ opening_settled {K = K} {F = F} {I = I} set =
       names = All-from_recursion (λ r. is_kept s r ≡ true) s.rows (refl, (refl, (refl, (refl, (refl, tt)))));
       objects = All-from_recursion (λ x. is_alive s x.id ≡ true) s.objects (refl, (refl, (refl, (refl, (refl, (refl, tt))))));
     }
+
+-- A handle that is closed, whose object's names stay, lets nothing go: where all handles of its process and
+-- value lead to its object, and that object has a name if it is permanent.
+module _ {K T F I : Type 0} (g : Procedures K T F I) (s : State K T F I) (h : Held) (settled : IsSettled s)
+    (agree : All (λ k. is_handle h.process h.value k ≡ true → k.object ≡ h.object) s.handles)
+    (named : is_permanent s h.object ≡ true → ((h.object == root_id) || has_name s h.object) ≡ true)
+    (kept : (is_permanent s h.object || has_handle (without_handle s h.process h.value) h.object) ≡ true) where
+  -- the handles that are left, and an object as the close left it
+  abbrev left : ℕ
+  left = handle_count_in (without_handle s h.process h.value) h.process h.object
+
+  abbrev total : ℕ
+  total = handle_count (without_handle s h.process h.value) h.object
+
+  abbrev changed : Object F I → Object F I
+  changed = closed_object g s.set h.object left total
+
+  permanent_same : (m : ℕ) → is_permanent (closed_handle g s h) m ≡ is_permanent s m
+  permanent_same m =
+      ap (λ (x : Option (Object F I)). option_map_or (λ y. y.permanent) x false)
+      (find_id-map changed (closed_object-id g s.set h.object left total) (closed_object-is_directory g s.set h.object left total) m s.objects)
+      ∙ go (object_of s m)
+    where
+      stays : (x : Object F I) → (changed x).permanent ≡ x.permanent
+      stays x = elim (x.id == h.object) as (λ b. (if b then record x { body = closed_body g s.set left total x.body } else x).permanent ≡ x.permanent) [ true ↦ refl | false ↦ refl ]
+
+      go : (x : Option (Object F I)) → option_map_or (λ y. y.permanent) (option_map changed x) false ≡ option_map_or (λ y. y.permanent) x false
+      go None = refl
+      go (Some x) = stays x
+
+  held_other : (m : ℕ) → (m == h.object) ≡ false → has_handle s m ≡ true → has_handle (closed_handle g s h) m ≡ true
+  held_other m other some =
+      any_filter (λ k. not (is_handle h.process h.value k)) (λ k. k.object == m) s.handles
+      (list_any_weaker (λ k. k.object == m) (λ k. not (is_handle h.process h.value k) && (k.object == m)) s.handles
+      (λ k d within is. and_from (not (is_handle h.process h.value (get_or s.handles k d))) ((get_or s.handles k d).object == m)
+      (apart (get_or s.handles k d) (is_handle h.process h.value (get_or s.handles k d)) (agree k d within) is) is) some)
+    where
+      apart : (k : Held) (b : Bool) → (b ≡ true → k.object ≡ h.object) → (k.object == m) ≡ true → not b ≡ true
+      apart k true leads is =
+          let one : m ≡ h.object = sym (eqb-true k.object m is) ∙ leads refl in
+          absurd (false≢true (sym other ∙ eq-eqb m h.object one))
+      apart k false leads is = refl
+
+  kept_itself : (is_permanent (closed_handle g s h) h.object || has_handle (closed_handle g s h) h.object) ≡ true
+  kept_itself = ap (λ b. b || has_handle (closed_handle g s h) h.object) (permanent_same h.object) ∙ kept
+
+  kept_closed : (r : Row) → is_kept s r ≡ true → is_kept (closed_handle g s h) r ≡ true
+  kept_closed r was = go (r.object == h.object) refl
+    where
+      go : (b : Bool) → (r.object == h.object) ≡ b → is_kept (closed_handle g s h) r ≡ true
+      go true same =
+          subst (λ m. (is_permanent (closed_handle g s h) m || has_handle (closed_handle g s h) m) ≡ true) (sym (eqb-true r.object h.object same)) kept_itself
+      go false other =
+          or_grows (is_permanent s r.object) (has_handle s r.object) (is_permanent (closed_handle g s h) r.object) (has_handle (closed_handle g s h) r.object)
+          (λ e. permanent_same r.object ∙ e) (held_other r.object other) was
+
+  alive_itself : is_alive (closed_handle g s h) h.object ≡ true
+  alive_itself = go (is_permanent (closed_handle g s h) h.object) refl kept_itself
+    where
+      go : (b : Bool) → is_permanent (closed_handle g s h) h.object ≡ b → (b || has_handle (closed_handle g s h) h.object) ≡ true → is_alive (closed_handle g s h) h.object ≡ true
+      go false temporary some = alive_from_handle (closed_handle g s h) h.object some
+      go true permanent some = name (h.object == root_id) refl (named (sym (permanent_same h.object) ∙ permanent))
+        where
+          name : (b : Bool) → (h.object == root_id) ≡ b → (b || has_name s h.object) ≡ true → is_alive (closed_handle g s h) h.object ≡ true
+          name true is some = alive_from_root (closed_handle g s h) h.object is
+          name false is some = alive_from_name (closed_handle g s h) h.object permanent some
+
+  alive_closed : (m : ℕ) → is_alive s m ≡ true → is_alive (closed_handle g s h) m ≡ true
+  alive_closed m was = go (m == h.object) refl
+    where
+      go : (b : Bool) → (m == h.object) ≡ b → is_alive (closed_handle g s h) m ≡ true
+      go true same = subst (λ n. is_alive (closed_handle g s h) n ≡ true) (sym (eqb-true m h.object same)) alive_itself
+      go false other =
+          or_grows _ (holds_kept s m) _ (holds_kept (closed_handle g s h) m)
+          (or_grows _ (is_permanent s m && has_name s m) _ (is_permanent (closed_handle g s h) m && has_name (closed_handle g s h) m)
+          (or_grows _ (is_mapped s m) _ (is_mapped (closed_handle g s h) m)
+          (or_grows _ (is_pinned s m) _ (is_pinned (closed_handle g s h) m)
+          (or_grows (m == root_id) (has_handle s m) (m == root_id) (has_handle (closed_handle g s h) m) (λ e. e) (held_other m other)) (λ e. e)) (λ e. e))
+          (and_grows (is_permanent s m) (has_name s m) (is_permanent (closed_handle g s h) m) (has_name (closed_handle g s h) m) (λ e. permanent_same m ∙ e) (λ e. e)))
+          (list_any_weaker (λ r. (r.directory == m) && is_kept s r) (λ r. (r.directory == m) && is_kept (closed_handle g s h) r) s.rows
+          (λ k d within. and_grows ((get_or s.rows k d).directory == m) (is_kept s (get_or s.rows k d)) ((get_or s.rows k d).directory == m)
+          (is_kept (closed_handle g s h) (get_or s.rows k d)) (λ e. e) (kept_closed (get_or s.rows k d))))
+          was
+
+  pub closed_settled : IsSettled (closed_handle g s h)
+  closed_settled = record {
+    names = All-weaker (λ r. is_kept s r ≡ true) (λ r. is_kept (closed_handle g s h) r ≡ true) kept_closed s.rows settled.names;
+    objects = All-map (λ x. is_alive (closed_handle g s h) x.id ≡ true) changed s.objects
+        (All-weaker (λ x. is_alive s x.id ≡ true) (λ x. is_alive (closed_handle g s h) (changed x).id ≡ true)
+        (λ x e. subst (λ n. is_alive (closed_handle g s h) n ≡ true) (sym (closed_object-id g s.set h.object left total x)) (alive_closed x.id e)) s.objects settled.objects);
+  }

@@ -1,7 +1,8 @@
 -- What shows that the definitions say what they should: the statements of the law functions in
 -- src/laws.rt, which prove them.
-use Rattle.std.specs.Prelude.{◌≡◌, ℕ, ◌+◌, ◌≤◌, Bool, true, false, ◌&&◌, List, [], ◌∷◌, ◌++◌, length, All, Contains, Option, MatchOption, if◌then◌else◌}
+use Rattle.std.specs.Prelude.{◌≡◌, ℕ, ◌+◌, ◌≤◌, Bool, true, false, ◌&&◌, ◌||◌, ◌==◌, List, [], ◌∷◌, ◌++◌, length, All, Contains, Option, MatchOption, if◌then◌else◌}
 use Rattle.ob_model.specs.declared.state.Body.{Body}
+use Rattle.ob_model.specs.declared.state.Held.{Held}
 use Rattle.ob_model.specs.declared.state.Row.{Row}
 use Rattle.ob_model.specs.declared.reply.Answer.{Answer}
 use Rattle.ob_model.specs.declared.reply.Event.{Event}
@@ -11,7 +12,8 @@ use Rattle.ob_model.specs.Opening.{opening}
 use Rattle.ob_model.specs.Paths.{Origin, found, is_match, IsPath, directory_at}
 use Rattle.ob_model.specs.Procedures.{Procedures, Reason}
 use Rattle.ob_model.specs.Looks.{Look, Mode, Looks, LooksUp}
-use Rattle.ob_model.specs.Settle.{IsSettled, settle, has_handle}
+use Rattle.ob_model.specs.Settle.{IsSettled, settle, is_permanent, has_handle, has_name}
+use Rattle.ob_model.specs.Closing.{is_handle, without_handle, closed_handle}
 use Rattle.ob_model.specs.Grants.{with_open, with_handle}
 use Rattle.ob_model.specs.Creates.{Spot, created}
 use Rattle.ob_model.specs.Sound.{IsSound, IsDirectory, Stands}
@@ -165,3 +167,13 @@ module _ (K T F I : Type 0) where
   CreateStaysSettled =
       (g : Procedures K T F I) (s : State K T F I) (p : ℕ) (spot : Spot) (body : Body F I) (attrs value : ℕ)
       → IsSettled s → IsSettled (created g s p spot body attrs value)
+
+  -- and so does a close of a handle whose object's names stay, where all handles of its process and value
+  -- lead to that object, which has a name if it is permanent
+  abbrev pub CloseStaysSettled : Type 0
+  CloseStaysSettled =
+      (g : Procedures K T F I) (s : State K T F I) (h : Held) → IsSettled s
+      → All (λ k. is_handle h.process h.value k ≡ true → k.object ≡ h.object) s.handles
+      → (is_permanent s h.object ≡ true → ((h.object == root_id) || has_name s h.object) ≡ true)
+      → (is_permanent s h.object || has_handle (without_handle s h.process h.value) h.object) ≡ true
+      → IsSettled (closed_handle g s h)

@@ -35,6 +35,7 @@ ghost use Rattle.ob_model.specs.Laws.{
   StepStaysSettled,
   GrantStaysSettled,
   CreateStaysSettled,
+  CloseStaysSettled,
 };
 
 /// A text has one split at each length.
@@ -162,4 +163,10 @@ pub fn step_stays_settled<K, T, F, I>()
 pub fn what_comes_stays<K, T, F, I>()
     ensures grant { GrantStaysSettled K T F I }
     ensures create { CreateStaysSettled K T F I }
+{}
+
+/// Nor does a close let anything go where its object's names stay: it is permanent, or another handle
+/// leads to it.
+pub fn what_is_kept_stays<K, T, F, I>()
+    ensures { CloseStaysSettled K T F I }
 {}

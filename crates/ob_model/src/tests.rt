@@ -24,6 +24,7 @@ fn laws_hold_at_a_concrete_set() {
     laws::settling_settles::<u8, u16, u32, u64>();
     laws::step_stays_settled::<u8, u16, u32, u64>();
     laws::what_comes_stays::<u8, u16, u32, u64>();
+    laws::what_is_kept_stays::<u8, u16, u32, u64>();
     examples::opening_is_settled::<u8, u16, u32, u64>();
 }
 
