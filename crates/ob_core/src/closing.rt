@@ -2,13 +2,14 @@
 
 ghost use Rattle.std.specs.Prelude.{◌≡◌};
 ghost use Rattle.ob_model.specs.declared.reply.Answer.TheVariants.{Done};
+ghost use Rattle.ob_model.specs.Settle.{IsSettled};
 ghost use Rattle.ob_model.specs.Step.{Closes};
 ghost use Rattle.ob_core.specs.Namespace.{state_of};
 ghost use Rattle.ob_core.specs.Orderly.{IsOrderly};
 
 use crate::handles::{handle_count, handle_count_in, held_of, take};
 use crate::replies::status_alone;
-use crate::settle::settle;
+use crate::settle::settle_after_close;
 use crate::space::{Namespace, is_live};
 use ob_base::{Handle, Proc, Status};
 use ob_model::Reply;
@@ -21,7 +22,8 @@ pub(crate) fn close<T: TypeSet>(
     process: Proc,
     handle: Handle,
 ) -> Reply
-    requires { IsOrderly T.idle (state_of T.Kind space.old) }
+    requires orderly { IsOrderly T.idle (state_of T.Kind space.old) }
+    requires settled { IsSettled (state_of T.Kind space.old) }
     ensures orderly { IsOrderly T.idle (state_of T.Kind space.new) }
     ensures step { Closes T.procedures (state_of T.Kind space.old) process handle (Done result) (state_of T.Kind space.new) }
 {
@@ -38,6 +40,6 @@ pub(crate) fn close<T: TypeSet>(
     ob_types::laws::closed_idle::<T>();
     let (set, store) = (&mut space.set, &mut space.store);
     store.close(object, set, process_left, system_left);
-    settle(space);
+    settle_after_close(space, object);
     status_alone(Status::Success)
 }

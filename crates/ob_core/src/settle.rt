@@ -1,8 +1,8 @@
 //! What stays at the end of a step.
 
-ghost use Rattle.std.specs.Prelude.{◌≡◌, ◌<◌, ◌||◌, [], filter, not, All};
+ghost use Rattle.std.specs.Prelude.{◌≡◌, true, ◌<◌, ◌||◌, [], filter, not, All};
 ghost use Rattle.std.specs.List.{AllPairs};
-ghost use Rattle.ob_model.specs.Settle.{settle, is_kept, is_permanent, has_handle, deleted_one, deleted_all};
+ghost use Rattle.ob_model.specs.Settle.{settle, IsSettled, is_kept, is_permanent, has_handle, deleted_one, deleted_all};
 ghost use Rattle.ob_objects.specs.Store.{objects_of, rows_of, body_of_stored};
 ghost use Rattle.ob_core.specs.Namespace.{state_of, listed, handles_alone};
 ghost use Rattle.ob_core.specs.Orderly.{IsOrderly, IsIdleBody, IsIdleUnheld};
@@ -16,13 +16,27 @@ use ob_types::TypeSet;
 
 /// Takes away the names and the objects that don't stay, both judged as they were before, and
 /// deletes those objects from the highest number down. No memory is taken.
-pub(crate) fn settle<T: TypeSet>(space: &mut Namespace<T, Store<T>>)
+fn settle<T: TypeSet>(space: &mut Namespace<T, Store<T>>)
     requires { IsOrderly T.idle (state_of T.Kind space.old) }
     ensures orderly { IsOrderly T.idle (state_of T.Kind space.new) }
     ensures settled { state_of T.Kind space.new ≡ settle T.procedures (state_of T.Kind space.old) }
 {
     forget_names(&mut space.store, &space.handles);
     delete_objects(space);
+}
+
+/// Settles after a handle to an object was closed: nothing goes where the object is permanent or has
+/// another handle. No memory is taken.
+pub(crate) fn settle_after_close<T: TypeSet>(space: &mut Namespace<T, Store<T>>, object: ObjId)
+    requires orderly { IsOrderly T.idle (state_of T.Kind space.old) }
+    requires kept { (is_permanent (state_of T.Kind space.old) object || has_handle (state_of T.Kind space.old) object) ≡ true
+        → IsSettled (state_of T.Kind space.old) }
+    ensures orderly { IsOrderly T.idle (state_of T.Kind space.new) }
+    ensures settled { state_of T.Kind space.new ≡ settle T.procedures (state_of T.Kind space.old) }
+{
+    if !is_kept(&space.store, &space.handles, object) {
+        settle(space);
+    }
 }
 
 /// Takes away the names that don't stay.

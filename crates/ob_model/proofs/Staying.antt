@@ -185,7 +185,7 @@ opening_settled {K = K} {F = F} {I = I} set =
 module _ {K T F I : Type 0} (g : Procedures K T F I) (s : State K T F I) (h : Held) (settled : IsSettled s)
     (agree : All (λ k. is_handle h.process h.value k ≡ true → k.object ≡ h.object) s.handles)
     (named : is_permanent s h.object ≡ true → ((h.object == root_id) || has_name s h.object) ≡ true)
-    (kept : (is_permanent s h.object || has_handle (without_handle s h.process h.value) h.object) ≡ true) where
+    (kept : (is_permanent (closed_handle g s h) h.object || has_handle (closed_handle g s h) h.object) ≡ true) where
   -- the handles that are left, and an object as the close left it
   abbrev left : ℕ
   left = handle_count_in (without_handle s h.process h.value) h.process h.object
@@ -222,21 +222,18 @@ module _ {K T F I : Type 0} (g : Procedures K T F I) (s : State K T F I) (h : He
           absurd (false≢true (sym other ∙ eq-eqb m h.object one))
       apart k false leads is = refl
 
-  kept_itself : (is_permanent (closed_handle g s h) h.object || has_handle (closed_handle g s h) h.object) ≡ true
-  kept_itself = ap (λ b. b || has_handle (closed_handle g s h) h.object) (permanent_same h.object) ∙ kept
-
   kept_closed : (r : Row) → is_kept s r ≡ true → is_kept (closed_handle g s h) r ≡ true
   kept_closed r was = go (r.object == h.object) refl
     where
       go : (b : Bool) → (r.object == h.object) ≡ b → is_kept (closed_handle g s h) r ≡ true
       go true same =
-          subst (λ m. (is_permanent (closed_handle g s h) m || has_handle (closed_handle g s h) m) ≡ true) (sym (eqb-true r.object h.object same)) kept_itself
+          subst (λ m. (is_permanent (closed_handle g s h) m || has_handle (closed_handle g s h) m) ≡ true) (sym (eqb-true r.object h.object same)) kept
       go false other =
           or_grows (is_permanent s r.object) (has_handle s r.object) (is_permanent (closed_handle g s h) r.object) (has_handle (closed_handle g s h) r.object)
           (λ e. permanent_same r.object ∙ e) (held_other r.object other) was
 
   alive_itself : is_alive (closed_handle g s h) h.object ≡ true
-  alive_itself = go (is_permanent (closed_handle g s h) h.object) refl kept_itself
+  alive_itself = go (is_permanent (closed_handle g s h) h.object) refl kept
     where
       go : (b : Bool) → is_permanent (closed_handle g s h) h.object ≡ b → (b || has_handle (closed_handle g s h) h.object) ≡ true → is_alive (closed_handle g s h) h.object ≡ true
       go false temporary some = alive_from_handle (closed_handle g s h) h.object some

@@ -13,7 +13,7 @@ use Rattle.ob_model.specs.Paths.{Origin, found, is_match, IsPath, directory_at}
 use Rattle.ob_model.specs.Procedures.{Procedures, Reason}
 use Rattle.ob_model.specs.Looks.{Look, Mode, Looks, LooksUp}
 use Rattle.ob_model.specs.Settle.{IsSettled, settle, is_permanent, has_handle, has_name}
-use Rattle.ob_model.specs.Closing.{is_handle, without_handle, closed_handle}
+use Rattle.ob_model.specs.Closing.{is_handle, closed_handle}
 use Rattle.ob_model.specs.Grants.{with_open, with_handle}
 use Rattle.ob_model.specs.Creates.{Spot, created}
 use Rattle.ob_model.specs.Sound.{IsSound, IsDirectory, Stands}
@@ -175,5 +175,5 @@ module _ (K T F I : Type 0) where
       (g : Procedures K T F I) (s : State K T F I) (h : Held) → IsSettled s
       → All (λ k. is_handle h.process h.value k ≡ true → k.object ≡ h.object) s.handles
       → (is_permanent s h.object ≡ true → ((h.object == root_id) || has_name s h.object) ≡ true)
-      → (is_permanent s h.object || has_handle (without_handle s h.process h.value) h.object) ≡ true
+      → (is_permanent (closed_handle g s h) h.object || has_handle (closed_handle g s h) h.object) ≡ true
       → IsSettled (closed_handle g s h)
