@@ -1,7 +1,6 @@
 -- The way up from an object, one row further or without a row; and the text of its names, one name more.
-use Rattle.std.proofs.Common.{◌≡◌, ◌≢◌, ℕ, ◌<◌, ◌==◌, Bool, true, false, not, cond, List, [], ◌∷◌, ◌++◌, append_assoc, map, reverse, length, refl, ap, ◌∙◌, sym, subst, eqb-true, arith}
+use Rattle.std.proofs.Common.{◌≡◌, ◌≢◌, ℕ, ◌<◌, ◌==◌, true, false, not, List, [], ◌∷◌, ◌++◌, append_assoc, map, reverse, length, refl, ap, ◌∙◌, sym, subst, eqb-true, arith}
 use Rattle.std.specs.Prelude.{Some, None, All}
-use Rattle.std.specs.List.{find}
 use Rattle.std.proofs.lemmas.Bool.Decides.{nat_tests}
 use Rattle.std.proofs.lemmas.List.{map-append, reverse-append}
 use Rattle.ob_model.specs.declared.state.Row.{Row}
@@ -9,15 +8,7 @@ use Rattle.ob_model.specs.Names.{separator}
 use Rattle.ob_model.specs.State.{State, root_id}
 use Rattle.ob_model.specs.Naming.{row_of, IsWayUp, names_joined, path_text}
 use Rattle.ob_model.proofs.SoundPaths.{find_of, of_some}
-
--- what is found passes the test
-find_passes : {X : Type 0} (test : X → Bool) (xs : List X) (x : X) → find test xs ≡ Some x → test x ≡ true
-find_passes test [] x e = cc
-find_passes {X = X} test (y ∷ ys) x e = go (test y) refl e (find_passes test ys x)
-  where
-    go : (b : Bool) → test y ≡ b → cond b (Some y) (find test ys) ≡ Some x → (find test ys ≡ Some x → test x ≡ true) → test x ≡ true
-    go true passes e more = let same : y ≡ x = cc in subst (λ (z : X). test z ≡ true) same passes
-    go false passes e more = more e
+use Rattle.ob_core.proofs.Stepping.{find_passes}
 
 -- what a test of two numbers that differ says
 pub differ : (a b : ℕ) → true ≡ not (a == b) → a ≢ b
