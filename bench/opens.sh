@@ -1,8 +1,8 @@
 #!/bin/sh
 # Times a program on opens: of a path of three components, with 10, 1,000 and 20,000 entries beside the last
 # one, and through chains of 1 and of 32 links. Each time is that of a script with opens less that of the
-# same script without, for one open and its close. Until a step tells what it may have unsettled, each one
-# looks at all objects, so the times grow with the entries; the script of 20,000 takes minutes to fill.
+# same script without, for one open and its close. What is opened is held, and the entries are permanent, so
+# that no close lets anything go, and the times don't grow with the entries.
 # usage: bench/opens.sh PROGRAM
 set -eu
 program=$1
