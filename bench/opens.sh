@@ -1,8 +1,8 @@
 #!/bin/sh
-# Times a program on opens: of a path of three components, with 10, 1,000 and 20,000 entries beside the last
-# one, and through chains of 1 and of 32 links. Each time is that of a script with opens less that of the
-# same script without, for one open and its close. What is opened is held, and the entries are permanent, so
-# that no close lets anything go, and the times don't grow with the entries.
+# Times a program on opens: of a path of three components, with 10, 1,000 and 20,000 entries behind the last
+# one in its directory, and through chains of 1 and of 32 links. Each time is that of a script with opens
+# less that of the same script without, for one open and its close. What is opened is held and is found
+# first, and the entries are permanent, so that no close lets anything go and the times don't grow.
 # usage: bench/opens.sh PROGRAM
 set -eu
 program=$1
