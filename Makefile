@@ -1,17 +1,31 @@
-# make run    builds what is needed and runs examples/first.ntns, or the script that SCRIPT names
+# make try    runs examples/first.ntns, or the script that SCRIPT names, at once: interpreted, and not proved
+# make run    the same by the proved program; the first build proves everything, which takes some minutes
 # make test   the gate: every proof from nothing, the wrong bodies that must be refused, every test
+# make definitions  tries turned definitions, which the laws and examples must refuse; by hand, half an hour
+# make times  the gate again, with the processor seconds of each crate
 # make hostile refuses each request for memory of a run in turn; it takes a quarter of an hour
 # make bench  times the built program on generated scripts; it fails nothing
 
 SCRIPT ?= examples/first.ntns
 
-.PHONY: run test bench hostile build
+.PHONY: try run test definitions times bench hostile build
+
+try:
+	@echo "make try: compiled without proofs, which takes up to a minute; nothing of it is proved" >&2
+	@cd crates/ntns && rt try < "$(abspath $(SCRIPT))"
 
 run:
+	@test -x crates/ntns/out/ntns || echo "make run: the first build proves every crate and takes some minutes; make try shows the program at once" >&2
 	@cd crates/ntns && rt run < "$(abspath $(SCRIPT))"
 
 test:
-	rt ci
+	gate/test.sh
+
+definitions:
+	gate/definitions.py
+
+times:
+	gate/times.py gate/test.sh
 
 build:
 	cd crates/ntns && rt run < /dev/null

@@ -1,23 +1,10 @@
 //! The program `ntns`: it reads its words for a task, does it over the standard streams or the file
-//! that the words name, and ends with the task's status.
+//! that the words name, and ends with the status of how that ended.
 #![tactic(auto)]
 
-#[cfg(test)]
-mod cases;
-mod opening;
-mod perform;
-mod plan;
-mod refuse;
-mod serve;
-#[cfg(test)]
-mod tests;
-
-use crate::perform::complain;
-use crate::plan::unreadable;
-use crate::refuse::refuse;
-use crate::serve::serve;
-use ob_shell::ShellFault;
-use std::io::{ErrorKind, Write};
+use ob_tasks::{refuse, serve, starve};
+use ob_words::unreadable;
+use std::io::ErrorKind;
 use std::process::ExitCode;
 use std::{env, fs};
 
@@ -26,7 +13,7 @@ fn main(rt: HostRuntime) -> ExitCode {
     let mut reader = rt.stdin();
     let mut writer = rt.stdout();
     let mut errors = rt.stderr();
-    let status = match env::args(&rt) {
+    let end = match env::args(&rt) {
         Ok(words) => match words.collect::<Vec<String>>(alloc) {
             Ok(words) => serve(
                 alloc,
@@ -41,11 +28,5 @@ fn main(rt: HostRuntime) -> ExitCode {
         Err(fault) if fault.kind() == ErrorKind::OutOfMemory => starve(&mut errors),
         Err(_) => refuse(alloc, &unreadable(alloc), &mut writer, &mut errors),
     };
-    ExitCode::from(status)
-}
-
-// Tells that memory was wanting before there was a task, and gives the status.
-fn starve<E: Write>(errors: &mut E) -> u8 {
-    complain(errors, ShellFault::Memory);
-    1
+    ExitCode::from(end.status())
 }

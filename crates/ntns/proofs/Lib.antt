@@ -1,5 +1,0 @@
-pub mod Faults
-pub mod Flags
-pub mod Serving
-pub mod Tasks
-pub mod Words

@@ -1,5 +1,0 @@
-pub mod Opening
-pub mod Perform
-pub mod Plan
-pub mod Refuse
-pub mod Serve

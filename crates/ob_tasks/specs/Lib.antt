@@ -1,0 +1,5 @@
+pub mod End
+pub mod Opening
+pub mod Perform
+pub mod Refuse
+pub mod Serve

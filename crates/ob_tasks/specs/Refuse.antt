@@ -1,0 +1,42 @@
+-- How the program ends where its words name no task.
+-- Source: this profile.
+use Rattle.std.specs.Prelude.{◌≡◌, ◌⊎◌, ℕ, List, Option, Err}
+use Rattle.std.specs.Io.KnownBytes.{Appends, Keeps}
+use Rattle.clap.specs.declared.error.kind.ErrorKind.{ErrorKind}
+use Rattle.clap.specs.declared.error.kind.ErrorKind.TheVariants as kind
+use Rattle.ob_shell.specs.declared.fault.ShellFault.TheVariants.{Memory, Write}
+use Rattle.ob_tasks.specs.declared.end.End.{End}
+use Rattle.ob_tasks.specs.declared.end.End.TheVariants.{Task, Mistake, Help}
+use Rattle.ob_tasks.specs.Perform.{Complains}
+
+-- memory was wanting, and standard error says so
+pub record Starves (end : End) (written written' told told' : Option (List ℕ)) : Type 0 where
+  pub ended : end ≡ Task (Err Memory)
+  pub silent : Keeps written written'
+  pub complained : Complains Memory told told'
+
+-- some text was written
+abbrev pub Writes : Option (List ℕ) → Option (List ℕ) → Type 0
+Writes old new = (text : List ℕ) × Appends old new text
+
+-- a mistake in the words, with text on standard error alone
+pub record Blames (end : End) (written written' told told' : Option (List ℕ)) : Type 0 where
+  pub ended : end ≡ Mistake
+  pub silent : Keeps written written'
+  pub told_mistake : Writes told told'
+
+-- help that was asked for, with text on standard output alone
+pub record Helps (end : End) (written written' told told' : Option (List ℕ)) : Type 0 where
+  pub ended : end ≡ Help
+  pub told_help : Writes written written'
+  pub silent : Keeps told told'
+
+-- help that could not be written, and standard error says so
+pub record Fails (end : End) (written written' told told' : Option (List ℕ)) : Type 0 where
+  pub ended : end ≡ Task (Err Write)
+  pub told_some : Writes written written'
+  pub complained : Complains Write told told'
+
+-- what the words asked for: help or the version
+abbrev pub IsRequest : ErrorKind → Type 0
+IsRequest k = (k ≡ kind.DisplayHelp) ⊎ (k ≡ kind.DisplayVersion)

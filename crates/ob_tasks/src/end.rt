@@ -1,0 +1,35 @@
+//! How the program ends.
+
+ghost use Rattle.std.specs.Prelude.{◌≡◌};
+ghost use Rattle.ob_tasks.specs.End.{status_of};
+
+use ob_shell::{Ending, ShellFault};
+
+/// How the program ends. (this profile)
+#[derive(Clone, Copy, PartialEq, Eq, Debug)]
+pub enum End {
+    /// A task was done to this ending, or a fault ended it. Memory that was wanting before there was a
+    /// task, a file that could not be opened and help that could not be written are such faults too.
+    Task(Result<Ending, ShellFault>),
+    /// The words are a mistake.
+    Mistake,
+    /// Help that the words asked for was written.
+    Help,
+}
+
+impl End {
+    /// The program's status: 0 where the whole script was run or help was written, 2 where the words
+    /// are a mistake, and else 1. (this profile)
+    pub fn status(&self) -> u8
+        ensures { result ≡ status_of self.now }
+    {
+        match self {
+            End::Task(Ok(Ending::Done)) => 0,
+            End::Task(Ok(Ending::BadLine(_))) => 1,
+            End::Task(Ok(Ending::NoMemoryAt(_))) => 1,
+            End::Task(Err(_)) => 1,
+            End::Mistake => 2,
+            End::Help => 0,
+        }
+    }
+}

@@ -1,0 +1,15 @@
+//! The tasks of the program `ntns`: each is done over streams, ends in one of a few ways, and the
+//! program's status is a function of that end.
+#![tactic(auto)]
+
+mod end;
+mod opening;
+mod performing;
+mod refusing;
+mod serving;
+
+pub use end::End;
+pub use opening::perform_opened;
+pub use performing::{complain, perform, starve};
+pub use refusing::refuse;
+pub use serving::serve;

@@ -1,0 +1,260 @@
+-- Which words are no fault of the program's, and which task they name.
+use Rattle.std.proofs.Common.{◌≡◌, ◌⊎◌, ◌∙◌, ◌||◌, Bool, true, false, if◌then◌else◌, List, [], ◌∷◌, Option, Some, None, refl, sym, ap, subst, bytes_eq, codes, inl, inr, option_map}
+use Rattle.std.proofs.lemmas.Slice.Eq.{bytes_eq-Decides}
+use Rattle.clap.specs.Walk.{Held, Names, Step, Walk, after_step, arg_by_index, finished, has_long, has_short, idle, long_or_other, nothing_held, rows_after, stop_after, subcommand_or_other, to_positional, trailing, value, walk_from, walked}
+use Rattle.clap.specs.Faults.{entered_fault, flag_word_fault, level_fault, other_fault, step_fault, turn_fault, walk_fault}
+use Rattle.clap.specs.Kinds.{Kinds, or_else}
+use Rattle.clap.specs.Lexer.{long_of}
+use Rattle.clap.specs.Simple.{Shape, built_leaf, entered, inherited, marked_built, names_of, with_leaf_noted}
+use Rattle.clap.specs.Words.{App, Row, Text, built, fault_of, first_of, is_simple, is_simple_and_free, subcommand_of}
+use Rattle.clap.proofs.OnLiterals.{clap_on_literals}
+use Rattle.clap.proofs.WalkLemmas.{walk_stopped}
+use Rattle.ob_words.specs.Plan.{IsFileIn, Named, Spells, ntns, run, run_app, script, task_of}
+use Rattle.ob_words.proofs.Flags.{HasOnlyHelp, help, long_is_plain, or_else_next, or_else_none}
+
+-- the program and its subcommand `run`, as the parser builds them
+abbrev top : Shape
+top = (built ntns).top
+
+abbrev names : Names
+names = names_of (built ntns)
+
+abbrev inner : Shape
+inner = built_leaf (inherited (with_leaf_noted (marked_built ntns.top)) run_app.top)
+
+abbrev dashes : Text
+dashes = 45 ∷ 45 ∷ []
+
+abbrev run_word : Text
+run_word = codes "run"
+
+abbrev help_word : Text
+help_word = codes "help"
+
+top_has_only_help : HasOnlyHelp top.rules
+top_has_only_help = record {
+  by_long = λ name. (has_long help name, refl);
+  by_short = λ letter. (has_short help letter, refl);
+}
+
+inner_has_only_help : HasOnlyHelp inner.rules
+inner_has_only_help = record {
+  by_long = λ name. (has_long help name, refl);
+  by_short = λ letter. (has_short help letter, refl);
+}
+
+-- a word that no flag is, where no positional takes it, is a fault
+stray_top : (met : Held × Step) → met ≡ (nothing_held, value) → step_fault top 1 met.0 met.1 ≡ [] → ⊥
+stray_top met same none = cc
+
+-- a first word that names no subcommand is `--`
+dashes_first : (is_dashes : Bool) (word : Text)
+    → or_else (if is_dashes then [] else flag_word_fault top.rules false (long_of word) word nothing_held)
+    (step_fault top 1
+    (if is_dashes then (nothing_held, trailing 1) else long_or_other top.rules idle word (long_of word) nothing_held).0
+    (if is_dashes then (nothing_held, trailing 1) else long_or_other top.rules idle word (long_of word) nothing_held).1) ≡ []
+    → is_dashes ≡ true
+dashes_first true word none = refl
+dashes_first false word none =
+    absurd (stray_top _ (long_is_plain top.rules top_has_only_help None word (long_of word) (or_else_none _ _ none)) (or_else_next _ _ none))
+
+-- the names of the two subcommands, which have no others
+abbrev run_name : Text × List Text
+run_name = (run_word, [])
+
+abbrev help_name : Text × List Text
+help_name = (help_word, [])
+
+-- the subcommand that a word names, by the two names
+abbrev met_by : Bool → Bool → Option Text
+met_by is_run is_help = option_map (λ s. s.0) (if is_run || false then Some run_name else (if is_help || false then Some help_name else None))
+
+first_turn : (is_run is_help : Bool) (word : Text)
+    → or_else (other_fault top (met_by is_run is_help) word nothing_held)
+    (step_fault top 1
+    (subcommand_or_other top.rules (met_by is_run is_help) idle 1 word nothing_held).0
+    (subcommand_or_other top.rules (met_by is_run is_help) idle 1 word nothing_held).1) ≡ []
+    → (is_run ≡ true) ⊎ (bytes_eq word dashes ≡ true)
+first_turn true is_help word none = inl refl
+first_turn false true word none = cc
+first_turn false false word none = inr (dashes_first (bytes_eq word dashes) word none)
+
+-- a first word without a fault is `run` or `--`
+first_word : (word : Text) → turn_fault top names (walk_from nothing_held) word ≡ [] → (word ≡ run_word) ⊎ (word ≡ dashes)
+first_word word none = elim (first_turn (bytes_eq run_word word) (bytes_eq help_word word) word none) [
+  | inl is_run ↦ inl (sym ((bytes_eq-Decides run_word word).0 is_run))
+  | inr is_dashes ↦ inr ((bytes_eq-Decides word dashes).0 is_dashes)
+]
+
+-- ---- the words behind `run`
+
+-- where the walk over them stands after a word that is the path
+abbrev after_file : Text → Walk
+after_file file = to_positional inner.rules (arg_by_index inner.rules 1) file (walk_from nothing_held) nothing_held
+
+dashes_or_plain : (is_dashes : Bool) (word : Text) (more : Kinds)
+    → or_else (if is_dashes then [] else flag_word_fault inner.rules false (long_of word) word nothing_held) more ≡ []
+    → (is_dashes ≡ true) ⊎ ((if is_dashes then (nothing_held, trailing 1) else long_or_other inner.rules idle word (long_of word) nothing_held) ≡ (nothing_held, value))
+dashes_or_plain true word more none = inl refl
+dashes_or_plain false word more none = inr (long_is_plain inner.rules inner_has_only_help None word (long_of word) (or_else_none _ _ none))
+
+-- the first of them is `--` or the path
+inner_word : (word : Text) → turn_fault inner [] (walk_from nothing_held) word ≡ []
+    → (word ≡ dashes) ⊎ (walked inner.rules [] (walk_from nothing_held) word ≡ after_file word)
+unfolding walked
+inner_word word none = elim (dashes_or_plain (bytes_eq word dashes) word _ none) [
+  | inl is_dashes ↦ inl ((bytes_eq-Decides word dashes).0 is_dashes)
+  | inr same ↦ inr (ap (λ (met : Held × Step). after_step inner.rules word (walk_from nothing_held) met.0 met.1) same)
+]
+
+stray_inner : (h : Held) (met : Held × Step) → met ≡ (h, value) → step_fault inner 2 met.0 met.1 ≡ [] → ⊥
+stray_inner h met same none = cc
+
+dashes_next : (is_dashes : Bool) (file word : Text)
+    → or_else (if is_dashes then [] else flag_word_fault inner.rules false (long_of word) word (after_file file).held)
+    (step_fault inner 2
+    (if is_dashes then ((after_file file).held, trailing 2) else long_or_other inner.rules idle word (long_of word) (after_file file).held).0
+    (if is_dashes then ((after_file file).held, trailing 2) else long_or_other inner.rules idle word (long_of word) (after_file file).held).1) ≡ []
+    → is_dashes ≡ true
+dashes_next true file word none = refl
+dashes_next false file word none =
+    absurd (stray_inner _ _ (long_is_plain inner.rules inner_has_only_help (Some (codes "FILE", file ∷ [])) word (long_of word) (or_else_none _ _ none)) (or_else_next _ _ none))
+
+-- a word behind the path is `--`
+next_word : (file word : Text) → turn_fault inner [] (after_file file) word ≡ [] → word ≡ dashes
+next_word file word none = (bytes_eq-Decides word dashes).0 (dashes_next (bytes_eq word dashes) file word none)
+
+-- and a word behind that is a fault
+last_is_fault : (file last : Text) (rest : List Text) → walk_fault inner [] (walked inner.rules [] (after_file file) dashes) (last ∷ rest) ≡ [] → ⊥
+unfolding walk_fault walked
+last_is_fault file last rest none = cc
+
+behind_file : (file : Text) (rest : List Text) → walk_fault inner [] (after_file file) rest ≡ [] → (rest ≡ []) ⊎ (rest ≡ dashes ∷ [])
+unfolding walk_fault
+behind_file file [] none = inl refl
+behind_file file (word ∷ []) none = inr (ap (λ (w : Text). w ∷ []) (next_word file word (or_else_none _ _ none)))
+behind_file file (word ∷ last ∷ rest) none =
+    let same : word ≡ dashes = next_word file word (or_else_none _ _ none) in
+    let later : walk_fault inner [] (walked inner.rules [] (after_file file) word) (last ∷ rest) ≡ [] = or_else_next _ _ none in
+    absurd (last_is_fault file last rest (subst (λ w. walk_fault inner [] (walked inner.rules [] (after_file file) w) (last ∷ rest) ≡ []) same later))
+
+abbrev rows_after_walk : Walk → List Row
+rows_after_walk w = finished inner.rules w.held
+
+-- the words name a file, which the rows hold
+abbrev NamesFile : List Text → Type 0
+NamesFile words = (file : Text) × ((first_of (codes "FILE") (rows_after inner.rules [] words) ≡ Some file) × IsFileIn file words)
+
+abbrev no_fault : List Text → Type 0
+no_fault words = level_fault inner [] nothing_held words false [] ≡ []
+
+none_is_fault : no_fault [] → ⊥
+unfolding clap_on_literals
+none_is_fault none = cc
+
+behind_dashes : (rest : List Text) → no_fault (dashes ∷ rest) → NamesFile (dashes ∷ rest)
+unfolding clap_on_literals
+behind_dashes [] none = cc
+behind_dashes (file ∷ []) none = (file, (refl, inl (refl, refl)))
+behind_dashes (file ∷ word ∷ rest) none = cc
+
+rows_before_dashes : (file : Text) → first_of (codes "FILE") (rows_after_walk (walked inner.rules [] (after_file file) dashes)) ≡ Some file
+unfolding walked
+rows_before_dashes file = refl
+
+names_plain : (file : Text) (rest : List Text) → walked inner.rules [] (walk_from nothing_held) file ≡ after_file file
+    → (rest ≡ []) ⊎ (rest ≡ dashes ∷ []) → NamesFile (file ∷ rest)
+names_plain file rest same (inl end) = subst (λ words. NamesFile (file ∷ words)) (sym end)
+    (file, (ap (λ (w : Walk). first_of (codes "FILE") (rows_after_walk w)) same, refl))
+names_plain file rest same (inr end) = subst (λ words. NamesFile (file ∷ words)) (sym end)
+    (file, (ap (λ (w : Walk). first_of (codes "FILE") (rows_after_walk (walked inner.rules [] w dashes))) same ∙ rows_before_dashes file, inr (refl, refl)))
+
+turns : (word : Text) (rest : List Text) → no_fault (word ∷ rest)
+    → (turn_fault inner [] (walk_from nothing_held) word ≡ []) × (walk_fault inner [] (walked inner.rules [] (walk_from nothing_held) word) rest ≡ [])
+unfolding walk_fault
+turns word rest none = (or_else_none _ _ (or_else_none _ _ none), or_else_next _ _ (or_else_none _ _ none))
+
+names_by_first : (word : Text) (rest : List Text) → no_fault (word ∷ rest)
+    → (word ≡ dashes) ⊎ (walked inner.rules [] (walk_from nothing_held) word ≡ after_file word) → NamesFile (word ∷ rest)
+names_by_first word rest none (inl same) =
+    subst (λ w. NamesFile (w ∷ rest)) (sym same) (behind_dashes rest (subst (λ w. no_fault (w ∷ rest)) same none))
+names_by_first word rest none (inr same) =
+    names_plain word rest same (behind_file word rest (subst (λ w. walk_fault inner [] w rest ≡ []) same (turns word rest none).1))
+
+names_file : (words : List Text) → no_fault words → NamesFile words
+names_file [] none = absurd (none_is_fault none)
+names_file (word ∷ rest) none = names_by_first word rest none (inner_word word (turns word rest none).0)
+
+-- ---- the words behind the program's name
+
+-- what follows `run` is left to it
+left_to_run : (rest : List Text) → stop_after top.rules names (run_word ∷ rest) ≡ Some (run_word, rest)
+unfolding walked
+left_to_run rest = sym (ap (λ (w : Walk). w.stopped) (walk_stopped top.rules names (walk_from nothing_held) run_word [] rest))
+
+no_fault_below : (name : Text) (words : List Text) → fault_of ntns (name ∷ words) ≡ [] → entered_fault (built ntns) (stop_after top.rules names words) ≡ []
+no_fault_below name words none = or_else_none _ _ (or_else_next _ _ none)
+
+-- the words name a task
+abbrev NamesTask : List Text → Type 0
+NamesTask words = (task : Named) × ((task_of (subcommand_of ntns words) ≡ Some task) × Spells words task)
+
+names_run : (name : Text) (rest : List Text) → fault_of ntns (name ∷ run_word ∷ rest) ≡ [] → NamesTask (name ∷ run_word ∷ rest)
+names_run name rest none =
+    let below : no_fault rest = subst (λ stop. entered_fault (built ntns) stop ≡ []) (left_to_run rest) (no_fault_below name (run_word ∷ rest) none) in
+    let found : NamesFile rest = names_file rest below in
+    let rows : subcommand_of ntns (name ∷ run_word ∷ rest) ≡ Some (run_word, rows_after inner.rules [] rest) = ap (entered (built ntns)) (left_to_run rest) in
+    (run found.0, (ap task_of rows ∙ ap (option_map run) found.1.0, (refl, found.1.1)))
+
+names_dashes : (name : Text) (rest : List Text) → fault_of ntns (name ∷ dashes ∷ rest) ≡ [] → NamesTask (name ∷ dashes ∷ rest)
+unfolding clap_on_literals
+names_dashes name [] none = (script, (refl, refl))
+names_dashes name (word ∷ rest) none = cc
+
+names_by : (name word : Text) (rest : List Text) → fault_of ntns (name ∷ word ∷ rest) ≡ [] → (word ≡ run_word) ⊎ (word ≡ dashes) → NamesTask (name ∷ word ∷ rest)
+names_by name word rest none (inl same) =
+    subst (λ w. NamesTask (name ∷ w ∷ rest)) (sym same) (names_run name rest (subst (λ w. fault_of ntns (name ∷ w ∷ rest) ≡ []) same none))
+names_by name word rest none (inr same) =
+    subst (λ w. NamesTask (name ∷ w ∷ rest)) (sym same) (names_dashes name rest (subst (λ w. fault_of ntns (name ∷ w ∷ rest) ≡ []) same none))
+
+first_turn_passes : (name word : Text) (rest : List Text) → fault_of ntns (name ∷ word ∷ rest) ≡ [] → turn_fault top names (walk_from nothing_held) word ≡ []
+unfolding walk_fault
+first_turn_passes name word rest none = or_else_none _ _ (or_else_none _ _ none)
+
+-- words without a fault name a task
+pub faultless_names : (words : List Text) → fault_of ntns words ≡ [] → (task : Named) × ((task_of (subcommand_of ntns words) ≡ Some task) × Spells words task)
+faultless_names [] none = (script, (refl, tt))
+faultless_names (name ∷ []) none = (script, (refl, tt))
+faultless_names (name ∷ word ∷ rest) none = names_by name word rest none (first_word word (first_turn_passes name word rest none))
+
+-- ---- what the parser states for an app that is the program, it states for the program
+
+pub faultless_as_stated : (app : App) (words : List Text) → app ≡ ntns → (is_simple_and_free app ≡ true → fault_of app words ≡ []) → fault_of ntns words ≡ []
+faultless_as_stated app words same none =
+    let simple : is_simple_and_free app ≡ true = ap is_simple_and_free same in
+    subst (λ a. fault_of a words ≡ []) same (none simple)
+
+pub used_as_stated : {X : Type 0} (app : App) (words : List Text) (used : Option (Text × List Row)) → app ≡ ntns
+    → (is_simple app ≡ true → X × (used ≡ subcommand_of app words)) → used ≡ subcommand_of ntns words
+used_as_stated app words used same stated =
+    let simple : is_simple app ≡ true = ap is_simple same in
+    subst (λ a. used ≡ subcommand_of a words) same (stated simple).1
+
+none_is_some : (task : Named) → ◌≡◌ {A = Option Named} None (Some task) → ⊥
+none_is_some task same = cc
+
+same_some : (one other : Named) → ◌≡◌ {A = Option Named} (Some one) (Some other) → one ≡ other
+same_some one other same = cc
+
+-- so a task is named,
+pub some_task : (words : List Text) (used : Option (Text × List Row)) → fault_of ntns words ≡ [] → used ≡ subcommand_of ntns words → None ≡ task_of used → ⊥
+some_task words used none same nothing =
+    let found = faultless_names words none in
+    none_is_some found.0 (nothing ∙ ap task_of same ∙ found.1.0)
+
+-- and the words spell it
+pub task_is_spelled : (words : List Text) (used : Option (Text × List Row)) (task : Named) → fault_of ntns words ≡ [] → used ≡ subcommand_of ntns words
+    → Some task ≡ task_of used → Spells words task
+task_is_spelled words used task none same is_task =
+    let found = faultless_names words none in
+    subst (Spells words) (sym (same_some task found.0 (is_task ∙ ap task_of same ∙ found.1.0))) found.1.1

@@ -1,0 +1,4 @@
+pub mod Faults
+pub mod Flags
+pub mod Tasks
+pub mod Words

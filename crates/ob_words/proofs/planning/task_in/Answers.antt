@@ -1,0 +1,12 @@
+use Rattle.std.proofs.Common.{Some, None, rules}
+use Rattle.clap.specs.Words.{found_of}
+use Rattle.ob_words.proofs.Tasks.{task_of_run}
+use Rattle.ob_words.proofs.planning.task_in.Goals as goal
+
+pub returns-in-Some-get_str : goal.returns-in-Some-get_str
+returns-in-Some-get_str c =
+    task_of_run c.args.matches.now c.in-Some.name.now (found_of c.in-Some.inside.now) (Some c.in-Some-get_str.file.now) c.in-Some.ensures.name c.in-Some.ensures.rows (search rules) c.in-Some-get_str.ensures
+
+pub returns-in-None-get_str : goal.returns-in-None-get_str
+returns-in-None-get_str c =
+    task_of_run c.args.matches.now c.in-Some.name.now (found_of c.in-Some.inside.now) None c.in-Some.ensures.name c.in-Some.ensures.rows (search rules) c.in-None-get_str.ensures

@@ -1,0 +1,64 @@
+-- The program's words: what the parser knows of the program, and the task that words name.
+-- Source: this profile. The parser's own words are those of the crate clap.
+use Rattle.std.specs.Prelude.{◌≡◌, ◌⊎◌, List, [], ◌∷◌, Option, Some, None, codes, if◌then◌else◌, option_map, true}
+use Rattle.std.specs.Str.{bytes_eq}
+use Rattle.clap.specs.Words.{App, Row, Rule, Text, first_of, new_app, new_rule, with_rule, with_subcommand}
+use Rattle.clap.specs.declared.error.kind.ErrorKind.{ErrorKind}
+use Rattle.clap.specs.declared.error.kind.ErrorKind.TheVariants as kind
+use Rattle.ob_words.specs.declared.planning.Task.{Task}
+use Rattle.ob_words.specs.declared.planning.Task.TheVariants as task
+
+-- the path that a subcommand takes: one word, which must be there
+abbrev pub file_rule : Rule
+file_rule = record (new_rule (codes "FILE")) { required = true }
+
+-- the subcommand `run`
+abbrev pub run_app : App
+run_app = with_rule (new_app (codes "run")) file_rule
+
+-- the program: it has the subcommand `run`, what the parser adds to ask for help, and nothing else
+abbrev pub ntns : App
+ntns = with_subcommand (new_app (codes "ntns")) run_app.top
+
+-- a task by its words
+pub data Named : Type 0 where
+  script : Named
+  run : Text → Named
+
+abbrev pub named : Task → Named
+named task.Script = script
+named (task.Run file) = run file.now
+
+-- the task that a subcommand names, where there is one
+abbrev pub task_of : Option (Text × List Row) → Option Named
+task_of None = Some script
+task_of (Some used) = if bytes_eq used.0 (codes "run") then option_map run (first_of (codes "FILE") used.1) else None
+
+-- no word stands behind the program's name, or `--` alone, which ends the flags
+abbrev pub IsBare : List Text → Type 0
+IsBare [] = Unit {0}
+IsBare (name ∷ []) = Unit {0}
+IsBare (name ∷ word ∷ []) = word ≡ codes "--"
+IsBare (name ∷ word ∷ next ∷ rest) = ⊥
+
+-- the words behind a subcommand are the file's path, with `--` before or behind it or without
+abbrev pub IsFileIn : Text → List Text → Type 0
+IsFileIn file [] = ⊥
+IsFileIn file (word ∷ []) = word ≡ file
+IsFileIn file (word ∷ next ∷ []) = ((word ≡ codes "--") × (next ≡ file)) ⊎ ((word ≡ file) × (next ≡ codes "--"))
+IsFileIn file (word ∷ next ∷ last ∷ rest) = ⊥
+
+-- the words are the program's name, the subcommand's, and the file's path
+abbrev pub IsOverFile : Text → Text → List Text → Type 0
+IsOverFile command file [] = ⊥
+IsOverFile command file (name ∷ []) = ⊥
+IsOverFile command file (name ∷ word ∷ rest) = (word ≡ command) × IsFileIn file rest
+
+-- the words that name the task
+abbrev pub Spells : List Text → Named → Type 0
+Spells words script = IsBare words
+Spells words (run file) = IsOverFile (codes "run") file words
+
+-- a mistake in the words, or want of memory
+abbrev pub IsMistakeOrWant : ErrorKind → Type 0
+IsMistakeOrWant k = (k ≡ kind.InvalidValue) ⊎ (k ≡ kind.OutOfMemory)

@@ -1,0 +1,112 @@
+//! What the program's words ask for.
+
+ghost use Rattle.std.specs.Prelude.{◌≡◌, ◌≤◌, true, false, Some, IfOk, IfErr, length, map, option_map};
+ghost use Rattle.clap.specs.Words.{FailsBy, app_of, fault_of, kind_of, rule_of, subcommand_of, subcommand_rows_of, takes};
+ghost use Rattle.clap.specs.declared.builder.command.Command.TheViews.{out-Command as fields_of};
+ghost use Rattle.ob_words.specs.Plan.{IsMistakeOrWant, Spells, file_rule, named, ntns, run_app, task_of};
+
+use clap::error::ErrorKind;
+use clap::{Arg, ArgMatches, Command, Error};
+use std::alloc::{AllocError, Global};
+use std::convert::AsStr;
+
+/// What the program is to do. (this profile)
+#[derive(Clone, Copy, PartialEq, Eq, Debug)]
+pub enum Task<'a> {
+    /// Run the script on standard input.
+    Script,
+    /// Run the script in the file of this path.
+    Run(&'a str),
+}
+
+/// The task that the words ask for. The first word is the program's name.
+///
+/// It is `Script` where no word stands behind the program's name, or `--` alone, and `Run` where
+/// these are `run` and a path, which is taken as it is, with `--` before or behind it or without.
+/// The task is what the parser `clap` states for these words and the program as `ntns` describes
+/// it. The faults are clap's: of the kinds that clap states for the words, which are mistakes, or
+/// the request for help; or want of memory, which alone can refuse words that name a task, as no
+/// words behind the program's name do. (this profile)
+pub fn plan<'a, S: AsStr>(alloc: Global, words: &'a [S]) -> Result<Task<'a>, Error>
+    ensures task { IfOk result (λ task.
+        task_of (subcommand_of ntns (map S.text words.now)) ≡ Some (named task)) }
+    ensures spelled { IfOk result (λ task. Spells (map S.text words.now) (named task)) }
+    ensures kinds { FailsBy (fault_of ntns (map S.text words.now)) result }
+    ensures memory { IfErr result (λ fault.
+        takes ntns (map S.text words.now) ≡ true → kind_of fault ≡ ErrorKind.OutOfMemory) }
+    ensures alone { length words.now ≤ 1 →
+        IfErr result (λ fault. kind_of fault ≡ ErrorKind.OutOfMemory) }
+{
+    match program(alloc) {
+        Ok(program) => match program.try_get_matches_from(words) {
+            Ok(matches) => match task_in(&matches) {
+                Some(task) => Ok(task),
+                None => unreachable!(),
+            },
+            Err(fault) => Err(fault),
+        },
+        Err(want) => Err(Error::from(want)),
+    }
+}
+
+// The task that the parser's matches name, where they name one.
+fn task_in<'a>(matches: &ArgMatches<'a>) -> Option<Task<'a>>
+    ensures { option_map named result ≡ task_of (subcommand_rows_of matches.now) }
+{
+    match matches.subcommand() {
+        None => Some(Task::Script),
+        Some((name, inside)) if name == "run" => match inside.get_str("FILE") {
+            Some(file) => Some(Task::Run(file)),
+            None => None,
+        },
+        Some(_) => None,
+    }
+}
+
+/// The fault of words that are no text: a mistake, as the parser's own are, or want of memory.
+/// (this profile)
+pub fn unreadable(alloc: Global) -> Error
+    ensures { IsMistakeOrWant (kind_of result) }
+{
+    let message = "invalid UTF-8 was detected in one or more arguments";
+    let mut program = match program(alloc) {
+        Ok(program) => program,
+        Err(want) => return Error::from(want),
+    };
+    match program.error(ErrorKind::InvalidValue, message) {
+        Ok(fault) => fault,
+        Err(want) => Error::from(want),
+    }
+}
+
+// The program as the parser sees it.
+fn program<'a>(alloc: Global) -> Result<Command<'a>, AllocError>
+    ensures { IfOk result (λ command. app_of command ≡ ntns) }
+{
+    let run = run_command(alloc)?;
+    Command::new(alloc, "ntns")
+        .about(
+            "Runs a script of namespace commands, by default from standard input, and prints one reply a line",
+        )
+        .subcommand(run)
+}
+
+// The subcommand `run`.
+fn run_command<'a>(alloc: Global) -> Result<Command<'a>, AllocError>
+    ensures app { IfOk result (λ command. app_of command ≡ run_app) }
+    ensures local { IfOk result (λ command. (fields_of command).has_globals ≡ false) }
+{
+    Command::new(alloc, "run")
+        .about("Runs the script in FILE")
+        .arg(file_argument(alloc))
+}
+
+// The path that a subcommand takes.
+fn file_argument<'a>(alloc: Global) -> Arg<'a>
+    ensures rule { rule_of result ≡ file_rule }
+    ensures local { result.global ≡ false }
+{
+    Arg::new(alloc, "FILE")
+        .required(true)
+        .help("The path of the file, taken as it is")
+}

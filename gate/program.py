@@ -1,0 +1,97 @@
+#!/usr/bin/env python3
+"""Runs the built program `ntns` on words, files and standard input, and compares what it leaves.
+
+What `main` alone does can stand in no contract: that the words are the process's, that FILE is opened as
+it is named, and that the status is the process's. Each case is compared byte for byte.
+
+    gate/program.py PROGRAM
+
+The last line is 'N passed, M failed'. The exit status is 0 where none failed, else 1.
+"""
+
+import subprocess
+import sys
+import tempfile
+from dataclasses import dataclass
+from pathlib import Path
+
+SCRIPT = b'p1 dir "\\A" - =a\np1 opendir "\\A" - =b\np1 opendir "\\a" - =c\np1 close b\np1 close a\n'
+SHOWN = b"1: SUCCESS\n2: SUCCESS\n3: OBJECT_NAME_NOT_FOUND\n4: SUCCESS\n5: SUCCESS\n"
+BAD = b'p1 dir "\\A" - =a\nno line\np1 close a\n'
+FILES = {"a.ntns": SCRIPT, "bad.ntns": BAD, " spaced.ntns ": SCRIPT, "-x": SCRIPT, "empty": b""}
+
+HELP = (
+    b"Runs a script of namespace commands, by default from standard input, and prints one reply a line\n\n"
+    b"Usage: ntns [COMMAND]\n\nCommands:\n  run   Runs the script in FILE\n"
+    b"  help  Print this message or the help of the given subcommand(s)\n\nOptions:\n  -h, --help  Print help\n"
+)
+UNKNOWN = (
+    b"error: unrecognized subcommand 'other'\n\nUsage: ntns [COMMAND]\n\n"
+    b"For more information, try '--help'.\n"
+)
+NO_TEXT = (
+    b"error: invalid UTF-8 was detected in one or more arguments\n\nUsage: ntns [COMMAND]\n\n"
+    b"For more information, try '--help'.\n"
+)
+
+
+@dataclass(frozen=True)
+class Case:
+    shows: str
+    words: tuple
+    status: int
+    output: bytes = b""
+    errors: bytes = b""
+    script: bytes = b""
+
+
+CASES = [
+    Case("the script on standard input is run", (), 0, SHOWN, script=SCRIPT),
+    Case("an empty script prints nothing", (), 0),
+    Case("a bad line on standard input ends with 1", (), 1, b"1: SUCCESS\n2: not a script line\n", script=BAD),
+    Case("the script in a file is run", ("run", "a.ntns"), 0, SHOWN),
+    Case("standard input is not read for a file", ("run", "a.ntns"), 0, SHOWN, script=BAD),
+    Case("a bad line in a file ends with 1", ("run", "bad.ntns"), 1, b"1: SUCCESS\n2: not a script line\n"),
+    Case("a path keeps the spaces at its ends", ("run", " spaced.ntns "), 0, SHOWN),
+    Case("a path with its spaces taken off is another", ("run", "spaced.ntns"), 1, errors=b"ntns: cannot read\n"),
+    Case("a path may begin with a hyphen behind --", ("run", "--", "-x"), 0, SHOWN),
+    Case("an empty file is an empty script", ("run", "empty"), 0),
+    Case("a file that isn't there is told", ("run", "missing"), 1, errors=b"ntns: cannot read\n"),
+    Case("a directory is told", ("run", "."), 1, errors=b"ntns: cannot read\n"),
+    Case("a mistake in the words ends with 2", ("other",), 2, errors=UNKNOWN, script=SCRIPT),
+    Case("words that are no text end with 2", (b"\xff",), 2, errors=NO_TEXT),
+    Case("help that is asked for ends with 0", ("--help",), 0, HELP),
+]
+
+
+def fault_of(case, program, folder):
+    """What is wrong with a run of the program, or nothing."""
+    run = subprocess.run(
+        [program, *case.words], input=case.script, capture_output=True, cwd=folder, timeout=60, check=False
+    )
+    left = (run.returncode, run.stdout, run.stderr)
+    wanted = (case.status, case.output, case.errors)
+    return "" if left == wanted else f"it left {left}, and not {wanted}"
+
+
+def main():
+    if len(sys.argv) != 2:
+        sys.exit("usage: gate/program.py PROGRAM")
+    program = str(Path(sys.argv[1]).resolve())
+    failed = 0
+    with tempfile.TemporaryDirectory(prefix="ntns-runs-") as folder:
+        for name, text in FILES.items():
+            (Path(folder) / name).write_bytes(text)
+        for case in CASES:
+            try:
+                fault = fault_of(case, program, folder)
+            except (OSError, subprocess.TimeoutExpired) as error:
+                fault = str(error)
+            failed += bool(fault)
+            print(f"program: {case.shows} ... {fault or 'ok'}")
+    print(f"{len(CASES) - failed} passed, {failed} failed")
+    return 1 if failed else 0
+
+
+if __name__ == "__main__":
+    sys.exit(main())

@@ -1,0 +1,78 @@
+#!/usr/bin/env python3
+"""Runs a command, as gate/test.sh, and tells the processor seconds that the prover took by crate.
+
+    gate/times.py COMMAND..
+
+The seconds are those of the prover's processes, looked at once a second while they run, so that a short
+one may be missed: what stands in docs/GATE.md is right to some seconds. A process belongs to the crate that
+its words name; it proves tests where they say `--test`, wrong bodies where it works outside the
+repository, and else the crate itself.
+"""
+
+import os
+import subprocess
+import sys
+import time
+from collections import defaultdict
+from pathlib import Path
+
+ROOT = Path(__file__).resolve().parent.parent
+TICKS = os.sysconf("SC_CLK_TCK")
+PHASES = ("proof", "tests", "wrong bodies")
+
+
+def seen_of(process):
+    """The crate and the phase of a prover's process, and its processor seconds so far."""
+    words = (process / "cmdline").read_bytes().decode(errors="replace").split("\0")
+    if not words or not words[0].endswith("/rattle") or "--crate-name" not in words:
+        return None
+    crate = words[words.index("--crate-name") + 1]
+    folder = Path(os.readlink(process / "cwd"))
+    inside = folder.is_relative_to(ROOT) and not any(word.startswith("/tmp/") for word in words)
+    phase = "wrong bodies" if not inside else "tests" if "--test" in words else "proof"
+    fields = (process / "stat").read_text().rpartition(")")[2].split()
+    return crate, phase, (int(fields[11]) + int(fields[12])) / TICKS
+
+
+def look(processes):
+    """Notes what the prover's processes have taken."""
+    for process in Path("/proc").glob("[0-9]*"):
+        try:
+            seen = seen_of(process)
+        except (OSError, ValueError, IndexError):
+            continue
+        if seen:
+            crate, phase, seconds = seen
+            processes[process.name, crate, phase] = seconds
+
+
+def table(processes):
+    """The seconds by crate and phase, as a table of Markdown."""
+    totals = defaultdict(lambda: dict.fromkeys(PHASES, 0.0))
+    for (_, crate, phase), seconds in processes.items():
+        totals[crate][phase] += seconds
+    lines = ["| crate | " + " | ".join(PHASES) + " | in all |", "|---|---:|---:|---:|---:|"]
+    for crate, by_phase in sorted(totals.items(), key=lambda item: -sum(item[1].values())):
+        cells = [f"{by_phase[phase]:.0f}" for phase in PHASES] + [f"{sum(by_phase.values()):.0f}"]
+        lines.append(f"| {crate} | " + " | ".join(cells) + " |")
+    sums = [sum(by_phase[phase] for by_phase in totals.values()) for phase in PHASES]
+    lines.append("| all | " + " | ".join(f"{value:.0f}" for value in [*sums, sum(sums)]) + " |")
+    return "\n".join(lines)
+
+
+def main():
+    if len(sys.argv) < 2:
+        sys.exit("usage: gate/times.py COMMAND..")
+    processes = {}
+    started = time.monotonic()
+    with subprocess.Popen(sys.argv[1:]) as run:
+        while run.poll() is None:
+            look(processes)
+            time.sleep(1)
+    minutes = (time.monotonic() - started) / 60
+    print(f"\n{table(processes)}\n\n{minutes:.0f} minutes on {os.cpu_count()} processors")
+    return run.returncode
+
+
+if __name__ == "__main__":
+    sys.exit(main())
