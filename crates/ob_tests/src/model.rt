@@ -29,6 +29,33 @@ fn laws_hold_at_a_concrete_set() {
 }
 
 #[test]
+fn laws_of_names_and_examples_are_called() {
+    laws::split_is_unique();
+    laws::split_joins_back();
+    laws::substituted_length();
+    laws::substituted_drops_one();
+    examples::names_with_and_without_case();
+    examples::texts_in_components();
+    examples::separators_that_meet();
+    examples::names_that_are_found();
+    examples::names_that_are_missing();
+    examples::names_that_are_invalid();
+    examples::first_inserted_is_found();
+    examples::rest_is_parsed();
+    examples::link_is_followed();
+    examples::link_is_opened();
+    examples::link_to_itself();
+    examples::target_is_no_absolute_name();
+    examples::target_ends_in_separator();
+    examples::chain_of_links();
+    examples::local_comes_first();
+    examples::create_is_local();
+    examples::names_without_views();
+    examples::holds_without_name();
+    examples::temporary_goes();
+}
+
+#[test]
 fn bytes_are_those_handed_in(rt: HostRuntime) -> Result<(), Fail> {
     for bytes in [b"".as_slice(), b"\\A", b"\x00\xFF"] {
         let copied = Bytes::from_slice(rt.alloc(), bytes)?;

@@ -62,6 +62,15 @@ fn a_new_store_is_empty(rt: HostRuntime) {
 }
 
 #[test]
+fn a_new_directory_holds_no_name(rt: HostRuntime) -> Result<(), Fail> {
+    let mut store: Store<Standard> = Store::new(rt.alloc());
+    store.insert(ObjId(1), temporary(StoredBody::directory(rt.alloc())))?;
+    assert!(rt; store.is_directory(ObjId(1)));
+    assert!(rt; !store.holds_names(ObjId(1)));
+    Ok(())
+}
+
+#[test]
 fn objects_come_and_go(rt: HostRuntime) -> Result<(), Fail> {
     let mut store = three(rt.alloc())?;
     assert_eq!(rt; store.len(), 3);

@@ -1,6 +1,9 @@
 //! The edges of a limit, and a life of an object under the counted set.
 
-use ob_plain::{Counting, Plain, PlainFace, PlainInner, PlainKind, Standard, limit_of};
+use ob_plain::{
+    Counting, Plain, PlainFace, PlainInner, PlainKind, Standard, accepted_opens_count, limit_of,
+    limits_are_decimal,
+};
 use ob_types::{Reason, Refusal, TypeSet, close_last, is_one_kind, laws, open_or_leave};
 
 #[test]
@@ -83,4 +86,6 @@ fn laws_at_the_standard_set(_rt: HostRuntime) {
     laws::one_kind::<Standard>();
     laws::own_kind::<Standard>();
     laws::equal_kinds::<Standard>();
+    accepted_opens_count::<Plain>();
+    limits_are_decimal();
 }
