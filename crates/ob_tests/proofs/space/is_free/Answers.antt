@@ -1,5 +1,5 @@
 -- A search that gave nothing shows the spelling free.
-use Rattle.std.proofs.Common.{◌≡◌, ◌≢◌, ◌∙◌, ap, sym, subst, not, All, Option, List, []}
+use Rattle.std.proofs.Common.{◌≢◌, ◌∙◌, ap, sym, subst, not, All, Option, List, []}
 use Rattle.std.specs.Option.{option_copied, unwrap_or}
 use Rattle.ob_dirs.specs.declared.entry.DirEntry.{DirEntry}
 use Rattle.ob_dirs.proofs.Laws.{free_where_not_found}

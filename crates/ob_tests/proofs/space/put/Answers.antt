@@ -1,6 +1,5 @@
 -- The object comes, and then its name.
 use Rattle.std.proofs.Common.{◌+◌, subst, sym}
-use Rattle.ob_objects.specs.Store.{Entries}
 use Rattle.ob_tests.specs.Space.{IsSpace}
 use Rattle.ob_tests.proofs.Spaces.{space_with_object, directory_there, entries_free, entries_newest, space_with_name}
 use Rattle.ob_tests.proofs.space.put.Goals as goal
