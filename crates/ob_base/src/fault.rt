@@ -41,28 +41,3 @@ impl From<Status> for Fault {
         Fault::Refused(status)
     }
 }
-
-#[cfg(test)]
-mod tests {
-    use super::*;
-    use std::alloc::Global;
-
-    fn stored(alloc: Global, refusal: Result<(), Status>) -> Result<usize, Fault> {
-        let mut list = Vec::new(alloc);
-        list.reserve(1)?;
-        list.push(1u8)?;
-        refusal?;
-        Ok(list.len())
-    }
-
-    #[test]
-    fn faults_pass_up(rt: HostRuntime) {
-        let alloc = rt.alloc();
-        assert_eq!(rt; stored(alloc, Ok(())), Ok(1));
-        assert_eq!(rt;
-            stored(alloc, Err(Status::AccessDenied)),
-            Err(Fault::Refused(Status::AccessDenied))
-        );
-        assert_eq!(rt; Fault::from(AllocError), Fault::Memory);
-    }
-}

@@ -55,24 +55,3 @@ impl Handle {
         if key == 0 { None } else { Some(key) }
     }
 }
-
-#[cfg(test)]
-mod tests {
-    use super::*;
-
-    #[test]
-    fn key_clears_the_low_bits(rt: HostRuntime) {
-        let table = [
-            (0, None),
-            (3, None),
-            (4, Some(4)),
-            (7, Some(4)),
-            (262_140, Some(262_140)),
-            (262_143, Some(262_140)),
-            (0xFFFF_FFFF, Some(0xFFFF_FFFC)),
-        ];
-        for (value, key) in table {
-            assert_eq!(rt; Handle(value).key(), key, "at {value}");
-        }
-    }
-}

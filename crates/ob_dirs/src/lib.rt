@@ -4,8 +4,6 @@
 
 mod dir;
 mod entry;
-#[cfg(test)]
-mod tests;
 
 pub use dir::{Dir, dir_finds_what_the_state_finds, entries_follow_the_rows, not_found_is_free};
 pub use entry::DirEntry;

@@ -6,8 +6,6 @@ mod free;
 pub mod laws;
 mod open_table;
 mod table;
-#[cfg(test)]
-mod tests;
 
 pub use open_table::OpenTable;
 pub use table::{HandleTable, MOST_HANDLES};

@@ -4,4 +4,3 @@ pub mod Turns
 pub mod Onto
 pub mod Begins
 pub mod Stays
-pub mod Spaces

@@ -1,4 +1,3 @@
 pub mod Closed
 pub mod Walk
 pub mod Look
-pub mod Space

@@ -5,14 +5,8 @@
 mod closed;
 mod lookup;
 mod next;
-#[cfg(test)]
-mod plain;
-#[cfg(test)]
-mod space;
 mod start;
 mod terms;
-#[cfg(test)]
-mod tests;
 mod walk;
 
 pub use closed::{closed_stays, sound_is_closed};

@@ -11,8 +11,6 @@ pub mod examples;
 pub mod laws;
 mod reply;
 mod state;
-#[cfg(test)]
-mod tests;
 
 pub use bytes::Bytes;
 pub use command::{Command, Place};

@@ -9,8 +9,6 @@ mod component;
 mod equality;
 mod name;
 mod substitution;
-#[cfg(test)]
-mod tests;
 
 pub use component::{Component, first, splitting_joins_back};
 pub use equality::same;

@@ -7,8 +7,6 @@ pub mod laws;
 mod named;
 mod object;
 mod store;
-#[cfg(test)]
-mod tests;
 
 pub use named::Named;
 pub use object::{StoredBody, StoredObject};

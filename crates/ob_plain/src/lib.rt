@@ -4,8 +4,6 @@
 mod counting;
 mod limit;
 mod plain;
-#[cfg(test)]
-mod tests;
 
 pub use counting::{Counting, Standard, accepted_opens_count};
 pub use limit::{limit_of, limits_are_decimal};

@@ -9,8 +9,6 @@ pub mod laws;
 mod reason;
 mod refusal;
 mod set;
-#[cfg(test)]
-mod tests;
 mod uses;
 
 pub use reason::Reason;

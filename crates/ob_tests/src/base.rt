@@ -1,0 +1,163 @@
+//! The words that every crate shares, against the public tables.
+
+use ob_base::{Attrs, Fault, Handle, Status, codes_tell_statuses, texts_tell_statuses};
+use std::alloc::{AllocError, Global};
+
+#[test]
+fn lawful_sets_are_accepted(rt: HostRuntime) {
+    for bits in [0x0, 0x2, 0x10, 0x20, 0x40, 0x80, 0x100, 0x1D2, 0x1F0] {
+        let attrs = Attrs::check(bits).expect(&rt, "a lawful set");
+        assert_eq!(rt; attrs.bits(), bits);
+        assert_eq!(rt;
+            attrs.is_inherit(),
+            bits == 0x2 || bits == 0x1D2,
+            "at {bits}"
+        );
+        assert_eq!(rt;
+            attrs.is_permanent(),
+            bits == 0x10 || bits > 0x100,
+            "at {bits}"
+        );
+        assert_eq!(rt;
+            attrs.is_exclusive(),
+            bits == 0x20 || bits == 0x1F0,
+            "at {bits}"
+        );
+        assert_eq!(rt;
+            attrs.is_case_insensitive(),
+            bits == 0x40 || bits > 0x100,
+            "at {bits}"
+        );
+        assert_eq!(rt;
+            attrs.is_open_if(),
+            bits == 0x80 || bits > 0x100,
+            "at {bits}"
+        );
+        assert_eq!(rt; attrs.is_open_link(), bits >= 0x100, "at {bits}");
+    }
+}
+
+#[test]
+fn other_sets_are_refused(rt: HostRuntime) {
+    for bits in [
+        0x1,
+        0x4,
+        0x8,
+        0x22,
+        0x1F2,
+        0x200,
+        0x212,
+        0x8000_0000,
+        0xFFFF_FFFF,
+    ] {
+        assert_eq!(rt;
+            Attrs::check(bits),
+            Err(Status::InvalidParameter),
+            "at {bits}"
+        );
+    }
+}
+
+fn stored(alloc: Global, refusal: Result<(), Status>) -> Result<usize, Fault> {
+    let mut list = Vec::new(alloc);
+    list.reserve(1)?;
+    list.push(1u8)?;
+    refusal?;
+    Ok(list.len())
+}
+
+#[test]
+fn faults_pass_up(rt: HostRuntime) {
+    let alloc = rt.alloc();
+    assert_eq!(rt; stored(alloc, Ok(())), Ok(1));
+    assert_eq!(rt;
+        stored(alloc, Err(Status::AccessDenied)),
+        Err(Fault::Refused(Status::AccessDenied))
+    );
+    assert_eq!(rt; Fault::from(AllocError), Fault::Memory);
+}
+
+#[test]
+fn key_clears_the_low_bits(rt: HostRuntime) {
+    let table = [
+        (0, None),
+        (3, None),
+        (4, Some(4)),
+        (7, Some(4)),
+        (262_140, Some(262_140)),
+        (262_143, Some(262_140)),
+        (0xFFFF_FFFF, Some(0xFFFF_FFFC)),
+    ];
+    for (value, key) in table {
+        assert_eq!(rt; Handle(value).key(), key, "at {value}");
+    }
+}
+
+// Each status with its word and its number, as the public tables and this profile have them.
+const TABLE: [(Status, &[u8], u32); 23] = [
+    (Status::Success, b"SUCCESS", 0x00000000),
+    (Status::MoreEntries, b"MORE_ENTRIES", 0x00000105),
+    (Status::ObjectNameExists, b"OBJECT_NAME_EXISTS", 0x40000000),
+    (Status::NoMoreEntries, b"NO_MORE_ENTRIES", 0x8000001A),
+    (Status::InvalidHandle, b"INVALID_HANDLE", 0xC0000008),
+    (Status::InvalidParameter, b"INVALID_PARAMETER", 0xC000000D),
+    (Status::NoMemory, b"NO_MEMORY", 0xC0000017),
+    (Status::AccessDenied, b"ACCESS_DENIED", 0xC0000022),
+    (Status::BufferTooSmall, b"BUFFER_TOO_SMALL", 0xC0000023),
+    (
+        Status::ObjectTypeMismatch,
+        b"OBJECT_TYPE_MISMATCH",
+        0xC0000024,
+    ),
+    (
+        Status::ObjectNameInvalid,
+        b"OBJECT_NAME_INVALID",
+        0xC0000033,
+    ),
+    (
+        Status::ObjectNameNotFound,
+        b"OBJECT_NAME_NOT_FOUND",
+        0xC0000034,
+    ),
+    (
+        Status::ObjectNameCollision,
+        b"OBJECT_NAME_COLLISION",
+        0xC0000035,
+    ),
+    (
+        Status::ObjectPathNotFound,
+        b"OBJECT_PATH_NOT_FOUND",
+        0xC000003A,
+    ),
+    (
+        Status::ObjectPathSyntaxBad,
+        b"OBJECT_PATH_SYNTAX_BAD",
+        0xC000003B,
+    ),
+    (
+        Status::InsufficientResources,
+        b"INSUFFICIENT_RESOURCES",
+        0xC000009A,
+    ),
+    (Status::NameTooLong, b"NAME_TOO_LONG", 0xC0000106),
+    (Status::ReparseLimit, b"REPARSE_LIMIT", 0xE0000001),
+    (Status::ProcessGone, b"PROCESS_GONE", 0xE0000002),
+    (Status::JournalFull, b"JOURNAL_FULL", 0xE0000003),
+    (Status::TypeRefused(0), b"TYPE_REFUSED", 0xE0010000),
+    (Status::TypeRefused(7), b"TYPE_REFUSED", 0xE0010007),
+    (Status::TypeRefused(65_535), b"TYPE_REFUSED", 0xE001FFFF),
+];
+
+#[test]
+fn statuses_have_their_words_and_numbers(rt: HostRuntime) {
+    for (status, text, code) in TABLE {
+        assert_eq!(rt; status.text().as_bytes(), text, "at {code}");
+        assert_eq!(rt; status.code(), code);
+    }
+}
+
+#[test]
+fn laws_can_be_called(_rt: HostRuntime) {
+    codes_tell_statuses();
+    texts_tell_statuses();
+}

@@ -1,0 +1,128 @@
+//! A plain search over flat rows, with which lookups are compared in tests. Each component is one
+//! byte long, so that nothing of the code under test is used.
+
+use ob_base::Status;
+use ob_lookup::Mode;
+use std::alloc::Global;
+use std::test::Fail;
+
+// What a lookup is wanted to end with.
+#[derive(Clone, Copy)]
+pub(crate) enum End<'a> {
+    At(u64),
+    Vacant(u64, &'a [u8]),
+    Refused(Status),
+}
+
+// What an object is.
+#[derive(Clone, Copy)]
+pub(crate) enum Kind {
+    Directory,
+    Link(&'static [u8]),
+    Event,
+}
+
+// A name for an object in a directory; the rows stand in the order in which they came.
+#[derive(Clone, Copy)]
+pub(crate) struct PlainRow {
+    pub(crate) directory: u64,
+    pub(crate) name: u8,
+    pub(crate) object: u64,
+    pub(crate) kind: Kind,
+}
+
+// What comes of one component, or of none.
+enum Turn {
+    Ends(End<'static>),
+    Enters(u64),
+    Follows(&'static [u8]),
+}
+
+// What an absolute name ends with.
+pub(crate) fn search(
+    alloc: Global,
+    rows: &[PlainRow],
+    mode: Mode,
+    name: &[u8],
+    budget: u32,
+) -> Result<End<'static>, Fail> {
+    let mut left = budget;
+    let mut directory = 1;
+    let mut text = name.to_vec(alloc)?;
+    let mut at = 0usize;
+    for _ in 0..64 {
+        let rest = text.as_slice().get(at..).unwrap_or(&[]);
+        match next_turn(rows, mode, directory, rest) {
+            Turn::Ends(end) => return Ok(end),
+            Turn::Enters(next) => {
+                directory = next;
+                at = at.saturating_add(2);
+            }
+            Turn::Follows(target) => {
+                if left == 0 {
+                    return Ok(End::Refused(Status::ReparseLimit));
+                }
+                if target.first() != Some(&b'\\') {
+                    return Ok(End::Refused(Status::ObjectPathSyntaxBad));
+                }
+                let made = joined(alloc, target, rest.get(2..).unwrap_or(&[]))?;
+                left -= 1;
+                directory = 1;
+                at = if made.len() == 1 { 1 } else { 0 };
+                text = made;
+            }
+        }
+    }
+    Err(Fail::from("the search has no end"))
+}
+
+// A target and a rest, with one separator where two meet.
+fn joined(alloc: Global, target: &[u8], rest: &[u8]) -> Result<Vec<u8>, Fail> {
+    let mut made = target.to_vec(alloc)?;
+    if made.as_slice().last() == Some(&b'\\') && !rest.is_empty() {
+        made.pop();
+    }
+    made.extend_from_slice(rest)?;
+    Ok(made)
+}
+
+// What comes of the next component in a directory.
+fn next_turn(rows: &[PlainRow], mode: Mode, directory: u64, rest: &[u8]) -> Turn {
+    let (name, more) = match rest {
+        [] => return Turn::Ends(End::At(directory)),
+        [_] | [_, b'\\', ..] => return Turn::Ends(End::Refused(Status::ObjectNameInvalid)),
+        [_, name, more @ ..] => (*name, !more.is_empty()),
+    };
+    let named = rows.iter().find(|row| row.directory == directory
+        && is_same(row.name, name, mode.fold));
+    match named {
+        Some(row) => at_row(*row, mode, more),
+        None if more => Turn::Ends(End::Refused(Status::ObjectPathNotFound)),
+        None if mode.create => Turn::Ends(End::Vacant(directory, spelled(name))),
+        None => Turn::Ends(End::Refused(Status::ObjectNameNotFound)),
+    }
+}
+
+// What comes of a component that names an object.
+fn at_row(row: PlainRow, mode: Mode, more: bool) -> Turn {
+    match row.kind {
+        Kind::Directory => Turn::Enters(row.object),
+        Kind::Link(target) if more || (mode.follow && !mode.create) => Turn::Follows(target),
+        Kind::Event if more => Turn::Ends(End::Refused(Status::ObjectTypeMismatch)),
+        _ => Turn::Ends(End::At(row.object)),
+    }
+}
+
+// Whether two bytes are equal, with case or without.
+fn is_same(a: u8, b: u8, fold: bool) -> bool {
+    a == b || fold && a.to_ascii_lowercase() == b.to_ascii_lowercase()
+}
+
+// A name of one byte.
+fn spelled(name: u8) -> &'static [u8] {
+    match name {
+        b'a' => b"a",
+        b'A' => b"A",
+        _ => b"b",
+    }
+}

@@ -1,0 +1,25 @@
+//! Tests of the crates, by their public functions: tables from outside, and what no clause says.
+#![tactic(auto)]
+
+#[cfg(test)]
+mod base;
+#[cfg(test)]
+mod directories;
+#[cfg(test)]
+mod flat_rows;
+#[cfg(test)]
+mod handles;
+#[cfg(test)]
+mod lookup;
+#[cfg(test)]
+mod model;
+#[cfg(test)]
+mod names;
+#[cfg(test)]
+mod objects;
+#[cfg(test)]
+mod plain;
+#[cfg(test)]
+mod space;
+#[cfg(test)]
+mod types;

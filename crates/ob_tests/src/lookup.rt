@@ -1,0 +1,325 @@
+//! Names looked up in small namespaces, and beside a plain search over flat rows.
+
+ghost use Rattle.std.specs.Prelude.{◌≡◌, ◌<◌, [], IfOk};
+ghost use Rattle.ob_objects.specs.Store.{entries_in};
+
+use crate::flat_rows::{End, Kind, PlainRow, search};
+use crate::space::Space;
+use ob_base::{ObjId, Status};
+use ob_dirs::Dir;
+use ob_lookup::{Look, Mode, closed_stays, look, sound_is_closed};
+use ob_names::{Name, NameBuf};
+use ob_objects::StoredBody;
+use ob_plain::{PlainFace, PlainInner, PlainKind, Standard};
+use ob_types::TypeSet;
+use std::alloc::Global;
+use std::sync::Arc;
+use std::test::Fail;
+
+type Body = StoredBody<PlainFace, PlainInner>;
+
+const ROOT: ObjId = ObjId(1);
+
+const OPEN: Mode = Mode {
+    create: false,
+    fold: false,
+    follow: true,
+};
+
+const OPEN_FOLDED: Mode = Mode {
+    create: false,
+    fold: true,
+    follow: true,
+};
+
+const OPEN_LINK: Mode = Mode {
+    create: false,
+    fold: false,
+    follow: false,
+};
+
+const CREATE: Mode = Mode {
+    create: true,
+    fold: false,
+    follow: true,
+};
+
+fn is_end(look: &Look, end: End<'_>) -> bool {
+    match (look, end) {
+        (Look::At(id), End::At(wanted)) => id.0 == wanted,
+        (
+            Look::Vacant {
+                directory,
+                component,
+            },
+            End::Vacant(wanted, name),
+        ) => { directory.0 == wanted && component.as_slice() == name }
+        (Look::Refused(status), End::Refused(wanted)) => *status == wanted,
+        _ => false,
+    }
+}
+
+fn directory(alloc: Global) -> Body
+    ensures { entries_in result ≡ [] }
+{
+    StoredBody::Directory(Dir::new(alloc))
+}
+
+fn link(alloc: Global, target: &[u8]) -> Result<Body, Fail>
+    ensures { IfOk result (λ body. entries_in body ≡ []) }
+{
+    let target = NameBuf::from_name(alloc, Name::read(target)?)?;
+    Ok(StoredBody::Link(target))
+}
+
+fn event(alloc: Global) -> Result<Body, Fail>
+    ensures { IfOk result (λ body. entries_in body ≡ []) }
+{
+    let Ok((face, inner)) = Standard::make(alloc, PlainKind::Event, b"") else {
+        return Err(Fail::from("no event"));
+    };
+    let face = Arc::new(alloc, face)?;
+    Ok(StoredBody::Other { face, inner })
+}
+
+// `\Device` is 2, `\Device\Disk` the event 3, `\Link` leads to `\Device`, `\Self` to itself, the
+// target of `\Bad` has no origin, `\K` leads to `\Device\`, and `\Foo` stands before `\foo`.
+fn small(alloc: Global) -> Result<Space, Fail> {
+    let mut space = Space::new(alloc)?;
+    let device = space.add(alloc, ROOT, b"Device", directory(alloc))?;
+    space.add(alloc, device, b"Disk", event(alloc)?)?;
+    space.add(alloc, ROOT, b"Link", link(alloc, b"\\Device")?)?;
+    space.add(alloc, ROOT, b"Self", link(alloc, b"\\Self")?)?;
+    space.add(alloc, ROOT, b"Bad", link(alloc, b"Device")?)?;
+    space.add(alloc, ROOT, b"K", link(alloc, b"\\Device\\")?)?;
+    space.add(alloc, ROOT, b"Foo", directory(alloc))?;
+    space.add(alloc, ROOT, b"foo", directory(alloc))?;
+    Ok(space)
+}
+
+fn ends_so(
+    alloc: Global,
+    space: &Space,
+    mode: Mode,
+    name: &[u8],
+    end: End<'_>,
+) -> Result<bool, Fail> {
+    let found = look(alloc, space.store(), None, Name::read(name)?, mode, 32)?;
+    Ok(is_end(&found, end))
+}
+
+#[test]
+fn absolute_names(rt: HostRuntime) -> Result<(), Fail> {
+    let space = small(rt.alloc())?;
+    let ends: [(Mode, &[u8], End<'_>); 18] = [
+        (OPEN, b"\\", End::At(1)),
+        (OPEN, b"\\Device", End::At(2)),
+        (OPEN, b"\\Device\\Disk", End::At(3)),
+        (OPEN, b"", End::Refused(Status::ObjectPathSyntaxBad)),
+        (OPEN, b"Device", End::Refused(Status::ObjectPathSyntaxBad)),
+        (OPEN, b"\\Device\\", End::Refused(Status::ObjectNameInvalid)),
+        (OPEN, b"\\\\Disk", End::Refused(Status::ObjectNameInvalid)),
+        (
+            OPEN,
+            b"\\Gone\\Disk",
+            End::Refused(Status::ObjectPathNotFound),
+        ),
+        (OPEN, b"\\Gone\\", End::Refused(Status::ObjectPathNotFound)),
+        (
+            OPEN,
+            b"\\Device\\Gone",
+            End::Refused(Status::ObjectNameNotFound),
+        ),
+        (CREATE, b"\\Device\\Gone", End::Vacant(2, b"Gone")),
+        (CREATE, b"\\??", End::Refused(Status::ObjectNameInvalid)),
+        (CREATE, b"\\Device\\??", End::Vacant(2, b"??")),
+        (
+            OPEN,
+            b"\\Device\\Disk\\",
+            End::Refused(Status::ObjectTypeMismatch),
+        ),
+        (CREATE, b"\\Device\\Disk", End::At(3)),
+        (OPEN_FOLDED, b"\\FOO", End::At(8)),
+        (OPEN, b"\\foo", End::At(9)),
+        (OPEN, b"\\FOO", End::Refused(Status::ObjectNameNotFound)),
+    ];
+    for (mode, name, end) in ends {
+        assert!(rt;
+            ends_so(rt.alloc(), &space, mode, name, end)?,
+            "at {name:?}"
+        );
+    }
+    Ok(())
+}
+
+#[test]
+fn relative_names(rt: HostRuntime) -> Result<(), Fail> {
+    let space = small(rt.alloc())?;
+    let ends: [(u64, &[u8], End<'_>); 7] = [
+        (2, b"Disk", End::At(3)),
+        (2, b"", End::At(2)),
+        (1, b"Device\\Disk", End::At(3)),
+        (2, b"Device", End::Refused(Status::ObjectNameNotFound)),
+        (2, b"\\Device", End::Refused(Status::ObjectPathSyntaxBad)),
+        (3, b"", End::Refused(Status::ObjectTypeMismatch)),
+        (4, b"Disk", End::Refused(Status::ObjectTypeMismatch)),
+    ];
+    for (root, name, end) in ends {
+        let found = look_from(rt.alloc(), &space, ObjId(root), name)?;
+        assert!(rt; is_end(&found, end), "at {root} {name:?}");
+    }
+    Ok(())
+}
+
+// Looks a name up relative to an object.
+fn look_from(alloc: Global, space: &Space, root: ObjId, name: &[u8]) -> Result<Look, Fail> {
+    let store = space.store();
+    let Some(_) = store.get(root) else {
+        return Err(Fail::from("no root object"));
+    };
+    Ok(look(alloc, store, Some(root), Name::read(name)?, OPEN, 32)?)
+}
+
+#[test]
+fn links(rt: HostRuntime) -> Result<(), Fail> {
+    let space = small(rt.alloc())?;
+    let ends: [(Mode, &[u8], End<'_>); 12] = [
+        (OPEN, b"\\Link", End::At(2)),
+        (OPEN, b"\\Link\\Disk", End::At(3)),
+        (OPEN_LINK, b"\\Link", End::At(4)),
+        (OPEN_LINK, b"\\Link\\Disk", End::At(3)),
+        (CREATE, b"\\Link", End::At(4)),
+        (CREATE, b"\\Link\\New", End::Vacant(2, b"New")),
+        (OPEN, b"\\Self", End::Refused(Status::ReparseLimit)),
+        (OPEN_LINK, b"\\Self", End::At(5)),
+        (OPEN, b"\\Bad", End::Refused(Status::ObjectPathSyntaxBad)),
+        (OPEN, b"\\K\\Disk", End::At(3)),
+        (OPEN, b"\\K", End::Refused(Status::ObjectNameInvalid)),
+        (CREATE, b"\\K\\New", End::Vacant(2, b"New")),
+    ];
+    for (mode, name, end) in ends {
+        assert!(rt;
+            ends_so(rt.alloc(), &space, mode, name, end)?,
+            "at {name:?}"
+        );
+    }
+    Ok(())
+}
+
+#[test]
+fn chains_of_links(rt: HostRuntime) -> Result<(), Fail> {
+    let alloc = rt.alloc();
+    let mut space = Space::new(alloc)?;
+    space.add(alloc, ROOT, b"Device", directory(alloc))?;
+    space.add(alloc, ROOT, b"0", link(alloc, b"\\Device")?)?;
+    for k in b'1'..=b'P' {
+        space.add(alloc, ROOT, &[k], link(alloc, &[b'\\', k - 1])?)?;
+    }
+    assert!(rt; ends_so(alloc, &space, OPEN, b"\\O", End::At(2))?);
+    let limit = End::Refused(Status::ReparseLimit);
+    assert!(rt; ends_so(alloc, &space, OPEN, b"\\P", limit)?);
+    Ok(())
+}
+
+#[test]
+fn the_limit_is_told_before_the_length(rt: HostRuntime) -> Result<(), Fail> {
+    let alloc = rt.alloc();
+    let mut space = Space::new(alloc)?;
+    let mut target = vec![in alloc; b'a'; 32_760]?;
+    if let Some(byte) = target.first_mut() {
+        *byte = b'\\';
+    }
+    space.add(alloc, ROOT, b"L", link(alloc, target.as_slice())?)?;
+    let name = b"\\L\\234567".as_slice();
+    let fits = End::Refused(Status::ObjectPathNotFound);
+    assert!(rt; ends_so(alloc, &space, OPEN, name, fits)?);
+    let name = b"\\L\\2345678".as_slice();
+    let long = End::Refused(Status::NameTooLong);
+    assert!(rt; ends_so(alloc, &space, OPEN, name, long)?);
+    let found = look(alloc, space.store(), None, Name::read(name)?, OPEN, 0)?;
+    assert!(rt; is_end(&found, End::Refused(Status::ReparseLimit)));
+    Ok(())
+}
+
+#[test]
+fn laws_hold_at_a_concrete_set(_rt: HostRuntime) {
+    sound_is_closed::<u8, u16, u32, u64>();
+    closed_stays::<u32, u64>();
+}
+
+// The names, the kinds and the links of the namespaces below, and what is looked up in them.
+const NAMES: [u8; 3] = [b'a', b'A', b'b'];
+
+const TARGETS: [&[u8]; 5] = [b"\\a", b"\\b\\", b"\\A\\a", b"b", b"\\"];
+
+const LOOKED_UP: [&[u8]; 8] = [
+    b"\\a",
+    b"\\b",
+    b"\\A\\a",
+    b"\\b\\b",
+    b"\\a\\b\\a",
+    b"\\b\\A\\",
+    b"\\a\\\\b",
+    b"\\b\\a\\b",
+];
+
+// The digit of a number at a place, in a base above 0.
+fn digit(number: u64, place: u32, base: u64) -> u64
+    requires { 0 < base }
+    ensures { result < base }
+{
+    let mut left = number;
+    for _ in 0..place {
+        left /= 7;
+    }
+    left % base
+}
+
+// The namespace of a number: up to four objects, in directories that came before them.
+fn numbered(alloc: Global, number: u64, rows: &mut Vec<PlainRow>) -> Result<Space, Fail> {
+    let mut space = Space::new(alloc)?;
+    let mut last = ROOT;
+    for k in 0..4u32 {
+        let directory_id = if digit(number, k, 2) == 0 { ROOT } else { last };
+        let name = NAMES[(digit(number, k + 1, 3)) as usize];
+        let is_row = |row: &PlainRow| row.directory == directory_id.0 && row.name == name;
+        if rows.iter().any(is_row) {
+            continue;
+        }
+        let target = TARGETS[(digit(number, k + 2, 5)) as usize];
+        let (kind, body) = match digit(number, k, 7) {
+            0 | 1 | 2 => (Kind::Directory, directory(alloc)),
+            3 => (Kind::Event, event(alloc)?),
+            _ => (Kind::Link(target), link(alloc, target)?),
+        };
+        let is_directory = matches!(kind, Kind::Directory);
+        let id = space.add(alloc, directory_id, &[name], body)?;
+        rows.push(PlainRow {
+            directory: directory_id.0,
+            name,
+            object: id.0,
+            kind,
+        })?;
+        if is_directory {
+            last = id;
+        }
+    }
+    Ok(space)
+}
+
+#[test]
+fn ends_as_a_plain_search(rt: HostRuntime) -> Result<(), Fail> {
+    let alloc = rt.alloc();
+    for number in 0..343u64 {
+        let mut rows = Vec::new(alloc);
+        let space = numbered(alloc, number * 7, &mut rows)?;
+        for name in LOOKED_UP {
+            for mode in [OPEN, OPEN_FOLDED, OPEN_LINK, CREATE] {
+                let found = look(alloc, space.store(), None, Name::read(name)?, mode, 3)?;
+                let end = search(alloc, rows.as_slice(), mode, name, 3)?;
+                assert!(rt; is_end(&found, end), "at {number} {name:?}");
+            }
+        }
+    }
+    Ok(())
+}

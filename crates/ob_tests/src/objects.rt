@@ -1,0 +1,240 @@
+//! A small store, and each law at a concrete set of types.
+
+ghost use Rattle.std.specs.Prelude.{◌≡◌, [], Some, IfOk};
+ghost use Rattle.std.specs.Prelude.{◌<◌, All};
+ghost use Rattle.ob_objects.specs.Store.{directory_at};
+
+use ob_base::ObjId;
+use ob_dirs::Dir;
+use ob_names::{Name, NameBuf};
+use ob_objects::{Store, StoredBody, StoredObject, laws};
+use ob_plain::{Counting, Plain, PlainFace, PlainInner, PlainKind, Standard};
+use ob_types::{Reason, TypeSet};
+use std::alloc::Global;
+use std::sync::Arc;
+use std::test::Fail;
+
+type Stored = StoredObject<PlainFace, PlainInner>;
+
+// A temporary object, not exclusive.
+fn temporary(body: StoredBody<PlainFace, PlainInner>) -> Stored
+    ensures { result.body ≡ body }
+{
+    StoredObject {
+        permanent: false,
+        exclusive: false,
+        body,
+    }
+}
+
+// An event that one handle may be open to.
+fn event(alloc: Global) -> Result<Stored, Fail> {
+    let Ok((face, inner)) = Standard::make(alloc, PlainKind::Event, b"1") else {
+        return Err(Fail::from("no event"));
+    };
+    let face = Arc::new(alloc, face)?;
+    Ok(temporary(StoredBody::Other { face, inner }))
+}
+
+fn link(alloc: Global, target: &[u8]) -> Result<Stored, Fail> {
+    let target = NameBuf::from_name(alloc, Name::read(target)?)?;
+    Ok(temporary(StoredBody::Link(target)))
+}
+
+// A store of a directory, 1, a link, 2, and an event, 5.
+fn three(alloc: Global) -> Result<Store<Standard>, Fail>
+    ensures directory { IfOk result (λ store. directory_at store 1 ≡ Some []) }
+    ensures ids { IfOk result (λ store. All (λ e. e.0 < 6) store) }
+{
+    let mut store = Store::new(alloc);
+    store.insert(ObjId(1), temporary(StoredBody::Directory(Dir::new(alloc))))?;
+    store.insert(ObjId(2), link(alloc, b"\\A")?)?;
+    store.insert(ObjId(5), event(alloc)?)?;
+    Ok(store)
+}
+
+#[test]
+fn a_new_store_is_empty(rt: HostRuntime) {
+    let store: Store<Standard> = Store::new(rt.alloc());
+    assert!(rt; store.is_empty());
+    assert_eq!(rt; store.len(), 0);
+    assert!(rt; store.get(ObjId(1)).is_none());
+}
+
+#[test]
+fn a_new_directory_holds_no_name(rt: HostRuntime) -> Result<(), Fail> {
+    let mut store: Store<Standard> = Store::new(rt.alloc());
+    store.insert(ObjId(1), temporary(StoredBody::directory(rt.alloc())))?;
+    assert!(rt; store.is_directory(ObjId(1)));
+    assert!(rt; !store.holds_names(ObjId(1)));
+    Ok(())
+}
+
+#[test]
+fn objects_come_and_go(rt: HostRuntime) -> Result<(), Fail> {
+    let mut store = three(rt.alloc())?;
+    assert_eq!(rt; store.len(), 3);
+    assert!(rt;
+        matches!(
+            store.get(ObjId(2)),
+            Some(StoredObject {
+                body: StoredBody::Link(_),
+                ..
+            })
+        )
+    );
+    assert!(rt; store.get(ObjId(3)).is_none());
+    assert!(rt; store.remove(ObjId(2)).is_some());
+    assert!(rt; store.remove(ObjId(2)).is_none());
+    assert!(rt; store.get(ObjId(2)).is_none());
+    assert_eq!(rt; store.len(), 2);
+    Ok(())
+}
+
+// The entry that a directory has under a component.
+fn found(store: &Store<Standard>, directory: ObjId, component: &[u8]) -> Option<(u64, ObjId)> {
+    match store.get(directory) {
+        Some(
+            StoredObject {
+                body: StoredBody::Directory(dir),
+                ..
+            },
+        ) => dir.find(component, false),
+        _ => None,
+    }
+}
+
+#[test]
+fn names_come_and_go(rt: HostRuntime) -> Result<(), Fail> {
+    let alloc = rt.alloc();
+    let mut store = three(alloc)?;
+    let name = NameBuf::from_name(alloc, Name::read(b"Event")?)?;
+    store.insert_name(ObjId(1), 7, name, ObjId(5))?;
+    assert_eq!(rt; found(&store, ObjId(1), b"Event"), Some((7, ObjId(5))));
+    assert_eq!(rt; found(&store, ObjId(5), b"Event"), None);
+    assert!(rt; !store.remove_name(ObjId(1), 8));
+    assert!(rt; !store.remove_name(ObjId(2), 7));
+    assert!(rt; !store.remove_name(ObjId(9), 7));
+    assert!(rt; store.remove_name(ObjId(1), 7));
+    assert_eq!(rt; found(&store, ObjId(1), b"Event"), None);
+    Ok(())
+}
+
+// A store of two directories, 1 and 4; in the first a name of stamp 7, in the second one of stamp 3,
+// both for the object 5.
+fn named(alloc: Global) -> Result<Store<Standard>, Fail> {
+    let event = NameBuf::from_name(alloc, Name::read(b"Event")?)?;
+    let old = NameBuf::from_name(alloc, Name::read(b"Old")?)?;
+    let mut store = Store::new(alloc);
+    store.insert(ObjId(1), temporary(StoredBody::Directory(Dir::new(alloc))))?;
+    store.insert_name(ObjId(1), 7, event, ObjId(5))?;
+    store.insert(ObjId(4), temporary(StoredBody::Directory(Dir::new(alloc))))?;
+    store.insert_name(ObjId(4), 3, old, ObjId(5))?;
+    Ok(store)
+}
+
+#[test]
+fn the_first_name_is_told(rt: HostRuntime) -> Result<(), Fail> {
+    let store = named(rt.alloc())?;
+    let Some(named) = store.name_of(ObjId(5)) else {
+        return Err(Fail::from("no name"));
+    };
+    assert_eq!(rt; named.directory, ObjId(4));
+    assert_eq!(rt; named.name(), b"Old".as_slice());
+    assert!(rt; store.name_of(ObjId(4)).is_none());
+    assert!(rt; store.name_of(ObjId(9)).is_none());
+    Ok(())
+}
+
+#[test]
+fn names_are_sought_by_their_objects(rt: HostRuntime) -> Result<(), Fail> {
+    let store = named(rt.alloc())?;
+    let some = store.name_where(|id| id == ObjId(5));
+    let none = store.name_where(|id| id != ObjId(5));
+    assert!(rt; some == Some((ObjId(1), 7)) || some == Some((ObjId(4), 3)));
+    assert_eq!(rt; none, None);
+    assert!(rt; store.holds_names(ObjId(1)));
+    assert!(rt; store.holds_names(ObjId(4)));
+    assert!(rt; !store.holds_names(ObjId(5)));
+    Ok(())
+}
+
+#[test]
+fn the_last_object_is_sought(rt: HostRuntime) -> Result<(), Fail> {
+    let store = three(rt.alloc())?;
+    let last = store.last_where(|_| true);
+    let before = store.last_where(|id| id != ObjId(5));
+    let none = store.last_where(|id| id == ObjId(3));
+    assert_eq!(rt; last, Some(ObjId(5)));
+    assert_eq!(rt; before, Some(ObjId(2)));
+    assert_eq!(rt; none, None);
+    assert!(rt; !store.holds_names(ObjId(1)));
+    Ok(())
+}
+
+#[test]
+fn an_object_tells_what_it_is(rt: HostRuntime) -> Result<(), Fail> {
+    let alloc = rt.alloc();
+    let mut store = three(alloc)?;
+    let mut object = event(alloc)?;
+    object.exclusive = true;
+    store.insert(ObjId(6), object)?;
+    store.set_permanent(ObjId(2), true);
+    let told = |id| {
+        (
+            store.is_directory(id),
+            store.is_permanent(id),
+            store.is_exclusive(id),
+        )
+    };
+    assert_eq!(rt; told(ObjId(1)), (true, false, false));
+    assert_eq!(rt; told(ObjId(2)), (false, true, false));
+    assert_eq!(rt; told(ObjId(3)), (false, false, false));
+    assert_eq!(rt; told(ObjId(6)), (false, false, true));
+    Ok(())
+}
+
+#[test]
+fn permanence_is_set(rt: HostRuntime) -> Result<(), Fail> {
+    let mut store = three(rt.alloc())?;
+    store.set_permanent(ObjId(2), true);
+    store.set_permanent(ObjId(3), true);
+    let permanent = |id| store.get(id).is_some_and(|object| object.permanent);
+    assert!(rt; !permanent(ObjId(1)));
+    assert!(rt; permanent(ObjId(2)));
+    assert!(rt; !permanent(ObjId(3)));
+    Ok(())
+}
+
+#[test]
+fn an_object_is_opened_and_closed(rt: HostRuntime) -> Result<(), Fail> {
+    let mut store = three(rt.alloc())?;
+    let mut set = Counting::new(Plain);
+    assert_eq!(rt; store.open(ObjId(5), &mut set, Reason::Created), Ok(()));
+    assert_eq!(rt; store.open(ObjId(5), &mut set, Reason::Opened), Err(2));
+    assert_eq!(rt; store.open(ObjId(1), &mut set, Reason::Opened), Ok(()));
+    assert_eq!(rt; store.open(ObjId(9), &mut set, Reason::Opened), Ok(()));
+    assert_eq!(rt; set.opens(), 1);
+    store.close(ObjId(5), &mut set, 0, 0);
+    store.close(ObjId(2), &mut set, 0, 0);
+    assert_eq!(rt; set.closes(), 1);
+    assert_eq!(rt; store.open(ObjId(5), &mut set, Reason::Opened), Ok(()));
+    Ok(())
+}
+
+#[test]
+fn laws_hold_at_a_concrete_set(_rt: HostRuntime) {
+    laws::stored_is_the_object::<u8, u16, u32, u64>();
+    laws::store_finds_what_the_state_finds::<u8, u16, u32, u64>();
+    laws::opens_and_closes_are_the_machines::<u8, u16, u32, u64>();
+    laws::rows_are_the_entries::<u32, u64>();
+    laws::rows_follow_the_objects::<u32, u64>();
+    laws::rows_follow_the_names::<u32, u64>();
+    laws::permanence_is_the_objects::<u32, u64>();
+    laws::objects_are_stored::<u32, u64>();
+    laws::objects_follow::<u32, u64>();
+    laws::a_name_may_be_inserted::<u8, u16, u32, u64>();
+    laws::set_is_the_machines::<u8, u16, u32, u64>();
+    laws::a_new_object_opens::<u8, u16, u32, u64>();
+    laws::what_came_last_is_taken_back::<u32, u64>();
+}

@@ -1,0 +1,131 @@
+//! Small namespaces, for tests.
+
+ghost use Rattle.std.specs.Prelude.{◌≡◌, ◌≢◌, ◌<◌, ◌+◌, ◌^◌, ◌-◌, [], All, IsSome, IsTrue};
+ghost use Rattle.std.specs.Option.{option_copied};
+ghost use Rattle.ob_objects.specs.Store.{directory_at, entries_at, entries_in, IsStore};
+ghost use Rattle.ob_lookup.specs.Closed.{IsClosed};
+ghost use Rattle.ob_tests.specs.Space.{IsSpace};
+
+use ob_base::{Fault, ObjId};
+use ob_dirs::Dir;
+use ob_names::{Name, NameBuf};
+use ob_objects::{Store, StoredBody, StoredObject};
+use ob_plain::{PlainFace, PlainInner, Standard};
+use std::alloc::Global;
+use std::marker::Model;
+use std::test::Fail;
+
+// A store in which each name leads to an object, and the number that the next object gets, which is
+// the stamp of its name too. The first one is the root.
+#[derive(Drop)]
+pub(crate) struct Space {
+    store: Store<Standard>,
+    next: u64,
+}
+
+impl Model for Space {
+    ghost use Rattle.ob_objects.specs.Store.{Entries};
+    ghost use Rattle.ob_tests.specs.Space.{IsSpace};
+    ghost use Rattle.ob_plain.specs.declared.plain.PlainFace.{PlainFace};
+    ghost use Rattle.ob_plain.specs.declared.plain.PlainInner.{PlainInner};
+
+    ghost Value = { Entries PlainFace PlainInner };
+
+    ghost view = { λ space. space.store };
+
+    ghost invariant = { λ space. IsSpace space.store space.next };
+}
+
+impl Space {
+    // A namespace of a root directory alone.
+    pub(crate) fn new(alloc: Global) -> Result<Space, Fail> {
+        let mut store = Store::new(alloc);
+        let root = temporary(StoredBody::Directory(Dir::new(alloc)));
+        store.insert(ObjId(1), root)?;
+        Ok(Space { store, next: 2 })
+    }
+
+    // The store.
+    pub(crate) fn store(&self) -> &Store<Standard>
+        ensures { IsClosed result.now }
+    {
+        &self.store
+    }
+
+    // Adds an object in which no entry lies, under a name in a directory, and gives its id.
+    pub(crate) fn add(
+        &mut self,
+        alloc: Global,
+        directory: ObjId,
+        name: &[u8],
+        body: StoredBody<PlainFace, PlainInner>,
+    ) -> Result<ObjId, Fail>
+        requires { entries_in body ≡ [] }
+    {
+        let name = NameBuf::from_name(alloc, Name::read(name)?)?;
+        let id = self.next;
+        if id == u64::MAX || !is_free(&self.store, directory, name.as_slice()) {
+            return Err(Fail::from("no place for the object"));
+        }
+        self.next += 1;
+        put(&mut self.store, directory, id, name, temporary(body))?;
+        Ok(ObjId(id))
+    }
+}
+
+// A temporary object, not exclusive.
+fn temporary(body: StoredBody<PlainFace, PlainInner>) -> StoredObject<PlainFace, PlainInner>
+    ensures { result.body ≡ body }
+{
+    StoredObject {
+        permanent: false,
+        exclusive: false,
+        body,
+    }
+}
+
+// Whether a directory is there and has no entry of this spelling.
+fn is_free(store: &Store<Standard>, directory: ObjId, name: &[u8]) -> bool
+    ensures there { IsTrue result → IsSome (directory_at store.now directory) }
+    ensures free { IsTrue result → All (λ entry. entry.name ≢ name.now) (entries_at store.now directory) }
+{
+    let Some(dir) = dir_of(store, directory) else {
+        return false;
+    };
+    dir.find(name, false).is_none()
+}
+
+// The entries of a directory, where it is one.
+fn dir_of(store: &Store<Standard>, id: ObjId) -> Option<&Dir>
+    ensures { option_copied result ≡ directory_at store.now id }
+{
+    match store.get(id) {
+        Some(
+            StoredObject {
+                body: StoredBody::Directory(dir),
+                ..
+            },
+        ) => Some(dir),
+        _ => None,
+    }
+}
+
+// Puts an object and a name for it into a store, both with this number.
+fn put(
+    store: &mut Store<Standard>,
+    directory: ObjId,
+    id: u64,
+    name: NameBuf,
+    object: StoredObject<PlainFace, PlainInner>,
+) -> Result<(), Fault>
+    requires space { IsSpace store.old id }
+    requires there { IsSome (directory_at store.old directory) }
+    requires free { All (λ entry. entry.name ≢ name) (entries_at store.old directory) }
+    requires empty { entries_in object.body ≡ [] }
+    ensures { IsSpace store.new (id + 1) }
+{
+    store.insert(ObjId(id), object)?;
+    let _ = store.len();
+    store.insert_name(directory, id, name, ObjId(id))?;
+    Ok(())
+}
