@@ -8,20 +8,19 @@ ghost use Rattle.ob_model.specs.Opening.{opening};
 ghost use Rattle.ob_model.specs.Settle.{IsSettled};
 ghost use Rattle.ob_model.specs.Sound.{IsSound};
 ghost use Rattle.ob_model.specs.Step.{Step};
-ghost use Rattle.ob_core.specs.Namespace.{state_of, answer_of};
-ghost use Rattle.ob_core.specs.Orderly.{IsOrderly};
+ghost use Rattle.ob_space.specs.Namespace.{state_of};
+ghost use Rattle.ob_space.specs.Orderly.{IsOrderly};
+ghost use Rattle.ob_core.specs.Starting.{answer_of};
 
 use crate::closing::close;
 use crate::creating::create;
 use crate::making::{Making, link_to, object_of};
 use crate::naming::{query_link, query_name};
-use crate::opening::opening_store;
-use crate::opens::open_name;
-use crate::space::Namespace;
-use crate::wanted::type_wanted;
+use crate::opens::{open_name, type_wanted};
 use ob_base::{Fault, Proc};
 use ob_model::{Command, Reply, Wanted};
 use ob_objects::Store;
+use ob_space::{Namespace, opening_store};
 use ob_types::TypeSet;
 use std::alloc::Global;
 use std::marker::Model;
@@ -38,8 +37,8 @@ pub struct Core<T: TypeSet> {
 
 impl<T: TypeSet> Model for Core<T> {
     ghost use Rattle.ob_model.specs.State.{State};
-    ghost use Rattle.ob_core.specs.Namespace.{state_of};
-    ghost use Rattle.ob_core.specs.Orderly.{IsCore};
+    ghost use Rattle.ob_space.specs.Namespace.{state_of};
+    ghost use Rattle.ob_core.specs.Kept.{IsCore};
 
     ghost Value = { State T.Kind T T.Face T.Inner };
 

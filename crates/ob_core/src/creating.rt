@@ -12,21 +12,18 @@ ghost use Rattle.ob_model.specs.Sound.{IsSound};
 ghost use Rattle.ob_model.specs.Step.{CreatesAt, CreatesIn};
 ghost use Rattle.ob_lookup.specs.Look.{mode_of};
 ghost use Rattle.ob_core.specs.Making.{making_of};
-ghost use Rattle.ob_core.specs.Namespace.{state_of};
-ghost use Rattle.ob_core.specs.Orderly.{IsOrderly};
+ghost use Rattle.ob_space.specs.Namespace.{state_of};
+ghost use Rattle.ob_space.specs.Orderly.{IsOrderly};
 
-use crate::judge::judge_create;
-use crate::looking::look_up;
-use crate::making::{Making, Spot, is_fit, make_named, make_unnamed, type_made};
+use crate::making::{Making, is_fit, make_named, make_unnamed, type_made};
 use crate::opens::open_at;
 use crate::replies::status_alone;
-use crate::roots::root_object;
-use crate::space::{Namespace, is_live};
 use ob_base::{Attrs, Fault, Handle, ObjId, Proc, Status};
 use ob_lookup::{Look, Mode};
 use ob_model::{Place, Reply};
 use ob_names::Name;
 use ob_objects::Store;
+use ob_space::{Namespace, Spot, is_live, judge_create, look_up, root_object};
 use ob_types::TypeSet;
 
 /// Makes an object at a place; with OPENIF it opens what is there already.

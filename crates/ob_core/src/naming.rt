@@ -7,15 +7,14 @@ ghost use Rattle.ob_model.specs.Naming.{row_of, IsWayUp, path_text};
 ghost use Rattle.ob_model.specs.Step.{QueriesName, QueriesLink};
 ghost use Rattle.ob_objects.specs.Named.{row_of_named};
 ghost use Rattle.ob_objects.specs.Store.{rows_of};
-ghost use Rattle.ob_core.specs.Namespace.{state_of, rows_alone};
+ghost use Rattle.ob_space.specs.Namespace.{state_of, rows_alone};
 
-use crate::handles::held_of;
 use crate::replies::{status_alone, with_text};
-use crate::space::{Namespace, ROOT, is_live};
 use ob_base::{Handle, ObjId, Proc, Status};
 use ob_model::{Bytes, Reply};
 use ob_names::LONGEST_NAME;
 use ob_objects::{Store, StoredBody, laws};
+use ob_space::{Namespace, ROOT, held_of, is_live};
 use ob_types::TypeSet;
 use std::alloc::{AllocError, Global};
 

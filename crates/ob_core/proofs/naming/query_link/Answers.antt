@@ -8,9 +8,9 @@ use Rattle.ob_model.specs.declared.reply.Given.TheVariants.{Text}
 use Rattle.ob_model.specs.Naming.{target_of}
 use Rattle.ob_model.specs.Refusals.{gives}
 use Rattle.ob_objects.specs.Store.{body_of_stored}
-use Rattle.ob_core.specs.Namespace.{state_of}
+use Rattle.ob_space.specs.Namespace.{state_of}
 use Rattle.ob_core.proofs.Queries.{queries_link, tells_target}
-use Rattle.ob_core.proofs.Stored.{target_is, no_target}
+use Rattle.ob_space.proofs.Stored.{target_is, no_target}
 use Rattle.ob_core.proofs.naming.query_link.Goals as goal
 
 pub returns-in_default-get : goal.returns-in_default-get

@@ -6,7 +6,7 @@ use Rattle.ob_model.specs.declared.reply.Given.TheVariants.{Text}
 use Rattle.ob_model.specs.Naming.{IsWayUp, path_text}
 use Rattle.ob_model.specs.Refusals.{gives}
 use Rattle.ob_objects.specs.Store.{rows_of}
-use Rattle.ob_core.specs.Namespace.{state_of, rows_alone}
+use Rattle.ob_space.specs.Namespace.{state_of, rows_alone}
 use Rattle.ob_core.proofs.Queries.{at_none, at_some, queries, tells_none, tells_path, answer_long, answer_short}
 use Rattle.ob_core.proofs.naming.query_name.Goals as goal
 
