@@ -1,3 +1,4 @@
+pub mod Early
 pub mod Kept
 pub mod Making
 pub mod Starting

@@ -1,6 +1,6 @@
 //! Creates.
 
-ghost use Rattle.std.specs.Prelude.{◌≡◌, Some, true, IfOk, IfErr, OnErr};
+ghost use Rattle.std.specs.Prelude.{◌≡◌, Some, true, IsOk, IfOk, IfErr, OnErr};
 ghost use Rattle.ob_base.specs.declared.Fault.TheVariants.{Memory};
 ghost use Rattle.ob_model.specs.declared.command.Place.TheVariants.{At};
 ghost use Rattle.ob_model.specs.declared.reply.Answer.TheVariants.{Done};
@@ -11,6 +11,7 @@ ghost use Rattle.ob_model.specs.Settle.{IsSettled};
 ghost use Rattle.ob_model.specs.Sound.{IsSound};
 ghost use Rattle.ob_model.specs.Step.{CreatesAt, CreatesIn};
 ghost use Rattle.ob_lookup.specs.Look.{mode_of};
+ghost use Rattle.ob_core.specs.Early.{is_create_refused, lacks_root};
 ghost use Rattle.ob_core.specs.Making.{making_of};
 ghost use Rattle.ob_space.specs.Namespace.{state_of};
 ghost use Rattle.ob_space.specs.Orderly.{IsOrderly};
@@ -40,6 +41,7 @@ pub(crate) fn create<T: TypeSet>(
     ensures orderly { IsOrderly T.idle (state_of T.Kind space.new) }
     ensures step { IfOk result (λ reply.
         CreatesAt T.procedures (state_of T.Kind space.old) process place.now attrs (making_of making.entry) (Done reply) (state_of T.Kind space.new)) }
+    ensures early { is_create_refused (state_of T.Kind space.old) process place.now attrs (making_of making.entry) ≡ true → IsOk result }
     ensures err { OnErr result (state_of T.Kind space.new ≡ state_of T.Kind space.old) }
     ensures memory { IfErr result (λ fault. fault ≡ Memory) }
 {
@@ -75,6 +77,7 @@ fn create_at_name<T: TypeSet>(
     ensures step { IfOk result (λ reply.
         CreatesIn T.procedures (state_of T.Kind space.old) process (At root name.entry) attrs (making_of making.entry) (Done reply)
         (state_of T.Kind space.new)) }
+    ensures early { lacks_root (state_of T.Kind space.old) process root ≡ true → IsOk result }
     ensures err { OnErr result (state_of T.Kind space.new ≡ state_of T.Kind space.old) }
     ensures memory { IfErr result (λ fault. fault ≡ Memory) }
 {

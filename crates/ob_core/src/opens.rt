@@ -1,6 +1,6 @@
 //! Opens, by name and of an object that was found.
 
-ghost use Rattle.std.specs.Prelude.{◌≡◌, Some, None, IsTrue, IfOk, IfErr, OnErr};
+ghost use Rattle.std.specs.Prelude.{◌≡◌, Some, None, true, IsTrue, IsOk, IfOk, IfErr, OnErr};
 ghost use Rattle.ob_base.specs.declared.Fault.TheVariants.{Memory};
 ghost use Rattle.ob_model.specs.declared.reply.Answer.TheVariants.{Done};
 ghost use Rattle.ob_model.specs.Opens.{OpensAt, Opens, open_mode, type_wanted};
@@ -12,6 +12,7 @@ ghost use Rattle.ob_model.specs.Procedures.{without_parse};
 ghost use Rattle.ob_lookup.specs.Look.{mode_of, look_of};
 ghost use Rattle.ob_space.specs.Namespace.{state_of};
 ghost use Rattle.ob_space.specs.Orderly.{IsOrderly};
+ghost use Rattle.ob_core.specs.Early.{is_open_refused};
 
 use crate::replies::{status_alone, with_handle};
 use ob_base::{Attrs, Fault, Handle, ObjId, Proc, Status};
@@ -47,6 +48,7 @@ pub(crate) fn open_name<T: TypeSet>(
     ensures orderly { IsOrderly T.idle (state_of T.Kind space.new) }
     ensures step { IfOk result (λ reply.
         OpensName T.procedures (state_of T.Kind space.old) process root name.now attrs wanted (Done reply) (state_of T.Kind space.new)) }
+    ensures early { is_open_refused (state_of T.Kind space.old) process root name.now attrs ≡ true → IsOk result }
     ensures err { OnErr result (state_of T.Kind space.new ≡ state_of T.Kind space.old) }
     ensures memory { IfErr result (λ fault. fault ≡ Memory) }
 {
