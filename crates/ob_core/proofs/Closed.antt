@@ -16,10 +16,10 @@ use Rattle.ob_objects.specs.Store.{Entries, objects_of, rows_of}
 use Rattle.ob_objects.specs.Changes.{with_closed, set_after_close}
 use Rattle.ob_objects.proofs.Shown.{closed_is_machines}
 use Rattle.ob_objects.proofs.Follow.{set_after_close_is_machines}
-use Rattle.ob_core.specs.declared.space.Namespace.{Namespace}
-use Rattle.ob_core.specs.Namespace.{state_of, handles_alone}
-use Rattle.ob_core.specs.Orderly.{IsOrderly, IsNamedPermanent}
-use Rattle.ob_core.proofs.Orders.{closed_orderly}
+use Rattle.ob_space.specs.declared.space.Namespace.{Namespace}
+use Rattle.ob_space.specs.Namespace.{state_of, handles_alone}
+use Rattle.ob_space.specs.Orderly.{IsOrderly, IsNamedPermanent}
+use Rattle.ob_space.proofs.Orders.{closed_orderly}
 use Rattle.ob_core.proofs.Stepping.{find_passes, found_handle, closed_state}
 
 -- a count of handles that were filtered from few is small

@@ -22,8 +22,8 @@ use Rattle.ob_model.specs.Refusals.{answers, name_refusals, is_unserved, create_
 use Rattle.ob_model.specs.Opens.{Opens, OpensAt, open_mode}
 use Rattle.ob_model.specs.Creates.{Making, Creates, type_made, is_fit, create_mode}
 use Rattle.ob_model.specs.Step.{WithRoot, OpensName, CreatesAt, CreatesIn}
-use Rattle.ob_core.specs.Namespace.{handles_alone}
-use Rattle.ob_core.specs.Roots.{root_of}
+use Rattle.ob_space.specs.Namespace.{handles_alone}
+use Rattle.ob_space.specs.Roots.{root_of}
 use Rattle.ob_core.proofs.Stepping.{is_done, is_refused}
 
 -- a name whose refusals don't hold is a name

@@ -1,16 +1,6 @@
-pub mod Backward
 pub mod Closed
-pub mod Granted
 pub mod Judged
-pub mod Looked
 pub mod Made
-pub mod Marks
-pub mod Opened
-pub mod Orders
-pub mod Placed
 pub mod Queries
-pub mod Results
-pub mod Staying
 pub mod Stepping
-pub mod Stored
 pub mod WaysUp

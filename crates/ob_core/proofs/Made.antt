@@ -18,12 +18,12 @@ use Rattle.ob_model.specs.Creates.{is_store_full, with_object, with_row, created
 use Rattle.ob_model.proofs.Staying.{created_settled, settled_itself}
 use Rattle.ob_objects.specs.declared.object.StoredObject.{StoredObject}
 use Rattle.ob_objects.specs.Store.{body_of_stored}
-use Rattle.ob_core.specs.declared.making.Spot.{Spot}
-use Rattle.ob_core.specs.Making.{spot_of, IsVacantSpot, placed}
-use Rattle.ob_core.specs.Orderly.{IsOrderly}
-use Rattle.ob_core.specs.Values.{IsFree}
-use Rattle.ob_core.proofs.Granted.{free_in_state, has_room}
-use Rattle.ob_core.proofs.Orders.{object_orderly, drawn_orderly}
+use Rattle.ob_space.specs.declared.placing.Spot.{Spot}
+use Rattle.ob_space.specs.Placing.{spot_of, IsVacantSpot, placed}
+use Rattle.ob_space.specs.Orderly.{IsOrderly}
+use Rattle.ob_space.specs.Values.{IsFree}
+use Rattle.ob_space.proofs.Granted.{free_in_state, has_room}
+use Rattle.ob_space.proofs.Orders.{object_orderly, drawn_orderly}
 
 -- a spot is given, or none is
 spot_given : (spot : Option Spot) → is_some spot ≡ is_some (spot_of spot)

@@ -14,7 +14,7 @@ use Rattle.ob_model.specs.State.{State, is_live, held_of, body_of}
 use Rattle.ob_model.specs.Naming.{IsWayUp, path_text, path_answer, TellsName, target_of, TellsTarget}
 use Rattle.ob_model.specs.Refusals.{answers, gives, IsRefused, Unless}
 use Rattle.ob_model.specs.Step.{QueriesName, QueriesLink}
-use Rattle.ob_core.specs.Namespace.{rows_alone, handles_alone}
+use Rattle.ob_space.specs.Namespace.{rows_alone, handles_alone}
 
 -- what is told of an option, where it is none and where it has a value
 pub at_none : {X : Type 0} (o : Option X) (P : Type 0) (Q : X → Type 0) → o ≡ None → MatchOption o P Q → P

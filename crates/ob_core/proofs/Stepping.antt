@@ -21,7 +21,7 @@ use Rattle.ob_model.specs.Refusals.{Unless, IsRefused, answers, gives}
 use Rattle.ob_model.specs.Opens.{OpensAt, asked_by}
 use Rattle.ob_model.specs.Step.{Closes}
 use Rattle.ob_model.proofs.Staying.{granted_settled, settled_itself}
-use Rattle.ob_core.proofs.Orders.{only_handle}
+use Rattle.ob_space.proofs.Orders.{only_handle}
 
 module _ {K T F I : Type 0} (refusals : List (Bool × Status)) (s : State K T F I) (answer : Answer) (t : State K T F I) (Does : Type 0) where
   -- a step is refused with the first refusal that holds, and else does what it does

@@ -1,8 +1,4 @@
-pub mod Namespace
-pub mod Orderly
-pub mod Settling
-pub mod Roots
-pub mod Opening
-pub mod Looking
-pub mod Values
+pub mod Early
+pub mod Kept
 pub mod Making
+pub mod Starting

@@ -4,16 +4,16 @@ ghost use Rattle.std.specs.Prelude.{◌≡◌};
 ghost use Rattle.ob_model.specs.declared.reply.Answer.TheVariants.{Done};
 ghost use Rattle.ob_model.specs.Settle.{IsSettled};
 ghost use Rattle.ob_model.specs.Step.{Closes};
-ghost use Rattle.ob_core.specs.Namespace.{state_of};
-ghost use Rattle.ob_core.specs.Orderly.{IsOrderly};
+ghost use Rattle.ob_space.specs.Namespace.{state_of};
+ghost use Rattle.ob_space.specs.Orderly.{IsOrderly};
 
-use crate::handles::{handle_count, handle_count_in, held_of, take};
 use crate::replies::status_alone;
-use crate::settle::settle_after_close;
-use crate::space::{Namespace, is_live};
 use ob_base::{Handle, Proc, Status};
 use ob_model::Reply;
 use ob_objects::Store;
+use ob_space::{
+    Namespace, handle_count, handle_count_in, held_of, is_live, settle_after_close, take,
+};
 use ob_types::TypeSet;
 
 /// Closes a handle of the caller. No memory is taken.

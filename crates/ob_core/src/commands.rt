@@ -1,6 +1,6 @@
 //! The namespace: commands in, replies out.
 
-ghost use Rattle.std.specs.Prelude.{◌≡◌, length, IfOk, IfErr, OnErr};
+ghost use Rattle.std.specs.Prelude.{◌≡◌, length, true, IsOk, IfOk, IfErr, OnErr};
 ghost use Rattle.ob_base.specs.declared.Fault.TheVariants.{Memory};
 ghost use Rattle.ob_model.specs.declared.reply.Answer.TheVariants.{Done};
 ghost use Rattle.ob_model.specs.declared.reply.Event.TheVariants.{Start};
@@ -8,20 +8,20 @@ ghost use Rattle.ob_model.specs.Opening.{opening};
 ghost use Rattle.ob_model.specs.Settle.{IsSettled};
 ghost use Rattle.ob_model.specs.Sound.{IsSound};
 ghost use Rattle.ob_model.specs.Step.{Step};
-ghost use Rattle.ob_core.specs.Namespace.{state_of, answer_of};
-ghost use Rattle.ob_core.specs.Orderly.{IsOrderly};
+ghost use Rattle.ob_space.specs.Namespace.{state_of};
+ghost use Rattle.ob_space.specs.Orderly.{IsOrderly};
+ghost use Rattle.ob_core.specs.Early.{IsClose, is_refused_early};
+ghost use Rattle.ob_core.specs.Starting.{answer_of};
 
 use crate::closing::close;
 use crate::creating::create;
 use crate::making::{Making, link_to, object_of};
 use crate::naming::{query_link, query_name};
-use crate::opening::opening_store;
-use crate::opens::open_name;
-use crate::space::Namespace;
-use crate::wanted::type_wanted;
+use crate::opens::{open_name, type_wanted};
 use ob_base::{Fault, Proc};
 use ob_model::{Command, Reply, Wanted};
 use ob_objects::Store;
+use ob_space::{Namespace, opening_store};
 use ob_types::TypeSet;
 use std::alloc::Global;
 use std::marker::Model;
@@ -38,8 +38,8 @@ pub struct Core<T: TypeSet> {
 
 impl<T: TypeSet> Model for Core<T> {
     ghost use Rattle.ob_model.specs.State.{State};
-    ghost use Rattle.ob_core.specs.Namespace.{state_of};
-    ghost use Rattle.ob_core.specs.Orderly.{IsCore};
+    ghost use Rattle.ob_space.specs.Namespace.{state_of};
+    ghost use Rattle.ob_core.specs.Kept.{IsCore};
 
     ghost Value = { State T.Kind T T.Face T.Inner };
 
@@ -79,10 +79,15 @@ impl<T: TypeSet> Core<T> {
     /// Starts a command of a process: makes one step of the machine, and answers what it answers.
     ///
     /// Every refusal is a reply; docs/namespace.md has their order. The only fault is want of memory,
-    /// which is told only where a growth was refused, and then nothing has changed.
+    /// which is told only where a growth was refused, and then nothing has changed. A close takes no
+    /// memory, nor does a command that is refused before its lookup, so these never fail: where the
+    /// process is gone, the flags, the other parameters or the bytes or the length of the name are
+    /// refused, or the process lacks the handle that it names.
     pub fn start(&mut self, process: Proc, command: &Command<T::Kind>) -> Result<Started, Fault>
         ensures step { IfOk result (λ started.
             Step T.procedures self.old (Start process command.now) (answer_of started) self.new) }
+        ensures close { IsClose command.now → IsOk result }
+        ensures early { is_refused_early self.old process command.now ≡ true → IsOk result }
         ensures err { OnErr result (self.new ≡ self.old) }
         ensures memory { IfErr result (λ fault. fault ≡ Memory) }
     {
@@ -123,6 +128,8 @@ fn reply_to<T: TypeSet>(
     ensures orderly { IsOrderly T.idle (state_of T.Kind space.new) }
     ensures step { IfOk result (λ reply.
         Step T.procedures (state_of T.Kind space.old) (Start process command.now) (Done reply) (state_of T.Kind space.new)) }
+    ensures close { IsClose command.now → IsOk result }
+    ensures early { is_refused_early (state_of T.Kind space.old) process command.now ≡ true → IsOk result }
     ensures err { OnErr result (state_of T.Kind space.new ≡ state_of T.Kind space.old) }
     ensures memory { IfErr result (λ fault. fault ≡ Memory) }
 {

@@ -1,6 +1,6 @@
 //! Creates.
 
-ghost use Rattle.std.specs.Prelude.{◌≡◌, Some, true, IfOk, IfErr, OnErr};
+ghost use Rattle.std.specs.Prelude.{◌≡◌, Some, true, IsOk, IfOk, IfErr, OnErr};
 ghost use Rattle.ob_base.specs.declared.Fault.TheVariants.{Memory};
 ghost use Rattle.ob_model.specs.declared.command.Place.TheVariants.{At};
 ghost use Rattle.ob_model.specs.declared.reply.Answer.TheVariants.{Done};
@@ -11,22 +11,20 @@ ghost use Rattle.ob_model.specs.Settle.{IsSettled};
 ghost use Rattle.ob_model.specs.Sound.{IsSound};
 ghost use Rattle.ob_model.specs.Step.{CreatesAt, CreatesIn};
 ghost use Rattle.ob_lookup.specs.Look.{mode_of};
+ghost use Rattle.ob_core.specs.Early.{is_create_refused, lacks_root};
 ghost use Rattle.ob_core.specs.Making.{making_of};
-ghost use Rattle.ob_core.specs.Namespace.{state_of};
-ghost use Rattle.ob_core.specs.Orderly.{IsOrderly};
+ghost use Rattle.ob_space.specs.Namespace.{state_of};
+ghost use Rattle.ob_space.specs.Orderly.{IsOrderly};
 
-use crate::judge::judge_create;
-use crate::looking::look_up;
-use crate::making::{Making, Spot, is_fit, make_named, make_unnamed, type_made};
+use crate::making::{Making, is_fit, make_named, make_unnamed, type_made};
 use crate::opens::open_at;
 use crate::replies::status_alone;
-use crate::roots::root_object;
-use crate::space::{Namespace, is_live};
 use ob_base::{Attrs, Fault, Handle, ObjId, Proc, Status};
 use ob_lookup::{Look, Mode};
 use ob_model::{Place, Reply};
 use ob_names::Name;
 use ob_objects::Store;
+use ob_space::{Namespace, Spot, is_live, judge_create, look_up, root_object};
 use ob_types::TypeSet;
 
 /// Makes an object at a place; with OPENIF it opens what is there already.
@@ -43,6 +41,7 @@ pub(crate) fn create<T: TypeSet>(
     ensures orderly { IsOrderly T.idle (state_of T.Kind space.new) }
     ensures step { IfOk result (λ reply.
         CreatesAt T.procedures (state_of T.Kind space.old) process place.now attrs (making_of making.entry) (Done reply) (state_of T.Kind space.new)) }
+    ensures early { is_create_refused (state_of T.Kind space.old) process place.now attrs (making_of making.entry) ≡ true → IsOk result }
     ensures err { OnErr result (state_of T.Kind space.new ≡ state_of T.Kind space.old) }
     ensures memory { IfErr result (λ fault. fault ≡ Memory) }
 {
@@ -78,6 +77,7 @@ fn create_at_name<T: TypeSet>(
     ensures step { IfOk result (λ reply.
         CreatesIn T.procedures (state_of T.Kind space.old) process (At root name.entry) attrs (making_of making.entry) (Done reply)
         (state_of T.Kind space.new)) }
+    ensures early { lacks_root (state_of T.Kind space.old) process root ≡ true → IsOk result }
     ensures err { OnErr result (state_of T.Kind space.new ≡ state_of T.Kind space.old) }
     ensures memory { IfErr result (λ fault. fault ≡ Memory) }
 {

@@ -1,31 +1,27 @@
-//! Making an object: what is made, where it is to stand, and the making itself.
+//! Making an object: what is made, and the making itself.
 
-ghost use Rattle.std.specs.Prelude.{◌≡◌, ◌+◌, ◌<◌, ◌≤◌, ◌&&◌, ◌||◌, true, false, [], None, Some, cond};
-ghost use Rattle.std.specs.Prelude.{IfOk, IfErr, OnErr, vec_len, vec_capacity};
+ghost use Rattle.std.specs.Prelude.{◌≡◌, ◌&&◌, ◌||◌, true, false, [], None, Some, IfOk, IfErr, OnErr};
 ghost use Rattle.std.specs.Option.{is_some};
 ghost use Rattle.ob_base.specs.declared.Fault.TheVariants.{Memory};
-ghost use Rattle.ob_base.specs.Attrs.{has_flag, inherit_flag, permanent_flag, exclusive_flag};
+ghost use Rattle.ob_base.specs.Attrs.{has_flag, permanent_flag, exclusive_flag};
 ghost use Rattle.ob_types.specs.Told.{IsTold};
 ghost use Rattle.ob_model.specs.declared.reply.Answer.TheVariants.{Done};
-ghost use Rattle.ob_model.specs.State.{greatest_number};
-ghost use Rattle.ob_model.specs.Grants.{is_table_full, with_handle};
+ghost use Rattle.ob_model.specs.Grants.{is_table_full};
 ghost use Rattle.ob_model.specs.Settle.{IsSettled};
 ghost use Rattle.ob_model.specs.Creates as machine;
 ghost use Rattle.ob_model.specs.Creates.{is_store_full, is_stampless};
 ghost use Rattle.ob_objects.specs.Store.{body_of_stored, entries_in};
-ghost use Rattle.ob_core.specs.Making.{making_of, spot_of, IsVacantSpot, IsVacant};
-ghost use Rattle.ob_core.specs.Namespace.{state_of};
-ghost use Rattle.ob_core.specs.Orderly.{IsOrderly, IsIdleBody};
+ghost use Rattle.ob_space.specs.Placing.{spot_of, IsVacantSpot, IsVacant};
+ghost use Rattle.ob_core.specs.Making.{making_of};
+ghost use Rattle.ob_space.specs.Namespace.{state_of};
+ghost use Rattle.ob_space.specs.Orderly.{IsOrderly, IsIdleBody};
 
-use crate::placing::place_new;
 use crate::replies::{status_alone, with_handle};
-use crate::room::append;
-use crate::space::{Namespace, is_stampless, is_store_full, is_table_full};
-use crate::values::free_value;
-use ob_base::{Attrs, Fault, Handle, ObjId, Proc, Status};
-use ob_model::{Bytes, Held, Reply, Wanted};
+use ob_base::{Attrs, Fault, Proc, Status};
+use ob_model::{Bytes, Reply, Wanted};
 use ob_names::{Name, NameBuf};
 use ob_objects::{Store, StoredBody, StoredObject};
+use ob_space::{Namespace, Spot, add_handle, free_value, is_full, is_stampless, place_new};
 use ob_types::{Refusal, TypeSet, laws};
 use std::alloc::Global;
 use std::sync::Arc;
@@ -37,13 +33,6 @@ pub(crate) enum Making<'a, K> {
     Directory,
     Link { target: &'a [u8] },
     Object { kind: K, args: &'a [u8] },
-}
-
-/// Where a new object is to stand: at a name in a directory.
-#[derive(Drop)]
-pub(crate) struct Spot {
-    pub(crate) directory: ObjId,
-    pub(crate) name: NameBuf,
 }
 
 /// A link to a target, as it is handed in.
@@ -135,13 +124,6 @@ pub(crate) fn make_unnamed<T: TypeSet>(
     make_in_room(space, process, None, attrs, making)
 }
 
-/// Whether no handle or no object more fits.
-fn is_full<T: TypeSet>(space: &Namespace<T, Store<T>>, process: Proc) -> bool
-    ensures { result ≡ (is_table_full (state_of T.Kind space.now) process || is_store_full (state_of T.Kind space.now)) }
-{
-    is_table_full(space, process) || is_store_full(space)
-}
-
 /// Makes an object for which there is room, at a spot, where one is given, and opens a handle to it.
 /// All growths come before the first procedure of the set that changes it. What is there stays: an
 /// object more, with its handle, lets nothing go.
@@ -224,37 +206,4 @@ fn object_made<F, I>(body: StoredBody<F, I>, attrs: Attrs, named: bool) -> Store
         exclusive: attrs.is_exclusive(),
         body,
     }
-}
-
-/// Draws the number of a new object that stands at a name or nowhere, and adds a handle to it, in
-/// room that was made.
-fn add_handle<T: TypeSet>(
-    space: &mut Namespace<T, Store<T>>,
-    process: Proc,
-    value: Handle,
-    attrs: Attrs,
-    named: bool,
-)
-    requires handles { vec_len space.old.handles < vec_capacity space.old.handles }
-    requires id { space.old.next_id ≤ greatest_number }
-    requires stamp { named ≡ true → space.old.next_stamp ≤ greatest_number }
-    requires order { space.old.next_order ≤ greatest_number }
-    ensures { let s = state_of T.Kind space.old in
-        state_of T.Kind space.new ≡ with_handle
-        (record s { next_id = s.next_id + 1; next_stamp = s.next_stamp + cond named 1 0 })
-        process value s.next_id (has_flag inherit_flag attrs) }
-{
-    append(
-        &mut space.handles,
-        Held {
-            process,
-            value,
-            object: ObjId(space.next_id),
-            inherit: attrs.is_inherit(),
-            order: space.next_order,
-        },
-    );
-    space.next_id += 1;
-    space.next_stamp += named as u64;
-    space.next_order += 1;
 }

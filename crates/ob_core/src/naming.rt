@@ -1,21 +1,21 @@
 //! What is told of an object: its path, and the target of a link.
 
-ghost use Rattle.std.specs.Prelude.{◌≡◌, ℕ, List, ◌<◌, map, All, IfOk, MatchOption};
+ghost use Rattle.std.specs.Prelude.{◌≡◌, ℕ, List, ◌<◌, true, map, All, IsOk, IfOk, MatchOption};
 ghost use Rattle.std.specs.Option.{option_map};
 ghost use Rattle.ob_model.specs.declared.reply.Answer.TheVariants.{Done};
 ghost use Rattle.ob_model.specs.Naming.{row_of, IsWayUp, path_text};
 ghost use Rattle.ob_model.specs.Step.{QueriesName, QueriesLink};
 ghost use Rattle.ob_objects.specs.Named.{row_of_named};
 ghost use Rattle.ob_objects.specs.Store.{rows_of};
-ghost use Rattle.ob_core.specs.Namespace.{state_of, rows_alone};
+ghost use Rattle.ob_space.specs.Namespace.{state_of, rows_alone};
+ghost use Rattle.ob_core.specs.Early.{is_use_refused};
 
-use crate::handles::held_of;
 use crate::replies::{status_alone, with_text};
-use crate::space::{Namespace, ROOT, is_live};
 use ob_base::{Handle, ObjId, Proc, Status};
 use ob_model::{Bytes, Reply};
 use ob_names::LONGEST_NAME;
 use ob_objects::{Store, StoredBody, laws};
+use ob_space::{Namespace, ROOT, held_of, is_live};
 use ob_types::TypeSet;
 use std::alloc::{AllocError, Global};
 
@@ -34,8 +34,9 @@ pub(crate) fn query_name<T: TypeSet>(
     handle: Handle,
 ) -> Result<Reply, AllocError>
     requires { All (λ r. r.directory < r.object) (rows_of space.now.store) }
-    ensures { IfOk result (λ reply.
+    ensures step { IfOk result (λ reply.
         QueriesName (state_of T.Kind space.now) process handle (Done reply) (state_of T.Kind space.now)) }
+    ensures early { is_use_refused (state_of T.Kind space.now) process handle ≡ true → IsOk result }
 {
     if !is_live(space, process) {
         return Ok(status_alone(Status::ProcessGone));
@@ -105,8 +106,9 @@ pub(crate) fn query_link<T: TypeSet>(
     process: Proc,
     handle: Handle,
 ) -> Result<Reply, AllocError>
-    ensures { IfOk result (λ reply.
+    ensures step { IfOk result (λ reply.
         QueriesLink (state_of T.Kind space.now) process handle (Done reply) (state_of T.Kind space.now)) }
+    ensures early { is_use_refused (state_of T.Kind space.now) process handle ≡ true → IsOk result }
 {
     if !is_live(space, process) {
         return Ok(status_alone(Status::ProcessGone));

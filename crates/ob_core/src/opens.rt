@@ -1,31 +1,37 @@
 //! Opens, by name and of an object that was found.
 
-ghost use Rattle.std.specs.Prelude.{◌≡◌, Some, None, IsTrue, IfOk, IfErr, OnErr};
+ghost use Rattle.std.specs.Prelude.{◌≡◌, Some, None, true, IsTrue, IsOk, IfOk, IfErr, OnErr};
 ghost use Rattle.ob_base.specs.declared.Fault.TheVariants.{Memory};
 ghost use Rattle.ob_model.specs.declared.reply.Answer.TheVariants.{Done};
-ghost use Rattle.ob_model.specs.Opens.{OpensAt, Opens, open_mode};
+ghost use Rattle.ob_model.specs.Opens.{OpensAt, Opens, open_mode, type_wanted};
 ghost use Rattle.ob_model.specs.Step.{OpensName};
 ghost use Rattle.ob_model.specs.Settle.{IsSettled};
 ghost use Rattle.ob_model.specs.Sound.{IsSound};
 ghost use Rattle.ob_model.specs.Looks as machine;
 ghost use Rattle.ob_model.specs.Procedures.{without_parse};
 ghost use Rattle.ob_lookup.specs.Look.{mode_of, look_of};
-ghost use Rattle.ob_core.specs.Namespace.{state_of};
-ghost use Rattle.ob_core.specs.Orderly.{IsOrderly};
+ghost use Rattle.ob_space.specs.Namespace.{state_of};
+ghost use Rattle.ob_space.specs.Orderly.{IsOrderly};
+ghost use Rattle.ob_core.specs.Early.{is_open_refused};
 
-use crate::granting::grant;
-use crate::judge::judge_open;
-use crate::looking::look_up;
 use crate::replies::{status_alone, with_handle};
-use crate::roots::root_object;
-use crate::space::{Namespace, is_live};
-use crate::wanted::is_wanted_at;
 use ob_base::{Attrs, Fault, Handle, ObjId, Proc, Status};
 use ob_lookup::{Look, Mode};
 use ob_model::{Reply, Wanted};
 use ob_names::Name;
 use ob_objects::Store;
+use ob_space::{Namespace, grant, is_live, is_wanted_at, judge_open, look_up, root_object};
 use ob_types::TypeSet;
+
+/// The type that an open of an object asks for.
+pub(crate) fn type_wanted<K: Copy>(want: Option<K>) -> Wanted<K>
+    ensures { result ≡ type_wanted want }
+{
+    match want {
+        Some(kind) => Wanted::Kind(kind),
+        None => Wanted::Anything,
+    }
+}
 
 /// Opens an object by name, of the type that is asked for.
 pub(crate) fn open_name<T: TypeSet>(
@@ -42,6 +48,7 @@ pub(crate) fn open_name<T: TypeSet>(
     ensures orderly { IsOrderly T.idle (state_of T.Kind space.new) }
     ensures step { IfOk result (λ reply.
         OpensName T.procedures (state_of T.Kind space.old) process root name.now attrs wanted (Done reply) (state_of T.Kind space.new)) }
+    ensures early { is_open_refused (state_of T.Kind space.old) process root name.now attrs ≡ true → IsOk result }
     ensures err { OnErr result (state_of T.Kind space.new ≡ state_of T.Kind space.old) }
     ensures memory { IfErr result (λ fault. fault ≡ Memory) }
 {

@@ -1,4 +1,5 @@
-//! Tests of the crates, by their public functions: tables from outside, and what no clause says.
+//! Tests of the namespace's crates, by their public functions: tables from outside, and what no clause
+//! says. The crate holds tests alone, since a crate with tests is proved twice.
 #![tactic(auto)]
 
 #[cfg(test)]
@@ -15,6 +16,8 @@ mod lookup;
 mod model;
 #[cfg(test)]
 mod names;
+#[cfg(test)]
+mod namespace;
 #[cfg(test)]
 mod objects;
 #[cfg(test)]

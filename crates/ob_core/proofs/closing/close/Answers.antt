@@ -2,7 +2,7 @@
 use Rattle.std.proofs.Common.{ap, sym, ◌∙◌, arith}
 use Rattle.ob_model.specs.Settle.{settle}
 use Rattle.ob_model.specs.declared.reply.Answer.TheVariants.{Done}
-use Rattle.ob_core.specs.Namespace.{state_of}
+use Rattle.ob_space.specs.Namespace.{state_of}
 use Rattle.ob_core.proofs.Closed.{few_handles, held_is, is_closed, closed_is_orderly, closed_stays}
 use Rattle.ob_core.proofs.Stepping.{closes}
 use Rattle.ob_core.proofs.closing.close.Goals as goal

@@ -7,8 +7,8 @@ use Rattle.ob_model.specs.declared.state.Wanted.{Wanted}
 use Rattle.ob_model.specs.declared.state.Wanted.TheVariants as wanted
 use Rattle.ob_model.specs.Opens.{type_wanted}
 use Rattle.ob_model.specs.Step.{Step, OpensName}
-use Rattle.ob_core.specs.Namespace.{state_of}
-use Rattle.ob_core.proofs.Results.{IfOk-map}
+use Rattle.ob_space.specs.Namespace.{state_of}
+use Rattle.ob_space.proofs.Results.{IfOk-map}
 use Rattle.ob_core.proofs.commands.reply_to.Goals as goal
 
 pub returns-in-OpenDirectory-clause-step : goal.returns-in-OpenDirectory-clause-step

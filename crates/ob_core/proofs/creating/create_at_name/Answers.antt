@@ -5,11 +5,11 @@ use Rattle.ob_model.specs.Procedures.{without_parse}
 use Rattle.ob_model.specs.Looks.{At, Vacant, Refused, LooksUp, most_reparses}
 use Rattle.ob_lookup.specs.Look.{mode_of, look_of}
 use Rattle.ob_core.specs.Making.{making_of}
-use Rattle.ob_core.specs.Namespace.{state_of, handles_alone}
-use Rattle.ob_core.specs.Roots.{root_of}
-use Rattle.ob_core.proofs.Results.{IfOk-map}
+use Rattle.ob_space.specs.Namespace.{state_of, handles_alone}
+use Rattle.ob_space.specs.Roots.{root_of}
+use Rattle.ob_space.proofs.Results.{IfOk-map}
 use Rattle.ob_core.proofs.Judged.{creates_looked}
-use Rattle.ob_core.proofs.Looked.{root_stands}
+use Rattle.ob_space.proofs.Looked.{root_stands}
 use Rattle.ob_core.proofs.creating.create_at_name.Goals as goal
 
 pub look_up-requires-clause-root : goal.look_up-requires-clause-root

@@ -3,9 +3,9 @@ use Rattle.std.proofs.Common.{◌∙◌, ap, refl}
 use Rattle.ob_model.specs.declared.reply.Answer.TheVariants.{Done}
 use Rattle.ob_objects.specs.Store.{body_of_stored}
 use Rattle.ob_core.specs.Making.{making_of}
-use Rattle.ob_core.specs.Namespace.{state_of}
+use Rattle.ob_space.specs.Namespace.{state_of}
 use Rattle.ob_core.proofs.Made.{dropped_is_orderly, created_is_orderly, makes_given}
-use Rattle.ob_core.proofs.Results.{of_ok, of_err}
+use Rattle.ob_space.proofs.Results.{of_ok, of_err}
 use Rattle.ob_core.proofs.making.make_in_room.Goals as goal
 
 pub returns-in-Err-clause-orderly : goal.returns-in-Err-clause-orderly

@@ -6,12 +6,12 @@ use Rattle.ob_model.specs.declared.reply.Given.TheVariants.{Text}
 use Rattle.ob_model.specs.Naming.{IsWayUp, path_text}
 use Rattle.ob_model.specs.Refusals.{gives}
 use Rattle.ob_objects.specs.Store.{rows_of}
-use Rattle.ob_core.specs.Namespace.{state_of, rows_alone}
+use Rattle.ob_space.specs.Namespace.{state_of, rows_alone}
 use Rattle.ob_core.proofs.Queries.{at_none, at_some, queries, tells_none, tells_path, answer_long, answer_short}
 use Rattle.ob_core.proofs.naming.query_name.Goals as goal
 
-pub returns-in_default-2 : goal.returns-in_default-2
-returns-in_default-2 g c =
+pub returns-in_default-2-clause-step : goal.returns-in_default-2-clause-step
+returns-in_default-2-clause-step g c =
     let s = state_of g.row.T-Kind.Denot c.args.space.now in
     let held = c.in-Some.held in
     let rows = rows_of c.args.space.now.store in
@@ -21,8 +21,8 @@ returns-in_default-2 g c =
     queries s c.args.process c.args.handle (Done c.with_text.result) held c.deref.result.now (sym c.is_live.ensures ∙ c.if-not-is_live.false) c.deref.ensures.value c.in-Some.ensures
     (tells_none s rows held.object (Done c.with_text.result) refl none told)
 
-pub returns-then-len-gt-LONGEST_NAME : goal.returns-then-len-gt-LONGEST_NAME
-returns-then-len-gt-LONGEST_NAME g c =
+pub returns-then-len-gt-LONGEST_NAME-clause-step : goal.returns-then-len-gt-LONGEST_NAME-clause-step
+returns-then-len-gt-LONGEST_NAME-clause-step g c =
     let s = state_of g.row.T-Kind.Denot c.args.space.now in
     let held = c.in-Some.held in
     let rows = rows_of c.args.space.now.store in
@@ -35,8 +35,8 @@ returns-then-len-gt-LONGEST_NAME g c =
     queries s c.args.process c.args.handle answer held c.deref.result.now (sym c.is_live.ensures ∙ c.if-not-is_live.false) c.deref.ensures.value c.in-Some.ensures
     (tells_path s rows held.object _ text answer refl way says told)
 
-pub returns : goal.returns
-returns g c =
+pub returns-clause-step : goal.returns-clause-step
+returns-clause-step g c =
     let s = state_of g.row.T-Kind.Denot c.args.space.now in
     let held = c.in-Some.held in
     let rows = rows_of c.args.space.now.store in

@@ -5,7 +5,7 @@ use Rattle.ob_model.specs.Naming.{IsWayUp}
 use Rattle.ob_model.specs.State.{root_id}
 use Rattle.ob_objects.specs.Named.{row_of_named}
 use Rattle.ob_objects.specs.Store.{rows_of}
-use Rattle.ob_core.specs.Namespace.{rows_alone}
+use Rattle.ob_space.specs.Namespace.{rows_alone}
 use Rattle.ob_core.proofs.WaysUp.{differ, agree, falls, no_row, onward, behind}
 use Rattle.ob_core.proofs.naming.way_up.Goals as goal
 

@@ -3,7 +3,7 @@
 use Rattle.std.proofs.Common.{ℕ, List, ◌++◌, map}
 use Rattle.ob_model.specs.Naming.{IsWayUp}
 use Rattle.ob_objects.specs.Store.{rows_of}
-use Rattle.ob_core.specs.Namespace.{rows_alone}
+use Rattle.ob_space.specs.Namespace.{rows_alone}
 use Rattle.ob_core.proofs.naming.way_up.Given as goal
 
 abbrev pub invariant-loop-current : goal.invariant-loop-current

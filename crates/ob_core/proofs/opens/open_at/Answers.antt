@@ -5,7 +5,7 @@ use Rattle.ob_model.specs.Procedures as model
 use Rattle.ob_model.specs.declared.reply.Answer.TheVariants.{Done}
 use Rattle.ob_model.specs.Grants.{Grants}
 use Rattle.ob_model.specs.Opens.{asked_by}
-use Rattle.ob_core.specs.Namespace.{state_of}
+use Rattle.ob_space.specs.Namespace.{state_of}
 use Rattle.ob_core.proofs.Stepping.{granted_stays, opens_granted, opens_denied}
 use Rattle.ob_core.proofs.opens.open_at.Goals as goal
 

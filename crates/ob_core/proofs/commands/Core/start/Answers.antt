@@ -5,9 +5,9 @@ use Rattle.ob_model.specs.declared.reply.Event.TheVariants.{Start}
 use Rattle.ob_model.specs.Settle.{IsSettled}
 use Rattle.ob_model.proofs.Steps.{step_sound}
 use Rattle.ob_model.proofs.Staying.{step_settled}
-use Rattle.ob_core.specs.Namespace.{state_of}
-use Rattle.ob_core.proofs.Results.{from_result}
-use Rattle.ob_core.proofs.Looked.{same_sound}
+use Rattle.ob_space.specs.Namespace.{state_of}
+use Rattle.ob_space.proofs.Results.{from_result}
+use Rattle.ob_space.proofs.Looked.{same_sound}
 use Rattle.ob_core.proofs.commands.Core.start.Goals as goal
 
 pub invariant_of-self-2 : goal.invariant_of-self-2

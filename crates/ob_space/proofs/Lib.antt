@@ -1,0 +1,10 @@
+pub mod Backward
+pub mod Granted
+pub mod Looked
+pub mod Marks
+pub mod Opened
+pub mod Orders
+pub mod Placed
+pub mod Results
+pub mod Staying
+pub mod Stored

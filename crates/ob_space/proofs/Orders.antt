@@ -1,0 +1,354 @@
+-- What keeps a state orderly: settling, an open with its grant, a new object, a close, and an object
+-- that is dropped.
+use Rattle.std.proofs.Common.{◌≡◌, ◌≢◌, ℕ, zero, suc, ◌+◌, ◌<◌, ◌==◌, Bool, true, false, ◌&&◌, ◌||◌, not, cond, List, [], ◌∷◌, ◌++◌, length, get_or, map, filter, find, All, None, Some, option_map, refl, ap, ◌∙◌, sym, subst, arith, eqb-true, eq-eqb}
+use Rattle.std.specs.Prelude.{count_by, MatchOption}
+use Rattle.std.specs.List.{AllPairs, list_any}
+use Rattle.std.specs.Option.{option_map_or, is_some}
+use Rattle.std.proofs.lemmas.Bool.{ne_eqb}
+use Rattle.std.proofs.lemmas.List.{length-append}
+use Rattle.std.proofs.lemmas.List.Elements.{All-nil, All-append, All-push, All-map, All-filter, All-weaker}
+use Rattle.std.proofs.lemmas.List.Folds.{list_any-append}
+use Rattle.std.proofs.lemmas.List.Kept.{AllPairs-filter, AllPairs-cons}
+use Rattle.std.proofs.lemmas.List.Quantifiers.{all_pairs_push}
+use Rattle.std.proofs.lemmas.List.Sums.{length-filter, count_by-le-length}
+use Rattle.ob_model.specs.declared.state.Body.{Body}
+use Rattle.ob_model.specs.declared.state.Body.TheVariants.{Directory, Link, Other}
+use Rattle.ob_model.specs.declared.state.Object.{Object}
+use Rattle.ob_model.specs.declared.state.Held.{Held}
+use Rattle.ob_model.specs.declared.state.Row.{Row}
+use Rattle.ob_model.specs.State.{State, root_id, is_directory, is_directory_body, most_handles, table_size, handle_count, handle_count_in}
+use Rattle.ob_model.specs.Procedures.{Procedures, Reason}
+use Rattle.ob_model.specs.Settle.{settle, is_alive, is_kept, is_permanent, has_handle, has_name}
+use Rattle.ob_model.specs.Grants.{with_open, with_handle, opened_object, opened_body, IsFreeValue}
+use Rattle.ob_model.specs.Closing.{is_handle, without_handle, closed_handle, closed_object, closed_body}
+use Rattle.ob_model.specs.Creates.{Spot, new_rows, with_object, with_row}
+use Rattle.ob_model.proofs.Soundness.{root_stands, opened_root, closed_root, opened_object-id, closed_object-id, is_directory-with_object}
+use Rattle.ob_model.proofs.Finds.{filter_all, filter_none}
+use Rattle.ob_space.specs.Orderly.{IsIdleBody, is_held, IsIdleUnheld, IsNamedPermanent, IsOrderly}
+
+-- pairs of a list whose elements change, and stay as they were to one another
+pairs-map : {X Y : Type 0} (R : Y → Y → Type 0) (f : X → Y) (xs : List X) → AllPairs (λ a b. R (f a) (f b)) xs → AllPairs R (map f xs)
+pairs-map R f [] h = λ i j d less below. absurd (omega (arith, below))
+pairs-map R f (x ∷ xs) h =
+    AllPairs-cons R (f x) (map f xs) (All-map (R (f x)) f xs (λ k d below. h 0 (suc k) d (omega arith) (omega (arith, below))))
+    (pairs-map R f xs (λ i j d less below. h (suc i) (suc j) d (omega (arith, less)) (omega (arith, below))))
+
+-- no element passes where none is said to
+pub none_pass : {X : Type 0} (test : X → Bool) (xs : List X) → list_any test xs ≡ false → All (λ x. test x ≡ false) xs
+none_pass test [] h = All-nil (λ x. test x ≡ false)
+none_pass test (x ∷ xs) h = go (test x) refl h (none_pass test xs)
+  where
+    go : (b : Bool) → test x ≡ b → (b || list_any test xs) ≡ false → (list_any test xs ≡ false → All (λ y. test y ≡ false) xs) → All (λ y. test y ≡ false) (x ∷ xs)
+    go true e h rest = cc
+    go false e h rest = All-append (λ y. test y ≡ false) (x ∷ []) xs (All-push (λ y. test y ≡ false) [] x (All-nil (λ y. test y ≡ false)) e) (rest h)
+
+-- counts of what none does, and of what all do
+count_none : {X : Type 0} (test : X → Bool) (xs : List X) → list_any test xs ≡ false → count_by test xs ≡ 0
+count_none test xs h = sym (length-filter test xs) ∙ ap length (filter_none test xs (none_pass test xs h))
+
+count_all : {X : Type 0} (test : X → Bool) (xs : List X) → All (λ x. test x ≡ true) xs → count_by test xs ≡ length xs
+count_all test xs h = sym (length-filter test xs) ∙ ap length (filter_all test xs h)
+
+-- of a list that a filter went over, where it keeps each element that a test finds
+any_stays : {X : Type 0} (test keeps : X → Bool) (xs : List X) → All (λ x. test x ≡ true → keeps x ≡ true) xs → list_any test (filter keeps xs) ≡ list_any test xs
+any_stays test keeps [] h = refl
+any_stays test keeps (x ∷ xs) h = go (keeps x) (test x) refl refl (any_stays test keeps xs (λ k d below. h (suc k) d (omega (arith, below))))
+  where
+    go : (k t : Bool) → keeps x ≡ k → test x ≡ t → list_any test (filter keeps xs) ≡ list_any test xs
+        → list_any test (cond k (x ∷ filter keeps xs) (filter keeps xs)) ≡ (test x || list_any test xs)
+    go true t e f rest = ap (λ b. test x || b) rest
+    go false true e f rest = let kept : keeps x ≡ true = h 0 x (omega arith) f in cc
+    go false false e f rest = rest ∙ ap (λ b. b || list_any test xs) (sym f)
+
+or_false : (a b : Bool) → (a || b) ≡ false → (a ≡ false) × (b ≡ false)
+or_false true b h = cc
+or_false false b h = (refl, h)
+
+-- with a further handle, what isn't held wasn't held, and isn't what the handle leads to
+unheld_before : (handles : List Held) (h : Held) (o : ℕ) → is_held (handles ++ h ∷ []) o ≡ false → (is_held handles o ≡ false) × ((h.object == o) ≡ false)
+unheld_before handles h o e =
+    let parts = or_false (is_held handles o) (is_held (h ∷ []) o) (sym (list_any-append (λ x. x.object == o) handles (h ∷ [])) ∙ e) in
+    (parts.0, (or_false (h.object == o) false parts.1).0)
+
+-- no handle is one that a search for it doesn't find
+not_among : (p value : ℕ) (hs : List Held) → find (is_handle p value) hs ≡ None → (k : ℕ) (d : Held) → k < length hs → is_handle p value (get_or hs k d) ≡ false
+not_among p value [] e k d below = absurd (omega (arith, below))
+not_among p value (h ∷ hs) e k d below = go (is_handle p value h) refl e k below (not_among p value hs)
+  where
+    go : (b : Bool) → is_handle p value h ≡ b → cond b (Some h) (find (is_handle p value) hs) ≡ None → (k : ℕ) → k < length (h ∷ hs)
+        → (find (is_handle p value) hs ≡ None → (k : ℕ) (d : Held) → k < length hs → is_handle p value (get_or hs k d) ≡ false)
+        → is_handle p value (get_or (h ∷ hs) k d) ≡ false
+    go true f e k below rest = cc
+    go false f e zero below rest = f
+    go false f e (suc k) below rest = rest e k d (omega (arith, below))
+
+-- what a search finds at the first place where its test passes
+find_at : {X : Type 0} (test : X → Bool) (xs : List X) (i : ℕ) (d : X) → i < length xs → test (get_or xs i d) ≡ true
+    → ((k : ℕ) → k < i → test (get_or xs k d) ≡ false) → find test xs ≡ Some (get_or xs i d)
+find_at test [] i d below passes before = absurd (omega (arith, below))
+find_at test (x ∷ xs) zero d below passes before = ap (λ (b : Bool). cond b (Some x) (find test xs)) passes
+find_at test (x ∷ xs) (suc i) d below passes before =
+    ap (λ (b : Bool). cond b (Some x) (find test xs)) (before 0 (omega arith))
+    ∙ find_at test xs i d (omega (arith, below)) passes (λ k less. before (suc k) (omega (arith, less)))
+
+-- an object whose number is looked for is found, in a list whose numbers rise
+pub finds_itself : {F I : Type 0} (objects : List (Object F I)) → AllPairs (λ a b. a.id < b.id) objects → All (λ x. find (λ y. y.id == x.id) objects ≡ Some x) objects
+finds_itself objects rising k d below =
+    find_at (λ y. y.id == (get_or objects k d).id) objects k d below (eq-eqb (get_or objects k d).id (get_or objects k d).id refl)
+    (λ j less. ne_eqb (get_or objects j d).id (get_or objects k d).id (λ same. let lower = rising j k d less below in omega (arith, lower, same)))
+
+-- and is as permanent as the state says
+pub permanent_itself : {K T F I : Type 0} (s : State K T F I) → AllPairs (λ a b. a.id < b.id) s.objects → All (λ x. is_permanent s x.id ≡ x.permanent) s.objects
+permanent_itself s rising k d below = ap (λ (o : _). option_map_or (λ x. x.permanent) o false) (finds_itself s.objects rising k d below)
+
+-- the handles of one process are all handles
+module _ {K T F I : Type 0} {idle : I → Type 0} (s : State K T F I) (orderly : IsOrderly idle s) (p : ℕ) (first : p ≡ 1) where
+  all_own : All (λ h. (h.process == p) ≡ true) s.handles
+  all_own = All-weaker (λ h. h.process ≡ 1) (λ h. (h.process == p) ≡ true) (λ h e. eq-eqb h.process p (e ∙ sym first)) s.handles orderly.own
+
+  pub own_size : table_size s p ≡ length s.handles
+  own_size = count_all (λ h. h.process == p) s.handles all_own
+
+  -- a free value differs from those of all handles
+  pub value_differs : (value : ℕ) → IsFreeValue s p value → (k : ℕ) (d : Held) → k < length s.handles → (get_or s.handles k d).value ≢ value
+  value_differs value free k d below same =
+      let missed : is_handle p value (get_or s.handles k d) ≡ false = not_among p value s.handles free.1 k d below in
+      let mine : ((get_or s.handles k d).process == p) ≡ true = all_own k d below in
+      let valued : ((get_or s.handles k d).value == value) ≡ true = eq-eqb (get_or s.handles k d).value value same in
+      cc
+
+module _ {K T F I : Type 0} (g : Procedures K T F I) (idle : I → Type 0) where
+  -- settling leaves an orderly state
+  pub settled_orderly : (s : State K T F I) → IsOrderly idle s → IsOrderly idle (settle g s)
+  settled_orderly s h = record {
+    root = root_stands g s ∙ h.root;
+    rising = AllPairs-filter (λ a b. a.id < b.id) (λ x. is_alive s x.id) s.objects h.rising;
+    drawn = All-filter (λ x. is_alive s x.id) (λ x. x.id < s.next_id) s.objects h.drawn;
+    descending = All-filter (is_kept s) (λ r. r.directory < r.object) s.rows h.descending;
+    stamped = All-filter (is_kept s) (λ r. r.stamp < s.next_stamp) s.rows h.stamped;
+    named = All-filter (λ x. is_alive s x.id) (IsNamedPermanent (settle g s)) s.objects (λ k d below. named_settled (get_or s.objects k d) (permanent_itself s h.rising k d below) (h.named k d below));
+    unheld = All-filter (λ x. is_alive s x.id) (IsIdleUnheld idle s.handles) s.objects h.unheld;
+    own = h.own;
+    distinct = h.distinct;
+    few = h.few;
+  }
+    where
+      -- the names of a permanent object stay
+      named_settled : (x : Object F I) → is_permanent s x.id ≡ x.permanent → IsNamedPermanent s x → IsNamedPermanent (settle g s) x
+      named_settled x itself before permanent =
+          ap (λ (b : Bool). (x.id == root_id) || b)
+          (any_stays (λ r. r.object == x.id) (is_kept s) s.rows (λ k d below found. kept (get_or s.rows k d) (eqb-true (get_or s.rows k d).object x.id found)))
+          ∙ before permanent
+        where
+          kept : (r : Row) → r.object ≡ x.id → is_kept s r ≡ true
+          kept r at = ap (λ (b : Bool). b || has_handle s r.object) (ap (is_permanent s) at ∙ itself ∙ permanent)
+
+  -- an open and a grant to process 1, which has room for it, leave an orderly state
+  pub granted_orderly : (s : State K T F I) (p value o : ℕ) (reason : Reason) (inherit : Bool)
+      → IsOrderly idle s → p ≡ 1 → table_size s p < most_handles → IsFreeValue s p value → IsOrderly idle (with_handle (with_open g s o reason) p value o inherit)
+  granted_orderly s p value o reason inherit h first room free =
+      let f = opened_object g s.set o reason in
+      let new : Held = record { process = p; value = value; object = o; inherit = inherit; order = s.next_order } in
+      record {
+        root = opened_root g s p value o reason inherit ∙ h.root;
+        rising = pairs-map (λ a b. a.id < b.id) f s.objects
+            (λ i j d less below. subst (λ (n : ℕ). n < (f (get_or s.objects j d)).id) (sym (opened_object-id g s.set o reason (get_or s.objects i d)))
+            (subst (λ (n : ℕ). (get_or s.objects i d).id < n) (sym (opened_object-id g s.set o reason (get_or s.objects j d))) (h.rising i j d less below)));
+        drawn = All-map (λ x. x.id < s.next_id) f s.objects (λ k d below. subst (λ (n : ℕ). n < s.next_id) (sym (opened_object-id g s.set o reason (get_or s.objects k d))) (h.drawn k d below));
+        descending = h.descending;
+        stamped = h.stamped;
+        named = All-map (IsNamedPermanent s) f s.objects (All-weaker (IsNamedPermanent s) (λ x. IsNamedPermanent s (f x)) opened_named s.objects h.named);
+        unheld = All-map (IsIdleUnheld idle (s.handles ++ new ∷ [])) f s.objects
+            (All-weaker (IsIdleUnheld idle s.handles) (λ x. IsIdleUnheld idle (s.handles ++ new ∷ []) (f x)) (opened_unheld new refl) s.objects h.unheld);
+        own = All-push (λ x. x.process ≡ 1) s.handles new h.own first;
+        distinct = all_pairs_push (λ a b. a.value ≢ b.value) s.handles new h.distinct (value_differs s h p first value free);
+        few = omega (arith, length-append s.handles (new ∷ []), room, own_size s h p first);
+      }
+    where
+      opened_named : (x : Object F I) → IsNamedPermanent s x → IsNamedPermanent s (opened_object g s.set o reason x)
+      opened_named x before = go (x.id == o)
+        where
+          go : (b : Bool) → IsNamedPermanent s (cond b (record x { body = opened_body g s.set x.body reason }) x)
+          go true = before
+          go false = before
+
+      opened_unheld : (new : Held) → new.object ≡ o → (x : Object F I) → IsIdleUnheld idle s.handles x → IsIdleUnheld idle (s.handles ++ new ∷ []) (opened_object g s.set o reason x)
+      opened_unheld new at x before = go (x.id == o) refl
+        where
+          go : (b : Bool) → (x.id == o) ≡ b → IsIdleUnheld idle (s.handles ++ new ∷ []) (cond b (record x { body = opened_body g s.set x.body reason }) x)
+          go true e unheld =
+              let other = (unheld_before s.handles new x.id unheld).1 in
+              let same : (new.object == x.id) ≡ true = eq-eqb new.object x.id (at ∙ sym (eqb-true x.id o e)) in
+              cc
+          go false e unheld = before (unheld_before s.handles new x.id unheld).0
+
+  -- an object that is dropped leaves an orderly state
+  pub drawn_orderly : (s : State K T F I) (set : T) → IsOrderly idle s → IsOrderly idle (record s { next_id = s.next_id + 1; set = set })
+  drawn_orderly s set h = record {
+    root = h.root;
+    rising = h.rising;
+    drawn = All-weaker (λ x. x.id < s.next_id) (λ x. x.id < s.next_id + 1) (λ x less. omega (arith, less)) s.objects h.drawn;
+    descending = h.descending;
+    stamped = h.stamped;
+    named = h.named;
+    unheld = h.unheld;
+    own = h.own;
+    distinct = h.distinct;
+    few = h.few;
+  }
+
+not_false : (b : Bool) → (b ≡ true → ⊥) → not b ≡ true
+not_false true h = absurd (h refl)
+not_false false h = refl
+
+-- of handles whose values differ, all that a search for one could find lead to its object
+pub only_handle : (p value : ℕ) (hs : List Held) (h : Held) → AllPairs (λ a b. a.value ≢ b.value) hs → find (is_handle p value) hs ≡ Some h
+    → All (λ k. is_handle p value k ≡ true → k.object ≡ h.object) hs
+only_handle p value [] h differ e = All-nil (λ k. is_handle p value k ≡ true → k.object ≡ h.object)
+only_handle p value (x ∷ hs) h differ e = go (is_handle p value x) refl e (only_handle p value hs h (λ i j d less below. differ (suc i) (suc j) d (omega (arith, less)) (omega (arith, below))))
+  where
+    valued : (k : Held) → is_handle p value k ≡ true → k.value ≡ value
+    valued k f = eqb-true k.value value (and_right (k.process == p) (k.value == value) f)
+      where
+        and_right : (a b : Bool) → (a && b) ≡ true → b ≡ true
+        and_right true b h = h
+        and_right false b h = cc
+
+    go : (b : Bool) → is_handle p value x ≡ b → cond b (Some x) (find (is_handle p value) hs) ≡ Some h
+        → (find (is_handle p value) hs ≡ Some h → All (λ k. is_handle p value k ≡ true → k.object ≡ h.object) hs)
+        → All (λ k. is_handle p value k ≡ true → k.object ≡ h.object) (x ∷ hs)
+    go true f e rest zero d below = λ _. let same : x ≡ h = cc in ap (λ (k : Held). k.object) same
+    go true f e rest (suc k) d below = λ other. absurd (differ 0 (suc k) d (omega arith) below (valued x f ∙ sym (valued (get_or hs k d) other)))
+    go false f e rest zero d below = λ is. cc
+    go false f e rest (suc k) d below = rest e k d (omega (arith, below))
+
+module _ {K T F I : Type 0} (g : Procedures K T F I) (idle : I → Type 0) (closed_idle : (set : T) (inner : I) (process_left : ℕ) → idle ((g.closed set inner process_left 0).1)) where
+  -- a body as its last close left it is idle
+  last_closed_idle : (set : T) (left total : ℕ) (body : Body F I) → total ≡ 0 → IsIdleBody idle (closed_body g set left total body)
+  last_closed_idle set left total Directory none = tt
+  last_closed_idle set left total (Link target) none = tt
+  last_closed_idle set left total (Other face inner) none = subst (λ (n : ℕ). idle ((g.closed set inner left n).1)) (sym none) (closed_idle set inner left)
+
+  -- a close of a handle leaves an orderly state, where no other handle is taken for it
+  pub closed_orderly : (s : State K T F I) (h : Held) → IsOrderly idle s → All (λ k. is_handle h.process h.value k ≡ true → k.object ≡ h.object) s.handles → IsOrderly idle (closed_handle g s h)
+  closed_orderly s h orderly only =
+      let left = handle_count_in (without_handle s h.process h.value) h.process h.object in
+      let total = handle_count (without_handle s h.process h.value) h.object in
+      let f = closed_object g s.set h.object left total in
+      let kept = (without_handle s h.process h.value).handles in
+      record {
+        root = closed_root g s h ∙ orderly.root;
+        rising = pairs-map (λ a b. a.id < b.id) f s.objects
+            (λ i j d less below. subst (λ (n : ℕ). n < (f (get_or s.objects j d)).id) (sym (closed_object-id g s.set h.object left total (get_or s.objects i d)))
+            (subst (λ (n : ℕ). (get_or s.objects i d).id < n) (sym (closed_object-id g s.set h.object left total (get_or s.objects j d))) (orderly.rising i j d less below)));
+        drawn = All-map (λ x. x.id < s.next_id) f s.objects (λ k d below. subst (λ (n : ℕ). n < s.next_id) (sym (closed_object-id g s.set h.object left total (get_or s.objects k d))) (orderly.drawn k d below));
+        descending = orderly.descending;
+        stamped = orderly.stamped;
+        named = All-map (IsNamedPermanent s) f s.objects (All-weaker (IsNamedPermanent s) (λ x. IsNamedPermanent s (f x)) (closed_named left total) s.objects orderly.named);
+        unheld = All-map (IsIdleUnheld idle kept) f s.objects
+            (All-weaker (IsIdleUnheld idle s.handles) (λ x. IsIdleUnheld idle kept (f x)) (closed_unheld left total refl) s.objects orderly.unheld);
+        own = All-filter (λ k. not (is_handle h.process h.value k)) (λ k. k.process ≡ 1) s.handles orderly.own;
+        distinct = AllPairs-filter (λ a b. a.value ≢ b.value) (λ k. not (is_handle h.process h.value k)) s.handles orderly.distinct;
+        few = omega (arith, orderly.few, length-filter (λ k. not (is_handle h.process h.value k)) s.handles, count_by-le-length (λ k. not (is_handle h.process h.value k)) s.handles);
+      }
+    where
+      closed_named : (left total : ℕ) (x : Object F I) → IsNamedPermanent s x → IsNamedPermanent s (closed_object g s.set h.object left total x)
+      closed_named left total x before = go (x.id == h.object)
+        where
+          go : (b : Bool) → IsNamedPermanent s (cond b (record x { body = closed_body g s.set left total x.body }) x)
+          go true = before
+          go false = before
+
+      closed_unheld : (left total : ℕ) → total ≡ handle_count (without_handle s h.process h.value) h.object → (x : Object F I) → IsIdleUnheld idle s.handles x
+          → IsIdleUnheld idle (without_handle s h.process h.value).handles (closed_object g s.set h.object left total x)
+      closed_unheld left total counted x before = go (x.id == h.object) refl
+        where
+          kept : List Held
+          kept = filter (λ k. not (is_handle h.process h.value k)) s.handles
+
+          go : (b : Bool) → (x.id == h.object) ≡ b → IsIdleUnheld idle (filter (λ k. not (is_handle h.process h.value k)) s.handles) (cond b (record x { body = closed_body g s.set left total x.body }) x)
+          go true e unheld =
+              last_closed_idle s.set left total x.body
+              (counted ∙ count_none (λ k. k.object == h.object) (filter (λ k. not (is_handle h.process h.value k)) s.handles)
+              (ap (is_held (filter (λ k. not (is_handle h.process h.value k)) s.handles)) (sym (eqb-true x.id h.object e)) ∙ unheld))
+          go false e unheld =
+              before (sym (any_stays (λ k. k.object == x.id) (λ k. not (is_handle h.process h.value k)) s.handles
+              (λ k d below found. not_false (is_handle h.process h.value (get_or s.handles k d))
+              (λ taken. let same : x.id ≡ h.object = sym (eqb-true (get_or s.handles k d).object x.id found) ∙ only k d below taken in
+              let equal : (x.id == h.object) ≡ true = eq-eqb x.id h.object same in cc))) ∙ unheld)
+
+-- what a directory is was drawn
+module _ {K T F I : Type 0} (idle : I → Type 0) (s : State K T F I) (orderly : IsOrderly idle s) where
+  find_drawn : (xs : List (Object F I)) (d : ℕ) → All (λ x. x.id < s.next_id) xs → option_map_or is_directory_body (option_map (λ x. x.body) (find (λ x. x.id == d) xs)) false ≡ true → d < s.next_id
+  find_drawn [] d all h = cc
+  find_drawn (x ∷ xs) d all h = go (x.id == d) refl h (find_drawn xs d (λ k e below. all (suc k) e (omega (arith, below))))
+    where
+      go : (b : Bool) → (x.id == d) ≡ b → option_map_or is_directory_body (option_map (λ y. y.body) (cond b (Some x) (find (λ y. y.id == d) xs))) false ≡ true
+          → (option_map_or is_directory_body (option_map (λ y. y.body) (find (λ y. y.id == d) xs)) false ≡ true → d < s.next_id) → d < s.next_id
+      go true e h rest = subst (λ (n : ℕ). n < s.next_id) (eqb-true x.id d e) (all 0 x (omega arith))
+      go false e h rest = rest h
+
+  pub directory_drawn : (d : ℕ) → is_directory s d ≡ true → d < s.next_id
+  directory_drawn d h = find_drawn s.objects d orderly.drawn h
+
+  -- a new object of process 1, with its row in a directory that is there and a handle to it, leaves an
+  -- orderly state
+  pub object_orderly : (set : T) (body : Body F I) (permanent exclusive : Bool) (spot : Spot) (p value : ℕ) (inherit : Bool)
+      → p ≡ 1 → table_size s p < most_handles → IsFreeValue s p value → MatchOption spot (Unit {0}) (λ at. is_directory s at.0 ≡ true)
+      → (permanent ≡ true → is_some spot ≡ true)
+      → IsOrderly idle (with_handle (with_row (with_object (record s { set = set }) body permanent exclusive) spot s.next_id) p value s.next_id inherit)
+  object_orderly set body permanent exclusive spot p value inherit first room free inside placed =
+      let new : Object F I = record { id = s.next_id; body = body; permanent = permanent; exclusive = exclusive } in
+      let handle : Held = record { process = p; value = value; object = s.next_id; inherit = inherit; order = s.next_order } in
+      let t : State K T F I = record s { rows = s.rows ++ new_rows spot s.next_stamp s.next_id } in
+      record {
+        root = is_directory-with_object s body permanent exclusive root_id orderly.root;
+        rising = all_pairs_push (λ a b. a.id < b.id) s.objects new orderly.rising orderly.drawn;
+        drawn = All-push (λ x. x.id < s.next_id + 1) s.objects new (All-weaker (λ x. x.id < s.next_id) (λ x. x.id < s.next_id + 1) (λ x less. omega (arith, less)) s.objects orderly.drawn) (omega arith);
+        descending = All-append (λ r. r.directory < r.object) s.rows (new_rows spot s.next_stamp s.next_id) orderly.descending (row_descends spot inside);
+        stamped = All-append (λ r. r.stamp < s.next_stamp + length (new_rows spot s.next_stamp s.next_id)) s.rows (new_rows spot s.next_stamp s.next_id)
+            (All-weaker (λ r. r.stamp < s.next_stamp) (λ r. r.stamp < s.next_stamp + length (new_rows spot s.next_stamp s.next_id)) (λ r less. omega (arith, less)) s.rows orderly.stamped)
+            (row_stamped spot);
+        named = All-push (IsNamedPermanent t) s.objects new (All-weaker (IsNamedPermanent s) (IsNamedPermanent t) still_named s.objects orderly.named) (λ permanent. new_named spot (placed permanent));
+        unheld = All-push (IsIdleUnheld idle (s.handles ++ handle ∷ [])) s.objects new
+            (All-weaker (IsIdleUnheld idle s.handles) (IsIdleUnheld idle (s.handles ++ handle ∷ [])) (λ x before unheld. before (unheld_before s.handles handle x.id unheld).0) s.objects orderly.unheld)
+            (λ unheld. held_itself handle refl unheld);
+        own = All-push (λ h. h.process ≡ 1) s.handles handle orderly.own first;
+        distinct = all_pairs_push (λ a b. a.value ≢ b.value) s.handles handle orderly.distinct (value_differs s orderly p first value free);
+        few = omega (arith, length-append s.handles (handle ∷ []), room, own_size s orderly p first);
+      }
+    where
+      row_stamped : (spot : Spot) → All (λ r. r.stamp < s.next_stamp + length (new_rows spot s.next_stamp s.next_id)) (new_rows spot s.next_stamp s.next_id)
+      row_stamped None = All-nil (λ r. r.stamp < s.next_stamp + 0)
+      row_stamped (Some at) = All-push (λ r. r.stamp < s.next_stamp + 1) [] _ (All-nil (λ r. r.stamp < s.next_stamp + 1)) (omega arith)
+
+      -- a further row takes no name away, and names the new object
+      still_named : (x : Object F I) → IsNamedPermanent s x → IsNamedPermanent (record s { rows = s.rows ++ new_rows spot s.next_stamp s.next_id }) x
+      still_named x before permanent = go (x.id == root_id) (has_name s x.id) (list_any-append (λ r. r.object == x.id) s.rows (new_rows spot s.next_stamp s.next_id)) (before permanent)
+        where
+          go : (root named : Bool) → has_name (record s { rows = s.rows ++ new_rows spot s.next_stamp s.next_id }) x.id ≡ (named || list_any (λ r. r.object == x.id) (new_rows spot s.next_stamp s.next_id))
+              → (root || named) ≡ true → (root || has_name (record s { rows = s.rows ++ new_rows spot s.next_stamp s.next_id }) x.id) ≡ true
+          go true named e h = refl
+          go false true e h = e
+          go false false e h = cc
+
+      new_named : (spot : Spot) → is_some spot ≡ true → ((s.next_id == root_id) || has_name (record s { rows = s.rows ++ new_rows spot s.next_stamp s.next_id }) s.next_id) ≡ true
+      new_named None h = cc
+      new_named (Some at) h =
+          or_right (s.next_id == root_id) _
+          (list_any-append (λ r. r.object == s.next_id) s.rows (new_rows (Some at) s.next_stamp s.next_id)
+          ∙ or_right (list_any (λ r. r.object == s.next_id) s.rows) _ (ap (λ (b : Bool). b || false) (eq-eqb s.next_id s.next_id refl)))
+        where
+          or_right : (a b : Bool) → b ≡ true → (a || b) ≡ true
+          or_right true b h = refl
+          or_right false b h = h
+
+      row_descends : (spot : Spot) → MatchOption spot (Unit {0}) (λ at. is_directory s at.0 ≡ true) → All (λ r. r.directory < r.object) (new_rows spot s.next_stamp s.next_id)
+      row_descends None h = All-nil (λ r. r.directory < r.object)
+      row_descends (Some at) h = All-push (λ r. r.directory < r.object) [] _ (All-nil (λ r. r.directory < r.object)) (directory_drawn at.0 h)
+
+      held_itself : (handle : Held) → handle.object ≡ s.next_id → is_held (s.handles ++ handle ∷ []) s.next_id ≡ false → IsIdleBody idle body
+      held_itself handle at unheld =
+          let other = (unheld_before s.handles handle s.next_id unheld).1 in
+          let same : (handle.object == s.next_id) ≡ true = eq-eqb handle.object s.next_id at in
+          cc

@@ -1,0 +1,44 @@
+-- The object is placed and opened, or taken back and deleted.
+use Rattle.std.proofs.Common.{◌∙◌, ap, sym, subst}
+use Rattle.std.proofs.lemmas.Bool.{false≢true}
+use Rattle.std.specs.Option.{is_some}
+use Rattle.ob_objects.specs.declared.object.StoredObject.{StoredObject}
+use Rattle.ob_space.specs.Orderly.{IsIdleBody}
+use Rattle.ob_objects.specs.Store.{body_of_stored}
+use Rattle.ob_space.proofs.Placed.{next_is_newest, vacant_is_free, is_placed, is_dropped, object_there, object_is}
+use Rattle.ob_space.proofs.placing.place_new.Goals as goal
+
+pub put_in-requires-clause-newest : goal.put_in-requires-clause-newest
+put_in-requires-clause-newest g c κs within = next_is_newest g.row.T-Kind.Denot g.T.TypeSet.procedures g.T.TypeSet.idle c.args.space.now c.requires.orderly
+
+pub put_in-requires-clause-free : goal.put_in-requires-clause-free
+put_in-requires-clause-free g c κs within =
+    vacant_is_free g.row.T-Kind.Denot g.T.TypeSet.procedures g.T.TypeSet.idle c.args.space.now c.requires.orderly c.len.ensures.store c.args.spot c.requires.vacant
+
+pub returns-in_default-clause-accepted : goal.returns-in_default-clause-accepted
+returns-in_default-clause-accepted g c =
+    is_placed g.row.T-Kind.Denot g.T.TypeSet.procedures g.T.TypeSet.idle c.args.space.now c.requires.orderly c.len.ensures.store c.args.spot c.requires.vacant
+    c.args.object c.requires.empty c.put_in.new.store c.in_ok-put_in.ensures.put c.open.new.self c.open.new.set
+    c.in_default.ensures.accepted c.in_default.ensures.opened c.in_default.ensures.set
+
+pub unreachable-requires : goal.unreachable-requires
+unreachable-requires g c =
+    let there =
+    object_there g.row.T-Kind.Denot g.T.TypeSet.procedures g.T.TypeSet.idle c.args.space.now c.requires.orderly c.len.ensures.store c.args.spot c.requires.vacant
+    c.args.object c.requires.empty c.put_in.new.store c.in_ok-put_in.ensures.put c.open.new.self c.in-Err.ensures.unchanged c.directory_of-directory.result c.directory_of-directory.ensures in
+    let none = c.in_default-take_back.ensures.there in
+    absurd (false≢true (ap is_some (none ∙ there)))
+
+pub delete_body-requires-after_bounds : goal.delete_body-requires-after_bounds
+delete_body-requires-after_bounds g c κs within =
+    subst (λ (x : StoredObject _ _). IsIdleBody g.T.TypeSet.idle (body_of_stored x.body))
+    (sym (object_is g.row.T-Kind.Denot g.T.TypeSet.procedures g.T.TypeSet.idle c.args.space.now c.requires.orderly c.len.ensures.store c.args.spot c.requires.vacant
+    c.args.object c.requires.empty c.put_in.new.store c.in_ok-put_in.ensures.put c.open.new.self c.in-Err.ensures.unchanged c.directory_of-directory.result c.directory_of-directory.ensures
+    c.in-Some.stored c.in-Some.ensures.there)) c.requires.idle
+
+pub returns-clause-refused : goal.returns-clause-refused
+returns-clause-refused g c =
+    is_dropped g.row.T-Kind.Denot g.T.TypeSet.procedures g.T.TypeSet.idle c.args.space.now c.requires.orderly c.len.ensures.store c.args.spot c.requires.vacant
+    c.args.object c.requires.empty c.put_in.new.store c.in_ok-put_in.ensures.put c.open.new.self c.in-Err.ensures.unchanged c.directory_of-directory.result c.directory_of-directory.ensures
+    c.take_back.new.store c.open.new.set c.delete_body.new.set c.in-Some.stored c.in-Err.code c.in-Err.ensures.refused
+    c.in-Some.ensures.others c.in-Err.ensures.set_unchanged c.in-Some.ensures.there c.delete_body.ensures

@@ -1,0 +1,50 @@
+-- The abstract state of a namespace, put together of its parts.
+use Rattle.std.specs.Prelude.{List, [], ◌∷◌, None}
+use Rattle.ob_model.specs.declared.state.Object.{Object}
+use Rattle.ob_model.specs.declared.state.Row.{Row}
+use Rattle.ob_model.specs.declared.state.Held.{Held}
+use Rattle.ob_model.specs.State.{State}
+use Rattle.ob_objects.specs.Store.{Entries, objects_of, rows_of}
+use Rattle.ob_space.specs.declared.space.Namespace.{Namespace}
+
+-- the state of these parts: the objects and the rows are those of the store; process 1 alone is live,
+-- and nothing is pending
+abbrev pub state_of : (K : Type 0) {T F I : Type 0} → Namespace T (Entries F I) → State K T F I
+state_of K a = record {
+  objects = objects_of a.store;
+  rows = rows_of a.store;
+  handles = a.handles.items;
+  processes = record { number = 1; map = None } ∷ [];
+  pending = [];
+  set = a.set;
+  next_id = a.next_id;
+  next_stamp = a.next_stamp;
+  next_process = 2;
+  next_order = a.next_order;
+}
+
+-- a state with this value of the set, these objects, rows and handles, for what reads nothing else
+abbrev pub holding : {K T F I : Type 0} → T → List (Object F I) → List Row → List Held → State K T F I
+holding set objects rows handles = record {
+  objects = objects;
+  rows = rows;
+  handles = handles;
+  processes = record { number = 1; map = None } ∷ [];
+  pending = [];
+  set = set;
+  next_id = 0;
+  next_stamp = 0;
+  next_process = 2;
+  next_order = 0;
+}
+
+-- the same, for what doesn't read the value of the set
+abbrev pub listed : {F I : Type 0} → List (Object F I) → List Row → List Held → State (Unit {0}) (Unit {0}) F I
+listed objects rows handles = holding tt objects rows handles
+
+-- the state of rows alone, and of handles alone
+abbrev pub rows_alone : List Row → State (Unit {0}) (Unit {0}) (Unit {0}) (Unit {0})
+rows_alone rows = listed [] rows []
+
+abbrev pub handles_alone : List Held → State (Unit {0}) (Unit {0}) (Unit {0}) (Unit {0})
+handles_alone handles = listed [] [] handles

@@ -1,0 +1,43 @@
+-- What every change of a namespace keeps true of its state.
+use Rattle.std.specs.Prelude.{◌≡◌, ◌≢◌, ℕ, ◌<◌, ◌≤◌, ◌==◌, ◌||◌, Bool, true, false, List, All, length}
+use Rattle.std.specs.List.{AllPairs, list_any}
+use Rattle.ob_model.specs.declared.state.Body.{Body}
+use Rattle.ob_model.specs.declared.state.Body.TheVariants.{Directory, Link, Other}
+use Rattle.ob_model.specs.declared.state.Object.{Object}
+use Rattle.ob_model.specs.declared.state.Held.{Held}
+use Rattle.ob_model.specs.State.{State, root_id, is_directory, most_handles}
+use Rattle.ob_model.specs.Settle.{has_name}
+
+-- a body has no inner value, or one that stands for no open handle
+abbrev pub IsIdleBody : {F I : Type 0} → (I → Type 0) → Body F I → Type 0
+IsIdleBody idle Directory = Unit {0}
+IsIdleBody idle (Link target) = Unit {0}
+IsIdleBody idle (Other face inner) = idle inner
+
+-- one of these handles leads to the object
+abbrev pub is_held : List Held → ℕ → Bool
+is_held handles o = list_any (λ h. h.object == o) handles
+
+-- an object to which no handle leads is idle
+abbrev pub IsIdleUnheld : {F I : Type 0} → (I → Type 0) → List Held → Object F I → Type 0
+IsIdleUnheld idle handles x = is_held handles x.id ≡ false → IsIdleBody idle x.body
+
+-- a permanent object other than the root has a name
+abbrev pub IsNamedPermanent : {K T F I : Type 0} → State K T F I → Object F I → Type 0
+IsNamedPermanent s x = x.permanent ≡ true → ((x.id == root_id) || has_name s x.id) ≡ true
+
+-- The root is a directory. The numbers of objects rise, and are all less than the next one, and so do
+-- the stamps of rows; a row's directory was made before its object. A permanent object has a name. An
+-- object without handles is idle. All handles are those of process 1, with values that differ, and no
+-- more than a process may have.
+pub record IsOrderly {K T F I : Type 0} (idle : I → Type 0) (s : State K T F I) : Type 0 where
+  pub root : is_directory s root_id ≡ true
+  pub rising : AllPairs (λ a b. a.id < b.id) s.objects
+  pub drawn : All (λ x. x.id < s.next_id) s.objects
+  pub descending : All (λ r. r.directory < r.object) s.rows
+  pub stamped : All (λ r. r.stamp < s.next_stamp) s.rows
+  pub named : All (IsNamedPermanent s) s.objects
+  pub unheld : All (IsIdleUnheld idle s.handles) s.objects
+  pub own : All (λ h. h.process ≡ 1) s.handles
+  pub distinct : AllPairs (λ a b. a.value ≢ b.value) s.handles
+  pub few : length s.handles ≤ most_handles

@@ -1,0 +1,55 @@
+-- Where a new object is to stand, and what is there when it does, in the words of the machine.
+use Rattle.std.specs.Prelude.{◌≡◌, ◌≢◌, ℕ, ◌<◌, Bool, true, List, [], ◌∷◌, ◌++◌, Option, None, Some, All, IsSome, MatchOption}
+use Rattle.ob_model.specs.State.{State, is_directory}
+use Rattle.ob_model.specs.Paths.{found}
+use Rattle.ob_model.specs.Creates as machine
+use Rattle.ob_model.specs.Grants.{opened_body, opened_set}
+use Rattle.ob_model.specs.Procedures.{Procedures, Created}
+use Rattle.ob_objects.specs.declared.object.StoredObject.{StoredObject}
+use Rattle.ob_objects.specs.Store.{Entries, directory_at, entries_at, body_of_stored}
+use Rattle.ob_objects.specs.Changes.{with_name, without_name}
+use Rattle.ob_space.specs.declared.placing.Spot.{Spot}
+
+-- where a new object is to stand
+abbrev pub spot_of : Option Spot → machine.Spot
+spot_of None = None
+spot_of (Some spot) = Some (spot.directory, spot.name)
+
+-- a name may be put there: the directory is there, and has no entry that a create would find in its
+-- place, with the case of letters minded or not
+abbrev pub IsVacant : {K T F I : Type 0} → State K T F I → ℕ → List ℕ → Type 0
+IsVacant s directory name = (is_directory s directory ≡ true) × ((fold : Bool) × (found s directory name fold ≡ None))
+
+-- the same of a spot, where one is given
+abbrev pub IsVacantSpot : {K T F I : Type 0} → State K T F I → Option Spot → Type 0
+IsVacantSpot s spot = MatchOption spot (Unit {0}) (λ at. IsVacant s at.directory at.name)
+
+-- the same of a store: the directory of a spot is there, without that spelling, and the stamp is above
+-- those of its entries
+abbrev pub IsFreeSpot : {F I : Type 0} → Entries F I → ℕ → Option Spot → Type 0
+IsFreeSpot store stamp spot =
+    MatchOption spot (Unit {0})
+    (λ at. IsSome (directory_at store at.directory) × All (λ e. e.name ≢ at.name) (entries_at store at.directory)
+    × All (λ e. e.stamp < stamp) (entries_at store at.directory))
+
+-- the store with an object more, and with its name, where a spot is given
+abbrev pub with_placed : {F I : Type 0} → Entries F I → ℕ → ℕ → Option Spot → StoredObject F I → Entries F I
+with_placed store id stamp None x = store ++ (id, x) ∷ []
+with_placed store id stamp (Some spot) x =
+    with_name (store ++ (id, x) ∷ []) spot.directory (record { stamp = stamp; name = spot.name; object = id })
+
+-- the store without the name of a stamp in a directory, where one is given
+abbrev pub without_name_in : {F I : Type 0} → Entries F I → Option ℕ → ℕ → Entries F I
+without_name_in store None stamp = store
+without_name_in store (Some directory) stamp = without_name store directory stamp
+
+-- the state with an object more, under the next id and as the set opened it, and with its row; the
+-- numbers are not drawn yet
+abbrev pub placed : {K T F I : Type 0} → Procedures K T F I → State K T F I → machine.Spot → StoredObject F I → State K T F I
+placed g s spot x =
+    let body = body_of_stored x.body in
+    record s {
+      objects = s.objects ++ record { id = s.next_id; body = opened_body g s.set body Created; permanent = x.permanent; exclusive = x.exclusive } ∷ [];
+      rows = s.rows ++ machine.new_rows spot s.next_stamp s.next_id;
+      set = opened_set g s.set body Created;
+    }

@@ -1,0 +1,46 @@
+//! Looking a name up in the namespace.
+
+ghost use Rattle.std.specs.Prelude.{◌≡◌, IfOk, IfErr, Some};
+ghost use Rattle.ob_base.specs.declared.Fault.TheVariants.{Memory};
+ghost use Rattle.ob_model.specs.Looks as machine;
+ghost use Rattle.ob_model.specs.Procedures.{without_parse};
+ghost use Rattle.ob_model.specs.Sound.{IsSound};
+ghost use Rattle.ob_lookup.specs.Look.{mode_of, look_of};
+ghost use Rattle.ob_space.specs.Looking.{IsRoot, IsUsable};
+ghost use Rattle.ob_space.specs.Namespace.{state_of};
+
+use crate::space::Namespace;
+use ob_base::{Fault, ObjId, Proc};
+use ob_lookup::{Look, Mode, look, sound_is_closed};
+use ob_names::Name;
+use ob_objects::{Store, laws};
+use ob_types::TypeSet;
+
+/// The most reparses of one lookup (this profile).
+const MOST_REPARSES: u32 = 32;
+
+/// Looks a name up, relative to the object of a root handle of the process, where one is given, and
+/// follows links, with at most 32 reparses: to an object, a vacant place, or the status of a refusal.
+///
+/// It asks that the state is sound, so that every name in it leads somewhere, and that the root object
+/// is there. A vacant place is told only to a create, and then a name may be put there. Nothing is
+/// changed. The only fault is want of memory.
+pub fn look_up<T: TypeSet>(
+    space: &Namespace<T, Store<T>>,
+    process: Proc,
+    root: Option<ObjId>,
+    name: Name<'_>,
+    mode: Mode,
+) -> Result<Look, Fault>
+    requires sound { IsSound (state_of T.Kind space.now) }
+    requires root { IsRoot (state_of T.Kind space.now) root }
+    ensures end { IfOk result (λ look.
+        machine.LooksUp (without_parse T.procedures) (state_of T.Kind space.now) process (mode_of mode) machine.most_reparses root name.entry
+        (look_of look)) }
+    ensures usable { IfOk result (λ look. IsUsable (state_of T.Kind space.now) (mode_of mode) (look_of look)) }
+    ensures memory { IfErr result (λ fault. fault ≡ Memory) }
+{
+    sound_is_closed::<T::Kind, T, T::Face, T::Inner>();
+    laws::stored_is_the_object::<T::Kind, T, T::Face, T::Inner>();
+    look(space.alloc, &space.store, root, name, mode, MOST_REPARSES)
+}

@@ -1,0 +1,113 @@
+//! What stays at the end of a step.
+
+ghost use Rattle.std.specs.Prelude.{◌≡◌, true, ◌<◌, ◌||◌, [], filter, not, All};
+ghost use Rattle.std.specs.List.{AllPairs};
+ghost use Rattle.ob_model.specs.Settle.{settle, IsSettled, is_kept, is_permanent, has_handle, deleted_one, deleted_all};
+ghost use Rattle.ob_objects.specs.Store.{objects_of, rows_of, body_of_stored};
+ghost use Rattle.ob_space.specs.Namespace.{state_of, listed, handles_alone};
+ghost use Rattle.ob_space.specs.Orderly.{IsOrderly, IsIdleBody, IsIdleUnheld};
+ghost use Rattle.ob_space.specs.Settling.{is_held_up};
+
+use crate::space::{GLOBAL, Namespace, ROOT};
+use ob_base::ObjId;
+use ob_model::Held;
+use ob_objects::{Store, StoredBody};
+use ob_types::TypeSet;
+
+/// Takes away the names and the objects that don't stay, both judged as they were before, and
+/// deletes those objects from the highest number down. No memory is taken.
+fn settle<T: TypeSet>(space: &mut Namespace<T, Store<T>>)
+    requires { IsOrderly T.idle (state_of T.Kind space.old) }
+    ensures orderly { IsOrderly T.idle (state_of T.Kind space.new) }
+    ensures settled { state_of T.Kind space.new ≡ settle T.procedures (state_of T.Kind space.old) }
+{
+    forget_names(&mut space.store, &space.handles);
+    delete_objects(space);
+}
+
+/// Settles after a handle to an object was closed: what lives by neither permanence nor a handle nor
+/// the names in it goes, with its name, and the set is told of each object that goes, from the
+/// greatest id down.
+///
+/// It asks that the state is orderly, and that all stays already where the object is permanent or has
+/// another handle: then nothing is looked for. It leaves an orderly state. No memory is taken.
+///
+/// Source: ObMakeTemporaryObject and ZwClose (Windows Driver Kit).
+pub fn settle_after_close<T: TypeSet>(space: &mut Namespace<T, Store<T>>, object: ObjId)
+    requires orderly { IsOrderly T.idle (state_of T.Kind space.old) }
+    requires kept { (is_permanent (state_of T.Kind space.old) object || has_handle (state_of T.Kind space.old) object) ≡ true
+        → IsSettled (state_of T.Kind space.old) }
+    ensures orderly { IsOrderly T.idle (state_of T.Kind space.new) }
+    ensures settled { state_of T.Kind space.new ≡ settle T.procedures (state_of T.Kind space.old) }
+{
+    if !is_kept(&space.store, &space.handles, object) {
+        settle(space);
+    }
+}
+
+/// Takes away the names that don't stay.
+fn forget_names<T: TypeSet>(store: &mut Store<T>, handles: &[Held])
+    ensures objects { objects_of store.new ≡ objects_of store.old }
+    ensures rows { rows_of store.new ≡ filter (is_kept (listed (objects_of store.old) [] handles.now)) (rows_of store.old) }
+{
+    while let Some((directory, stamp)) = store.name_where(|id| !is_kept(store, handles, id)) {
+        store.remove_name(directory, stamp);
+    }
+}
+
+/// Takes away and deletes the objects that don't stay, given the names that stay, from the last one
+/// back.
+fn delete_objects<T: TypeSet>(space: &mut Namespace<T, Store<T>>)
+    requires rising { AllPairs (λ a b. a.id < b.id) (objects_of space.old.store) }
+    requires unheld { All (IsIdleUnheld T.idle space.old.handles.items) (objects_of space.old.store) }
+    ensures { let s = state_of T.Kind space.old in state_of T.Kind space.new ≡ record s {
+      objects = filter (λ x. is_held_up s x.id) s.objects;
+      set = deleted_all T.procedures s.set (filter (λ x. not (is_held_up s x.id)) s.objects);
+    } }
+{
+    while let Some(id) = space
+        .store
+        .last_where(|id| !is_held_up(&space.store, &space.handles, id))
+    {
+        let Some(stored) = space.store.remove(id) else {
+            unreachable!();
+        };
+        delete_body(&mut space.set, stored.body);
+    }
+}
+
+/// Whether the names of an object stay: it is permanent or has a handle.
+fn is_kept<T: TypeSet>(store: &Store<T>, handles: &[Held], id: ObjId) -> bool
+    ensures { result ≡ (is_permanent (listed (objects_of store.now) [] []) id || has_handle (handles_alone handles.now) id) }
+{
+    store.is_permanent(id) || has_handle(handles, id)
+}
+
+/// Whether an object stays, given the names that stay.
+fn is_held_up<T: TypeSet>(store: &Store<T>, handles: &[Held], id: ObjId) -> bool
+    ensures { result ≡ is_held_up (listed (objects_of store.now) (rows_of store.now) handles.now) id }
+{
+    id == ROOT
+        || id == GLOBAL
+        || store.is_permanent(id)
+        || has_handle(handles, id)
+        || store.holds_names(id)
+}
+
+/// Whether an object has a handle.
+fn has_handle(handles: &[Held], id: ObjId) -> bool
+    ensures { result ≡ has_handle (handles_alone handles.now) id }
+{
+    handles.iter().any(|held| held.object == id)
+}
+
+/// Deletes an object that stands for no open handle. Directories and links have no procedures.
+pub(crate) fn delete_body<T: TypeSet>(set: &mut T, body: StoredBody<T::Face, T::Inner>)
+    requires { IsIdleBody T.idle (body_of_stored body) }
+    ensures { set.new ≡ deleted_one T.procedures (body_of_stored body) set.old }
+{
+    match body {
+        StoredBody::Other { inner, .. } => set.on_delete(inner),
+        StoredBody::Directory(_) | StoredBody::Link(_) => {}
+    }
+}

@@ -1,0 +1,43 @@
+//! Whether an object is of the type that a command asks for.
+
+ghost use Rattle.std.specs.Prelude.{◌≡◌};
+ghost use Rattle.ob_model.specs.Types.{is_wanted, is_wanted_at};
+ghost use Rattle.ob_objects.specs.Store.{body_of_stored};
+ghost use Rattle.ob_space.specs.Namespace.{state_of};
+
+use crate::space::Namespace;
+use ob_base::ObjId;
+use ob_model::Wanted;
+use ob_objects::{Store, StoredBody, laws};
+use ob_types::{TypeSet, is_one_kind};
+
+/// Whether a body is that of the type that is asked for.
+fn is_wanted<T: TypeSet>(body: &StoredBody<T::Face, T::Inner>, wanted: Wanted<T::Kind>) -> bool
+    ensures { result ≡ is_wanted T.procedures wanted (body_of_stored body.now) }
+{
+    match (wanted, body) {
+        (Wanted::Anything, _) => true,
+        (Wanted::Directory, StoredBody::Directory(_)) => true,
+        (Wanted::Link, StoredBody::Link(_)) => true,
+        (Wanted::Kind(kind), StoredBody::Other { face, .. }) => {
+            is_one_kind::<T>(T::kind_of(face), kind)
+        }
+        _ => false,
+    }
+}
+
+/// Whether an object is there and is of the type that is asked for: a directory, a link, an object of
+/// a kind of the set, or anything.
+pub fn is_wanted_at<T: TypeSet>(
+    space: &Namespace<T, Store<T>>,
+    id: ObjId,
+    wanted: Wanted<T::Kind>,
+) -> bool
+    ensures { result ≡ is_wanted_at T.procedures (state_of T.Kind space.now) id wanted }
+{
+    laws::stored_is_the_object::<T::Kind, T, T::Face, T::Inner>();
+    match space.store.get(id) {
+        Some(stored) => is_wanted::<T>(&stored.body, wanted),
+        None => false,
+    }
+}
