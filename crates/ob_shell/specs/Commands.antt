@@ -12,16 +12,17 @@ use Rattle.ob_model.specs.declared.reply.Given.{Given}
 use Rattle.ob_model.specs.declared.reply.Given.TheVariants as given
 use Rattle.ob_model.specs.declared.reply.Reply.{Reply}
 use Rattle.ob_plain.specs.declared.plain.PlainKind.{PlainKind}
-use Rattle.ob_shell.specs.declared.handle.HandleForm.{HandleForm}
-use Rattle.ob_shell.specs.declared.handle.Offset.{Offset}
-use Rattle.ob_shell.specs.declared.handle.Offset.TheVariants.{Zero, One, Two, Three}
-use Rattle.ob_shell.specs.declared.request.NameForm.{NameForm}
-use Rattle.ob_shell.specs.declared.request.NameForm.TheVariants.{Absolute, Relative}
-use Rattle.ob_shell.specs.declared.request.PlaceForm.{PlaceForm}
-use Rattle.ob_shell.specs.declared.request.PlaceForm.TheVariants.{Named, Unnamed}
-use Rattle.ob_shell.specs.declared.request.Request.{Request}
-use Rattle.ob_shell.specs.declared.request.Request.TheVariants.{CreateDirectory, CreateLink, CreateObject, OpenDirectory, OpenLink, OpenObject, Close, QueryLink, QueryName}
-use Rattle.ob_shell.specs.Text.{Spells}
+use Rattle.ob_lines.specs.declared.handle.HandleForm.{HandleForm}
+use Rattle.ob_lines.specs.declared.handle.Offset.{Offset}
+use Rattle.ob_lines.specs.declared.handle.Offset.TheVariants.{Zero, One, Two, Three}
+use Rattle.ob_lines.specs.declared.request.NameForm.{NameForm}
+use Rattle.ob_lines.specs.declared.request.NameForm.TheVariants.{Absolute, Relative}
+use Rattle.ob_lines.specs.declared.request.PlaceForm.{PlaceForm}
+use Rattle.ob_lines.specs.declared.request.PlaceForm.TheVariants.{Named, Unnamed}
+use Rattle.ob_lines.specs.declared.request.Request.{Request}
+use Rattle.ob_lines.specs.declared.request.Request.TheVariants.{CreateDirectory, CreateLink, CreateObject, OpenDirectory, OpenLink, OpenObject, Close, QueryLink, QueryName}
+use Rattle.ob_lines.specs.Text.{Spells}
+use Rattle.ob_lines.specs.Parts.{text_of}
 use Rattle.ob_shell.specs.Words.{Words, with_word}
 
 -- what is added to the value of a handle word
@@ -39,11 +40,6 @@ greatest_named = 4294967295
 -- it. A sum past the greatest number would be that number; in a run there is none (`Offsets`).
 abbrev pub handle_meant : HandleForm (List ℕ) → (List ℕ → ℕ) → ℕ
 handle_meant handle values = min (values handle.word + offset_value handle.offset) greatest_named
-
--- the text of a name
-abbrev pub text_of : NameForm (List ℕ) → List ℕ
-text_of (Absolute text) = text
-text_of (Relative root text) = text
 
 -- the handle that a name is relative to, with these values of its process's words; an absolute name has
 -- none

@@ -1,19 +1,16 @@
 //! The command that a request spells.
 
 ghost use Rattle.std.specs.Prelude.{◌≡◌, IfOk};
-ghost use Rattle.ob_shell.specs.Parts.{handle_seen, name_seen, place_seen};
-ghost use Rattle.ob_shell.specs.Grammar.{request_seen};
+ghost use Rattle.ob_lines.specs.Parts.{text_of, handle_seen, name_seen, place_seen};
+ghost use Rattle.ob_lines.specs.Grammar.{HasPlaceText, HasTexts, request_seen};
 ghost use Rattle.ob_shell.specs.Words.{values_of};
-ghost use Rattle.ob_shell.specs.Text.{IsText, Spells};
-ghost use Rattle.ob_shell.specs.Commands.{handle_meant, text_of, root_of, IsCommand, IsCreateDirectory, IsCreateLink, IsCreateObject, IsOpenDirectory, IsOpenLink, IsOpenObject, IsPlace};
-ghost use Rattle.ob_shell.specs.Running.{HasPlaceText, HasTexts};
+ghost use Rattle.ob_lines.specs.Text.{IsText, Spells};
+ghost use Rattle.ob_shell.specs.Commands.{offset_value, handle_meant, root_of, IsCommand, IsCreateDirectory, IsCreateLink, IsCreateObject, IsOpenDirectory, IsOpenLink, IsOpenObject, IsPlace};
 ghost use Rattle.ob_shell.specs.Offsets.{OffsetsAreAddedInFull};
 
-use crate::handle::{HandleForm, added};
-use crate::request::{NameForm, PlaceForm, Request};
-use crate::text::decode;
 use crate::words::{Word, value_of, word_in};
 use ob_base::{Handle, Proc};
+use ob_lines::{HandleForm, NameForm, Offset, PlaceForm, Request, decode};
 use ob_model::{Bytes, Command, Place};
 use ob_plain::PlainKind;
 use std::alloc::{AllocError, Global};
@@ -247,6 +244,18 @@ fn handle_of(
     let word = word_in(alloc, process, handle.word)?;
     let value = value_of(words, &word);
     Ok(Handle(value.0.saturating_add(added(handle.offset))))
+}
+
+// What is added to a handle word's value.
+fn added(offset: Offset) -> u32
+    ensures { result ≡ offset_value offset }
+{
+    match offset {
+        Offset::Zero => 0,
+        Offset::One => 1,
+        Offset::Two => 2,
+        Offset::Three => 3,
+    }
 }
 
 /// The law that in a run what is added to the value of a handle word is added in full: no word holds more

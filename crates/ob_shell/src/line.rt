@@ -1,22 +1,22 @@
 //! One line of a script.
 
-ghost use Rattle.std.specs.Prelude.{◌≡◌, IfOk};
+ghost use Rattle.std.specs.Prelude.{◌≡◌, IfOk, IfSome};
 ghost use Rattle.ob_model.specs.declared.reply.Event.TheVariants.{Start};
 ghost use Rattle.ob_model.specs.declared.reply.Answer.TheVariants.{Done};
 ghost use Rattle.ob_model.specs.Step.{Step};
-ghost use Rattle.ob_shell.specs.Grammar.{request_seen};
+ghost use Rattle.ob_lines.specs.Grammar.{HasTexts, FormHasTexts, form_seen, request_seen};
+ghost use Rattle.ob_lines.specs.Script.{found_seen};
 ghost use Rattle.ob_shell.specs.Words.{values_of};
 ghost use Rattle.ob_shell.specs.Machine.{standard};
 ghost use Rattle.ob_shell.specs.Commands.{word_of, value_after, given_handle};
-ghost use Rattle.ob_shell.specs.Running.{HasTexts, IsAnswered, IsDone};
+ghost use Rattle.ob_shell.specs.Running.{IsAnswered, IsDone};
 
 use crate::asked::command_of;
 use crate::counts::{Counts, counts_of};
-use crate::form::{Form, form_of};
-use crate::request::Request;
 use crate::words::{Word, keep, process_of, set, value_of, word_in};
 use ob_base::{Fault, Handle, Proc, Status};
 use ob_core::{Core, Started};
+use ob_lines::{Form, Request};
 use ob_model::{Command, Given, Reply};
 use ob_plain::{PlainKind, Standard};
 use std::alloc::Global;
@@ -37,16 +37,17 @@ pub enum Outcome {
     NoMemory,
 }
 
-// Runs a line.
+// Runs a line of this form; none: a line that is no script line.
 pub fn perform(
     alloc: Global,
     core: &mut Core<Standard>,
     words: &mut BTreeMap<Word, Handle>,
-    line: &[u8],
+    form: Option<Form<&[u8]>>,
 ) -> Outcome
-    ensures { IsDone line.now (values_of words.old) core.old result (values_of words.new) core.new }
+    requires { IfSome form (λ form. FormHasTexts (form_seen form)) }
+    ensures { IsDone (found_seen form.entry) (values_of words.old) core.old result (values_of words.new) core.new }
 {
-    match form_of(line) {
+    match form {
         None => Outcome::NoLine,
         Some(Form::Nothing) => Outcome::Idle,
         Some(Form::Stat) => Outcome::Counted(counts_of(core)),
