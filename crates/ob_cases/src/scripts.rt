@@ -1,8 +1,7 @@
-//! Whole scripts, and readers and writers that fail in the midst of one.
+//! Whole scripts from memory to memory, by what they are about.
 
-use super::*;
-use crate::streams::{End, Sip, Trickle};
-use std::io::ErrorKind;
+use ob_shell::{Ending, run_script};
+use std::alloc::Global;
 use std::process::Abort;
 use std::test::Fail;
 
@@ -209,45 +208,4 @@ fn a_word_has_at_most_32_letters(rt: HostRuntime) -> Result<(), Fail> {
         b"1: INVALID_HANDLE\n2: not a script line\n",
         Ending::BadLine(2),
     )
-}
-
-#[test]
-fn bytes_may_come_and_go_one_at_a_time(rt: HostRuntime) -> Result<(), Fail> {
-    let mut reader = Trickle::new(FIRST, usize::MAX, ErrorKind::Other);
-    let mut writer = Sip::new(rt.alloc(), usize::MAX, End::NoByte);
-    let ended = run_script(rt.alloc(), &mut reader, &mut writer)?;
-    assert_eq!(rt; ended, Ending::Done);
-    assert_eq!(rt; writer.taken(), FIRST_SHOWN);
-    Ok(())
-}
-
-#[test]
-fn a_failed_read_writes_nothing(rt: HostRuntime) {
-    for kind in [ErrorKind::Other, ErrorKind::Interrupted] {
-        for call in 0..FIRST.len() + 1 {
-            let mut reader = Trickle::new(FIRST, call, kind);
-            let mut writer = Sip::new(rt.alloc(), usize::MAX, End::NoByte);
-            let outcome = run_script(rt.alloc(), &mut reader, &mut writer);
-            assert!(rt; matches!(outcome, Err(ShellFault::Read)), "at call {call}");
-            assert_eq!(rt; writer.taken().len(), 0);
-        }
-    }
-}
-
-#[test]
-fn a_failed_write_leaves_a_beginning(rt: HostRuntime) {
-    let ends = [
-        End::NoByte,
-        End::Fails(ErrorKind::Other),
-        End::Fails(ErrorKind::Interrupted),
-    ];
-    for end in ends {
-        for call in 0..FIRST_SHOWN.len() {
-            let mut reader = FIRST;
-            let mut writer = Sip::new(rt.alloc(), call, end);
-            let outcome = run_script(rt.alloc(), &mut reader, &mut writer);
-            assert!(rt; matches!(outcome, Err(ShellFault::Write)), "at call {call}");
-            assert_eq!(rt; writer.taken(), &FIRST_SHOWN[..call]);
-        }
-    }
 }

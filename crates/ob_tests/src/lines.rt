@@ -1,10 +1,9 @@
-//! Lines of each form, and lines that are none.
+//! Lines of each form, lines that are none, scripts that are cut into lines, and texts.
 
-use super::*;
-use crate::handle::{HandleForm, Offset};
-use crate::request::{NameForm, PlaceForm};
 use ob_base::Attrs;
+use ob_lines::{Form, HandleForm, NameForm, Offset, PlaceForm, Request, decode, form_of, read_line};
 use ob_plain::PlainKind;
+use std::test::Fail;
 
 // The handle of a word alone.
 fn plain<'a>(word: &'a [u8]) -> HandleForm<&'a [u8]> {
@@ -369,4 +368,63 @@ fn a_target_is_asked_of_one_word(rt: HostRuntime) {
     for line in lines {
         assert!(rt; form_of(line) == None, "{line:?}");
     }
+}
+
+#[test]
+fn a_script_is_read_line_by_line(rt: HostRuntime) {
+    let script = b"stat\n\nstats\n#\nq close a".as_slice();
+    let closes = Form::Asks {
+        process: b"q".as_slice(),
+        request: Request::Close { handle: plain(b"a") },
+    };
+    let forms: [Option<Form<&[u8]>>; 5] = [
+        Some(Form::Stat),
+        Some(Form::Nothing),
+        None,
+        Some(Form::Nothing),
+        Some(closes),
+    ];
+    let mut rest = script;
+    for form in forms {
+        match read_line(rest) {
+            Some((found, behind)) => {
+                assert_eq!(rt; found, form);
+                rest = behind;
+            }
+            None => assert!(rt; false, "no line before {rest:?}"),
+        }
+    }
+    assert!(rt; read_line(rest) == None);
+}
+
+#[test]
+fn only_lf_ends_a_line_and_the_last_may_lack_it(rt: HostRuntime) {
+    let table: [(&[u8], &[u8]); 5] = [
+        (b"stat", b""),
+        (b"stat\n", b""),
+        (b"stat\n\n", b"\n"),
+        (b"stat\n\r\n", b"\r\n"),
+        (b"stat\nstat", b"stat"),
+    ];
+    for (script, rest) in table {
+        assert!(rt; read_line(script) == Some((Some(Form::Stat), rest)), "{script:?}");
+    }
+    assert!(rt; read_line(b"\n") == Some((Some(Form::Nothing), b"".as_slice())));
+    assert!(rt; read_line(b"stat\r\n") == Some((None, b"".as_slice())));
+    assert!(rt; read_line(b"stat\0") == Some((None, b"".as_slice())));
+}
+
+#[test]
+fn texts_spell_bytes(rt: HostRuntime) -> Result<(), Fail> {
+    let table: [(&[u8], &[u8]); 4] = [
+        (b"", b""),
+        (b"\\A ~", b"\\A ~"),
+        (b"%00%ff%FF%22%25", b"\x00\xff\xff\x22\x25"),
+        (b"%411", b"A1"),
+    ];
+    for (text, bytes) in table {
+        let spelled = decode(rt.alloc(), text)?;
+        assert_eq!(rt; spelled.as_slice(), bytes);
+    }
+    Ok(())
 }

@@ -1,8 +1,25 @@
-//! Readers and writers for tests: one byte a call, and an end at a chosen call.
+//! Readers and writers over memory: one byte a call, and a fault at a chosen call, once or from there on.
 
 use std::alloc::Global;
 use std::io;
 use std::io::{Error, ErrorKind, Read, Write};
+
+/// How long a fault lasts.
+#[derive(Clone, Copy, Debug)]
+pub enum Lasts {
+    /// For one call: the next goes well again.
+    Once,
+    /// For each call from there on.
+    Always,
+}
+
+// The calls that go well before the next fault: none where it lasts, and all behind one that came once.
+fn calls_behind(lasts: Lasts) -> usize {
+    match lasts {
+        Lasts::Once => usize::MAX,
+        Lasts::Always => 0,
+    }
+}
 
 /// A reader that gives one byte a call, and fails once `calls` calls have gone well.
 #[derive(Drop)]
@@ -10,11 +27,17 @@ pub struct Trickle<'a> {
     rest: &'a [u8],
     calls: usize,
     kind: ErrorKind,
+    lasts: Lasts,
 }
 
 impl<'a> Trickle<'a> {
-    pub fn new(rest: &'a [u8], calls: usize, kind: ErrorKind) -> Trickle<'a> {
-        Trickle { rest, calls, kind }
+    pub fn new(rest: &'a [u8], calls: usize, kind: ErrorKind, lasts: Lasts) -> Trickle<'a> {
+        Trickle {
+            rest,
+            calls,
+            kind,
+            lasts,
+        }
     }
 
     /// What no call has given yet.
@@ -26,6 +49,7 @@ impl<'a> Trickle<'a> {
 impl Read for Trickle<'_> {
     fn read(&mut self, buf: &mut [u8]) -> io::Result<usize> {
         if self.calls == 0 {
+            self.calls = calls_behind(self.lasts);
             return Err(Error::from(self.kind));
         }
         self.calls -= 1;
@@ -38,27 +62,29 @@ impl Read for Trickle<'_> {
     }
 }
 
-/// How a [`Sip`] ends: it takes no byte, or fails.
-#[derive(Clone, Copy)]
+/// What a [`Sip`] does at its fault: it takes no byte, or fails.
+#[derive(Clone, Copy, Debug)]
 pub enum End {
     NoByte,
     Fails(ErrorKind),
 }
 
-/// A writer that takes one byte a call, and ends once `calls` calls have gone well.
+/// A writer that takes one byte a call, and has its fault once `calls` calls have gone well.
 #[derive(Drop)]
 pub struct Sip {
     taken: Vec<u8>,
     calls: usize,
     end: End,
+    lasts: Lasts,
 }
 
 impl Sip {
-    pub fn new(alloc: Global, calls: usize, end: End) -> Sip {
+    pub fn new(alloc: Global, calls: usize, end: End, lasts: Lasts) -> Sip {
         Sip {
             taken: Vec::new(alloc),
             calls,
             end,
+            lasts,
         }
     }
 
@@ -71,6 +97,7 @@ impl Sip {
 impl Write for Sip {
     fn write(&mut self, buf: &[u8]) -> io::Result<usize> {
         if self.calls == 0 {
+            self.calls = calls_behind(self.lasts);
             return match self.end {
                 End::NoByte => Ok(0),
                 End::Fails(kind) => Err(Error::from(kind)),
