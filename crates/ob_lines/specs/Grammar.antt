@@ -62,6 +62,18 @@ verb_of (Close handle) = verb.Close
 verb_of (QueryLink handle) = verb.Target
 verb_of (QueryName handle) = verb.Name
 
+-- the handle word of a request
+abbrev pub word_of : Request (List ℕ) → List ℕ
+word_of (CreateDirectory place attrs word) = word
+word_of (CreateLink place attrs target word) = word
+word_of (CreateObject kind place attrs args word) = word
+word_of (OpenDirectory name attrs word) = word
+word_of (OpenLink name attrs word) = word
+word_of (OpenObject want name attrs word) = word
+word_of (Close handle) = handle.word
+word_of (QueryLink handle) = handle.word
+word_of (QueryName handle) = handle.word
+
 -- what stands behind the verb of a request and a space: `PLACE FLAGS =V` behind `dir`,
 -- `PLACE FLAGS TEXT =V` behind `link`, `KIND PLACE FLAGS TEXT =V` behind `make`, `NAME FLAGS =V` behind
 -- `opendir` and `openlink`, `WANT NAME FLAGS =V` behind `open`, and `H` behind `close`, `target` and `name`

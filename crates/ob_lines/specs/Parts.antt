@@ -28,6 +28,13 @@ offset_text One = codes "+1"
 offset_text Two = codes "+2"
 offset_text Three = codes "+3"
 
+-- and what is added
+abbrev pub offset_value : Offset → ℕ
+offset_value Zero = 0
+offset_value One = 1
+offset_value Two = 2
+offset_value Three = 3
+
 -- a handle: a handle word, or one with `+1`, `+2` or `+3` right behind it
 abbrev pub IsHandle : List ℕ → HandleForm (List ℕ) → Type 0
 IsHandle bytes handle = IsWord handle.word × (bytes ≡ handle.word ++ offset_text handle.offset)

@@ -3,7 +3,7 @@
 ghost use Rattle.std.specs.Prelude.{◌≡◌, ◌≢◌, ◌++◌, ℕ, List, codes, IfSome, IfNone};
 ghost use Rattle.ob_lines.specs.declared.handle.HandleForm.{HandleForm};
 ghost use Rattle.ob_lines.specs.declared.handle.Offset.{Offset};
-ghost use Rattle.ob_lines.specs.Parts.{IsHandle, handle_seen, offset_text};
+ghost use Rattle.ob_lines.specs.Parts.{IsHandle, handle_seen, offset_text, offset_value};
 
 use crate::split::split_at;
 use crate::text::is_word;
@@ -65,4 +65,16 @@ fn offset_of(number: &[u8]) -> Option<Offset>
         return Some(Offset::Three);
     }
     None
+}
+
+/// What is added to the value of a handle word: 0 to 3. Source: this profile.
+pub fn offset_value(offset: Offset) -> u32
+    ensures { result ≡ offset_value offset }
+{
+    match offset {
+        Offset::Zero => 0,
+        Offset::One => 1,
+        Offset::Two => 2,
+        Offset::Three => 3,
+    }
 }

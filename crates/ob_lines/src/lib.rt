@@ -17,7 +17,7 @@ mod text;
 mod verb;
 
 pub use form::{Form, LONGEST_LINE, form_of, lines_have_one_form};
-pub use handle::{HandleForm, Offset};
-pub use request::{NameForm, PlaceForm, Request};
+pub use handle::{HandleForm, Offset, offset_value};
+pub use request::{NameForm, PlaceForm, Request, word_of};
 pub use script::{read_line, scripts_have_one_reading};
 pub use text::{decode, texts_spell_one_thing};

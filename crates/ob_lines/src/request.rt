@@ -7,7 +7,7 @@ ghost use Rattle.ob_lines.specs.declared.request.NameForm.{NameForm};
 ghost use Rattle.ob_lines.specs.declared.request.PlaceForm.{PlaceForm};
 ghost use Rattle.ob_lines.specs.declared.request.Request.{Request};
 ghost use Rattle.ob_lines.specs.declared.verb.Verb.{Verb};
-ghost use Rattle.ob_lines.specs.Grammar.{IsOperands, IsRequest, request_seen, verb_of};
+ghost use Rattle.ob_lines.specs.Grammar.{IsOperands, IsRequest, request_seen, verb_of, word_of};
 
 use crate::handle::{HandleForm, handle_of};
 use crate::kind::{take_kind, take_want};
@@ -273,4 +273,22 @@ fn name_query_of(operands: &[u8]) -> Option<Request<&[u8]>>
 {
     let handle = handle_of(operands)?;
     Some(Request::QueryName { handle })
+}
+
+/// The handle word of a request: the one that it sets, or that of the handle that it names.
+/// Source: this profile.
+pub fn word_of<'a>(request: Request<&'a [u8]>) -> &'a [u8]
+    ensures { result.now ≡ word_of (request_seen request.entry) }
+{
+    match request {
+        Request::CreateDirectory { word, .. } => word,
+        Request::CreateLink { word, .. } => word,
+        Request::CreateObject { word, .. } => word,
+        Request::OpenDirectory { word, .. } => word,
+        Request::OpenLink { word, .. } => word,
+        Request::OpenObject { word, .. } => word,
+        Request::Close { handle } => handle.word,
+        Request::QueryLink { handle } => handle.word,
+        Request::QueryName { handle } => handle.word,
+    }
 }

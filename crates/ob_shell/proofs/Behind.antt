@@ -13,7 +13,7 @@ use Rattle.ob_model.specs.Run.{Entry, RunFrom}
 use Rattle.ob_plain.specs.declared.plain.PlainKind.{PlainKind}
 use Rattle.ob_plain.specs.Counting.{opens_of, closes_of, deletes_of}
 use Rattle.ob_shell.specs.declared.counts.Counts.{Counts}
-use Rattle.ob_lines.specs.declared.form.Form.TheVariants.{Nothing, Stat, Asks}
+use Rattle.ob_lines.specs.declared.form.Form.TheVariants.{Asks}
 use Rattle.ob_lines.specs.declared.request.Request.{Request}
 use Rattle.ob_shell.specs.declared.line.Outcome.{Outcome}
 use Rattle.ob_shell.specs.declared.line.Outcome.TheVariants as outcome
@@ -21,12 +21,12 @@ use Rattle.ob_shell.specs.declared.run.Ending.{Ending}
 use Rattle.ob_shell.specs.declared.run.Ending.TheVariants as ending
 use Rattle.ob_lines.specs.declared.form.Form.{Form}
 use Rattle.ob_lines.specs.Script.{Forms, BeginsWithLine, BeginsWithForms, found_seen}
-use Rattle.ob_lines.specs.Grammar.{form_seen, request_seen}
+use Rattle.ob_lines.specs.Grammar.{word_of, form_seen, request_seen}
 use Rattle.ob_lines.proofs.Scripted.{begins_more}
 use Rattle.ob_shell.specs.Words.{Words, no_words, with_word, process_of}
 use Rattle.ob_shell.specs.Writing.{AppendsFront}
 use Rattle.ob_shell.specs.Machine.{Standard, standard, Space, IsFresh}
-use Rattle.ob_shell.specs.Commands.{IsCommand, word_of, value_after}
+use Rattle.ob_shell.specs.Commands.{IsCommand, value_after}
 use Rattle.ob_shell.specs.Printed.{output_line, reply_text, counts_text}
 use Rattle.ob_shell.specs.Shown.{Entries, Shows, PlaysForms, PlaysTo, PlaysPartTo}
 use Rattle.ob_shell.specs.Running.{IsAnswered, IsDone, outcome_text, outcome_end}

@@ -38,7 +38,9 @@ use Rattle.ob_lines.specs.declared.request.Request.{Request}
 use Rattle.ob_lines.specs.declared.request.Request.TheVariants.{CreateDirectory, CreateLink, CreateObject, OpenDirectory, OpenLink, OpenObject, Close, QueryLink, QueryName}
 use Rattle.ob_shell.specs.Words.{Words, with_word}
 use Rattle.ob_shell.specs.Machine.{standard}
-use Rattle.ob_shell.specs.Commands.{is_success, given_handle, word_of, value_after, offset_value}
+use Rattle.ob_shell.specs.Commands.{is_success, given_handle, value_after}
+use Rattle.ob_lines.specs.Grammar.{word_of}
+use Rattle.ob_lines.specs.Parts.{offset_value}
 use Rattle.ob_shell.specs.Offsets.{HoldHandles, OffsetsAreAddedInFull}
 
 -- an answer gives no more than the greatest handle value
