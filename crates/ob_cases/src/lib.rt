@@ -1,10 +1,18 @@
-//! The worked cases: whole scripts and words of the program, with what they print and how they end.
-//! Tests alone, beside nothing that they could be proved twice with.
+//! The worked cases: lines of scripts, whole scripts and the program's words, with what they print and how
+//! they end. The crate holds tests alone, since a crate with tests is proved twice.
 #![tactic(auto)]
 
 #[cfg(test)]
 mod cases;
 #[cfg(test)]
+mod lines;
+#[cfg(test)]
 mod program;
 #[cfg(test)]
 mod runs;
+#[cfg(test)]
+mod scripts;
+#[cfg(test)]
+mod shell;
+#[cfg(test)]
+mod streams;

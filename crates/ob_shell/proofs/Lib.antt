@@ -1,14 +1,7 @@
 pub mod Readers
 pub mod Writers
-pub mod Cuts
-pub mod Spelled
-pub mod Flagged
-pub mod Handles
-pub mod Parted
-pub mod Formed
 pub mod Worded
 pub mod Printed
 pub mod Told
-pub mod Lined
 pub mod Behind
 pub mod Offsets

@@ -32,13 +32,15 @@ use Rattle.ob_model.specs.Opens.{OpensAt, Opens, asked_by, type_wanted, open_mod
 use Rattle.ob_model.specs.Creates.{Making, MakesDirectory, MakesLink, MakesObject, is_fit, create_mode, type_made, Spot, room_refusals, make_refusal, body_made, created, dropped, Makes, Creates}
 use Rattle.ob_model.specs.Naming.{TellsName, TellsTarget, target_of, path_text}
 use Rattle.ob_model.specs.Step.{WithHandle, WithRoot, CreatesIn, CreatesAt, OpensName, Step}
-use Rattle.ob_shell.specs.declared.handle.Offset.{Offset}
-use Rattle.ob_shell.specs.declared.handle.Offset.TheVariants.{Zero, One, Two, Three}
-use Rattle.ob_shell.specs.declared.request.Request.{Request}
-use Rattle.ob_shell.specs.declared.request.Request.TheVariants.{CreateDirectory, CreateLink, CreateObject, OpenDirectory, OpenLink, OpenObject, Close, QueryLink, QueryName}
+use Rattle.ob_lines.specs.declared.handle.Offset.{Offset}
+use Rattle.ob_lines.specs.declared.handle.Offset.TheVariants.{Zero, One, Two, Three}
+use Rattle.ob_lines.specs.declared.request.Request.{Request}
+use Rattle.ob_lines.specs.declared.request.Request.TheVariants.{CreateDirectory, CreateLink, CreateObject, OpenDirectory, OpenLink, OpenObject, Close, QueryLink, QueryName}
 use Rattle.ob_shell.specs.Words.{Words, with_word}
 use Rattle.ob_shell.specs.Machine.{standard}
-use Rattle.ob_shell.specs.Commands.{is_success, given_handle, word_of, value_after, offset_value}
+use Rattle.ob_shell.specs.Commands.{is_success, given_handle, value_after}
+use Rattle.ob_lines.specs.Grammar.{word_of}
+use Rattle.ob_lines.specs.Parts.{offset_value}
 use Rattle.ob_shell.specs.Offsets.{HoldHandles, OffsetsAreAddedInFull}
 
 -- an answer gives no more than the greatest handle value

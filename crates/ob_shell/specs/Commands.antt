@@ -12,24 +12,17 @@ use Rattle.ob_model.specs.declared.reply.Given.{Given}
 use Rattle.ob_model.specs.declared.reply.Given.TheVariants as given
 use Rattle.ob_model.specs.declared.reply.Reply.{Reply}
 use Rattle.ob_plain.specs.declared.plain.PlainKind.{PlainKind}
-use Rattle.ob_shell.specs.declared.handle.HandleForm.{HandleForm}
-use Rattle.ob_shell.specs.declared.handle.Offset.{Offset}
-use Rattle.ob_shell.specs.declared.handle.Offset.TheVariants.{Zero, One, Two, Three}
-use Rattle.ob_shell.specs.declared.request.NameForm.{NameForm}
-use Rattle.ob_shell.specs.declared.request.NameForm.TheVariants.{Absolute, Relative}
-use Rattle.ob_shell.specs.declared.request.PlaceForm.{PlaceForm}
-use Rattle.ob_shell.specs.declared.request.PlaceForm.TheVariants.{Named, Unnamed}
-use Rattle.ob_shell.specs.declared.request.Request.{Request}
-use Rattle.ob_shell.specs.declared.request.Request.TheVariants.{CreateDirectory, CreateLink, CreateObject, OpenDirectory, OpenLink, OpenObject, Close, QueryLink, QueryName}
-use Rattle.ob_shell.specs.Text.{Spells}
+use Rattle.ob_lines.specs.declared.handle.HandleForm.{HandleForm}
+use Rattle.ob_lines.specs.declared.request.NameForm.{NameForm}
+use Rattle.ob_lines.specs.declared.request.NameForm.TheVariants.{Absolute, Relative}
+use Rattle.ob_lines.specs.declared.request.PlaceForm.{PlaceForm}
+use Rattle.ob_lines.specs.declared.request.PlaceForm.TheVariants.{Named, Unnamed}
+use Rattle.ob_lines.specs.declared.request.Request.{Request}
+use Rattle.ob_lines.specs.declared.request.Request.TheVariants.{CreateDirectory, CreateLink, CreateObject, OpenDirectory, OpenLink, OpenObject, Close, QueryLink, QueryName}
+use Rattle.ob_lines.specs.Text.{Spells}
+use Rattle.ob_lines.specs.Parts.{offset_value, text_of}
+use Rattle.ob_lines.specs.Grammar.{word_of}
 use Rattle.ob_shell.specs.Words.{Words, with_word}
-
--- what is added to the value of a handle word
-abbrev pub offset_value : Offset → ℕ
-offset_value Zero = 0
-offset_value One = 1
-offset_value Two = 2
-offset_value Three = 3
 
 -- the greatest number that a handle is named by
 abbrev pub greatest_named : ℕ
@@ -39,11 +32,6 @@ greatest_named = 4294967295
 -- it. A sum past the greatest number would be that number; in a run there is none (`Offsets`).
 abbrev pub handle_meant : HandleForm (List ℕ) → (List ℕ → ℕ) → ℕ
 handle_meant handle values = min (values handle.word + offset_value handle.offset) greatest_named
-
--- the text of a name
-abbrev pub text_of : NameForm (List ℕ) → List ℕ
-text_of (Absolute text) = text
-text_of (Relative root text) = text
 
 -- the handle that a name is relative to, with these values of its process's words; an absolute name has
 -- none
@@ -104,18 +92,6 @@ abbrev pub given_handle : Given → ℕ
 given_handle given.Nothing = 0
 given_handle (given.Handle handle) = handle
 given_handle (given.Text text) = 0
-
--- the handle word of a request
-abbrev pub word_of : Request (List ℕ) → List ℕ
-word_of (CreateDirectory place attrs word) = word
-word_of (CreateLink place attrs target word) = word
-word_of (CreateObject kind place attrs args word) = word
-word_of (OpenDirectory name attrs word) = word
-word_of (OpenLink name attrs word) = word
-word_of (OpenObject want name attrs word) = word
-word_of (Close handle) = handle.word
-word_of (QueryLink handle) = handle.word
-word_of (QueryName handle) = handle.word
 
 -- the value of that word after the reply, where it had this one before: a create or an open sets it to
 -- the handle that was given, a close that succeeds gives it up, whatever was added to its value, and any

@@ -1,8 +1,3 @@
-pub mod Lines
-pub mod Text
-pub mod Flags
-pub mod Parts
-pub mod Grammar
 pub mod Fault
 pub mod Reading
 pub mod Writing

@@ -9,11 +9,12 @@ use Rattle.ob_model.specs.declared.reply.Event.TheVariants.{Start}
 use Rattle.ob_model.specs.Grants.{greatest_handle}
 use Rattle.ob_model.specs.Step.{Step}
 use Rattle.ob_plain.specs.declared.plain.PlainKind.{PlainKind}
-use Rattle.ob_shell.specs.declared.handle.HandleForm.{HandleForm}
-use Rattle.ob_shell.specs.declared.request.Request.{Request}
+use Rattle.ob_lines.specs.declared.handle.HandleForm.{HandleForm}
+use Rattle.ob_lines.specs.declared.request.Request.{Request}
 use Rattle.ob_shell.specs.Words.{Words, no_words}
 use Rattle.ob_shell.specs.Machine.{standard, Space}
-use Rattle.ob_shell.specs.Commands.{offset_value, handle_meant, words_after}
+use Rattle.ob_shell.specs.Commands.{handle_meant, words_after}
+use Rattle.ob_lines.specs.Parts.{offset_value}
 
 -- no word holds more than the greatest handle value
 abbrev pub HoldHandles : Words → Type 0

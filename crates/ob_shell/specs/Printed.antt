@@ -10,7 +10,7 @@ use Rattle.ob_model.specs.declared.reply.Given.{Given}
 use Rattle.ob_model.specs.declared.reply.Given.TheVariants.{Nothing, Handle, Text}
 use Rattle.ob_model.specs.declared.reply.Reply.{Reply}
 use Rattle.ob_shell.specs.declared.counts.Counts.{Counts}
-use Rattle.ob_shell.specs.Lines.{line_end}
+use Rattle.ob_lines.specs.Lines.{line_end}
 
 -- a line of the output: the number of the script's line, a colon, a space, a text and LF
 abbrev pub output_line : ℕ → List ℕ → List ℕ

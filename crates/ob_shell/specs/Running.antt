@@ -6,42 +6,20 @@ use Rattle.ob_model.specs.declared.reply.Answer.TheVariants.{Done}
 use Rattle.ob_model.specs.declared.reply.Event.TheVariants.{Start}
 use Rattle.ob_model.specs.Step.{Step}
 use Rattle.ob_plain.specs.declared.plain.PlainKind.{PlainKind}
-use Rattle.ob_shell.specs.declared.form.Form.{Form}
-use Rattle.ob_shell.specs.declared.form.Form.TheVariants.{Nothing, Stat, Asks}
-use Rattle.ob_shell.specs.declared.request.PlaceForm.{PlaceForm}
-use Rattle.ob_shell.specs.declared.request.PlaceForm.TheVariants.{Named, Unnamed}
-use Rattle.ob_shell.specs.declared.request.Request.{Request}
-use Rattle.ob_shell.specs.declared.request.Request.TheVariants.{CreateDirectory, CreateLink, CreateObject, OpenDirectory, OpenLink, OpenObject, Close, QueryLink, QueryName}
+use Rattle.ob_lines.specs.declared.form.Form.{Form}
+use Rattle.ob_lines.specs.declared.form.Form.TheVariants.{Nothing, Stat, Asks}
+use Rattle.ob_lines.specs.declared.request.Request.{Request}
 use Rattle.ob_shell.specs.declared.line.Outcome.{Outcome}
 use Rattle.ob_shell.specs.declared.line.Outcome.TheVariants as outcome
 use Rattle.ob_shell.specs.declared.run.Ending.{Ending}
 use Rattle.ob_shell.specs.declared.run.Ending.TheVariants as ending
-use Rattle.ob_shell.specs.Text.{IsText}
-use Rattle.ob_shell.specs.Grammar.{IsLine}
 use Rattle.ob_shell.specs.Words.{Words, process_of}
 use Rattle.ob_shell.specs.Machine.{standard, Space, counts_of}
-use Rattle.ob_shell.specs.Commands.{text_of, IsCommand, words_after}
+use Rattle.ob_shell.specs.Commands.{IsCommand, words_after}
 use Rattle.ob_shell.specs.Printed.{output_line, reply_text, counts_text}
 use Rattle.ob_shell.specs.Shown.{PlaysPartTo}
 use Rattle.ob_shell.specs.declared.fault.ShellFault.{ShellFault}
 use Rattle.ob_shell.specs.declared.fault.ShellFault.TheVariants as fault
-
--- the text of a place, where it has one, is a text
-abbrev pub HasPlaceText : PlaceForm (List ℕ) → Type 0
-HasPlaceText (Named name) = IsText (text_of name)
-HasPlaceText Unnamed = Unit {0}
-
--- the texts of a request, where it has some, are texts
-abbrev pub HasTexts : Request (List ℕ) → Type 0
-HasTexts (CreateDirectory place attrs word) = HasPlaceText place
-HasTexts (CreateLink place attrs target word) = HasPlaceText place × IsText target
-HasTexts (CreateObject kind place attrs args word) = HasPlaceText place × IsText args
-HasTexts (OpenDirectory name attrs word) = IsText (text_of name)
-HasTexts (OpenLink name attrs word) = IsText (text_of name)
-HasTexts (OpenObject want name attrs word) = IsText (text_of name)
-HasTexts (Close handle) = Unit {0}
-HasTexts (QueryLink handle) = Unit {0}
-HasTexts (QueryName handle) = Unit {0}
 
 -- a request of a process was answered by a step of the machine, which left these words and states
 abbrev pub IsAnswered : Request (List ℕ) → ℕ → Words → Space → Reply → Words → Space → Type 0
@@ -49,16 +27,15 @@ IsAnswered request process words s reply words' s' =
     (c : Command PlainKind) × IsCommand request (words process) c × Step standard s (Start process c) (Done reply) s'
     × (words' ≡ words_after request process reply words)
 
--- what became of a line, and what it left
-abbrev pub IsDone : List ℕ → Words → Space → Outcome → Words → Space → Type 0
-IsDone line words s outcome.Idle words' s' = IsLine line Nothing × (words' ≡ words) × (s' ≡ s)
-IsDone line words s (outcome.Counted counts) words' s' =
-    IsLine line Stat × (counts ≡ counts_of s) × (words' ≡ words) × (s' ≡ s)
-IsDone line words s (outcome.Replied reply) words' s' =
-    (process : List ℕ) × (request : Request (List ℕ)) × IsLine line (Asks process request)
+-- what became of a line of this form, and what it left; none: a line that is no script line
+abbrev pub IsDone : Option (Form (List ℕ)) → Words → Space → Outcome → Words → Space → Type 0
+IsDone form words s outcome.Idle words' s' = (form ≡ Some Nothing) × (words' ≡ words) × (s' ≡ s)
+IsDone form words s (outcome.Counted counts) words' s' = (form ≡ Some Stat) × (counts ≡ counts_of s) × (words' ≡ words) × (s' ≡ s)
+IsDone form words s (outcome.Replied reply) words' s' =
+    (process : List ℕ) × (request : Request (List ℕ)) × (form ≡ Some (Asks process request))
     × IsAnswered request (process_of process) words s reply words' s'
-IsDone line words s outcome.NoLine words' s' = (form : Form (List ℕ)) → ¬ IsLine line form
-IsDone line words s outcome.NoMemory words' s' = (process : List ℕ) × (request : Request (List ℕ)) × IsLine line (Asks process request)
+IsDone form words s outcome.NoLine words' s' = form ≡ None
+IsDone form words s outcome.NoMemory words' s' = (process : List ℕ) × (request : Request (List ℕ)) × (form ≡ Some (Asks process request))
 
 -- what the line of this number prints for it
 abbrev pub outcome_text : ℕ → Outcome → List ℕ

@@ -1,7 +1,7 @@
 -- What a script shows: the run that it asks for, and the text that it prints.
 --
 -- Source: this profile.
-use Rattle.std.specs.Prelude.{◌≡◌, ℕ, ◌+◌, ◌⊎◌, List, [], ◌∷◌, ◌++◌, Option, codes}
+use Rattle.std.specs.Prelude.{◌≡◌, ℕ, ◌+◌, ◌⊎◌, List, [], ◌∷◌, ◌++◌, Option, Some, None, codes}
 use Rattle.std.specs.Io.KnownBytes.{Appends}
 use Rattle.ob_model.specs.declared.command.Command.{Command}
 use Rattle.ob_model.specs.declared.reply.Reply.{Reply}
@@ -11,12 +11,11 @@ use Rattle.ob_model.specs.Opening.{opening}
 use Rattle.ob_model.specs.Step.{Step}
 use Rattle.ob_model.specs.Run.{Entry, Run}
 use Rattle.ob_plain.specs.declared.plain.PlainKind.{PlainKind}
-use Rattle.ob_shell.specs.declared.form.Form.{Form}
-use Rattle.ob_shell.specs.declared.form.Form.TheVariants.{Nothing, Stat, Asks}
+use Rattle.ob_lines.specs.declared.form.Form.{Form}
+use Rattle.ob_lines.specs.declared.form.Form.TheVariants.{Nothing, Stat, Asks}
 use Rattle.ob_shell.specs.declared.run.Ending.{Ending}
 use Rattle.ob_shell.specs.declared.run.Ending.TheVariants as ending
-use Rattle.ob_shell.specs.Lines.{lines_of}
-use Rattle.ob_shell.specs.Grammar.{IsLine}
+use Rattle.ob_lines.specs.Script.{Forms, BeginsWithForms}
 use Rattle.ob_shell.specs.Words.{Words, no_words, process_of}
 use Rattle.ob_shell.specs.Machine.{Standard, standard, Space, IsFresh, counts_of}
 use Rattle.ob_shell.specs.Commands.{IsCommand, words_after}
@@ -43,33 +42,33 @@ ShowsForm number (Asks process request) words s entries output end Rest =
     × Rest (words_after request (process_of process) reply words) s' entries' output')
     ⊎ ((entries ≡ []) × (output ≡ output_line number (codes "want of memory")) × (end ≡ ending.NoMemoryAt number))
 
--- These lines, the first of this number, show the entries of a run and print the output, with these
--- words and in this state at first, and the run ends so. A line that is no script line says so and
--- ends the run.
-abbrev pub Shows : ℕ → List (List ℕ) → Words → Space → Entries → List ℕ → Ending → Type 0
+-- Lines of these forms, the first of this number, show the entries of a run and print the output, with
+-- these words and in this state at first, and the run ends so. A line that is no script line says so
+-- and ends the run.
+abbrev pub Shows : ℕ → Forms → Words → Space → Entries → List ℕ → Ending → Type 0
 Shows number [] words s entries output end = (entries ≡ []) × (output ≡ []) × (end ≡ ending.Done)
-Shows number (line ∷ lines) words s entries output end =
-    ((form : Form (List ℕ)) × IsLine line form
-    × ShowsForm number form words s entries output end (λ words' s' entries' output'. Shows (number + 1) lines words' s' entries' output' end))
-    ⊎ (((form : Form (List ℕ)) → ¬ IsLine line form) × (entries ≡ [])
-    × (output ≡ output_line number (codes "not a script line")) × (end ≡ ending.BadLine number))
+Shows number (Some form ∷ forms) words s entries output end =
+    ShowsForm number form words s entries output end (λ words' s' entries' output'. Shows (number + 1) forms words' s' entries' output' end)
+Shows number (None ∷ forms) words s entries output end =
+    (entries ≡ []) × (output ≡ output_line number (codes "not a script line")) × (end ≡ ending.BadLine number)
 
--- these lines, from the first on, show a run from the opening state, of a set that has counted
--- nothing, with this output and this ending
-abbrev pub PlaysLines : List (List ℕ) → List ℕ → Ending → Type 0
-PlaysLines lines output end =
+-- lines of these forms, from a script's first on, show a run from the opening state, of a set that has
+-- counted nothing, with this output and this ending
+abbrev pub PlaysForms : Forms → List ℕ → Ending → Type 0
+PlaysForms forms output end =
     (first : Standard) × (entries : Entries) × (state : Space) × IsFresh first × Run standard first entries state
-    × Shows 1 lines no_words (opening first) entries output end
+    × Shows 1 forms no_words (opening first) entries output end
 
--- a script plays so
+-- A script plays so: its lines from the first on, as far as the run goes, do. A run that is done went
+-- through them all.
 abbrev pub Plays : List ℕ → List ℕ → Ending → Type 0
-Plays script output end = PlaysLines (lines_of script) output end
+Plays script output end =
+    (forms : Forms) × (rest : List ℕ) × BeginsWithForms script forms rest × (end ≡ ending.Done → rest ≡ []) × PlaysForms forms output end
 
 -- what lines of the script from its first on play has this beginning
 abbrev pub PlaysPart : List ℕ → List ℕ → Type 0
 PlaysPart script front =
-    (done later : List (List ℕ)) × (back : List ℕ) × (end : Ending) × (lines_of script ≡ done ++ later)
-    × PlaysLines done (front ++ back) end
+    (forms : Forms) × (rest back : List ℕ) × (end : Ending) × BeginsWithForms script forms rest × PlaysForms forms (front ++ back) end
 
 -- what was written to a writer is what the script plays, and the run ended so
 abbrev pub PlaysTo : Option (List ℕ) → Option (List ℕ) → List ℕ → Ending → Type 0

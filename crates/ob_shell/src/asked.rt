@@ -1,106 +1,92 @@
 //! The command that a request spells.
 
 ghost use Rattle.std.specs.Prelude.{◌≡◌, IfOk};
-ghost use Rattle.ob_shell.specs.Parts.{handle_seen, name_seen, place_seen};
-ghost use Rattle.ob_shell.specs.Grammar.{request_seen};
+ghost use Rattle.ob_lines.specs.Parts.{text_of, handle_seen, name_seen, place_seen};
+ghost use Rattle.ob_lines.specs.Grammar.{HasPlaceText, HasTexts, request_seen};
 ghost use Rattle.ob_shell.specs.Words.{values_of};
-ghost use Rattle.ob_shell.specs.Text.{IsText, Spells};
-ghost use Rattle.ob_shell.specs.Commands.{handle_meant, text_of, root_of, IsCommand, IsCreateDirectory, IsCreateLink, IsCreateObject, IsOpenDirectory, IsOpenLink, IsOpenObject, IsPlace};
-ghost use Rattle.ob_shell.specs.Running.{HasPlaceText, HasTexts};
+ghost use Rattle.ob_lines.specs.Text.{IsText, Spells};
+ghost use Rattle.ob_shell.specs.Commands.{handle_meant, root_of, IsCommand, IsCreateDirectory, IsCreateLink, IsCreateObject, IsOpenDirectory, IsOpenLink, IsOpenObject, IsPlace};
 ghost use Rattle.ob_shell.specs.Offsets.{OffsetsAreAddedInFull};
 
-use crate::handle::{HandleForm, added};
-use crate::request::{NameForm, PlaceForm, Request};
-use crate::text::decode;
 use crate::words::{Word, value_of, word_in};
 use ob_base::{Handle, Proc};
+use ob_lines::{HandleForm, NameForm, PlaceForm, Request, decode, offset_value};
 use ob_model::{Bytes, Command, Place};
 use ob_plain::PlainKind;
 use std::alloc::{AllocError, Global};
 use std::collections::BTreeMap;
 
+// The process that asks for something, the words of all processes, and the allocator of what is made.
+#[derive(Clone, Copy)]
+pub struct Asker<'a> {
+    pub alloc: Global,
+    pub process: Proc,
+    pub words: &'a BTreeMap<Word, Handle>,
+}
+
+// The command that a line asks for, or want of memory.
+pub type Asked = Result<Command<PlainKind>, AllocError>;
+
 // The command that a request spells, with the words of its process.
-pub fn command_of(
-    alloc: Global,
-    words: &BTreeMap<Word, Handle>,
-    process: Proc,
-    request: Request<&[u8]>,
-) -> Result<Command<PlainKind>, AllocError>
+pub fn command_of(asker: &Asker<'_>, request: Request<&[u8]>) -> Asked
     requires { HasTexts (request_seen request) }
-    ensures { IfOk result (IsCommand (request_seen request.entry) (values_of words.now process)) }
+    ensures { IfOk result (IsCommand (request_seen request.entry) (values_of asker.now.words.now asker.now.process)) }
 {
     match request {
-        Request::CreateDirectory { place, attrs, .. } => create_directory(
-            alloc, words, process, place, attrs,
-        ),
+        Request::CreateDirectory { place, attrs, .. } => create_directory(asker, place, attrs),
         Request::CreateLink {
             place,
             attrs,
             target,
             ..
-        } => create_link(alloc, words, process, place, attrs, target),
+        } => create_link(asker, place, attrs, target),
         Request::CreateObject {
             kind,
             place,
             attrs,
             args,
             ..
-        } => create_object(alloc, words, process, kind, place, attrs, args),
-        Request::OpenDirectory { name, attrs, .. } => open_directory(
-            alloc, words, process, name, attrs,
-        ),
-        Request::OpenLink { name, attrs, .. } => open_link(alloc, words, process, name, attrs),
+        } => create_object(asker, kind, place, attrs, args),
+        Request::OpenDirectory { name, attrs, .. } => open_directory(asker, name, attrs),
+        Request::OpenLink { name, attrs, .. } => open_link(asker, name, attrs),
         Request::OpenObject {
             want,
             name,
             attrs,
             ..
-        } => open_object(alloc, words, process, want, name, attrs),
+        } => open_object(asker, want, name, attrs),
         Request::Close { handle } => {
-            let handle = handle_of(alloc, words, process, handle)?;
+            let handle = handle_of(asker, handle)?;
             Ok(Command::Close { handle })
         }
         Request::QueryLink { handle } => {
-            let handle = handle_of(alloc, words, process, handle)?;
+            let handle = handle_of(asker, handle)?;
             Ok(Command::QueryLink { handle })
         }
         Request::QueryName { handle } => {
-            let handle = handle_of(alloc, words, process, handle)?;
+            let handle = handle_of(asker, handle)?;
             Ok(Command::QueryName { handle })
         }
     }
 }
 
 // The create of a directory.
-fn create_directory(
-    alloc: Global,
-    words: &BTreeMap<Word, Handle>,
-    process: Proc,
-    place: PlaceForm<&[u8]>,
-    attrs: u32,
-) -> Result<Command<PlainKind>, AllocError>
+fn create_directory(asker: &Asker<'_>, place: PlaceForm<&[u8]>, attrs: u32) -> Asked
     requires { HasPlaceText (place_seen place) }
-    ensures { IfOk result (IsCreateDirectory (place_seen place.entry) attrs (values_of words.now process)) }
+    ensures { IfOk result (IsCreateDirectory (place_seen place.entry) attrs (values_of asker.now.words.now asker.now.process)) }
 {
-    let place = place_of(alloc, words, process, place)?;
+    let place = place_of(asker, place)?;
     Ok(Command::CreateDirectory { place, attrs })
 }
 
 // The create of a symbolic link.
-fn create_link(
-    alloc: Global,
-    words: &BTreeMap<Word, Handle>,
-    process: Proc,
-    place: PlaceForm<&[u8]>,
-    attrs: u32,
-    target: &[u8],
-) -> Result<Command<PlainKind>, AllocError>
+fn create_link(asker: &Asker<'_>, place: PlaceForm<&[u8]>, attrs: u32, target: &[u8]) -> Asked
     requires place { HasPlaceText (place_seen place) }
     requires target { IsText target.now }
-    ensures { IfOk result (IsCreateLink (place_seen place.entry) attrs target.now (values_of words.now process)) }
+    ensures { IfOk result (IsCreateLink (place_seen place.entry) attrs target.now (values_of asker.now.words.now asker.now.process)) }
 {
-    let place = place_of(alloc, words, process, place)?;
-    let target = decode(alloc, target)?;
+    let place = place_of(asker, place)?;
+    let target = decode(asker.alloc, target)?;
     Ok(Command::CreateLink {
         place,
         attrs,
@@ -110,20 +96,18 @@ fn create_link(
 
 // The create of an object.
 fn create_object(
-    alloc: Global,
-    words: &BTreeMap<Word, Handle>,
-    process: Proc,
+    asker: &Asker<'_>,
     kind: PlainKind,
     place: PlaceForm<&[u8]>,
     attrs: u32,
     args: &[u8],
-) -> Result<Command<PlainKind>, AllocError>
+) -> Asked
     requires place { HasPlaceText (place_seen place) }
     requires args { IsText args.now }
-    ensures { IfOk result (IsCreateObject kind (place_seen place.entry) attrs args.now (values_of words.now process)) }
+    ensures { IfOk result (IsCreateObject kind (place_seen place.entry) attrs args.now (values_of asker.now.words.now asker.now.process)) }
 {
-    let place = place_of(alloc, words, process, place)?;
-    let args = decode(alloc, args)?;
+    let place = place_of(asker, place)?;
+    let args = decode(asker.alloc, args)?;
     Ok(Command::CreateObject {
         place,
         attrs,
@@ -133,51 +117,37 @@ fn create_object(
 }
 
 // The open of a directory.
-fn open_directory(
-    alloc: Global,
-    words: &BTreeMap<Word, Handle>,
-    process: Proc,
-    name: NameForm<&[u8]>,
-    attrs: u32,
-) -> Result<Command<PlainKind>, AllocError>
+fn open_directory(asker: &Asker<'_>, name: NameForm<&[u8]>, attrs: u32) -> Asked
     requires { IsText (text_of (name_seen name)) }
-    ensures { IfOk result (IsOpenDirectory (name_seen name.entry) attrs (values_of words.now process)) }
+    ensures { IfOk result (IsOpenDirectory (name_seen name.entry) attrs (values_of asker.now.words.now asker.now.process)) }
 {
-    let root = root_of(alloc, words, process, name)?;
-    let name = bytes_of(alloc, name)?;
+    let root = root_of(asker, name)?;
+    let name = bytes_of(asker, name)?;
     Ok(Command::OpenDirectory { root, name, attrs })
 }
 
 // The open of a symbolic link.
-fn open_link(
-    alloc: Global,
-    words: &BTreeMap<Word, Handle>,
-    process: Proc,
-    name: NameForm<&[u8]>,
-    attrs: u32,
-) -> Result<Command<PlainKind>, AllocError>
+fn open_link(asker: &Asker<'_>, name: NameForm<&[u8]>, attrs: u32) -> Asked
     requires { IsText (text_of (name_seen name)) }
-    ensures { IfOk result (IsOpenLink (name_seen name.entry) attrs (values_of words.now process)) }
+    ensures { IfOk result (IsOpenLink (name_seen name.entry) attrs (values_of asker.now.words.now asker.now.process)) }
 {
-    let root = root_of(alloc, words, process, name)?;
-    let name = bytes_of(alloc, name)?;
+    let root = root_of(asker, name)?;
+    let name = bytes_of(asker, name)?;
     Ok(Command::OpenLink { root, name, attrs })
 }
 
 // The open of an object.
 fn open_object(
-    alloc: Global,
-    words: &BTreeMap<Word, Handle>,
-    process: Proc,
+    asker: &Asker<'_>,
     want: Option<PlainKind>,
     name: NameForm<&[u8]>,
     attrs: u32,
-) -> Result<Command<PlainKind>, AllocError>
+) -> Asked
     requires { IsText (text_of (name_seen name)) }
-    ensures { IfOk result (IsOpenObject want (name_seen name.entry) attrs (values_of words.now process)) }
+    ensures { IfOk result (IsOpenObject want (name_seen name.entry) attrs (values_of asker.now.words.now asker.now.process)) }
 {
-    let root = root_of(alloc, words, process, name)?;
-    let name = bytes_of(alloc, name)?;
+    let root = root_of(asker, name)?;
+    let name = bytes_of(asker, name)?;
     Ok(Command::OpenObject {
         root,
         name,
@@ -187,19 +157,14 @@ fn open_object(
 }
 
 // The place that a line means.
-fn place_of(
-    alloc: Global,
-    words: &BTreeMap<Word, Handle>,
-    process: Proc,
-    place: PlaceForm<&[u8]>,
-) -> Result<Place, AllocError>
+fn place_of(asker: &Asker<'_>, place: PlaceForm<&[u8]>) -> Result<Place, AllocError>
     requires { HasPlaceText (place_seen place) }
-    ensures { IfOk result (IsPlace (place_seen place.entry) (values_of words.now process)) }
+    ensures { IfOk result (IsPlace (place_seen place.entry) (values_of asker.now.words.now asker.now.process)) }
 {
     match place {
         PlaceForm::Named(name) => {
-            let root = root_of(alloc, words, process, name)?;
-            let name = bytes_of(alloc, name)?;
+            let root = root_of(asker, name)?;
+            let name = bytes_of(asker, name)?;
             Ok(Place::At { root, name })
         }
         PlaceForm::Unnamed => Ok(Place::Unnamed),
@@ -207,46 +172,36 @@ fn place_of(
 }
 
 // The handle that a name is relative to; none for an absolute name.
-fn root_of(
-    alloc: Global,
-    words: &BTreeMap<Word, Handle>,
-    process: Proc,
-    name: NameForm<&[u8]>,
-) -> Result<Option<Handle>, AllocError>
-    ensures { IfOk result (λ root. root ≡ root_of (name_seen name.entry) (values_of words.now process)) }
+fn root_of(asker: &Asker<'_>, name: NameForm<&[u8]>) -> Result<Option<Handle>, AllocError>
+    ensures { IfOk result (λ root. root ≡ root_of (name_seen name.entry) (values_of asker.now.words.now asker.now.process)) }
 {
     match name {
         NameForm::Absolute(_) => Ok(None),
         NameForm::Relative { root, .. } => {
-            let handle = handle_of(alloc, words, process, root)?;
+            let handle = handle_of(asker, root)?;
             Ok(Some(handle))
         }
     }
 }
 
 // The bytes that the text of a name spells.
-fn bytes_of(alloc: Global, name: NameForm<&[u8]>) -> Result<Bytes, AllocError>
+fn bytes_of(asker: &Asker<'_>, name: NameForm<&[u8]>) -> Result<Bytes, AllocError>
     requires { IsText (text_of (name_seen name)) }
     ensures { IfOk result (λ bytes. Spells (text_of (name_seen name.entry)) bytes) }
 {
     match name {
-        NameForm::Absolute(text) => decode(alloc, text),
-        NameForm::Relative { text, .. } => decode(alloc, text),
+        NameForm::Absolute(text) => decode(asker.alloc, text),
+        NameForm::Relative { text, .. } => decode(asker.alloc, text),
     }
 }
 
 // The handle that a line means: the value of its word, and the number that is added to it.
-fn handle_of(
-    alloc: Global,
-    words: &BTreeMap<Word, Handle>,
-    process: Proc,
-    handle: HandleForm<&[u8]>,
-) -> Result<Handle, AllocError>
-    ensures { IfOk result (λ meant. meant ≡ handle_meant (handle_seen handle.entry) (values_of words.now process)) }
+fn handle_of(asker: &Asker<'_>, handle: HandleForm<&[u8]>) -> Result<Handle, AllocError>
+    ensures { IfOk result (λ meant. meant ≡ handle_meant (handle_seen handle.entry) (values_of asker.now.words.now asker.now.process)) }
 {
-    let word = word_in(alloc, process, handle.word)?;
-    let value = value_of(words, &word);
-    Ok(Handle(value.0.saturating_add(added(handle.offset))))
+    let word = word_in(asker.alloc, asker.process, handle.word)?;
+    let value = value_of(asker.words, &word);
+    Ok(Handle(value.0.saturating_add(offset_value(handle.offset))))
 }
 
 /// The law that in a run what is added to the value of a handle word is added in full: no word holds more

@@ -1,22 +1,22 @@
 //! One line of a script.
 
-ghost use Rattle.std.specs.Prelude.{◌≡◌, IfOk};
+ghost use Rattle.std.specs.Prelude.{◌≡◌, IfOk, IfSome};
 ghost use Rattle.ob_model.specs.declared.reply.Event.TheVariants.{Start};
 ghost use Rattle.ob_model.specs.declared.reply.Answer.TheVariants.{Done};
 ghost use Rattle.ob_model.specs.Step.{Step};
-ghost use Rattle.ob_shell.specs.Grammar.{request_seen};
+ghost use Rattle.ob_lines.specs.Grammar.{HasTexts, FormHasTexts, form_seen, request_seen};
+ghost use Rattle.ob_lines.specs.Script.{found_seen};
 ghost use Rattle.ob_shell.specs.Words.{values_of};
 ghost use Rattle.ob_shell.specs.Machine.{standard};
-ghost use Rattle.ob_shell.specs.Commands.{word_of, value_after, given_handle};
-ghost use Rattle.ob_shell.specs.Running.{HasTexts, IsAnswered, IsDone};
+ghost use Rattle.ob_shell.specs.Commands.{value_after, given_handle};
+ghost use Rattle.ob_shell.specs.Running.{IsAnswered, IsDone};
 
-use crate::asked::command_of;
+use crate::asked::{Asker, command_of};
 use crate::counts::{Counts, counts_of};
-use crate::form::{Form, form_of};
-use crate::request::Request;
 use crate::words::{Word, keep, process_of, set, value_of, word_in};
 use ob_base::{Fault, Handle, Proc, Status};
 use ob_core::{Core, Started};
+use ob_lines::{Form, Request, word_of};
 use ob_model::{Command, Given, Reply};
 use ob_plain::{PlainKind, Standard};
 use std::alloc::Global;
@@ -37,16 +37,17 @@ pub enum Outcome {
     NoMemory,
 }
 
-// Runs a line.
+// Runs a line of this form; none: a line that is no script line.
 pub fn perform(
     alloc: Global,
     core: &mut Core<Standard>,
     words: &mut BTreeMap<Word, Handle>,
-    line: &[u8],
+    form: Option<Form<&[u8]>>,
 ) -> Outcome
-    ensures { IsDone line.now (values_of words.old) core.old result (values_of words.new) core.new }
+    requires { IfSome form (λ form. FormHasTexts (form_seen form)) }
+    ensures { IsDone (found_seen form.entry) (values_of words.old) core.old result (values_of words.new) core.new }
 {
-    match form_of(line) {
+    match form {
         None => Outcome::NoLine,
         Some(Form::Nothing) => Outcome::Idle,
         Some(Form::Stat) => Outcome::Counted(counts_of(core)),
@@ -73,7 +74,12 @@ fn ask(
 {
     let word = word_in(alloc, process, word_of(request))?;
     keep(alloc, words, &word)?;
-    let command = command_of(alloc, words, process, request)?;
+    let asker = Asker {
+        alloc,
+        process,
+        words: &*words,
+    };
+    let command = command_of(&asker, request)?;
     let reply = start(core, process, &command)?;
     let value = value_after(request, &reply, value_of(words, &word));
     set(words, word, value);
@@ -88,27 +94,8 @@ fn start(
 ) -> Result<Reply, Fault>
     ensures { IfOk result (λ reply. Step standard core.old (Start process command.now) (Done reply) core.new) }
 {
-    match core.start(process, command) {
-        Ok(Started::Done(reply)) => Ok(reply),
-        Err(fault) => Err(fault),
-    }
-}
-
-// The handle word of a request.
-fn word_of<'a>(request: Request<&'a [u8]>) -> &'a [u8]
-    ensures { result.now ≡ word_of (request_seen request.entry) }
-{
-    match request {
-        Request::CreateDirectory { word, .. } => word,
-        Request::CreateLink { word, .. } => word,
-        Request::CreateObject { word, .. } => word,
-        Request::OpenDirectory { word, .. } => word,
-        Request::OpenLink { word, .. } => word,
-        Request::OpenObject { word, .. } => word,
-        Request::Close { handle } => handle.word,
-        Request::QueryLink { handle } => handle.word,
-        Request::QueryName { handle } => handle.word,
-    }
+    let Started::Done(reply) = core.start(process, command)?;
+    Ok(reply)
 }
 
 // The value of the request's word after the reply.

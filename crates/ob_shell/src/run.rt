@@ -2,7 +2,6 @@
 
 ghost use Rattle.std.specs.Prelude.{◌≡◌, ◌≢◌, ◌+◌, ◌<◌, ◌≤◌, ◌∷◌, [], length, IfOk, IfErr, OnOk, OnErr, IsErr, IfSome, IfNone, IsErrOf};
 ghost use Rattle.std.specs.Io.KnownBytes.{Appends};
-ghost use Rattle.ob_shell.specs.Lines.{lines_of};
 ghost use Rattle.ob_shell.specs.Reading.{TakesAtMost};
 ghost use Rattle.ob_shell.specs.Writing.{AppendsFront};
 ghost use Rattle.ob_shell.specs.Shown.{PlaysTo, PlaysPartTo};
@@ -12,8 +11,8 @@ use crate::fault::ShellFault;
 use crate::line::{Outcome, perform};
 use crate::printing::write_outcome;
 use crate::reading::{SCRIPT_LIMIT, read_script};
-use crate::split::split_at;
 use ob_core::Core;
+use ob_lines::read_line;
 use ob_plain::{Counting, Plain};
 use std::alloc::Global;
 use std::collections::BTreeMap;
@@ -83,9 +82,9 @@ fn run_text<W: Write>(alloc: Global, script: &[u8], writer: &mut W) -> Result<En
     let mut words = BTreeMap::new(alloc);
     let mut rest = script;
     let mut number: u64 = 0;
-    while let Some((line, behind)) = first_line(rest) {
+    while let Some((form, behind)) = read_line(rest) {
         number += 1;
-        let outcome = perform(alloc, &mut core, &mut words, line);
+        let outcome = perform(alloc, &mut core, &mut words, form);
         match show(writer, number, outcome) {
             Ok(None) => {}
             Ok(Some(ending)) => return Ok(ending),
@@ -125,24 +124,3 @@ fn ending_of(number: u64, outcome: &Outcome) -> Option<Ending>
         Outcome::NoMemory => Some(Ending::NoMemoryAt(number)),
     }
 }
-
-// The first line of a script's rest, without its LF, and what stands behind it.
-fn first_line(bytes: &[u8]) -> Option<(&[u8], &[u8])>
-    ensures found { IfSome result (λ x. lines_of bytes.now ≡ x.0.now ∷ lines_of x.1.now) }
-    ensures shorter { IfSome result (λ x. length x.1.now < length bytes.now) }
-    ensures none { IfNone result (lines_of bytes.now ≡ []) }
-{
-    if bytes.is_empty() {
-        return None;
-    }
-    match split_at(bytes, b'\n') {
-        Some((line, rest)) => Some((line, rest)),
-        None => {
-            let nothing: &[u8] = &[];
-            Some((bytes, nothing))
-        }
-    }
-}
-
-#[cfg(test)]
-mod tests;

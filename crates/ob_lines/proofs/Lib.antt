@@ -1,0 +1,8 @@
+pub mod Cuts
+pub mod Spelled
+pub mod Flagged
+pub mod Handles
+pub mod Parted
+pub mod Formed
+pub mod Lined
+pub mod Scripted

@@ -1,0 +1,153 @@
+-- The grammar: what a line of a script is.
+--
+-- A form is generic in how it holds bytes: in the code as slices of the line, here as lists.
+-- Source: this profile.
+use Rattle.std.specs.Prelude.{◌≡◌, ℕ, ◌≤◌, ◌⊎◌, List, [], ◌++◌, length, codes}
+use Rattle.std.specs.Borrow.{Bor}
+use Rattle.ob_lines.specs.declared.form.Form.{Form}
+use Rattle.ob_lines.specs.declared.form.Form.TheVariants.{Nothing, Stat, Asks}
+use Rattle.ob_lines.specs.declared.request.NameForm.{NameForm}
+use Rattle.ob_lines.specs.declared.request.PlaceForm.{PlaceForm}
+use Rattle.ob_lines.specs.declared.request.PlaceForm.TheVariants.{Named, Unnamed}
+use Rattle.ob_lines.specs.declared.request.Request.{Request}
+use Rattle.ob_lines.specs.declared.request.Request.TheVariants.{CreateDirectory, CreateLink, CreateObject, OpenDirectory, OpenLink, OpenObject, Close, QueryLink, QueryName}
+use Rattle.ob_lines.specs.declared.verb.Verb.{Verb}
+use Rattle.ob_lines.specs.declared.verb.Verb.TheVariants as verb
+use Rattle.ob_lines.specs.Text.{IsText, IsProcessWord}
+use Rattle.ob_lines.specs.Parts.{IsHandle, BeginsWithText, BeginsWithName, BeginsWithPlace, BeginsWithKind, BeginsWithWant, BeginsWithFlags, SetsWord, text_of, handle_seen, name_seen, place_seen}
+
+-- the most bytes that a line may have, without its LF
+abbrev pub longest_line : ℕ
+longest_line = 262144
+
+-- `FLAGS =V`
+abbrev pub IsFlagsAndWord : List ℕ → ℕ → List ℕ → Type 0
+IsFlagsAndWord bytes attrs word = (rest : List ℕ) × BeginsWithFlags bytes attrs rest × SetsWord rest word
+
+-- `FLAGS TEXT =V`
+abbrev pub IsFlagsTextAndWord : List ℕ → ℕ → List ℕ → List ℕ → Type 0
+IsFlagsTextAndWord bytes attrs text word =
+    (rest more : List ℕ) × BeginsWithFlags bytes attrs rest × BeginsWithText rest text more × SetsWord more word
+
+-- `NAME FLAGS =V`
+abbrev pub IsNameFlagsAndWord : List ℕ → NameForm (List ℕ) → ℕ → List ℕ → Type 0
+IsNameFlagsAndWord bytes name attrs word = (rest : List ℕ) × BeginsWithName bytes name rest × IsFlagsAndWord rest attrs word
+
+-- `PLACE FLAGS TEXT =V`
+abbrev pub IsPlaceFlagsTextAndWord : List ℕ → PlaceForm (List ℕ) → ℕ → List ℕ → List ℕ → Type 0
+IsPlaceFlagsTextAndWord bytes place attrs text word =
+    (rest : List ℕ) × BeginsWithPlace bytes place rest × IsFlagsTextAndWord rest attrs text word
+
+-- the word of a verb
+abbrev pub verb_text : Verb → List ℕ
+verb_text verb.Dir = codes "dir"
+verb_text verb.Link = codes "link"
+verb_text verb.Make = codes "make"
+verb_text verb.OpenDir = codes "opendir"
+verb_text verb.OpenLink = codes "openlink"
+verb_text verb.Open = codes "open"
+verb_text verb.Close = codes "close"
+verb_text verb.Target = codes "target"
+verb_text verb.Name = codes "name"
+
+-- the verb of a request
+abbrev pub verb_of : Request (List ℕ) → Verb
+verb_of (CreateDirectory place attrs word) = verb.Dir
+verb_of (CreateLink place attrs target word) = verb.Link
+verb_of (CreateObject kind place attrs args word) = verb.Make
+verb_of (OpenDirectory name attrs word) = verb.OpenDir
+verb_of (OpenLink name attrs word) = verb.OpenLink
+verb_of (OpenObject want name attrs word) = verb.Open
+verb_of (Close handle) = verb.Close
+verb_of (QueryLink handle) = verb.Target
+verb_of (QueryName handle) = verb.Name
+
+-- the handle word of a request
+abbrev pub word_of : Request (List ℕ) → List ℕ
+word_of (CreateDirectory place attrs word) = word
+word_of (CreateLink place attrs target word) = word
+word_of (CreateObject kind place attrs args word) = word
+word_of (OpenDirectory name attrs word) = word
+word_of (OpenLink name attrs word) = word
+word_of (OpenObject want name attrs word) = word
+word_of (Close handle) = handle.word
+word_of (QueryLink handle) = handle.word
+word_of (QueryName handle) = handle.word
+
+-- what stands behind the verb of a request and a space: `PLACE FLAGS =V` behind `dir`,
+-- `PLACE FLAGS TEXT =V` behind `link`, `KIND PLACE FLAGS TEXT =V` behind `make`, `NAME FLAGS =V` behind
+-- `opendir` and `openlink`, `WANT NAME FLAGS =V` behind `open`, and `H` behind `close`, `target` and `name`
+abbrev pub IsOperands : List ℕ → Request (List ℕ) → Type 0
+IsOperands bytes (CreateDirectory place attrs word) =
+    (rest : List ℕ) × BeginsWithPlace bytes place rest × IsFlagsAndWord rest attrs word
+IsOperands bytes (CreateLink place attrs target word) = IsPlaceFlagsTextAndWord bytes place attrs target word
+IsOperands bytes (CreateObject kind place attrs args word) =
+    (rest : List ℕ) × BeginsWithKind bytes kind rest × IsPlaceFlagsTextAndWord rest place attrs args word
+IsOperands bytes (OpenDirectory name attrs word) = IsNameFlagsAndWord bytes name attrs word
+IsOperands bytes (OpenLink name attrs word) = IsNameFlagsAndWord bytes name attrs word
+IsOperands bytes (OpenObject want name attrs word) =
+    (rest : List ℕ) × BeginsWithWant bytes want rest × IsNameFlagsAndWord rest name attrs word
+IsOperands bytes (Close handle) = IsHandle bytes handle
+IsOperands bytes (QueryLink handle) = IsHandle bytes handle
+IsOperands bytes (QueryName handle) = IsHandle bytes handle
+
+-- what a process asks for, behind its process word and a space: a verb, a space and its operands
+abbrev pub IsRequest : List ℕ → Request (List ℕ) → Type 0
+IsRequest bytes request =
+    (operands : List ℕ) × (bytes ≡ verb_text (verb_of request) ++ codes " " ++ operands) × IsOperands operands request
+
+-- an empty line, or a comment, which begins with `#`
+abbrev pub IsIdle : List ℕ → Type 0
+IsIdle line = (line ≡ []) ⊎ ((comment : List ℕ) × (line ≡ codes "#" ++ comment))
+
+-- the line, without its LF, is of this form
+abbrev pub IsLine : List ℕ → Form (List ℕ) → Type 0
+IsLine line Nothing = IsIdle line × (length line ≤ longest_line)
+IsLine line Stat = line ≡ codes "stat"
+IsLine line (Asks process request) =
+    (rest : List ℕ) × (line ≡ process ++ codes " " ++ rest) × IsProcessWord process × IsRequest rest request
+    × (length line ≤ longest_line)
+
+-- a line has no two forms
+abbrev pub LinesHaveOneForm : Type 0
+LinesHaveOneForm = (line : List ℕ) (a b : Form (List ℕ)) → IsLine line a → IsLine line b → a ≡ b
+
+-- the text of a place, where it has one, is a text
+abbrev pub HasPlaceText : PlaceForm (List ℕ) → Type 0
+HasPlaceText (Named name) = IsText (text_of name)
+HasPlaceText Unnamed = Unit {0}
+
+-- the texts of a request, where it has some, are texts
+abbrev pub HasTexts : Request (List ℕ) → Type 0
+HasTexts (CreateDirectory place attrs word) = HasPlaceText place
+HasTexts (CreateLink place attrs target word) = HasPlaceText place × IsText target
+HasTexts (CreateObject kind place attrs args word) = HasPlaceText place × IsText args
+HasTexts (OpenDirectory name attrs word) = IsText (text_of name)
+HasTexts (OpenLink name attrs word) = IsText (text_of name)
+HasTexts (OpenObject want name attrs word) = IsText (text_of name)
+HasTexts (Close handle) = Unit {0}
+HasTexts (QueryLink handle) = Unit {0}
+HasTexts (QueryName handle) = Unit {0}
+
+-- the texts of a form, where it has some, are texts
+abbrev pub FormHasTexts : Form (List ℕ) → Type 0
+FormHasTexts Nothing = Unit {0}
+FormHasTexts Stat = Unit {0}
+FormHasTexts (Asks process request) = HasTexts request
+
+-- a request, and a form, whose slices of bytes are seen as the lists that they hold
+abbrev pub request_seen : Request (Bor (List ℕ)) → Request (List ℕ)
+request_seen (CreateDirectory place attrs word) = CreateDirectory (place_seen place) attrs word.now
+request_seen (CreateLink place attrs target word) = CreateLink (place_seen place) attrs target.now word.now
+request_seen (CreateObject kind place attrs args word) = CreateObject kind (place_seen place) attrs args.now word.now
+request_seen (OpenDirectory name attrs word) = OpenDirectory (name_seen name) attrs word.now
+request_seen (OpenLink name attrs word) = OpenLink (name_seen name) attrs word.now
+request_seen (OpenObject want name attrs word) = OpenObject want (name_seen name) attrs word.now
+request_seen (Close handle) = Close (handle_seen handle)
+request_seen (QueryLink handle) = QueryLink (handle_seen handle)
+request_seen (QueryName handle) = QueryName (handle_seen handle)
+
+abbrev pub form_seen : Form (Bor (List ℕ)) → Form (List ℕ)
+form_seen Nothing = Nothing
+form_seen Stat = Stat
+form_seen (Asks process request) = Asks process.now (request_seen request)

@@ -1,0 +1,6 @@
+pub mod Lines
+pub mod Text
+pub mod Flags
+pub mod Parts
+pub mod Grammar
+pub mod Script

@@ -1,0 +1,67 @@
+//! The forms of a line.
+
+ghost use Rattle.std.specs.Prelude.{◌≡◌, ◌+◌, ◌≤◌, ℕ, List, length, IfSome, IfNone};
+ghost use Rattle.ob_lines.specs.declared.form.Form.{Form};
+ghost use Rattle.ob_lines.specs.declared.request.Request.{Request};
+ghost use Rattle.ob_lines.specs.Grammar.{IsLine, form_seen, LinesHaveOneForm};
+
+use crate::request::{Request, request_of};
+use crate::split::split_at;
+use crate::text::is_process_word;
+
+/// The most bytes that a line may have, without its LF: 262,144. (this profile)
+pub const LONGEST_LINE: usize = 262_144;
+
+/// What a line is. `T` is how bytes are held: as slices of the line, or, in contracts, as lists.
+#[derive(Clone, Copy, PartialEq, Eq, Debug)]
+pub enum Form<T> {
+    /// An empty line or a comment.
+    Nothing,
+    /// `stat`: the counts are told.
+    Stat,
+    /// `P REQUEST`: a process asks for something.
+    Asks {
+        /// The process word.
+        process: T,
+        /// What is asked for.
+        request: Request<T>,
+    },
+}
+
+/// The form of a line without its LF: none where it is no line of a script, as one of more than
+/// 262,144 bytes. Takes no memory. Source: this profile.
+pub fn form_of(line: &[u8]) -> Option<Form<&[u8]>>
+    ensures found { IfSome result (λ form. IsLine line.now (form_seen form)) }
+    ensures none { IfNone result ((form : Form (List ℕ)) → ¬ IsLine line.now form) }
+{
+    if line.len() > LONGEST_LINE {
+        return None;
+    }
+    if line.is_empty() || line[0] == b'#' {
+        return Some(Form::Nothing);
+    }
+    if line == b"stat".as_slice() {
+        return Some(Form::Stat);
+    }
+    asking_of(line)
+}
+
+// The form of a line that asks for something.
+fn asking_of(line: &[u8]) -> Option<Form<&[u8]>>
+    requires { length line.now ≤ 262144 }
+    ensures found { IfSome result (λ form. IsLine line.now (form_seen form)) }
+    ensures none { IfNone result ((process : List ℕ) (request : Request (List ℕ)) → ¬ IsLine line.now (Form.Asks process request)) }
+{
+    let (process, rest) = split_at(line, b' ')?;
+    if !is_process_word(process) {
+        return None;
+    }
+    let request = request_of(rest)?;
+    Some(Form::Asks { process, request })
+}
+
+/// The law that a line has at most one form. The call does nothing; a caller makes it to have the
+/// fact.
+pub fn lines_have_one_form()
+    ensures { LinesHaveOneForm }
+{}

@@ -1,0 +1,23 @@
+//! Lines of a script: what a line is, its form and its words, and the parser.
+//!
+//! A script is bytes, which LF cuts into lines. Each line has at most one form, which the parser finds
+//! where there is one; a form names its words and texts as slices of the line. Nothing here knows what
+//! the words stand for, and no namespace is needed. docs/script.md has the language.
+#![tactic(auto)]
+
+mod flags;
+mod form;
+mod handle;
+mod kind;
+mod parts;
+mod request;
+mod script;
+mod split;
+mod text;
+mod verb;
+
+pub use form::{Form, LONGEST_LINE, form_of, lines_have_one_form};
+pub use handle::{HandleForm, Offset, offset_value};
+pub use request::{NameForm, PlaceForm, Request, word_of};
+pub use script::{read_line, scripts_have_one_reading};
+pub use text::{decode, texts_spell_one_thing};

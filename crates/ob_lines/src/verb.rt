@@ -1,0 +1,63 @@
+//! The words that say what a process asks for.
+
+ghost use Rattle.std.specs.Prelude.{◌≡◌, ◌≢◌, IfSome, IfNone};
+ghost use Rattle.ob_lines.specs.declared.verb.Verb.{Verb};
+ghost use Rattle.ob_lines.specs.Grammar.{verb_text};
+
+// What a process asks for.
+#[derive(Clone, Copy, PartialEq, Eq, Debug)]
+pub enum Verb {
+    // `dir`: a new directory.
+    Dir,
+    // `link`: a new symbolic link.
+    Link,
+    // `make`: a new object.
+    Make,
+    // `opendir`: a handle to a directory.
+    OpenDir,
+    // `openlink`: a handle to a symbolic link.
+    OpenLink,
+    // `open`: a handle to an object.
+    Open,
+    // `close`: a handle is closed.
+    Close,
+    // `target`: the target of a handle's symbolic link.
+    Target,
+    // `name`: the path of a handle's object.
+    Name,
+}
+
+// The verb of a word.
+pub fn verb_of(word: &[u8]) -> Option<Verb>
+    ensures found { IfSome result (λ verb. word.now ≡ verb_text verb) }
+    ensures none { IfNone result ((verb : Verb) → word.now ≢ verb_text verb) }
+{
+    if word == b"dir".as_slice() {
+        return Some(Verb::Dir);
+    }
+    if word == b"link".as_slice() {
+        return Some(Verb::Link);
+    }
+    if word == b"make".as_slice() {
+        return Some(Verb::Make);
+    }
+    if word == b"opendir".as_slice() {
+        return Some(Verb::OpenDir);
+    }
+    if word == b"openlink".as_slice() {
+        return Some(Verb::OpenLink);
+    }
+    if word == b"open".as_slice() {
+        return Some(Verb::Open);
+    }
+    if word == b"close".as_slice() {
+        return Some(Verb::Close);
+    }
+    if word == b"target".as_slice() {
+        return Some(Verb::Target);
+    }
+    if word == b"name".as_slice() {
+        return Some(Verb::Name);
+    }
+    None
+}
