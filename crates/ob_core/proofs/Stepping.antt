@@ -1,4 +1,4 @@
--- Steps: refused, or done.
+-- Steps that are done.
 use Rattle.std.proofs.Common.{◌≡◌, ◌≢◌, ℕ, ◌==◌, Bool, true, false, ◌&&◌, not, cond, List, [], ◌∷◌, refl, ap, ◌∙◌, sym, subst, map, filter, find, eqb-true}
 use Rattle.std.specs.Prelude.{Option, None, Some, MatchOption, All, count_by, Ok, Err}
 use Rattle.std.specs.List.{AllPairs}
@@ -24,10 +24,7 @@ use Rattle.ob_model.proofs.Staying.{granted_settled, settled_itself}
 use Rattle.ob_space.proofs.Orders.{only_handle}
 
 module _ {K T F I : Type 0} (refusals : List (Bool × Status)) (s : State K T F I) (answer : Answer) (t : State K T F I) (Does : Type 0) where
-  -- a step is refused with the first refusal that holds, and else does what it does
-  pub is_refused : (status : Status) → first_refusal refusals ≡ Some status → answer ≡ answers status → t ≡ s → Unless refusals s answer t Does
-  is_refused status e told same = subst (λ (o : Option Status). MatchOption o Does (λ told. IsRefused s told answer t)) (sym e) (told, same)
-
+  -- a step of which no refusal holds does what it does
   pub is_done : first_refusal refusals ≡ None → Does → Unless refusals s answer t Does
   is_done e done = subst (λ (o : Option Status). MatchOption o Does (λ told. IsRefused s told answer t)) (sym e) done
 

@@ -6,10 +6,6 @@ pub IfOk-map : {X E : Type 0} (P Q : X → Type 0) (r : Result X E) → ((x : X)
 IfOk-map P Q (Ok x) f h = f x h
 IfOk-map P Q (Err e) f h = h
 
-pub IfErr-map : {X E : Type 0} (P Q : E → Type 0) (r : Result X E) → ((e : E) → P e → Q e) → IfErr r P → IfErr r Q
-IfErr-map P Q (Ok x) f h = h
-IfErr-map P Q (Err e) f h = f e h
-
 -- what holds where a result is an Ok, of one that is, and the same of an Err
 pub of_ok : {X E : Type 0} (P : X → Type 0) (r : Result X E) (x : X) → r ≡ Ok x → IfOk r P → P x
 of_ok P r x is h = subst (λ (o : Result _ _). IfOk o P) is h

@@ -23,7 +23,7 @@ use std::alloc::AllocError;
 
 /// Grants process 1 a handle to an object that is there, by an open: under a free value, with the
 /// next order of opening, once the set has opened the object. Nothing settles yet: a handle more lets
-/// nothing go.
+/// nothing go. That the object is there is the caller's to see.
 ///
 /// Refusals, in their order: `InvalidParameter` where EXCLUSIVE is asked for an object that isn't
 /// exclusive, or INHERIT for one that is; `AccessDenied` where another process has a handle to an
@@ -31,7 +31,8 @@ use std::alloc::AllocError;
 /// and `TypeRefused` with the set's number where the set refuses. A refusal leaves all as it was, and
 /// so does want of memory, the only error. Room is made before the set is called.
 ///
-/// Source: ObOpenObjectByPointer and OBJECT_ATTRIBUTES structure (Windows Driver Kit).
+/// Source: OBJECT_ATTRIBUTES structure (OBJ_INHERIT, OBJ_EXCLUSIVE; Windows Driver Kit); Windows
+/// Internals, Object Manager (open methods). The order of refusals is this profile.
 pub fn grant<T: TypeSet>(
     space: &mut Namespace<T, Store<T>>,
     process: Proc,
@@ -71,7 +72,8 @@ pub fn grant<T: TypeSet>(
 /// and the order of opening, and adds a handle to it behind the others.
 ///
 /// It can't fail: it asks that the list has room for a handle more, and that the numbers that it draws
-/// are left. The value is to be free, which only the caller's orderly state says.
+/// are left. That the value is free is the caller's to see, by `free_value` before. The numbers and the
+/// order of opening are this profile.
 pub fn add_handle<T: TypeSet>(
     space: &mut Namespace<T, Store<T>>,
     process: Proc,

@@ -29,7 +29,7 @@ fn held_at(handles: &[Held], process: Proc, value: Handle) -> Option<&Held>
 /// The handle that a process names by a value, whose low two bits are ignored; none where the process
 /// has no such handle, or the value is 0 to 3.
 ///
-/// Source: Windows Internals, Handles.
+/// Source: Windows Internals on handles.
 pub fn held_of(handles: &[Held], process: Proc, handle: Handle) -> Option<Held>
     ensures { result ≡ option_and_then (held_of (handles_alone handles.now) process) (key_of handle) }
 {

@@ -25,6 +25,8 @@ const MOST_REPARSES: u32 = 32;
 /// It asks that the state is sound, so that every name in it leads somewhere, and that the root object
 /// is there. A vacant place is told only to a create, and then a name may be put there. Nothing is
 /// changed. The only fault is want of memory.
+///
+/// Source: Windows Internals, Object Manager (object names, symbolic links); the limit is this profile.
 pub fn look_up<T: TypeSet>(
     space: &Namespace<T, Store<T>>,
     process: Proc,

@@ -19,6 +19,9 @@ use std::alloc::Global;
 /// `\Device`, `\BaseNamedObjects` and `\Sessions`, with the ids 1 to 6, all permanent, and their names
 /// in the root with the stamps 1 to 5. So the next id is 7, and the next stamp 6. The only fault is
 /// want of memory.
+///
+/// Source: Windows Internals, Object Manager (object directories, session namespace); which objects
+/// there are at first is this profile.
 pub fn opening_store<T: TypeSet>(alloc: Global) -> Result<Store<T>, Fault>
     ensures store { IfOk result (λ store. store ≡ opening_entries) }
     ensures memory { IfErr result (λ fault. fault ≡ Memory) }

@@ -38,6 +38,8 @@ pub struct Spot {
 /// Where the set refuses, with its number, the object is taken back and deleted, and its id stays
 /// drawn; handles and names are as they were. The only fault is want of memory, and then nothing has
 /// changed.
+///
+/// Source: Windows Internals, Object Manager (open methods); the numbers are this profile.
 pub fn place_new<T: TypeSet>(
     space: &mut Namespace<T, Store<T>>,
     spot: Option<Spot>,

@@ -25,14 +25,15 @@ fn settle<T: TypeSet>(space: &mut Namespace<T, Store<T>>)
     delete_objects(space);
 }
 
-/// Settles after a handle to an object was closed: what lives by neither permanence nor a handle nor
-/// the names in it goes, with its name, and the set is told of each object that goes, from the
-/// greatest id down.
+/// Settles after a handle to an object was closed: an object that is neither permanent nor has a
+/// handle loses its names, and goes if it holds no names that stay. The set is told of each object of
+/// its own that goes, from the greatest id down. The root and `\GLOBAL??` stay always.
 ///
 /// It asks that the state is orderly, and that all stays already where the object is permanent or has
 /// another handle: then nothing is looked for. It leaves an orderly state. No memory is taken.
 ///
-/// Source: ObMakeTemporaryObject and ZwClose (Windows Driver Kit).
+/// Source: Windows Internals, Object Manager (object retention); that it is judged once, at the end of
+/// a step, and the order of the deletes are this profile.
 pub fn settle_after_close<T: TypeSet>(space: &mut Namespace<T, Store<T>>, object: ObjId)
     requires orderly { IsOrderly T.idle (state_of T.Kind space.old) }
     requires kept { (is_permanent (state_of T.Kind space.old) object || has_handle (state_of T.Kind space.old) object) ≡ true

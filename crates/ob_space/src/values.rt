@@ -22,7 +22,7 @@ pub(crate) fn table_size(handles: &[Held], process: Proc) -> usize
 /// asks that the process has fewer than 65,535 handles: then one is free. The only error is want of
 /// memory.
 ///
-/// Source: Windows Internals, Handles; the greatest value is this profile.
+/// Source: Windows Internals on handles; the greatest value, and which one is chosen, are this profile.
 pub fn free_value(alloc: Global, handles: &[Held], process: Proc) -> Result<Handle, AllocError>
     requires { count_by (λ h. h.process == process) handles.now < most_handles }
     ensures { IfOk result (IsFree handles.now process) }
