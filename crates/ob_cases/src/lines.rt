@@ -415,16 +415,24 @@ fn only_lf_ends_a_line_and_the_last_may_lack_it(rt: HostRuntime) {
 }
 
 #[test]
-fn texts_spell_bytes(rt: HostRuntime) -> Result<(), Fail> {
+fn texts_of_a_line_spell_bytes(rt: HostRuntime) -> Result<(), Fail> {
     let table: [(&[u8], &[u8]); 4] = [
-        (b"", b""),
-        (b"\\A ~", b"\\A ~"),
-        (b"%00%ff%FF%22%25", b"\x00\xff\xff\x22\x25"),
-        (b"%411", b"A1"),
+        (b"p1 link none - \"\" =l", b""),
+        (b"p1 link none - \"\\A ~\" =l", b"\\A ~"),
+        (b"p1 link none - \"%00%ff%FF%22%25\" =l", b"\x00\xff\xff\x22\x25"),
+        (b"p1 link none - \"%411\" =l", b"A1"),
     ];
-    for (text, bytes) in table {
-        let spelled = decode(rt.alloc(), text)?;
-        assert_eq!(rt; spelled.as_slice(), bytes);
+    for (line, bytes) in table {
+        let mut spelled = Vec::new(rt.alloc());
+        if let Some((Some(Form::Asks { request, .. }), _)) = read_line(line) {
+            if let Request::CreateLink { target, .. } = request {
+                let target = decode(rt.alloc(), target)?;
+                spelled.extend_from_slice(target.as_slice())?;
+                spelled.push(b'.')?;
+            }
+        }
+        let told = spelled.split_last();
+        assert!(rt; told == Some((&b'.', bytes)), "{line:?}");
     }
     Ok(())
 }
