@@ -206,6 +206,7 @@ stands_part old mid new script rest behind form number words words' s s' o b e d
             f.back,
             end,
             begins_more script rest behind b.done form b.read e,
+            f.unwritten,
             subst P text (b.onward (form ∷ []) entries t (outcome_text (number + 1) o) end run shows),
           ),
           Appends-trans old mid new b.so_far f.front b.written f.written,

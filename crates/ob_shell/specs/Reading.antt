@@ -47,3 +47,12 @@ StopsReadingAfter had Read old new = TakesAtMost old new (SCRIPT_LIMIT - had)
 StopsReadingAfter had Memory old new = TakesAtMost old new (SCRIPT_LIMIT - had)
 StopsReadingAfter had Write old new = ⊥
 StopsReadingAfter had Mismatch old new = ⊥
+
+-- how the reading of a script above the limit ends: it is told as too long, unless a read failed or memory
+-- was wanting before
+abbrev pub StopsLong : ShellFault → Type 0
+StopsLong TooLong = Unit {0}
+StopsLong Read = Unit {0}
+StopsLong Memory = Unit {0}
+StopsLong Write = ⊥
+StopsLong Mismatch = ⊥

@@ -1,7 +1,7 @@
 -- What a script shows: the run that it asks for, and the text that it prints.
 --
 -- Source: this profile.
-use Rattle.std.specs.Prelude.{◌≡◌, ℕ, ◌+◌, ◌⊎◌, List, [], ◌∷◌, ◌++◌, Option, Some, None, codes}
+use Rattle.std.specs.Prelude.{◌≡◌, ◌≢◌, ℕ, ◌+◌, ◌⊎◌, List, [], ◌∷◌, ◌++◌, Option, Some, None, codes}
 use Rattle.std.specs.Io.KnownBytes.{Appends}
 use Rattle.ob_model.specs.declared.command.Command.{Command}
 use Rattle.ob_model.specs.declared.reply.Reply.{Reply}
@@ -65,10 +65,10 @@ abbrev pub Plays : List ℕ → List ℕ → Ending → Type 0
 Plays script output end =
     (forms : Forms) × (rest : List ℕ) × BeginsWithForms script forms rest × (end ≡ ending.Done → rest ≡ []) × PlaysForms forms output end
 
--- what lines of the script from its first on play has this beginning
+-- what lines of the script from its first on play has this beginning, and goes on behind it
 abbrev pub PlaysPart : List ℕ → List ℕ → Type 0
 PlaysPart script front =
-    (forms : Forms) × (rest back : List ℕ) × (end : Ending) × BeginsWithForms script forms rest × PlaysForms forms (front ++ back) end
+    (forms : Forms) × (rest back : List ℕ) × (end : Ending) × BeginsWithForms script forms rest × (back ≢ []) × PlaysForms forms (front ++ back) end
 
 -- what was written to a writer is what the script plays, and the run ended so
 abbrev pub PlaysTo : Option (List ℕ) → Option (List ℕ) → List ℕ → Ending → Type 0

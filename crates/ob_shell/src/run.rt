@@ -2,7 +2,7 @@
 
 ghost use Rattle.std.specs.Prelude.{◌≡◌, ◌≢◌, ◌+◌, ◌<◌, ◌≤◌, ◌∷◌, [], length, IfOk, IfErr, OnOk, OnErr, IsErr, IfSome, IfNone, IsErrOf};
 ghost use Rattle.std.specs.Io.KnownBytes.{Appends};
-ghost use Rattle.ob_shell.specs.Reading.{TakesAtMost};
+ghost use Rattle.ob_shell.specs.Reading.{StopsLong, TakesAtMost};
 ghost use Rattle.ob_shell.specs.Writing.{AppendsFront};
 ghost use Rattle.ob_shell.specs.Shown.{PlaysTo, PlaysPartTo};
 ghost use Rattle.ob_shell.specs.Running.{outcome_text, outcome_end, StopsPlaying};
@@ -46,7 +46,7 @@ pub fn run_script<R: Read, W: Write>(
     ensures played { IfOk result (λ ending. IfSome (R.remaining reader.old) (λ script.
         PlaysTo (W.contents writer.old) (W.contents writer.new) script ending)) }
 
-    // After a fault of the writer: a beginning of what lines of the script play.
+    // After a fault of the writer: a beginning of what lines of the script play, and not all of it.
     ensures part { IsErrOf result ShellFault.Write → IfSome (R.remaining reader.old) (λ script.
         PlaysPartTo (W.contents writer.old) (W.contents writer.new) script) }
 
@@ -54,11 +54,17 @@ pub fn run_script<R: Read, W: Write>(
     ensures unwritten { IfErr result (λ fault. fault ≢ ShellFault.Write →
         W.contents writer.new ≡ W.contents writer.old) }
 
-    // A script that is too long is never run, and no other is called so.
+    // Those are all the faults that there are.
+    ensures faults { IfErr result (λ fault. fault ≢ ShellFault.Mismatch) }
+
+    // A script that is too long is never run, and no other is called so: it is told, unless reading it
+    // failed before.
     ensures too_long { IsErrOf result ShellFault.TooLong → IfSome (R.remaining reader.old) (λ script.
         SCRIPT_LIMIT < length script) }
     ensures refused { IfSome (R.remaining reader.old) (λ script.
         SCRIPT_LIMIT < length script → IsErr result) }
+    ensures long { IfSome (R.remaining reader.old) (λ script. SCRIPT_LIMIT < length script →
+        IfErr result StopsLong × (W.contents writer.new ≡ W.contents writer.old)) }
 
     // However it ends, no more than one byte past the limit is read.
     ensures taken { TakesAtMost (R.remaining reader.old) (R.remaining reader.new) (SCRIPT_LIMIT + 1) }

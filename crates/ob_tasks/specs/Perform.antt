@@ -3,10 +3,11 @@
 use Rattle.std.specs.Prelude.{◌≡◌, ◌≢◌, ◌<◌, ◌⊎◌, ℕ, List, ◌++◌, length, Option, Result, Ok, Err, IfOk, IfErr, IsErr, IsErrOf, IfSome, codes}
 use Rattle.std.specs.Io.KnownBytes.{Appends, Keeps}
 use Rattle.ob_shell.specs.Fault.{fault_text_of}
+use Rattle.ob_shell.specs.Reading.{StopsLong}
 use Rattle.ob_shell.specs.Shown.{PlaysTo, PlaysPartTo}
 use Rattle.ob_shell.specs.Writing.{AppendsFront}
 use Rattle.ob_shell.specs.declared.fault.ShellFault.{ShellFault}
-use Rattle.ob_shell.specs.declared.fault.ShellFault.TheVariants.{Write, TooLong}
+use Rattle.ob_shell.specs.declared.fault.ShellFault.TheVariants.{Write, TooLong, Mismatch}
 use Rattle.ob_shell.specs.declared.reading.TheConstants.{SCRIPT_LIMIT}
 use Rattle.ob_shell.specs.declared.run.Ending.{Ending}
 use Rattle.ob_words.specs.declared.planning.Task.{Task}
@@ -33,7 +34,9 @@ pub record RunsScript (outcome : Result Ending ShellFault) (input written writte
   pub part : IsErrOf outcome Write → IfSome input (λ script. PlaysPartTo written written' script)
   pub unwritten : IfErr outcome (λ fault. fault ≢ Write → written' ≡ written)
   pub too_long : IsErrOf outcome TooLong → IfSome input (λ script. SCRIPT_LIMIT < length script)
+  pub faults : IfErr outcome (λ fault. fault ≢ Mismatch)
   pub refused : IfSome input (λ script. SCRIPT_LIMIT < length script → IsErr outcome)
+  pub long : IfSome input (λ script. SCRIPT_LIMIT < length script → IfErr outcome StopsLong × (written' ≡ written))
 
 -- the run of a script to this outcome, with standard error before and after
 pub record PerformsScript (outcome : Result Ending ShellFault) (input written written' told told' : Option (List ℕ)) : Type 0 where

@@ -7,6 +7,8 @@ mod base;
 #[cfg(test)]
 mod directories;
 #[cfg(test)]
+mod example;
+#[cfg(test)]
 mod flat_rows;
 #[cfg(test)]
 mod handles;
