@@ -31,8 +31,7 @@ build:
 	cd crates/ntns && rt run < /dev/null
 
 bench: build
-	bench/lines.sh crates/ntns/out/ntns
-	bench/opens.sh crates/ntns/out/ntns
+	bench/lines.py crates/ntns/out/ntns
 
 hostile:
 	hostile/memory.sh examples/first.ntns

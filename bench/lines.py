@@ -1,0 +1,81 @@
+#!/usr/bin/env python3
+"""Times the built program on lines of scripts: what one line takes, and how that grows.
+
+    bench/lines.py PROGRAM
+
+Each time is that of a script with many lines of a kind less that of the script without them, each the median
+of nine runs, divided by the lines. What is opened is held, and the entries beside it are permanent, so that
+no close lets anything go. Nothing here fails; a line that should succeed and doesn't ends it.
+"""
+
+import statistics
+import subprocess
+import sys
+import tempfile
+import time
+from pathlib import Path
+
+RUNS = 9
+HELD = 'p1 dir "\\Device\\Bench" - =held\n'
+OPEN = 'p1 opendir "{}" - =opened\np1 close opened\n'
+
+
+def seconds(program, script):
+    """The median time of a run of a script, and what it printed."""
+    took, printed = [], b""
+    with tempfile.TemporaryDirectory(prefix="ntns-bench-") as folder:
+        path = Path(folder) / "script"
+        path.write_text(script)
+        for _ in range(RUNS):
+            with path.open("rb") as reader, (Path(folder) / "out").open("w+b") as writer:
+                before = time.perf_counter()
+                subprocess.run([program], stdin=reader, stdout=writer, check=True)
+                took.append(time.perf_counter() - before)
+                writer.seek(0)
+                printed = writer.read()
+    return statistics.median(took), printed
+
+
+def a_line(program, title, there, line, count, reply=b"SUCCESS"):
+    """Prints what one line, or an open with its close, takes, so many times, behind what is there."""
+    without, _ = seconds(program, there)
+    took, printed = seconds(program, there + line * count)
+    last = printed.splitlines()[-1:]
+    if line[0] != "#" and not all(text.endswith(b": " + reply) for text in last):
+        sys.exit(f"{title}: the last line printed {last}")
+    print(f"{title}: {(took - without) / count * 1e6:.2f} us")
+
+
+def entries(count):
+    """A directory with so many permanent events beside the directory `In`."""
+    events = "".join(f'p1 make Event "\\Device\\Bench\\E{n}" P "" =e\np1 close e\n' for n in range(count))
+    return HELD + 'p1 dir "\\Device\\Bench\\In" - =in\n' + events
+
+
+def links(count):
+    """So many links, each to the next one, and the last to a directory."""
+    chain = "".join(f'p1 link "\\L{n}" - "\\L{n + 1}" =l{n}\n' for n in range(1, count))
+    return HELD + chain + f'p1 link "\\L{count}" - "\\Device\\Bench" =l{count}\n'
+
+
+def main():
+    if len(sys.argv) != 2:
+        sys.exit("usage: bench/lines.py PROGRAM")
+    program = sys.argv[1]
+    a_line(program, "a comment", "", "# nothing\n", 200_000)
+    a_line(program, "a close of a word that was never set", "", "p1 close never\n", 100_000, b"INVALID_HANDLE")
+    opened = OPEN.format("\\Device\\Bench")
+    a_line(program, "an open and its close", HELD, opened, 50_000)
+    for count in (10_000, 100_000):
+        took, _ = seconds(program, HELD + opened * (count // 2))
+        print(f"a script of {count:,} lines: {took * 1e3:.1f} ms, {took / count * 1e6:.2f} us a line")
+    for count in (10, 1_000, 20_000):
+        line = OPEN.format("\\Device\\Bench\\In")
+        a_line(program, f"an open and its close, {count:,} entries beside it", entries(count), line, 20_000)
+    for count in (1, 32):
+        title = f"an open and its close, through a chain of {count} links"
+        a_line(program, title, links(count), OPEN.format("\\L1"), 20_000)
+
+
+if __name__ == "__main__":
+    main()
