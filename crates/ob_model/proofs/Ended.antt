@@ -58,6 +58,8 @@ module _ {K T F I : Type 0} where
         (go (process_of s p) (find_of (HasSoundMap s) (λ x. x.number == p) s.processes sound.maps));
     rows = sound.rows;
     handles = sound.handles;
+    drawn = sound.drawn;
+    descending = sound.descending;
   }
     where
       go : (o : Option Process) → MatchOption o (Unit {0}) (HasSoundMap s) → MatchOption (option_and_then (λ x. x.map) o) (Unit {0}) (IsDirectory s)
@@ -71,6 +73,8 @@ module _ {K T F I : Type 0} where
     maps = All-filter (λ x. not (x.number == p)) (HasSoundMap s) s.processes sound.maps;
     rows = sound.rows;
     handles = sound.handles;
+    drawn = sound.drawn;
+    descending = sound.descending;
   }
 
 module _ {K T F I : Type 0} (g : Procedures K T F I) where

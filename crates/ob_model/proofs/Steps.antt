@@ -29,7 +29,8 @@ use Rattle.ob_model.specs.Opens.{OpensAt, Opens, asked_by, type_wanted, open_mod
 use Rattle.ob_model.specs.Creates.{Making, MakesDirectory, MakesLink, MakesObject, is_fit, create_mode, type_made, Spot, room_refusals, make_refusal, body_made, created, dropped, Makes, Creates}
 use Rattle.ob_model.specs.Naming.{TellsName, TellsTarget}
 use Rattle.ob_model.specs.Step.{WithHandle, WithRoot, CreatesIn, CreatesAt, OpensName, Step}
-use Rattle.ob_model.specs.Sound.{IsSound, Stands}
+use Rattle.ob_model.specs.Sound.{IsSound, IsDirectory, Stands}
+use Rattle.ob_model.proofs.Vacant.{IsUsableEnd, usable_end}
 use Rattle.ob_model.proofs.Soundness.{settled_sound, created_sound, dropped_sound, granted_sound, closed_sound}
 
 module _ {K T F I : Type 0} where
@@ -108,8 +109,8 @@ module _ {K T F I : Type 0} (g : Procedures K T F I) where
   opens_sound s t p attrs wanted (At o) answer sound h = opens_at_sound s t p attrs wanted Success o answer sound h
 
   makes_sound : (s t : State K T F I) (p attrs : ℕ) (making : Making K) (spot : Spot) (answer : Answer)
-      → IsSound s → Makes g s p attrs making spot answer t → IsSound t
-  makes_sound s t p attrs making spot answer sound h =
+      → IsSound s → MatchOption spot (Unit {0}) (λ at. IsDirectory s at.0) → Makes g s p attrs making spot answer t → IsSound t
+  makes_sound s t p attrs making spot answer sound inside h =
       unless_sound (room_refusals s p spot) s t answer _ sound (go (make_refusal g making)) h
     where
       Given : Type 0
@@ -121,7 +122,7 @@ module _ {K T F I : Type 0} (g : Procedures K T F I) where
       opened : (refusal : Option ℕ) → MatchOption refusal Given DroppedFor → IsSound t
       opened None h =
           subst IsSound (sym h.3)
-          (settled_sound g (created g s p spot (body_made g making) attrs h.0) (created_sound g s p spot (body_made g making) attrs h.0 sound))
+          (settled_sound g (created g s p spot (body_made g making) attrs h.0) (created_sound g s p spot (body_made g making) attrs h.0 sound inside))
       opened (Some k) h = subst IsSound (sym h.1) (dropped_sound g s (body_made g making) sound)
 
       go : (refusal : Option ℕ)
@@ -130,23 +131,23 @@ module _ {K T F I : Type 0} (g : Procedures K T F I) where
       go (Some k) h = refused_sound s t (TypeRefused k) answer sound h
 
   creates_sound : (s t : State K T F I) (p attrs : ℕ) (making : Making K) (look : Look) (answer : Answer)
-      → IsSound s → Creates g s p attrs making look answer t → IsSound t
-  creates_sound s t p attrs making (Refused status) answer sound h = refused_sound s t status answer sound h
-  creates_sound s t p attrs making (At o) answer sound h = go (has_flag open_if_flag attrs) h
+      → IsSound s → IsUsableEnd s (create_mode attrs) look → Creates g s p attrs making look answer t → IsSound t
+  creates_sound s t p attrs making (Refused status) answer sound usable h = refused_sound s t status answer sound h
+  creates_sound s t p attrs making (At o) answer sound usable h = go (has_flag open_if_flag attrs) h
     where
       go : (opens : Bool) → MatchBool opens (OpensAt g s p attrs (type_made making) ObjectNameExists o answer t) (IsRefused s ObjectNameCollision answer t) → IsSound t
       go true h = opens_at_sound s t p attrs (type_made making) ObjectNameExists o answer sound h
       go false h = refused_sound s t ObjectNameCollision answer sound h
-  creates_sound s t p attrs making (Parse o rest n) answer sound h = absurd h
-  creates_sound s t p attrs making (Vacant d c) answer sound h = makes_sound s t p attrs making (Some (d, c)) answer sound h
+  creates_sound s t p attrs making (Parse o rest n) answer sound usable h = absurd h
+  creates_sound s t p attrs making (Vacant d c) answer sound usable h = makes_sound s t p attrs making (Some (d, c)) answer sound usable.1 h
 
   creates_in_sound : (s t : State K T F I) (p : ℕ) (where_to : Place) (attrs : ℕ) (making : Making K) (answer : Answer)
       → IsSound s → CreatesIn g s p where_to attrs making answer t → IsSound t
   creates_in_sound s t p (place.At root name) attrs making answer sound h =
       with_root_sound s t p root answer
       (λ at. (look : Look) × LooksUp (without_parse g) s p (create_mode attrs) most_reparses at name look × Creates g s p attrs making look answer t) sound
-      (λ at does. creates_sound s t p attrs making does.0 answer sound does.2) h
-  creates_in_sound s t p place.Unnamed attrs making answer sound h = makes_sound s t p attrs making None answer sound h
+      (λ at does. creates_sound s t p attrs making does.0 answer sound (usable_end g s p (create_mode attrs) refl most_reparses at name does.0 does.1) does.2) h
+  creates_in_sound s t p place.Unnamed attrs making answer sound h = makes_sound s t p attrs making None answer sound tt h
 
   creates_at_sound : (s t : State K T F I) (p : ℕ) (where_to : Place) (attrs : ℕ) (making : Making K) (answer : Answer)
       → IsSound s → CreatesAt g s p where_to attrs making answer t → IsSound t
