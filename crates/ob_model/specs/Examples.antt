@@ -2,18 +2,22 @@
 -- objects and rows more. The law functions in src/examples.rt prove them.
 --
 -- Source: this profile.
-use Rattle.std.specs.Prelude.{◌≡◌, ℕ, zero, suc, ◌+◌, ◌==◌, true, false, List, [], ◌∷◌, ◌++◌, length, drop, None, Some, codes}
-use Rattle.ob_base.specs.declared.status.Status.TheVariants.{ObjectNameInvalid, ObjectPathNotFound, ObjectNameNotFound, ObjectTypeMismatch, ObjectPathSyntaxBad, ReparseLimit}
+use Rattle.std.specs.Prelude.{◌≡◌, ℕ, zero, suc, ◌+◌, ◌==◌, if◌then◌else◌, Bool, true, false, List, [], ◌∷◌, ◌++◌, length, drop, None, Some, codes}
+use Rattle.ob_base.specs.declared.status.Status.{Status}
+use Rattle.ob_base.specs.declared.status.Status.TheVariants.{Success, MoreEntries, NoMoreEntries, BufferTooSmall, ObjectNameInvalid, ObjectPathNotFound, ObjectNameNotFound, ObjectTypeMismatch, ObjectPathSyntaxBad, ReparseLimit}
 use Rattle.ob_model.specs.declared.state.Body.TheVariants.{Directory, Link, Other}
 use Rattle.ob_model.specs.declared.state.Object.{Object}
 use Rattle.ob_model.specs.declared.state.Row.{Row}
+use Rattle.ob_model.specs.declared.state.Held.{Held}
 use Rattle.ob_model.specs.Names.{separator, same_name, IsSplit, substituted}
 use Rattle.ob_model.specs.State.{State, object_of, global_id}
 use Rattle.ob_model.specs.Opening.{opening, standing, root_row}
 use Rattle.ob_model.specs.Paths.{origin_of, InDirectory, ViewOf}
-use Rattle.ob_model.specs.Procedures.{Procedures, Front, without_parse}
+use Rattle.ob_model.specs.Procedures.{Procedures, ParseAnswer, Itself, Front, Reparse, Refused as ParseRefused, EndsItself, EndsMade, EndsReparse, EndsRefused, ParseEnds, without_parse}
 use Rattle.ob_model.specs.Looks.{Look, At, Vacant, Parse, Refused, Mode, most_reparses, LooksUp}
 use Rattle.ob_model.specs.Settle.{settle, has_name}
+use Rattle.ob_model.specs.Closing.{closed_handle}
+use Rattle.ob_model.specs.Enumeration.{Shown, enumerated}
 
 -- ---- the set of types, the states and the modes
 
@@ -280,6 +284,79 @@ abbrev pub TemporaryGoes : Type 0
 TemporaryGoes =
     let left = settle numbers (record with_held { handles = [] }) in
     (object_of left 8 ≡ None) × (has_name left 8 ≡ false) × (has_name left 7 ≡ false)
+
+-- ---- pages of a directory
+
+-- process 1's handle of this value and order
+abbrev pub handle_to : ℕ → ℕ → ℕ → Held
+handle_to o value order = record { process = 1; value = value; object = o; inherit = false; order = order }
+
+-- `\Device` holds the directories `A` and `B` and the object `C`, inserted in this order. `B` is not
+-- permanent, and process 1 has the one handle to it
+abbrev pub with_three_entries : Numbers
+with_three_entries =
+    record (opening_with (standing 7 Directory ∷ temporary 8 ∷ standing 9 (Other 0 0) ∷ [])
+    (row_in 4 6 (codes "A") 7 ∷ row_in 4 7 (codes "B") 8 ∷ row_in 4 8 (codes "C") 9 ∷ [])) {
+      handles = handle_to 8 4 1 ∷ [];
+      next_order = 2;
+    }
+
+-- the three entries as they are shown: they take 14, 14 and 11 bytes of room
+abbrev pub shown_a : Shown
+shown_a = record { stamp = 6; name = codes "A"; type_name = codes "Directory" }
+
+abbrev pub shown_b : Shown
+shown_b = record { stamp = 7; name = codes "B"; type_name = codes "Directory" }
+
+abbrev pub shown_c : Shown
+shown_c = record { stamp = 8; name = codes "C"; type_name = codes "Number" }
+
+-- the page of `\Device` behind a context is this one
+abbrev pub HasPage : Numbers → (context room : ℕ) → (single : Bool) → Status → List Shown → ℕ → Type 0
+HasPage s context room single status entries next =
+    enumerated numbers s 4 context room single ≡ record { status = status; entries = entries; context = next }
+
+-- all entries fit; one alone is asked for; none is left; there is no room for the first
+abbrev pub PagesOfADirectory : Type 0
+PagesOfADirectory =
+    HasPage with_three_entries 0 39 false Success (shown_a ∷ shown_b ∷ shown_c ∷ []) 8
+    × HasPage with_three_entries 0 39 true Success (shown_a ∷ []) 6
+    × HasPage with_three_entries 8 39 false NoMoreEntries [] 8
+    × HasPage with_three_entries 0 13 false BufferTooSmall [] 0
+    × HasPage with_three_entries 0 13 true BufferTooSmall [] 0
+
+-- one byte too few for all: more entries are left, and the next page begins with the first of them
+abbrev pub MoreEntriesAreLeft : Type 0
+MoreEntriesAreLeft =
+    HasPage with_three_entries 0 38 false MoreEntries (shown_a ∷ shown_b ∷ []) 7 × HasPage with_three_entries 7 38 false Success (shown_c ∷ []) 8
+    × HasPage with_three_entries 0 14 false MoreEntries (shown_a ∷ []) 6 × HasPage with_three_entries 6 14 false MoreEntries (shown_b ∷ []) 7
+
+-- the row that a page ended with goes, since its object's last handle is closed: the next page begins
+-- behind it all the same, and leaves nothing out
+abbrev pub PageBehindARowThatWent : Type 0
+PageBehindARowThatWent =
+    let left = settle numbers (closed_handle numbers with_three_entries (handle_to 8 4 1)) in
+    HasPage with_three_entries 0 28 false MoreEntries (shown_a ∷ shown_b ∷ []) 7 × HasPage left 7 28 false Success (shown_c ∷ []) 8
+    × HasPage left 0 28 false Success (shown_a ∷ shown_c ∷ []) 8
+
+-- ---- parse runs
+
+-- a parse that takes a rest byte by byte, to the instance of the next face each, whose inner value is the
+-- byte; it refuses `!`, and looks `\Device` up at `@`
+abbrev pub parsed_byte : ℕ → List ℕ → ParseAnswer ℕ ℕ
+parsed_byte face [] = Itself
+parsed_byte face (b ∷ bs) = if b == 33 then ParseRefused 5 else if b == 64 then Reparse (codes "\\Device") else Front 1 (face + 1) b
+
+-- the set of numbers with that parse
+abbrev pub bytewise : Procedures ℕ ℕ ℕ ℕ
+bytewise = record numbers { parses = λ kind. true; parsed = parsed_byte }
+
+-- a rest of two bytes is used up in two steps, from face 1 to face 3; what the second step answers is the
+-- end too, where it is a refusal or a text to look up; and no rest ends at the object itself
+abbrev pub ParseRunsEnd : Type 0
+ParseRunsEnd =
+    ParseEnds bytewise 1 (codes "ab") (EndsMade 3 98) × ParseEnds bytewise 1 (codes "a!") (EndsRefused 5)
+    × ParseEnds bytewise 1 (codes "a@b") (EndsReparse (codes "\\Device")) × ParseEnds bytewise 1 [] EndsItself
 
 module _ (K T F I : Type 0) where
   -- the opening state is settled, for each set of types
