@@ -27,6 +27,9 @@ ghost use Rattle.ob_model.specs.Examples.{
   MoreEntriesAreLeft,
   PageBehindARowThatWent,
   ParseRunsEnd,
+  CallsOfMadeAndClosed,
+  CallsOfTwoCloses,
+  ClosesOfAnEnd,
   OpeningIsSettled,
 };
 
@@ -151,6 +154,24 @@ pub fn page_behind_a_row_that_went()
 /// text to look up where a step answers so; and with the object itself where there is no rest.
 pub fn parse_runs_end()
     ensures { ParseRunsEnd }
+{}
+
+/// An object is opened at its create, closed and deleted; one whose open is refused at its create is
+/// deleted and never opened. The calls that are told of the run are those that the set got.
+pub fn calls_of_made_and_closed()
+    ensures { CallsOfMadeAndClosed }
+{}
+
+/// Of two closes each is given the handles that are left after it, and the last one is followed by the
+/// delete.
+pub fn calls_of_two_closes()
+    ensures { CallsOfTwoCloses }
+{}
+
+/// A process that ends closes its handles in the order in which they were opened, and each close is given
+/// the handles that are left after it.
+pub fn closes_of_an_end()
+    ensures { ClosesOfAnEnd }
 {}
 
 /// Settling leaves the opening state as it is, for each set of types.
