@@ -1,25 +1,53 @@
 -- In a concrete state: that it is sound, by a test, and what a name ends with, by computing it.
-use Rattle.std.proofs.Common.{◌≡◌, ℕ, ◌&&◌, Bool, true, List, Option, None, Some, MatchOption, is_some, subst}
+use Rattle.std.proofs.Common.{◌≡◌, ℕ, ◌<◌, nat_lt, arith, ◌&&◌, not, Bool, true, false, List, [], ◌∷◌, refl, Option, None, Some, MatchOption, is_some, subst}
 use Rattle.std.specs.List.{list_all}
 use Rattle.std.proofs.lemmas.Bool.{and_parts}
+use Rattle.std.proofs.lemmas.Bool.Decides.{nat_tests}
 use Rattle.std.proofs.lemmas.List.Sums.{AllPass-from_list_all}
 use Rattle.std.proofs.lemmas.List.Elements.{All-weaker}
-use Rattle.ob_model.specs.State.{State, root_id, global_id, object_of, is_directory}
+use Rattle.ob_model.specs.State.{State, root_id, global_id, object_of, is_directory, is_live}
 use Rattle.ob_model.specs.Procedures.{Procedures}
 use Rattle.ob_model.specs.Looks.{Look, Mode, LooksUp}
-use Rattle.ob_model.specs.Sound.{IsSound, IsDirectory, HasSoundMap}
+use Rattle.ob_model.specs.declared.state.Row.{Row}
+use Rattle.ob_model.specs.Sound.{IsSound, IsDirectory, HasSoundMap, is_barred}
+use Rattle.ob_model.proofs.Soundness.{Rise, pairs_rise}
 use Rattle.ob_model.proofs.Lookup.{looked_up_name, looked_up_name-LooksUp}
+
+less : (a b : ℕ) → nat_lt a b ≡ true → a < b
+less a b e = grind (arith, nat_tests)
+
+-- rows rise by stamps
+abbrev pub do_rise : List Row → Bool
+do_rise [] = true
+do_rise (r ∷ []) = true
+do_rise (r ∷ q ∷ rows) = nat_lt r.stamp q.stamp && do_rise (q ∷ rows)
+
+rise : (rows : List Row) → do_rise rows ≡ true → Rise rows
+rise [] h = tt
+rise (r ∷ []) h = tt
+rise (r ∷ q ∷ rows) h = let parts = and_parts (nat_lt r.stamp q.stamp) (do_rise (q ∷ rows)) h in (less r.stamp q.stamp parts.0, rise (q ∷ rows) parts.1)
+
+unbarred : (b : Bool) → not b ≡ true → b ≡ false
+unbarred true h = cc
+unbarred false h = refl
 
 module _ {K T F I : Type 0} where
   abbrev pub is_map_sound : State K T F I → Option ℕ → Bool
   is_map_sound s None = true
   is_map_sound s (Some d) = is_directory s d
 
+  -- a test of the pending opens, of the stamps, of the names in the root and of the processes of handles
+  abbrev pub is_orderly : State K T F I → Bool
+  is_orderly s =
+      list_all (λ x. is_some (object_of s x.object)) s.pending && (do_rise s.rows && (list_all (λ r. nat_lt r.stamp s.next_stamp) s.rows
+      && (list_all (λ r. not (is_barred r.directory r.name)) s.rows && list_all (λ h. is_live s h.process) s.handles)))
+
   -- a test of whether a state is sound
   abbrev pub is_sound : State K T F I → Bool
   is_sound s =
       is_directory s root_id && (is_directory s global_id && (list_all (λ x. is_map_sound s x.map) s.processes
-      && (list_all (λ r. is_some (object_of s r.object)) s.rows && list_all (λ h. is_some (object_of s h.object)) s.handles)))
+      && (list_all (λ r. is_some (object_of s r.object)) s.rows && (list_all (λ h. is_some (object_of s h.object)) s.handles
+      && (list_all (λ x. nat_lt x.id s.next_id) s.objects && (list_all (λ r. nat_lt r.directory r.object) s.rows && is_orderly s))))))
 
   map_sound : (s : State K T F I) (map : Option ℕ) → is_map_sound s map ≡ true → MatchOption map (Unit {0}) (IsDirectory s)
   map_sound s None h = tt
@@ -30,16 +58,37 @@ module _ {K T F I : Type 0} where
       let maps = list_all (λ x. is_map_sound s x.map) s.processes in
       let rows = list_all (λ r. is_some (object_of s r.object)) s.rows in
       let handles = list_all (λ h. is_some (object_of s h.object)) s.handles in
-      let first = and_parts (is_directory s root_id) (is_directory s global_id && (maps && (rows && handles))) h in
-      let second = and_parts (is_directory s global_id) (maps && (rows && handles)) first.1 in
-      let third = and_parts maps (rows && handles) second.1 in
-      let fourth = and_parts rows handles third.1 in
+      let drawn = list_all (λ x. nat_lt x.id s.next_id) s.objects in
+      let descending = list_all (λ r. nat_lt r.directory r.object) s.rows in
+      let first = and_parts (is_directory s root_id) (is_directory s global_id && (maps && (rows && (handles && (drawn && (descending && is_orderly s)))))) h in
+      let second = and_parts (is_directory s global_id) (maps && (rows && (handles && (drawn && (descending && is_orderly s))))) first.1 in
+      let third = and_parts maps (rows && (handles && (drawn && (descending && is_orderly s)))) second.1 in
+      let fourth = and_parts rows (handles && (drawn && (descending && is_orderly s))) third.1 in
+      let fifth = and_parts handles (drawn && (descending && is_orderly s)) fourth.1 in
+      let sixth = and_parts drawn (descending && is_orderly s) fifth.1 in
+      let seventh = and_parts descending (is_orderly s) sixth.1 in
+      let pending = list_all (λ x. is_some (object_of s x.object)) s.pending in
+      let rising = do_rise s.rows in
+      let stamped = list_all (λ r. nat_lt r.stamp s.next_stamp) s.rows in
+      let plain = list_all (λ r. not (is_barred r.directory r.name)) s.rows in
+      let live = list_all (λ h. is_live s h.process) s.handles in
+      let eighth = and_parts pending (rising && (stamped && (plain && live))) seventh.1 in
+      let ninth = and_parts rising (stamped && (plain && live)) eighth.1 in
+      let tenth = and_parts stamped (plain && live) ninth.1 in
+      let eleventh = and_parts plain live tenth.1 in
       record {
         root = first.0;
         global = second.0;
         maps = All-weaker (λ x. is_map_sound s x.map ≡ true) (HasSoundMap s) (λ x e. map_sound s x.map e) s.processes (AllPass-from_list_all (λ x. is_map_sound s x.map) s.processes third.0);
         rows = AllPass-from_list_all (λ r. is_some (object_of s r.object)) s.rows fourth.0;
-        handles = AllPass-from_list_all (λ h. is_some (object_of s h.object)) s.handles fourth.1;
+        handles = AllPass-from_list_all (λ h. is_some (object_of s h.object)) s.handles fifth.0;
+        drawn = All-weaker (λ x. nat_lt x.id s.next_id ≡ true) (λ x. x.id < s.next_id) (λ x e. less x.id s.next_id e) s.objects (AllPass-from_list_all (λ x. nat_lt x.id s.next_id) s.objects sixth.0);
+        descending = All-weaker (λ r. nat_lt r.directory r.object ≡ true) (λ r. r.directory < r.object) (λ r e. less r.directory r.object e) s.rows (AllPass-from_list_all (λ r. nat_lt r.directory r.object) s.rows seventh.0);
+        pending = AllPass-from_list_all (λ x. is_some (object_of s x.object)) s.pending eighth.0;
+        rising = pairs_rise s.rows (rise s.rows ninth.0);
+        stamped = All-weaker (λ r. nat_lt r.stamp s.next_stamp ≡ true) (λ r. r.stamp < s.next_stamp) (λ r e. less r.stamp s.next_stamp e) s.rows (AllPass-from_list_all (λ r. nat_lt r.stamp s.next_stamp) s.rows tenth.0);
+        plain = All-weaker (λ r. not (is_barred r.directory r.name) ≡ true) (λ r. is_barred r.directory r.name ≡ false) (λ r e. unbarred (is_barred r.directory r.name) e) s.rows (AllPass-from_list_all (λ r. not (is_barred r.directory r.name)) s.rows eleventh.0);
+        live = AllPass-from_list_all (λ h. is_live s h.process) s.handles eleventh.1;
       }
 
 module _ {K T F I : Type 0} (g : Procedures K T F I) (s : State K T F I) (sound : is_sound s ≡ true) (p : ℕ) (mode : Mode) (n : ℕ) where

@@ -1,10 +1,10 @@
 -- A process that begins or ends, or is given a handle, leaves a sound state; and one that has ended holds
 -- nothing and is gone.
 use Rattle.std.proofs.Common.{◌≡◌, ◌∙◌, ℕ, ◌==◌, Bool, true, false, ◌&&◌, ◌||◌, not, cond, List, [], ◌∷◌, filter, get_or, find, Option, None, Some, Result, Ok, Err, MatchOption, MatchResult, All, refl, ap, sym, subst}
-use Rattle.std.proofs.Common.{eq-eqb}
+use Rattle.std.proofs.Common.{eq-eqb, eqb-true}
 use Rattle.std.specs.List.{list_any}
-use Rattle.std.specs.Option.{option_and_then, option_map_or, is_some}
-use Rattle.std.proofs.lemmas.List.Folds.{list_any_at}
+use Rattle.std.specs.Option.{option_and_then, option_or, option_map_or, is_some}
+use Rattle.std.proofs.lemmas.List.Folds.{find-append, list_any_at}
 use Rattle.std.proofs.lemmas.List.Elements.{All-head, All-tail, All-push, All-filter, All-weaker}
 use Rattle.ob_base.specs.declared.status.Status.{Status}
 use Rattle.ob_base.specs.declared.status.Status.TheVariants.{Success, InvalidHandle, ProcessGone}
@@ -21,7 +21,7 @@ use Rattle.ob_model.specs.Closing.{is_handle, closed_handle}
 use Rattle.ob_model.specs.Refusals.{gives, IsRefused}
 use Rattle.ob_model.specs.Processes.{handles_in, inherited_from, with_child, without_process, inherits_one, inherits, begun, closed_in_turn, ended, Duplicates}
 use Rattle.ob_model.specs.Sound.{IsSound, Stands, HasSoundMap, IsDirectory}
-use Rattle.ob_model.proofs.Finds.{All-kept, filter_none}
+use Rattle.ob_model.proofs.Finds.{find-filter, All-kept, filter_none}
 use Rattle.ob_model.proofs.SoundPaths.{find_of}
 use Rattle.ob_model.proofs.Soundness.{settled_sound, granted_sound, closed_sound, stands-opened}
 
@@ -49,6 +49,27 @@ nothing_found {X} test (x ∷ xs) = go (test x) refl (nothing_found test xs)
     go false other more = ap (λ t. cond t (Some x) (find test (filter (λ y. not (test y)) xs))) other ∙ more
 
 module _ {K T F I : Type 0} where
+  -- a process that is live stays so beside a child, and the child is live
+  live_with_child : (s : State K T F I) (p q : ℕ) → is_live s q ≡ true → is_live (with_child s p) q ≡ true
+  live_with_child s p q live =
+      ap is_some (find-append (λ (x : Process). x.number == q) s.processes (record { number = s.next_process; map = option_and_then (λ x. x.map) (process_of s p) } ∷ []))
+      ∙ go (process_of s q) live
+    where
+      go : (o : Option Process) → is_some o ≡ true → is_some (option_or o (find (λ (x : Process). x.number == q) (record { number = s.next_process; map = option_and_then (λ x. x.map) (process_of s p) } ∷ []))) ≡ true
+      go None live = cc
+      go (Some x) live = refl
+
+  child_is_live : (s : State K T F I) (p : ℕ) → is_live (with_child s p) s.next_process ≡ true
+  child_is_live s p =
+      ap is_some (find-append (λ (x : Process). x.number == s.next_process) s.processes (child ∷ [])) ∙ go (process_of s s.next_process) (eq-eqb s.next_process s.next_process refl)
+    where
+      child : Process
+      child = record { number = s.next_process; map = option_and_then (λ x. x.map) (process_of s p) }
+
+      go : (o : Option Process) → (s.next_process == s.next_process) ≡ true → is_some (option_or o (cond (s.next_process == s.next_process) (Some child) None)) ≡ true
+      go None e = ap (λ (b : Bool). is_some (cond b (Some child) None)) e
+      go (Some x) e = refl
+
   -- a child's map is its parent's
   child_sound : (s : State K T F I) (p : ℕ) → IsSound s → IsSound (with_child s p)
   child_sound s p sound = record {
@@ -58,28 +79,47 @@ module _ {K T F I : Type 0} where
         (go (process_of s p) (find_of (HasSoundMap s) (λ x. x.number == p) s.processes sound.maps));
     rows = sound.rows;
     handles = sound.handles;
+    drawn = sound.drawn;
+    descending = sound.descending;
+    pending = sound.pending;
+    rising = sound.rising;
+    stamped = sound.stamped;
+    plain = sound.plain;
+    live = All-weaker (λ h. is_live s h.process ≡ true) (λ h. is_live (with_child s p) h.process ≡ true) (λ h live. live_with_child s p h.process live) s.handles sound.live;
   }
     where
       go : (o : Option Process) → MatchOption o (Unit {0}) (HasSoundMap s) → MatchOption (option_and_then (λ x. x.map) o) (Unit {0}) (IsDirectory s)
       go None h = tt
       go (Some x) h = h
 
-  parted_sound : (s : State K T F I) (p : ℕ) → IsSound s → IsSound (without_process s p)
-  parted_sound s p sound = record {
+  -- the state without a process that has no handle is sound
+  parted_sound : (s : State K T F I) (p : ℕ) → IsSound s → All (λ h. (h.process == p) ≡ false) s.handles → IsSound (without_process s p)
+  parted_sound s p sound apart = record {
     root = sound.root;
     global = sound.global;
     maps = All-filter (λ x. not (x.number == p)) (HasSoundMap s) s.processes sound.maps;
     rows = sound.rows;
     handles = sound.handles;
+    drawn = sound.drawn;
+    descending = sound.descending;
+    pending = sound.pending;
+    rising = sound.rising;
+    stamped = sound.stamped;
+    plain = sound.plain;
+    live = λ k d within. stays (get_or s.handles k d).process (apart k d within) (sound.live k d within);
   }
+    where
+      stays : (q : ℕ) → (q == p) ≡ false → is_live s q ≡ true → is_live (without_process s p) q ≡ true
+      stays q other live =
+          ap is_some (find-filter (λ (x : Process). x.number == q) (λ x. not (x.number == p)) (λ x e. ap (λ (n : ℕ). not (n == p)) (eqb-true x.number q e) ∙ ap not other) s.processes) ∙ live
 
 module _ {K T F I : Type 0} (g : Procedures K T F I) where
-  -- what stands goes on to stand when a handle is inherited
-  inherits_one_sound : (s : State K T F I) (child : ℕ) (h : Held) → IsSound s → Stands s h.object → IsSound (inherits_one g s child h)
-  inherits_one_sound s child h sound stands = go (open_refusal g s h.object Inherited)
+  -- what stands goes on to stand when a handle is inherited, and who is live goes on to live
+  inherits_one_sound : (s : State K T F I) (child : ℕ) (h : Held) → IsSound s → is_live s child ≡ true → Stands s h.object → IsSound (inherits_one g s child h)
+  inherits_one_sound s child h sound live stands = go (open_refusal g s h.object Inherited)
     where
       go : (o : Option ℕ) → IsSound (option_map_or (λ _. s) o (with_handle (with_open g s h.object Inherited) child h.value h.object true))
-      go None = granted_sound g s child h.value h.object Inherited true sound stands
+      go None = granted_sound g s child h.value h.object Inherited true sound live stands
       go (Some k) = sound
 
   inherits_one_stands : (s : State K T F I) (child : ℕ) (h : Held) (m : ℕ) → Stands s m → Stands (inherits_one g s child h) m
@@ -89,55 +129,61 @@ module _ {K T F I : Type 0} (g : Procedures K T F I) where
       go None = stands-opened g s h.object m Inherited ∙ stands
       go (Some k) = stands
 
-  inherits_sound : (s : State K T F I) (child : ℕ) (hs : List Held) → IsSound s → All (λ h. Stands s h.object) hs → IsSound (inherits g s child hs)
-  inherits_sound s child [] sound stand = sound
-  inherits_sound s child (h ∷ hs) sound stand =
-      inherits_sound (inherits_one g s child h) child hs (inherits_one_sound s child h sound (All-head (λ x. Stands s x.object) h hs stand))
+  inherits_one_live : (s : State K T F I) (child : ℕ) (h : Held) (q : ℕ) → is_live s q ≡ true → is_live (inherits_one g s child h) q ≡ true
+  inherits_one_live s child h q live = go (open_refusal g s h.object Inherited)
+    where
+      go : (o : Option ℕ) → is_live (option_map_or (λ _. s) o (with_handle (with_open g s h.object Inherited) child h.value h.object true)) q ≡ true
+      go None = live
+      go (Some k) = live
+
+  inherits_sound : (s : State K T F I) (child : ℕ) (hs : List Held) → IsSound s → is_live s child ≡ true → All (λ h. Stands s h.object) hs → IsSound (inherits g s child hs)
+  inherits_sound s child [] sound live stand = sound
+  inherits_sound s child (h ∷ hs) sound live stand =
+      inherits_sound (inherits_one g s child h) child hs (inherits_one_sound s child h sound live (All-head (λ x. Stands s x.object) h hs stand)) (inherits_one_live s child h child live)
       (All-weaker (λ x. Stands s x.object) (λ x. Stands (inherits_one g s child h) x.object) (λ x there. inherits_one_stands s child h x.object there) hs
       (All-tail (λ x. Stands s x.object) h hs stand))
 
   pub begun_sound : (s : State K T F I) (p : ℕ) (inherit : Bool) → IsSound s → IsSound (begun g s p inherit)
   begun_sound s p inherit sound =
-      inherits_sound (with_child s p) s.next_process (inherited_from s p inherit) (child_sound s p sound)
+      inherits_sound (with_child s p) s.next_process (inherited_from s p inherit) (child_sound s p sound) (child_is_live s p)
       (All-filter (λ h. h.inherit && inherit) (λ h. Stands s h.object) (handles_in s p) (All-filter (λ h. h.process == p) (λ h. Stands s h.object) s.handles sound.handles))
 
   closed_in_turn_sound : (s : State K T F I) (hs : List Held) → IsSound s → IsSound (closed_in_turn g s hs)
   closed_in_turn_sound s [] sound = sound
   closed_in_turn_sound s (h ∷ hs) sound = closed_in_turn_sound (closed_handle g s h) hs (closed_sound g s h sound)
 
-  pub ended_sound : (s : State K T F I) (p : ℕ) → IsSound s → IsSound (ended g s p)
-  ended_sound s p sound = parted_sound (closed_in_turn g s (handles_in s p)) p (closed_in_turn_sound s (handles_in s p) sound)
-
   -- a duplicate leaves a sound state
   pub duplicates_sound : (s t : State K T F I) (p handle to : ℕ) (inherit : Bool) (answer : Answer) → IsSound s → Duplicates g s p handle to inherit answer t → IsSound t
-  duplicates_sound s t p handle to inherit answer sound h = judged (first_refusal ((not (is_live s p), ProcessGone) ∷ (not (is_live s to), ProcessGone) ∷ [])) h
+  duplicates_sound s t p handle to inherit answer sound h = judged (is_live s p) (is_live s to) refl h
     where
       Does : Held → Type 0
       Does x =
           (result : Result ℕ Status) × (u : State K T F I) × Grants g s to x.object (record { inherit = inherit; exclusive = false }) Duplicated result u
           × MatchResult result (λ value. (answer ≡ gives Success (Handle value)) × (t ≡ settle g u)) (λ refusal. IsRefused s refusal answer t)
 
-      granted : (x : Held) → Stands s x.object → Does x → IsSound t
-      granted x stands does = go does.0 does.1 does.2 does.3
+      granted : is_live s to ≡ true → (x : Held) → Stands s x.object → Does x → IsSound t
+      granted live x stands does = go does.0 does.1 does.2 does.3
         where
           go : (result : Result ℕ Status) (u : State K T F I) → Grants g s to x.object (record { inherit = inherit; exclusive = false }) Duplicated result u
               → MatchResult result (λ value. (answer ≡ gives Success (Handle value)) × (t ≡ settle g u)) (λ refusal. IsRefused s refusal answer t) → IsSound t
           go (Ok value) u grants end =
-              subst IsSound (sym end.1) (settled_sound g u (subst IsSound (sym grants.2) (granted_sound g s to value x.object Duplicated inherit sound stands)))
+              subst IsSound (sym end.1) (settled_sound g u (subst IsSound (sym grants.2) (granted_sound g s to value x.object Duplicated inherit sound live stands)))
           go (Err refusal) u grants end = subst IsSound (sym end.1) sound
 
-      found : (key : Option ℕ) → MatchOption (option_and_then (held_of s p) key) (IsRefused s InvalidHandle answer t) Does → IsSound t
-      found None h = subst IsSound (sym h.1) sound
-      found (Some key) h = go (held_of s p key) (find_of (λ x. Stands s x.object) (λ x. x.process == p && x.value == key) s.handles sound.handles) h
+      found : is_live s to ≡ true → (key : Option ℕ) → MatchOption (option_and_then (held_of s p) key) (IsRefused s InvalidHandle answer t) Does → IsSound t
+      found live None h = subst IsSound (sym h.1) sound
+      found live (Some key) h = go (held_of s p key) (find_of (λ x. Stands s x.object) (λ x. x.process == p && x.value == key) s.handles sound.handles) h
         where
           go : (o : Option Held) → MatchOption o (Unit {0}) (λ x. Stands s x.object) → MatchOption o (IsRefused s InvalidHandle answer t) Does → IsSound t
           go None there h = subst IsSound (sym h.1) sound
-          go (Some x) there h = granted x there h
+          go (Some x) there h = granted live x there h
 
-      judged : (refusal : Option Status) → MatchOption refusal (MatchOption (option_and_then (held_of s p) (key_of handle)) (IsRefused s InvalidHandle answer t) Does) (λ status. IsRefused s status answer t)
+      judged : (from into : Bool) → is_live s to ≡ into
+          → MatchOption (first_refusal ((not from, ProcessGone) ∷ (not into, ProcessGone) ∷ [])) (MatchOption (option_and_then (held_of s p) (key_of handle)) (IsRefused s InvalidHandle answer t) Does) (λ status. IsRefused s status answer t)
           → IsSound t
-      judged None h = found (key_of handle) h
-      judged (Some status) h = subst IsSound (sym h.1) sound
+      judged false into e h = subst IsSound (sym h.1) sound
+      judged true false e h = subst IsSound (sym h.1) sound
+      judged true true e h = found e (key_of handle) h
 
   -- ---- one that has ended holds nothing, and is gone
 
@@ -168,6 +214,9 @@ module _ {K T F I : Type 0} (g : Procedures K T F I) where
     where
       itself : (x : Held) → (x.process == p) ≡ true → ((x.process == p) && is_handle x.process x.value x) ≡ true
       itself x own = ap (λ b. b && is_handle x.process x.value x) own ∙ ap (λ b. b && (x.value == x.value)) (eq-eqb x.process x.process refl) ∙ eq-eqb x.value x.value refl
+
+  pub ended_sound : (s : State K T F I) (p : ℕ) → IsSound s → IsSound (ended g s p)
+  ended_sound s p sound = parted_sound (closed_in_turn g s (handles_in s p)) p (closed_in_turn_sound s (handles_in s p) sound) (ended_apart s p)
 
   pub ended_holds_nothing : (s : State K T F I) (p : ℕ) → handles_in (ended g s p) p ≡ []
   ended_holds_nothing s p = filter_none (λ h. h.process == p) (ended g s p).handles (ended_apart s p)

@@ -17,3 +17,6 @@ pub mod Ends
 pub mod Ended
 pub mod Leads
 pub mod Staying
+pub mod Free
+pub mod Total
+pub mod Runs

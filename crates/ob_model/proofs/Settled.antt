@@ -19,6 +19,12 @@ alive_second true b c d e f h = refl
 alive_second false true c d e f h = refl
 alive_second false false c d e f h = cc
 
+alive_third : (a b c d e f : Bool) → c ≡ true → (a || b || c || d || e || f) ≡ true
+alive_third true b c d e f h = refl
+alive_third false true c d e f h = refl
+alive_third false false true d e f h = refl
+alive_third false false false d e f h = cc
+
 alive_fourth : (a b c d e f : Bool) → d ≡ true → (a || b || c || d || e || f) ≡ true
 alive_fourth true b c d e f h = refl
 alive_fourth false true c d e f h = refl
@@ -62,6 +68,10 @@ module _ {K T F I : Type 0} where
   -- an object with a handle is alive
   pub alive_from_handle : (s : State K T F I) (o : ℕ) → has_handle s o ≡ true → is_alive s o ≡ true
   alive_from_handle s o h = alive_second (o == root_id) (has_handle s o) (is_pinned s o) (is_mapped s o) (is_permanent s o && has_name s o) (holds_kept s o) h
+
+  -- an object that a pending open pins is alive
+  pub alive_from_pin : (s : State K T F I) (o : ℕ) → is_pinned s o ≡ true → is_alive s o ≡ true
+  alive_from_pin s o h = alive_third (o == root_id) (has_handle s o) (is_pinned s o) (is_mapped s o) (is_permanent s o && has_name s o) (holds_kept s o) h
 
   -- a map directory of a live process, or `\GLOBAL??`, is alive
   pub alive_from_map : (s : State K T F I) (o : ℕ) → is_mapped s o ≡ true → is_alive s o ≡ true

@@ -1,11 +1,13 @@
 -- The opening state is sound, and what keeps a state so: settling, a new object, an open with its
 -- grant, and a close.
-use Rattle.std.proofs.Common.{◌≡◌, ℕ, ◌<◌, ◌+◌, ◌==◌, Bool, true, false, ◌&&◌, not, if◌then◌else◌, List, [], ◌∷◌, length, get_or, map, find, All, Option, None, Some, MatchOption, option_map, is_some, refl, ap, ◌∙◌, eq-eqb}
-use Rattle.std.specs.List.{list_any}
+use Rattle.std.proofs.Common.{◌≡◌, ℕ, ◌<◌, ◌≤◌, ◌+◌, ◌==◌, Bool, true, false, ◌&&◌, not, cond, if◌then◌else◌, List, [], ◌∷◌, ◌++◌, append-nil, length, get_or, map, find, All, Option, None, Some, MatchOption, option_map, is_some, refl, ap, ◌∙◌, sym, subst, arith, eq-eqb, eqb-true}
+use Rattle.std.specs.List.{list_any, AllPairs}
 use Rattle.std.specs.Option.{option_map_or, option_or}
 use Rattle.std.proofs.lemmas.Bool.{or_right}
-use Rattle.std.proofs.lemmas.List.Elements.{All-nil, All-from_recursion, All-append, All-push, All-weaker, All-filter}
+use Rattle.std.proofs.lemmas.List.Elements.{All-nil, All-cons, All-head, All-tail, All-from_recursion, All-append, All-push, All-map, All-weaker, All-filter}
 use Rattle.std.proofs.lemmas.List.Folds.{find-append, list_any_at}
+use Rattle.std.proofs.lemmas.List.Kept.{AllPairs-cons, AllPairs-filter}
+use Rattle.std.proofs.lemmas.List.Quantifiers.{all_pairs_push}
 use Rattle.ob_base.specs.Attrs.{has_flag, permanent_flag, exclusive_flag}
 use Rattle.ob_model.specs.declared.state.Body.{Body}
 use Rattle.ob_model.specs.declared.state.Body.TheVariants.{Directory, Link, Other}
@@ -13,20 +15,53 @@ use Rattle.ob_model.specs.declared.state.Object.{Object}
 use Rattle.ob_model.specs.declared.state.Row.{Row}
 use Rattle.ob_model.specs.declared.state.Held.{Held}
 use Rattle.ob_model.specs.declared.state.Process.{Process}
-use Rattle.ob_model.specs.State.{State, root_id, global_id, object_of, is_directory, is_directory_body}
+use Rattle.ob_model.specs.declared.state.Pending.{Pending}
+use Rattle.ob_model.specs.State.{State, root_id, global_id, object_of, is_directory, is_directory_body, is_live}
 use Rattle.ob_model.specs.Opening.{opening}
 use Rattle.ob_model.specs.Procedures.{Procedures, Reason, Created}
-use Rattle.ob_model.specs.Settle.{is_kept, has_name, is_mapped, deleted_one, settle}
+use Rattle.ob_model.specs.Settle.{is_kept, is_alive, has_name, is_mapped, deleted_one, settle}
 use Rattle.ob_model.specs.Grants.{opened_body, opened_set, opened_object, with_open, with_handle}
 use Rattle.ob_model.specs.Closing.{is_handle, closed_body, closed_object, closed_handle}
 use Rattle.ob_model.specs.Creates.{Spot, new_rows, with_object, with_row, created, dropped}
-use Rattle.ob_model.specs.Sound.{IsSound, IsDirectory, Stands, HasSoundMap}
+use Rattle.ob_model.specs.Sound.{IsSound, IsDirectory, Stands, HasSoundMap, is_barred}
 use Rattle.ob_model.proofs.Finds.{find-map, All-kept}
-use Rattle.ob_model.proofs.Settled.{is_directory-settle, stands-settle, alive_from_handle, alive_from_map, alive_from_row, rows_are_names}
+use Rattle.ob_model.proofs.Settled.{is_directory-settle, stands-settle, alive_from_handle, alive_from_pin, alive_from_map, alive_from_row, rows_are_names}
 
 -- whether what is found is a directory
 abbrev pub is_directory_object : {F I : Type 0} → Option (Object F I) → Bool
 is_directory_object found = option_map_or is_directory_body (option_map (λ x. x.body) found) false
+
+-- rows rise by stamps where each has a lesser one than the next
+abbrev pub Rise : List Row → Type 0
+Rise [] = Unit {0}
+Rise (r ∷ []) = Unit {0}
+Rise (r ∷ q ∷ rows) = (r.stamp < q.stamp) × Rise (q ∷ rows)
+
+all_above : (stamp : ℕ) (q : Row) (rows : List Row) → stamp < q.stamp → Rise (q ∷ rows) → All (λ r. stamp < r.stamp) (q ∷ rows)
+all_above stamp q [] less rise = All-cons (λ r. stamp < r.stamp) q [] less (All-nil (λ r. stamp < r.stamp))
+all_above stamp q (x ∷ rows) less rise = All-cons (λ r. stamp < r.stamp) q (x ∷ rows) less (all_above stamp x rows (let next = rise.0 in omega (arith, less, next)) rise.1)
+
+pub pairs_rise : (rows : List Row) → Rise rows → AllPairs (λ a b. a.stamp < b.stamp) rows
+pairs_rise [] rise = λ i j d less within. absurd (omega (arith, within))
+pairs_rise (r ∷ []) rise = λ i j d less within. absurd (omega (arith, less, within))
+pairs_rise (r ∷ q ∷ rows) rise = AllPairs-cons (λ a b. a.stamp < b.stamp) r (q ∷ rows) (all_above r.stamp q rows rise.0 rise.1) (pairs_rise (q ∷ rows) rise.1)
+
+-- numbers below one are below a greater one
+drawn_more : {F I : Type 0} (n m : ℕ) (xs : List (Object F I)) → n ≤ m → All (λ x. x.id < n) xs → All (λ x. x.id < m) xs
+drawn_more n m xs later all = All-weaker (λ x. x.id < n) (λ x. x.id < m) (λ x less. omega (arith, less, later)) xs all
+
+-- and stay so where a change leaves the numbers
+drawn_map : {F I : Type 0} (f : Object F I → Object F I) → ((x : Object F I) → (f x).id ≡ x.id) → (n : ℕ) (xs : List (Object F I)) → All (λ x. x.id < n) xs → All (λ x. x.id < n) (map f xs)
+drawn_map f same n xs all = All-map (λ x. x.id < n) f xs (λ k d within. subst (λ (i : ℕ). i < n) (sym (same (get_or xs k d))) (all k d within))
+
+-- what stands among objects whose numbers are below one has such a number
+pub stands_drawn : {F I : Type 0} (n : ℕ) (xs : List (Object F I)) (o : ℕ) → All (λ x. x.id < n) xs → is_some (find (λ x. x.id == o) xs) ≡ true → o < n
+stands_drawn n [] o all h = cc
+stands_drawn {F} {I} n (x ∷ xs) o all h = go (x.id == o) refl h (stands_drawn n xs o (All-tail (λ y. y.id < n) x xs all))
+  where
+    go : (b : Bool) → (x.id == o) ≡ b → is_some (cond b (Some x) (find (λ y. y.id == o) xs)) ≡ true → (is_some (find (λ y. y.id == o) xs) ≡ true → o < n) → o < n
+    go true e h rest = subst (λ (i : ℕ). i < n) (eqb-true x.id o e) (All-head (λ y. y.id < n) x xs all)
+    go false e h rest = rest h
 
 -- a change of objects that leaves their numbers, and which are directories
 module _ {F I : Type 0} (f : Object F I → Object F I) (same_id : (x : Object F I) → (f x).id ≡ x.id) (same_body : (x : Object F I) → is_directory_body (f x).body ≡ is_directory_body x.body) where
@@ -137,6 +172,13 @@ module _ {K T F I : Type 0} where
         maps = All-from_recursion (HasSoundMap s) s.processes (tt, tt);
         rows = All-from_recursion (λ r. Stands s r.object) s.rows (refl, (refl, (refl, (refl, (refl, tt)))));
         handles = All-nil (λ h. Stands s h.object);
+        drawn = All-from_recursion (λ x. x.id < s.next_id) s.objects (omega arith, (omega arith, (omega arith, (omega arith, (omega arith, (omega arith, tt))))));
+        descending = All-from_recursion (λ r. r.directory < r.object) s.rows (omega arith, (omega arith, (omega arith, (omega arith, (omega arith, tt)))));
+        pending = All-nil (λ x. Stands s x.object);
+        rising = pairs_rise s.rows (omega arith, (omega arith, (omega arith, (omega arith, tt))));
+        stamped = All-from_recursion (λ r. r.stamp < s.next_stamp) s.rows (omega arith, (omega arith, (omega arith, (omega arith, (omega arith, tt)))));
+        plain = All-from_recursion (λ r. is_barred r.directory r.name ≡ false) s.rows (refl, (refl, (refl, (refl, (refl, tt)))));
+        live = All-nil (λ h. is_live s h.process ≡ true);
       }
 
   -- a map directory that stays a directory
@@ -160,6 +202,9 @@ module _ {K T F I : Type 0} where
 
   sound_rows : (s t : State K T F I) → ((o : ℕ) → Stands s o → Stands t o) → (xs : List Row) → All (λ r. Stands s r.object) xs → All (λ r. Stands t r.object) xs
   sound_rows s t stays xs each = All-weaker (λ r. Stands s r.object) (λ r. Stands t r.object) (λ r h. stays r.object h) xs each
+
+  sound_pending : (s t : State K T F I) → ((o : ℕ) → Stands s o → Stands t o) → (xs : List (Pending K)) → All (λ x. Stands s x.object) xs → All (λ x. Stands t x.object) xs
+  sound_pending s t stays xs each = All-weaker (λ x. Stands s x.object) (λ x. Stands t x.object) (λ x k. stays x.object k) xs each
 
   sound_handles : (s t : State K T F I) → ((o : ℕ) → Stands s o → Stands t o) → (xs : List Held) → All (λ h. Stands s h.object) xs → All (λ h. Stands t h.object) xs
   sound_handles s t stays xs each = All-weaker (λ h. Stands s h.object) (λ h. Stands t h.object) (λ h k. stays h.object k) xs each
@@ -187,34 +232,88 @@ module _ {K T F I : Type 0} where
         maps = sound_maps s t (λ o h. is_directory-with_object s body permanent exclusive o h) s.processes sound.maps;
         rows = sound_rows s t stays s.rows sound.rows;
         handles = sound_handles s t stays s.handles sound.handles;
+        drawn = All-push (λ x. x.id < s.next_id + 1) s.objects _ (drawn_more s.next_id (s.next_id + 1) s.objects (omega arith) sound.drawn) (omega arith);
+        descending = sound.descending;
+        pending = sound_pending s t stays s.pending sound.pending;
+        rising = sound.rising;
+        stamped = sound.stamped;
+        plain = sound.plain;
+        live = sound.live;
       }
 
-  -- the row of an object that stands leaves a sound state
-  row_sound : (s : State K T F I) (spot : Spot) (o : ℕ) → IsSound s → Stands s o → IsSound (with_row s spot o)
-  row_sound s spot o sound stands = record {
+  -- the row of an object that stands, at a place that isn't barred in a directory made before it, leaves a
+  -- sound state
+  row_sound : (s : State K T F I) (spot : Spot) (o : ℕ)
+      → IsSound s → Stands s o → MatchOption spot (Unit {0}) (λ at. (at.0 < o) × (is_barred at.0 at.1 ≡ false)) → IsSound (with_row s spot o)
+  row_sound s spot o sound stands inside = record {
     root = sound.root;
     global = sound.global;
     maps = sound.maps;
     rows = All-append (λ r. Stands s r.object) s.rows (new_rows spot s.next_stamp o) sound.rows (new spot);
     handles = sound.handles;
+    drawn = sound.drawn;
+    descending = All-append (λ r. r.directory < r.object) s.rows (new_rows spot s.next_stamp o) sound.descending (below spot inside);
+    pending = sound.pending;
+    rising = last spot;
+    stamped = All-append (λ r. r.stamp < s.next_stamp + length (new_rows spot s.next_stamp o)) s.rows (new_rows spot s.next_stamp o)
+        (All-weaker (λ r. r.stamp < s.next_stamp) (λ r. r.stamp < s.next_stamp + length (new_rows spot s.next_stamp o)) (λ r less. omega (arith, less)) s.rows sound.stamped)
+        (drawn spot);
+    plain = All-append (λ r. is_barred r.directory r.name ≡ false) s.rows (new_rows spot s.next_stamp o) sound.plain (fit spot inside);
+    live = sound.live;
   }
     where
+      below : (spot : Spot) → MatchOption spot (Unit {0}) (λ at. (at.0 < o) × (is_barred at.0 at.1 ≡ false)) → All (λ r. r.directory < r.object) (new_rows spot s.next_stamp o)
+      below None h = All-nil (λ r. r.directory < r.object)
+      below (Some at) h = All-push (λ r. r.directory < r.object) [] _ (All-nil (λ r. r.directory < r.object)) h.0
+
+      fit : (spot : Spot) → MatchOption spot (Unit {0}) (λ at. (at.0 < o) × (is_barred at.0 at.1 ≡ false)) → All (λ r. is_barred r.directory r.name ≡ false) (new_rows spot s.next_stamp o)
+      fit None h = All-nil (λ r. is_barred r.directory r.name ≡ false)
+      fit (Some at) h = All-push (λ r. is_barred r.directory r.name ≡ false) [] _ (All-nil (λ r. is_barred r.directory r.name ≡ false)) h.1
+
+      last : (spot : Spot) → AllPairs (λ a b. a.stamp < b.stamp) (s.rows ++ new_rows spot s.next_stamp o)
+      last None = subst (λ (rows : List Row). AllPairs (λ a b. a.stamp < b.stamp) rows) (sym (append-nil s.rows)) sound.rising
+      last (Some at) = all_pairs_push (λ a b. a.stamp < b.stamp) s.rows _ sound.rising sound.stamped
+
+      drawn : (spot : Spot) → All (λ r. r.stamp < s.next_stamp + length (new_rows spot s.next_stamp o)) (new_rows spot s.next_stamp o)
+      drawn None = All-nil (λ r. r.stamp < s.next_stamp + 0)
+      drawn (Some at) = All-push (λ r. r.stamp < s.next_stamp + 1) [] _ (All-nil (λ r. r.stamp < s.next_stamp + 1)) (omega arith)
+
       new : (spot : Spot) → All (λ r. Stands s r.object) (new_rows spot s.next_stamp o)
       new None = All-nil (λ r. Stands s r.object)
       new (Some at) = All-push (λ r. Stands s r.object) [] _ (All-nil (λ r. Stands s r.object)) stands
 
-  -- another value of the set leaves a sound state
-  set_sound : (s : State K T F I) (set : T) (id : ℕ) → IsSound s → IsSound (record s { set = set; next_id = id })
-  set_sound s set id sound = record { root = sound.root; global = sound.global; maps = sound.maps; rows = sound.rows; handles = sound.handles }
+  -- another value of the set leaves a sound state, and so does a number that is drawn
+  set_sound : (s : State K T F I) (set : T) (id : ℕ) → s.next_id ≤ id → IsSound s → IsSound (record s { set = set; next_id = id })
+  set_sound s set id later sound = record {
+    root = sound.root;
+    global = sound.global;
+    maps = sound.maps;
+    rows = sound.rows;
+    handles = sound.handles;
+    drawn = drawn_more s.next_id id s.objects later sound.drawn;
+    descending = sound.descending;
+    pending = sound.pending;
+    rising = sound.rising;
+    stamped = sound.stamped;
+    plain = sound.plain;
+    live = sound.live;
+  }
 
-  -- a handle of an object that stands leaves a sound state
-  pub handle_sound : (s : State K T F I) (p value o : ℕ) (inherit : Bool) → IsSound s → Stands s o → IsSound (with_handle s p value o inherit)
-  handle_sound s p value o inherit sound stands = record {
+  -- a live process's handle of an object that stands leaves a sound state
+  pub handle_sound : (s : State K T F I) (p value o : ℕ) (inherit : Bool) → IsSound s → is_live s p ≡ true → Stands s o → IsSound (with_handle s p value o inherit)
+  handle_sound s p value o inherit sound live stands = record {
     root = sound.root;
     global = sound.global;
     maps = sound.maps;
     rows = sound.rows;
     handles = All-push (λ h. Stands s h.object) s.handles _ sound.handles stands;
+    drawn = sound.drawn;
+    descending = sound.descending;
+    pending = sound.pending;
+    rising = sound.rising;
+    stamped = sound.stamped;
+    plain = sound.plain;
+    live = All-push (λ h. is_live s h.process ≡ true) s.handles _ sound.live live;
   }
 
 module _ {K T F I : Type 0} (g : Procedures K T F I) where
@@ -244,6 +343,17 @@ module _ {K T F I : Type 0} (g : Procedures K T F I) where
         (alive_from_handle s (get_or s.handles k d).object
         (list_any_at (λ h. h.object == (get_or s.handles k d).object) s.handles k d within (eq-eqb (get_or s.handles k d).object (get_or s.handles k d).object refl)))
         (sound.handles k d within);
+    drawn = All-filter (λ x. is_alive s x.id) (λ x. x.id < s.next_id) s.objects sound.drawn;
+    descending = All-filter (is_kept s) (λ r. r.directory < r.object) s.rows sound.descending;
+    pending = λ k d within.
+        stands-settle g s (get_or s.pending k d).object
+        (alive_from_pin s (get_or s.pending k d).object
+        (list_any_at (λ x. x.object == (get_or s.pending k d).object) s.pending k d within (eq-eqb (get_or s.pending k d).object (get_or s.pending k d).object refl)))
+        (sound.pending k d within);
+    rising = AllPairs-filter (λ a b. a.stamp < b.stamp) (is_kept s) s.rows sound.rising;
+    stamped = All-filter (is_kept s) (λ r. r.stamp < s.next_stamp) s.rows sound.stamped;
+    plain = All-filter (is_kept s) (λ r. is_barred r.directory r.name ≡ false) s.rows sound.plain;
+    live = sound.live;
   }
 
   -- an open leaves a sound state, whatever its object is
@@ -257,13 +367,20 @@ module _ {K T F I : Type 0} (g : Procedures K T F I) where
         maps = sound_maps s t (λ m h. is_directory-opened g s o m reason ∙ h) s.processes sound.maps;
         rows = sound_rows s t stays s.rows sound.rows;
         handles = sound_handles s t stays s.handles sound.handles;
+        drawn = drawn_map (opened_object g s.set o reason) (opened_object-id g s.set o reason) s.next_id s.objects sound.drawn;
+        descending = sound.descending;
+        pending = sound_pending s t stays s.pending sound.pending;
+        rising = sound.rising;
+        stamped = sound.stamped;
+        plain = sound.plain;
+        live = sound.live;
       }
 
-  -- an open and a grant of an object that stands leave a sound state
+  -- an open and a grant of an object that stands to a live process leave a sound state
   pub granted_sound : (s : State K T F I) (p value o : ℕ) (reason : Reason) (inherit : Bool)
-      → IsSound s → Stands s o → IsSound (with_handle (with_open g s o reason) p value o inherit)
-  granted_sound s p value o reason inherit sound stands =
-      handle_sound (with_open g s o reason) p value o inherit (opened_sound s o reason sound) (stands-opened s o o reason ∙ stands)
+      → IsSound s → is_live s p ≡ true → Stands s o → IsSound (with_handle (with_open g s o reason) p value o inherit)
+  granted_sound s p value o reason inherit sound live stands =
+      handle_sound (with_open g s o reason) p value o inherit (opened_sound s o reason sound) live (stands-opened s o o reason ∙ stands)
 
   -- a close leaves a sound state
   pub closed_sound : (s : State K T F I) (h : Held) → IsSound s → IsSound (closed_handle g s h)
@@ -276,11 +393,20 @@ module _ {K T F I : Type 0} (g : Procedures K T F I) where
         maps = sound_maps s t (λ m k. is_directory-closed g s h m ∙ k) s.processes sound.maps;
         rows = sound_rows s t stays s.rows sound.rows;
         handles = All-filter (λ x. not (is_handle h.process h.value x)) (λ x. Stands t x.object) s.handles (sound_handles s t stays s.handles sound.handles);
+        drawn = drawn_map (closed_object g s.set h.object _ _) (closed_object-id g s.set h.object _ _) s.next_id s.objects sound.drawn;
+        descending = sound.descending;
+        pending = sound_pending s t stays s.pending sound.pending;
+        rising = sound.rising;
+        stamped = sound.stamped;
+        plain = sound.plain;
+        live = All-filter (λ x. not (is_handle h.process h.value x)) (λ x. is_live s x.process ≡ true) s.handles sound.live;
       }
 
-  -- a create leaves a sound state
-  pub created_sound : (s : State K T F I) (p : ℕ) (spot : Spot) (body : Body F I) (attrs value : ℕ) → IsSound s → IsSound (created g s p spot body attrs value)
-  created_sound s p spot body attrs value sound =
+  -- a create of a live process, at a place that isn't barred in a directory or without a name, leaves a
+  -- sound state
+  pub created_sound : (s : State K T F I) (p : ℕ) (spot : Spot) (body : Body F I) (attrs value : ℕ)
+      → IsSound s → is_live s p ≡ true → MatchOption spot (Unit {0}) (λ at. IsDirectory s at.0 × (is_barred at.0 at.1 ≡ false)) → IsSound (created g s p spot body attrs value)
+  created_sound s p spot body attrs value sound live inside =
       let opened = record s { set = opened_set g s.set body Created } in
       let left = opened_body g s.set body Created in
       let permanent = is_some spot && has_flag permanent_flag attrs in
@@ -288,8 +414,13 @@ module _ {K T F I : Type 0} (g : Procedures K T F I) where
       let there = with_object opened left permanent exclusive in
       let stands : Stands there s.next_id = new_stands opened left permanent exclusive in
       handle_sound (with_row there spot s.next_id) p value s.next_id _
-      (row_sound there spot s.next_id (object_sound opened left permanent exclusive (set_sound s (opened_set g s.set body Created) s.next_id sound)) stands) stands
+      (row_sound there spot s.next_id (object_sound opened left permanent exclusive (set_sound s (opened_set g s.set body Created) s.next_id (omega arith) sound)) stands (below spot inside)) live stands
+    where
+      below : (spot : Spot) → MatchOption spot (Unit {0}) (λ at. IsDirectory s at.0 × (is_barred at.0 at.1 ≡ false))
+          → MatchOption spot (Unit {0}) (λ at. (at.0 < s.next_id) × (is_barred at.0 at.1 ≡ false))
+      below None h = tt
+      below (Some at) h = (stands_drawn s.next_id s.objects at.0 sound.drawn (stands_from_is_directory s at.0 h.0), h.1)
 
   -- and so does one whose object the set refuses to open
   pub dropped_sound : (s : State K T F I) (body : Body F I) → IsSound s → IsSound (dropped g s body)
-  dropped_sound s body sound = set_sound s (deleted_one g body s.set) (s.next_id + 1) sound
+  dropped_sound s body sound = set_sound s (deleted_one g body s.set) (s.next_id + 1) (omega arith) sound

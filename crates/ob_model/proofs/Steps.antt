@@ -29,8 +29,19 @@ use Rattle.ob_model.specs.Opens.{OpensAt, Opens, asked_by, type_wanted, open_mod
 use Rattle.ob_model.specs.Creates.{Making, MakesDirectory, MakesLink, MakesObject, is_fit, create_mode, type_made, Spot, room_refusals, make_refusal, body_made, created, dropped, Makes, Creates}
 use Rattle.ob_model.specs.Naming.{TellsName, TellsTarget}
 use Rattle.ob_model.specs.Step.{WithHandle, WithRoot, CreatesIn, CreatesAt, OpensName, Step}
-use Rattle.ob_model.specs.Sound.{IsSound, Stands}
+use Rattle.ob_model.specs.Sound.{IsSound, IsDirectory, Stands, is_barred}
+use Rattle.ob_model.proofs.Vacant.{IsUsableEnd, usable_end}
 use Rattle.ob_model.proofs.Soundness.{settled_sound, created_sound, dropped_sound, granted_sound, closed_sound}
+
+-- where a create or an open isn't refused at first, its process is live
+live_to_create : (live fit : Bool) (where_to : Place) (attrs : ℕ) → first_refusal (create_refusals live fit where_to attrs) ≡ None → live ≡ true
+live_to_create true fit where_to attrs e = refl
+live_to_create false fit (place.At root name) attrs e = cc
+live_to_create false fit place.Unnamed attrs e = cc
+
+live_to_open : (live : Bool) (name : List ℕ) (attrs : ℕ) → first_refusal (open_refusals live name attrs) ≡ None → live ≡ true
+live_to_open true name attrs e = refl
+live_to_open false name attrs e = cc
 
 module _ {K T F I : Type 0} where
   -- a step that is refused leaves the state
@@ -39,12 +50,12 @@ module _ {K T F I : Type 0} where
 
   -- a step that is refused, or else does what leads to a sound state
   unless_sound : (refusals : List (Bool × Status)) (s t : State K T F I) (answer : Answer) (Does : Type 0)
-      → IsSound s → (Does → IsSound t) → Unless refusals s answer t Does → IsSound t
-  unless_sound refusals s t answer Does sound does h = go (first_refusal refusals) h
+      → IsSound s → (first_refusal refusals ≡ None → Does → IsSound t) → Unless refusals s answer t Does → IsSound t
+  unless_sound refusals s t answer Does sound does h = go (first_refusal refusals) refl h
     where
-      go : (refusal : Option Status) → MatchOption refusal Does (λ status. IsRefused s status answer t) → IsSound t
-      go None h = does h
-      go (Some status) h = refused_sound s t status answer sound h
+      go : (refusal : Option Status) → first_refusal refusals ≡ refusal → MatchOption refusal Does (λ status. IsRefused s status answer t) → IsSound t
+      go None e h = does e h
+      go (Some status) e h = refused_sound s t status answer sound h
 
   -- the same, where what the step does may rest on the test of its one refusal
   tested_sound : (test : Bool) (status : Status) (s t : State K T F I) (answer : Answer) (Does : Type 0)
@@ -58,7 +69,7 @@ module _ {K T F I : Type 0} where
   with_handle_sound s t p handle answer Does sound does h =
       unless_sound ((not (is_live s p), ProcessGone) ∷ []) s t answer
       (MatchOption (option_and_then (held_of s p) (key_of handle)) (IsRefused s InvalidHandle answer t) Does) sound
-      (go (option_and_then (held_of s p) (key_of handle))) h
+      (λ e. go (option_and_then (held_of s p) (key_of handle))) h
     where
       go : (o : Option Held) → MatchOption o (IsRefused s InvalidHandle answer t) Does → IsSound t
       go None h = refused_sound s t InvalidHandle answer sound h
@@ -85,32 +96,32 @@ module _ {K T F I : Type 0} (g : Procedures K T F I) where
 
   -- what a grant answers
   granted_or_refused_sound : (s t u : State K T F I) (p o : ℕ) (asked : Asked) (status : Status) (answer : Answer) (result : Result ℕ Status)
-      → IsSound s → Stands s o → Grants g s p o asked Opened result u
+      → IsSound s → is_live s p ≡ true → Stands s o → Grants g s p o asked Opened result u
       → MatchResult result (λ value. (answer ≡ gives status (Handle value)) × (t ≡ settle g u)) (λ refusal. IsRefused s refusal answer t) → IsSound t
-  granted_or_refused_sound s t u p o asked status answer (Ok value) sound stands grants h =
+  granted_or_refused_sound s t u p o asked status answer (Ok value) sound live stands grants h =
       subst IsSound (sym h.1)
-      (settled_sound g u (subst IsSound (sym grants.2) (granted_sound g s p value o Opened asked.inherit sound stands)))
-  granted_or_refused_sound s t u p o asked status answer (Err refusal) sound stands grants h = refused_sound s t refusal answer sound h
+      (settled_sound g u (subst IsSound (sym grants.2) (granted_sound g s p value o Opened asked.inherit sound live stands)))
+  granted_or_refused_sound s t u p o asked status answer (Err refusal) sound live stands grants h = refused_sound s t refusal answer sound h
 
   opens_at_sound : (s t : State K T F I) (p attrs : ℕ) (wanted : Wanted K) (status : Status) (o : ℕ) (answer : Answer)
-      → IsSound s → OpensAt g s p attrs wanted status o answer t → IsSound t
-  opens_at_sound s t p attrs wanted status o answer sound h =
+      → IsSound s → is_live s p ≡ true → OpensAt g s p attrs wanted status o answer t → IsSound t
+  opens_at_sound s t p attrs wanted status o answer sound live h =
       tested_sound (is_wanted_at g s o wanted) ObjectTypeMismatch s t answer
       ((result : Result ℕ Status) × (u : State K T F I) × Grants g s p o (asked_by attrs) Opened result u
       × MatchResult result (λ value. (answer ≡ gives status (Handle value)) × (t ≡ settle g u)) (λ refusal. IsRefused s refusal answer t)) sound
-      (λ is does. granted_or_refused_sound s t does.1 p o (asked_by attrs) status answer does.0 sound (stands_where_wanted s o wanted is) does.2 does.3) h
+      (λ is does. granted_or_refused_sound s t does.1 p o (asked_by attrs) status answer does.0 sound live (stands_where_wanted s o wanted is) does.2 does.3) h
 
   opens_sound : (s t : State K T F I) (p attrs : ℕ) (wanted : Wanted K) (look : Look) (answer : Answer)
-      → IsSound s → Opens g s p attrs wanted look answer t → IsSound t
-  opens_sound s t p attrs wanted (Refused status) answer sound h = refused_sound s t status answer sound h
-  opens_sound s t p attrs wanted (Vacant d c) answer sound h = absurd h
-  opens_sound s t p attrs wanted (Parse o rest n) answer sound h = absurd h
-  opens_sound s t p attrs wanted (At o) answer sound h = opens_at_sound s t p attrs wanted Success o answer sound h
+      → IsSound s → is_live s p ≡ true → Opens g s p attrs wanted look answer t → IsSound t
+  opens_sound s t p attrs wanted (Refused status) answer sound live h = refused_sound s t status answer sound h
+  opens_sound s t p attrs wanted (Vacant d c) answer sound live h = absurd h
+  opens_sound s t p attrs wanted (Parse o rest n) answer sound live h = absurd h
+  opens_sound s t p attrs wanted (At o) answer sound live h = opens_at_sound s t p attrs wanted Success o answer sound live h
 
   makes_sound : (s t : State K T F I) (p attrs : ℕ) (making : Making K) (spot : Spot) (answer : Answer)
-      → IsSound s → Makes g s p attrs making spot answer t → IsSound t
-  makes_sound s t p attrs making spot answer sound h =
-      unless_sound (room_refusals s p spot) s t answer _ sound (go (make_refusal g making)) h
+      → IsSound s → is_live s p ≡ true → MatchOption spot (Unit {0}) (λ at. IsDirectory s at.0 × (is_barred at.0 at.1 ≡ false)) → Makes g s p attrs making spot answer t → IsSound t
+  makes_sound s t p attrs making spot answer sound live inside h =
+      unless_sound (room_refusals s p spot) s t answer _ sound (λ e. go (make_refusal g making)) h
     where
       Given : Type 0
       Given = (value : ℕ) × IsFreeValue s p value × (answer ≡ gives Success (Handle value)) × (t ≡ settle g (created g s p spot (body_made g making) attrs value))
@@ -121,7 +132,7 @@ module _ {K T F I : Type 0} (g : Procedures K T F I) where
       opened : (refusal : Option ℕ) → MatchOption refusal Given DroppedFor → IsSound t
       opened None h =
           subst IsSound (sym h.3)
-          (settled_sound g (created g s p spot (body_made g making) attrs h.0) (created_sound g s p spot (body_made g making) attrs h.0 sound))
+          (settled_sound g (created g s p spot (body_made g making) attrs h.0) (created_sound g s p spot (body_made g making) attrs h.0 sound live inside))
       opened (Some k) h = subst IsSound (sym h.1) (dropped_sound g s (body_made g making) sound)
 
       go : (refusal : Option ℕ)
@@ -130,35 +141,35 @@ module _ {K T F I : Type 0} (g : Procedures K T F I) where
       go (Some k) h = refused_sound s t (TypeRefused k) answer sound h
 
   creates_sound : (s t : State K T F I) (p attrs : ℕ) (making : Making K) (look : Look) (answer : Answer)
-      → IsSound s → Creates g s p attrs making look answer t → IsSound t
-  creates_sound s t p attrs making (Refused status) answer sound h = refused_sound s t status answer sound h
-  creates_sound s t p attrs making (At o) answer sound h = go (has_flag open_if_flag attrs) h
+      → IsSound s → is_live s p ≡ true → IsUsableEnd s (create_mode attrs) look → Creates g s p attrs making look answer t → IsSound t
+  creates_sound s t p attrs making (Refused status) answer sound live usable h = refused_sound s t status answer sound h
+  creates_sound s t p attrs making (At o) answer sound live usable h = go (has_flag open_if_flag attrs) h
     where
       go : (opens : Bool) → MatchBool opens (OpensAt g s p attrs (type_made making) ObjectNameExists o answer t) (IsRefused s ObjectNameCollision answer t) → IsSound t
-      go true h = opens_at_sound s t p attrs (type_made making) ObjectNameExists o answer sound h
+      go true h = opens_at_sound s t p attrs (type_made making) ObjectNameExists o answer sound live h
       go false h = refused_sound s t ObjectNameCollision answer sound h
-  creates_sound s t p attrs making (Parse o rest n) answer sound h = absurd h
-  creates_sound s t p attrs making (Vacant d c) answer sound h = makes_sound s t p attrs making (Some (d, c)) answer sound h
+  creates_sound s t p attrs making (Parse o rest n) answer sound live usable h = absurd h
+  creates_sound s t p attrs making (Vacant d c) answer sound live usable h = makes_sound s t p attrs making (Some (d, c)) answer sound live (usable.1, usable.3) h
 
   creates_in_sound : (s t : State K T F I) (p : ℕ) (where_to : Place) (attrs : ℕ) (making : Making K) (answer : Answer)
-      → IsSound s → CreatesIn g s p where_to attrs making answer t → IsSound t
-  creates_in_sound s t p (place.At root name) attrs making answer sound h =
+      → IsSound s → is_live s p ≡ true → CreatesIn g s p where_to attrs making answer t → IsSound t
+  creates_in_sound s t p (place.At root name) attrs making answer sound live h =
       with_root_sound s t p root answer
       (λ at. (look : Look) × LooksUp (without_parse g) s p (create_mode attrs) most_reparses at name look × Creates g s p attrs making look answer t) sound
-      (λ at does. creates_sound s t p attrs making does.0 answer sound does.2) h
-  creates_in_sound s t p place.Unnamed attrs making answer sound h = makes_sound s t p attrs making None answer sound h
+      (λ at does. creates_sound s t p attrs making does.0 answer sound live (usable_end g s p (create_mode attrs) refl most_reparses at name does.0 does.1) does.2) h
+  creates_in_sound s t p place.Unnamed attrs making answer sound live h = makes_sound s t p attrs making None answer sound live tt h
 
   creates_at_sound : (s t : State K T F I) (p : ℕ) (where_to : Place) (attrs : ℕ) (making : Making K) (answer : Answer)
       → IsSound s → CreatesAt g s p where_to attrs making answer t → IsSound t
   creates_at_sound s t p where_to attrs making answer sound h =
       unless_sound (create_refusals (is_live s p) (is_fit making) where_to attrs) s t answer (CreatesIn g s p where_to attrs making answer t) sound
-      (creates_in_sound s t p where_to attrs making answer sound) h
+      (λ e. creates_in_sound s t p where_to attrs making answer sound (live_to_create (is_live s p) (is_fit making) where_to attrs e)) h
 
   opens_name_sound : (s t : State K T F I) (p : ℕ) (root : Option ℕ) (name : List ℕ) (attrs : ℕ) (wanted : Wanted K) (answer : Answer)
       → IsSound s → OpensName g s p root name attrs wanted answer t → IsSound t
   opens_name_sound s t p root name attrs wanted answer sound h =
       unless_sound (open_refusals (is_live s p) name attrs) s t answer (WithRoot s p root answer t Does) sound
-      (with_root_sound s t p root answer Does sound (λ at does. opens_sound s t p attrs wanted does.0 answer sound does.2)) h
+      (λ e. with_root_sound s t p root answer Does sound (λ at does. opens_sound s t p attrs wanted does.0 answer sound (live_to_open (is_live s p) name attrs e) does.2)) h
     where
       Does : Option ℕ → Type 0
       Does at = (look : Look) × LooksUp (without_parse g) s p (open_mode wanted attrs) most_reparses at name look × Opens g s p attrs wanted look answer t

@@ -1,5 +1,6 @@
 -- What the end of a lookup is good for, where no kind parses and `\??` has no meaning of its own: a vacant
--- place is told to a create, in a directory in which nothing is found under the component, and no
+-- place is told to a create, in a directory in which nothing is found under the component and which may
+-- have an entry of that name, and no
 -- object is to parse.
 use Rattle.std.proofs.Common.{◌≡◌, ◌≢◌, ℕ, zero, suc, ◌==◌, Bool, true, false, ◌&&◌, not, List, [], ◌∷◌, length, refl, ap, ◌∙◌, sym, subst, inl, inr, ◌⊎◌}
 use Rattle.std.specs.Prelude.{codes, if◌then◌else◌, nat_lt, Option, None, Some, MatchOption, MatchBool}
@@ -12,16 +13,18 @@ use Rattle.ob_model.specs.declared.state.Body.TheVariants.{Directory, Link, Othe
 use Rattle.ob_model.specs.declared.state.Row.{Row}
 use Rattle.ob_model.specs.Names.{longest_name, substituted, begins_with_separator}
 use Rattle.ob_model.specs.State.{State, root_id, is_directory, body_of}
+use Rattle.ob_model.specs.Sound.{is_barred}
 use Rattle.ob_model.specs.Paths.{Origin, InDirectory, IsPath, entry, found, place_behind, origin_of}
 use Rattle.ob_model.specs.Procedures.{Procedures, without_parse}
 use Rattle.ob_model.specs.Looks.{Mode, Look, At, Vacant, Parse, Refused, Stop, Missed, Reached, Next, Over, Follow, at_miss, at_link, named_or_mismatch, at_body, IsNext, IsStop, Again, Ends, Looks, LooksFrom, LooksUp}
 
 module _ {K T F I : Type 0} (s : State K T F I) (mode : Mode) where
-  -- a vacant place is told to a create, in a directory in which nothing is found under the component; no
+  -- a vacant place is told to a create, in a directory in which nothing is found under the component and
+  -- which may have an entry of that name; no
   -- object is to parse
   abbrev pub IsUsableEnd : Look → Type 0
   IsUsableEnd (At o) = Unit {0}
-  IsUsableEnd (Vacant d c) = (mode.create ≡ true) × (is_directory s d ≡ true) × (found s d c mode.fold ≡ None)
+  IsUsableEnd (Vacant d c) = (mode.create ≡ true) × (is_directory s d ≡ true) × (found s d c mode.fold ≡ None) × (is_barred d c ≡ false)
   IsUsableEnd (Parse o rest n) = ⊥
   IsUsableEnd (Refused status) = Unit {0}
 
@@ -55,13 +58,13 @@ module _ {K T F I : Type 0} (g : Procedures K T F I) (s : State K T F I) (p : �
   usable_miss : (d : ℕ) (c : List ℕ) (last : Bool) → is_directory s d ≡ true → (c ≢ [] → found s d c mode.fold ≡ None) → IsUsableNext s mode (at_miss mode d c last)
   usable_miss d [] last inside free = tt
   usable_miss d (b ∷ bs) false inside free = tt
-  usable_miss d (b ∷ bs) true inside free = go mode.create ((d == root_id) && bytes_eq (b ∷ bs) (codes "??")) refl
+  usable_miss d (b ∷ bs) true inside free = go mode.create ((d == root_id) && bytes_eq (b ∷ bs) (codes "??")) refl refl
     where
-      go : (create other : Bool) → mode.create ≡ create
+      go : (create other : Bool) → mode.create ≡ create → is_barred d (b ∷ bs) ≡ other
           → IsUsableNext s mode (if not create then Over (Refused ObjectNameNotFound) else if other then Over (Refused ObjectNameInvalid) else Over (Vacant d (b ∷ bs)))
-      go false other e = tt
-      go true true e = tt
-      go true false e = (e, inside, free (λ empty. cc))
+      go false other e f = tt
+      go true true e f = tt
+      go true false e f = (e, inside, free (λ empty. cc), f)
 
   usable_named : (o : ℕ) (rest : List ℕ) → IsUsableEnd s mode (named_or_mismatch o rest)
   usable_named o [] = tt

@@ -2,18 +2,32 @@
 -- objects and rows more. The law functions in src/examples.rt prove them.
 --
 -- Source: this profile.
-use Rattle.std.specs.Prelude.{◌≡◌, ℕ, zero, suc, ◌+◌, ◌==◌, true, false, List, [], ◌∷◌, ◌++◌, length, drop, None, Some, codes}
-use Rattle.ob_base.specs.declared.status.Status.TheVariants.{ObjectNameInvalid, ObjectPathNotFound, ObjectNameNotFound, ObjectTypeMismatch, ObjectPathSyntaxBad, ReparseLimit}
+use Rattle.std.specs.Prelude.{◌≡◌, ℕ, zero, suc, ◌+◌, ◌==◌, if◌then◌else◌, Bool, true, false, List, [], ◌∷◌, ◌++◌, length, drop, None, Some, codes}
+use Rattle.ob_base.specs.declared.status.Status.{Status}
+use Rattle.ob_base.specs.declared.status.Status.TheVariants.{Success, TypeRefused, MoreEntries, NoMoreEntries, BufferTooSmall, ObjectNameInvalid, ObjectPathNotFound, ObjectNameNotFound, ObjectTypeMismatch, ObjectPathSyntaxBad, ReparseLimit}
+use Rattle.ob_model.specs.declared.command.Place.TheVariants.{Unnamed}
+use Rattle.ob_model.specs.declared.command.Command.TheVariants.{CreateObject, Close}
+use Rattle.ob_model.specs.declared.reply.Answer.{Answer}
+use Rattle.ob_model.specs.declared.reply.Event.{Event}
+use Rattle.ob_model.specs.declared.reply.Event.TheVariants.{Start}
+use Rattle.ob_model.specs.declared.reply.Given.TheVariants.{Handle}
 use Rattle.ob_model.specs.declared.state.Body.TheVariants.{Directory, Link, Other}
 use Rattle.ob_model.specs.declared.state.Object.{Object}
 use Rattle.ob_model.specs.declared.state.Row.{Row}
+use Rattle.ob_model.specs.declared.state.Held.{Held}
 use Rattle.ob_model.specs.Names.{separator, same_name, IsSplit, substituted}
 use Rattle.ob_model.specs.State.{State, object_of, global_id}
 use Rattle.ob_model.specs.Opening.{opening, standing, root_row}
 use Rattle.ob_model.specs.Paths.{origin_of, InDirectory, ViewOf}
-use Rattle.ob_model.specs.Procedures.{Procedures, Front, without_parse}
+use Rattle.ob_model.specs.Procedures.{Procedures, Created, ParseAnswer, Itself, Front, Reparse, Refused as ParseRefused, EndsItself, EndsMade, EndsReparse, EndsRefused, ParseEnds, without_parse}
 use Rattle.ob_model.specs.Looks.{Look, At, Vacant, Parse, Refused, Mode, most_reparses, LooksUp}
 use Rattle.ob_model.specs.Settle.{settle, has_name}
+use Rattle.ob_model.specs.Closing.{closed_handle}
+use Rattle.ob_model.specs.Enumeration.{Shown, enumerated}
+use Rattle.ob_model.specs.Refusals.{gives, answers}
+use Rattle.ob_model.specs.Creates.{created, dropped}
+use Rattle.ob_model.specs.Processes.{ended}
+use Rattle.ob_model.specs.Calls.{Call, Opened, Closed, Deleted, Passed, Passes, calls_of_run, closes_at_end}
 
 -- ---- the set of types, the states and the modes
 
@@ -280,6 +294,188 @@ abbrev pub TemporaryGoes : Type 0
 TemporaryGoes =
     let left = settle numbers (record with_held { handles = [] }) in
     (object_of left 8 ≡ None) × (has_name left 8 ≡ false) × (has_name left 7 ≡ false)
+
+-- ---- pages of a directory
+
+-- process 1's handle of this value and order
+abbrev pub handle_to : ℕ → ℕ → ℕ → Held
+handle_to o value order = record { process = 1; value = value; object = o; inherit = false; order = order }
+
+-- `\Device` holds the directories `A` and `B` and the object `C`, inserted in this order. `B` is not
+-- permanent, and process 1 has the one handle to it
+abbrev pub with_three_entries : Numbers
+with_three_entries =
+    record (opening_with (standing 7 Directory ∷ temporary 8 ∷ standing 9 (Other 0 0) ∷ [])
+    (row_in 4 6 (codes "A") 7 ∷ row_in 4 7 (codes "B") 8 ∷ row_in 4 8 (codes "C") 9 ∷ [])) {
+      handles = handle_to 8 4 1 ∷ [];
+      next_order = 2;
+    }
+
+-- the three entries as they are shown: they take 14, 14 and 11 bytes of room
+abbrev pub shown_a : Shown
+shown_a = record { stamp = 6; name = codes "A"; type_name = codes "Directory" }
+
+abbrev pub shown_b : Shown
+shown_b = record { stamp = 7; name = codes "B"; type_name = codes "Directory" }
+
+abbrev pub shown_c : Shown
+shown_c = record { stamp = 8; name = codes "C"; type_name = codes "Number" }
+
+-- the page of `\Device` behind a context is this one
+abbrev pub HasPage : Numbers → (context room : ℕ) → (single : Bool) → Status → List Shown → ℕ → Type 0
+HasPage s context room single status entries next =
+    enumerated numbers s 4 context room single ≡ record { status = status; entries = entries; context = next }
+
+-- all entries fit; one alone is asked for; none is left; there is no room for the first
+abbrev pub PagesOfADirectory : Type 0
+PagesOfADirectory =
+    HasPage with_three_entries 0 39 false Success (shown_a ∷ shown_b ∷ shown_c ∷ []) 8
+    × HasPage with_three_entries 0 39 true Success (shown_a ∷ []) 6
+    × HasPage with_three_entries 8 39 false NoMoreEntries [] 8
+    × HasPage with_three_entries 0 13 false BufferTooSmall [] 0
+    × HasPage with_three_entries 0 13 true BufferTooSmall [] 0
+
+-- one byte too few for all: more entries are left, and the next page begins with the first of them
+abbrev pub MoreEntriesAreLeft : Type 0
+MoreEntriesAreLeft =
+    HasPage with_three_entries 0 38 false MoreEntries (shown_a ∷ shown_b ∷ []) 7 × HasPage with_three_entries 7 38 false Success (shown_c ∷ []) 8
+    × HasPage with_three_entries 0 14 false MoreEntries (shown_a ∷ []) 6 × HasPage with_three_entries 6 14 false MoreEntries (shown_b ∷ []) 7
+
+-- the row that a page ended with goes, since its object's last handle is closed: the next page begins
+-- behind it all the same, and leaves nothing out
+abbrev pub PageBehindARowThatWent : Type 0
+PageBehindARowThatWent =
+    let left = settle numbers (closed_handle numbers with_three_entries (handle_to 8 4 1)) in
+    HasPage with_three_entries 0 28 false MoreEntries (shown_a ∷ shown_b ∷ []) 7 × HasPage left 7 28 false Success (shown_c ∷ []) 8
+    × HasPage left 0 28 false Success (shown_a ∷ shown_c ∷ []) 8
+
+-- ---- parse runs
+
+-- a parse that takes a rest byte by byte, to the instance of the next face each, whose inner value is the
+-- byte; it refuses `!`, and looks `\Device` up at `@`
+abbrev pub parsed_byte : ℕ → List ℕ → ParseAnswer ℕ ℕ
+parsed_byte face [] = Itself
+parsed_byte face (b ∷ bs) = if b == 33 then ParseRefused 5 else if b == 64 then Reparse (codes "\\Device") else Front 1 (face + 1) b
+
+-- the set of numbers with that parse
+abbrev pub bytewise : Procedures ℕ ℕ ℕ ℕ
+bytewise = record numbers { parses = λ kind. true; parsed = parsed_byte }
+
+-- a rest of two bytes is used up in two steps, from face 1 to face 3; what the second step answers is the
+-- end too, where it is a refusal or a text to look up; and no rest ends at the object itself
+abbrev pub ParseRunsEnd : Type 0
+ParseRunsEnd =
+    ParseEnds bytewise 1 (codes "ab") (EndsMade 3 98) × ParseEnds bytewise 1 (codes "a!") (EndsRefused 5)
+    × ParseEnds bytewise 1 (codes "a@b") (EndsReparse (codes "\\Device")) × ParseEnds bytewise 1 [] EndsItself
+
+-- ---- calls of the set's procedures
+
+-- a set whose value is the list of the calls that it got, each with the inner value of its object, which
+-- is its kind; objects of kind 2 can't be opened
+abbrev pub recording : Procedures ℕ (List (ℕ × Call)) ℕ ℕ
+recording = record {
+  type_name = λ kind. codes "Recorded";
+  kind_of = λ face. face;
+  same_kind = λ a b. a == b;
+  parses = λ kind. false;
+  same_face = λ a b. a == b;
+  refuses_to_make = λ kind args. None;
+  made = λ kind args. (kind, kind);
+  parsed = λ face rest. Front (length rest) 0 0;
+  refuses_to_open = λ told inner reason. if inner == 2 then Some 3 else None;
+  opened = λ told inner reason. (told ++ (inner, Opened reason) ∷ [], inner);
+  closed = λ told inner process_left left. (told ++ (inner, Closed process_left left) ∷ [], inner);
+  deleted = λ told inner. told ++ (inner, Deleted) ∷ [];
+}
+
+-- the states of that set; process 1 makes an object of a kind, without a name, and closes a handle
+abbrev pub Recorded : Type 0
+Recorded = State ℕ (List (ℕ × Call)) ℕ ℕ
+
+abbrev pub makes : ℕ → Event ℕ
+makes kind = Start 1 (CreateObject Unnamed 0 kind [])
+
+abbrev pub closes_handle : ℕ → Event ℕ
+closes_handle handle = Start 1 (Close handle)
+
+-- a step of process 1's seat
+abbrev pub passed : ℕ → Event ℕ → Answer → Recorded → Passed ℕ (List (ℕ × Call)) ℕ ℕ
+passed number event answer after = record { entry = record { number = number; seat = 1; event = event; answer = answer }; after = after }
+
+-- an object is made and gets handle 4; another's open is refused, so that it is deleted; and the handle
+-- is closed
+abbrev pub after_made : Recorded
+after_made = settle recording (created recording (opening []) 1 None (Other 1 1) 0 4)
+
+abbrev pub after_refused : Recorded
+after_refused = dropped recording after_made (Other 2 2)
+
+abbrev pub after_closed : Recorded
+after_closed = settle recording (closed_handle recording after_refused (handle_to 7 4 1))
+
+abbrev pub made_and_closed : List (Passed ℕ (List (ℕ × Call)) ℕ ℕ)
+made_and_closed =
+    passed 1 (makes 1) (gives Success (Handle 4)) after_made ∷ passed 2 (makes 2) (answers (TypeRefused 3)) after_refused
+    ∷ passed 3 (closes_handle 4) (answers Success) after_closed ∷ []
+
+-- the calls on the object, and on the one whose open is refused, which has no open and one delete; and
+-- they are those that the set got
+abbrev pub CallsOfMadeAndClosed : Type 0
+CallsOfMadeAndClosed =
+    Passes recording (opening []) 0 made_and_closed × (calls_of_run (opening []) made_and_closed 7 ≡ Opened Created ∷ Closed 0 0 ∷ Deleted ∷ [])
+    × (calls_of_run (opening []) made_and_closed 8 ≡ Deleted ∷ [])
+    × (after_closed.set ≡ (1, Opened Created) ∷ (2, Deleted) ∷ (1, Closed 0 0) ∷ (1, Deleted) ∷ [])
+
+-- object 7 is one of the set, without a name, to which process 1 has two handles
+abbrev pub with_two_handles : Recorded
+with_two_handles =
+    let start : Recorded = opening [] in
+    record start {
+      objects = start.objects ++ record { id = 7; body = Other 1 1; permanent = false; exclusive = false } ∷ [];
+      handles = handle_to 7 4 1 ∷ handle_to 7 8 2 ∷ [];
+      next_id = 8;
+      next_order = 3;
+    }
+
+abbrev pub after_one_close : Recorded
+after_one_close = settle recording (closed_handle recording with_two_handles (handle_to 7 4 1))
+
+abbrev pub after_both_closes : Recorded
+after_both_closes = settle recording (closed_handle recording after_one_close (handle_to 7 8 2))
+
+abbrev pub closed_twice : List (Passed ℕ (List (ℕ × Call)) ℕ ℕ)
+closed_twice =
+    passed 1 (closes_handle 4) (answers Success) after_one_close ∷ passed 2 (closes_handle 8) (answers Success) after_both_closes ∷ []
+
+-- each close is given the handles that are left after it, and the delete comes behind the last
+abbrev pub CallsOfTwoCloses : Type 0
+CallsOfTwoCloses =
+    Passes recording with_two_handles 0 closed_twice
+    × (calls_of_run with_two_handles closed_twice 7 ≡ Closed 1 1 ∷ Closed 0 0 ∷ Deleted ∷ [])
+    × (after_both_closes.set ≡ (1, Closed 1 1) ∷ (1, Closed 0 0) ∷ (1, Deleted) ∷ [])
+
+-- objects 7 and 8 are two of the set, without names; process 1 has two handles to the first, and then one
+-- to the second, and process 2 has one to the first
+abbrev pub with_two_processes : Recorded
+with_two_processes =
+    let start : Recorded = opening [] in
+    record start {
+      objects = start.objects ++ record { id = 7; body = Other 1 1; permanent = false; exclusive = false } ∷ record { id = 8; body = Other 3 3; permanent = false; exclusive = false } ∷ [];
+      handles = handle_to 7 4 1 ∷ record { process = 2; value = 4; object = 7; inherit = false; order = 2 } ∷ handle_to 7 8 3 ∷ handle_to 8 12 4 ∷ [];
+      processes = record { number = 1; map = None } ∷ record { number = 2; map = None } ∷ [];
+      next_id = 9;
+      next_process = 3;
+      next_order = 5;
+    }
+
+-- where process 1 ends its handles are closed in the order in which they were opened, each close with the
+-- handles that are left after it; the object that has none goes
+abbrev pub ClosesOfAnEnd : Type 0
+ClosesOfAnEnd =
+    let left = ended recording with_two_processes 1 in
+    (left.set ≡ (1, Closed 1 2) ∷ (1, Closed 0 1) ∷ (3, Closed 0 0) ∷ [])
+    × ((settle recording left).set ≡ (1, Closed 1 2) ∷ (1, Closed 0 1) ∷ (3, Closed 0 0) ∷ (3, Deleted) ∷ [])
+    × (closes_at_end with_two_processes 1 7 ≡ Closed 1 2 ∷ Closed 0 1 ∷ []) × (closes_at_end with_two_processes 1 8 ≡ Closed 0 0 ∷ [])
 
 module _ (K T F I : Type 0) where
   -- the opening state is settled, for each set of types

@@ -1,6 +1,6 @@
 -- What shows that the definitions say what they should: the statements of the law functions in
 -- src/laws.rt, which prove them.
-use Rattle.std.specs.Prelude.{◌≡◌, ℕ, ◌+◌, ◌≤◌, Bool, true, false, ◌&&◌, ◌||◌, ◌==◌, List, [], ◌∷◌, ◌++◌, length, All, Contains, Option, MatchOption, if◌then◌else◌}
+use Rattle.std.specs.Prelude.{◌≡◌, ℕ, ◌+◌, ◌≤◌, Bool, true, false, ◌&&◌, ◌||◌, ◌==◌, List, [], ◌∷◌, ◌++◌, length, map, All, Contains, Option, MatchOption, if◌then◌else◌}
 use Rattle.ob_model.specs.declared.state.Body.{Body}
 use Rattle.ob_model.specs.declared.state.Held.{Held}
 use Rattle.ob_model.specs.declared.state.Row.{Row}
@@ -19,7 +19,7 @@ use Rattle.ob_model.specs.Creates.{Spot, created}
 use Rattle.ob_model.specs.Sound.{IsSound, IsDirectory, Stands}
 use Rattle.ob_model.specs.Processes.{handles_in, begun, ended, Duplicates}
 use Rattle.ob_model.specs.Step.{Step}
-use Rattle.ob_model.specs.Run.{Entry, RunFrom}
+use Rattle.ob_model.specs.Run.{Entry, RunFrom, Run}
 
 -- a text has one split at each length: as many components leave the same components and rest
 abbrev pub SplitIsUnique : Type 0
@@ -108,6 +108,12 @@ module _ (K T F I : Type 0) where
       (g : Procedures K T F I) (s t : State K T F I) (event : Event K) (answer : Answer)
       → IsSound s → Step g s event answer t → IsSound t
 
+  -- in a sound state every event has an answer, and a state that it leads to
+  abbrev pub StepIsTotal : Type 0
+  StepIsTotal =
+      (g : Procedures K T F I) (s : State K T F I) (event : Event K)
+      → IsSound s → (answer : Answer) × (t : State K T F I) × Step g s event answer t
+
   -- a step with its answer leads to one state alone, and so does a list of entries
   abbrev pub StepHasOneEnd : Type 0
   StepHasOneEnd =
@@ -118,6 +124,12 @@ module _ (K T F I : Type 0) where
   RunHasOneEnd =
       (g : Procedures K T F I) (s : State K T F I) (n : ℕ) (entries : List (Entry K)) (t u : State K T F I)
       → RunFrom g s n entries t → RunFrom g s n entries u → t ≡ u
+
+  -- every list of events, each with the seat whose caller asks, has a run
+  abbrev pub RunIsTotal : Type 0
+  RunIsTotal =
+      (g : Procedures K T F I) (first : T) (asked : List (ℕ × Event K))
+      → (entries : List (Entry K)) × (t : State K T F I) × (map (λ e. (e.seat, e.event)) entries ≡ asked) × Run g first entries t
 
   -- a process that begins or ends, and a duplicate of a handle, leave a sound state
   abbrev pub ProcessesStaySound : Type 0

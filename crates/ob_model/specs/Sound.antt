@@ -1,10 +1,15 @@
 -- Sound states: what holds of the opening state and after each step, and what a lookup rests on.
 --
 -- Source: this profile.
-use Rattle.std.specs.Prelude.{◌≡◌, true, ℕ, All, MatchOption}
+use Rattle.std.specs.Prelude.{◌≡◌, true, false, Bool, ◌&&◌, ◌==◌, ℕ, ◌<◌, List, All, AllPairs, MatchOption, codes}
+use Rattle.std.specs.Str.{bytes_eq}
 use Rattle.std.specs.Option.{is_some}
 use Rattle.ob_model.specs.declared.state.Process.{Process}
-use Rattle.ob_model.specs.State.{State, root_id, global_id, object_of, is_directory}
+use Rattle.ob_model.specs.State.{State, root_id, global_id, object_of, is_directory, is_live}
+
+-- a place in a directory that no name has: the root directory has no entry called `??`
+abbrev pub is_barred : ℕ → List ℕ → Bool
+is_barred d name = (d == root_id) && bytes_eq name (codes "??")
 
 module _ {K T F I : Type 0} where
   -- an object is there
@@ -20,10 +25,19 @@ module _ {K T F I : Type 0} where
   HasSoundMap s x = MatchOption x.map (Unit {0}) (IsDirectory s)
 
   -- The root and `\GLOBAL??` are directories, so are all map directories, each row names an object
-  -- that is there, and so does each handle.
+  -- that is there, and so does each handle and each pending open. The number of each object was drawn,
+  -- and a row's directory was made before its object, so that each way up ends. Rows rise by stamps that
+  -- were drawn, no row of the root is called `??`, and the process of each handle is live.
   pub record IsSound (s : State K T F I) : Type 0 where
     pub root : IsDirectory s root_id
     pub global : IsDirectory s global_id
     pub maps : All (HasSoundMap s) s.processes
     pub rows : All (λ r. Stands s r.object) s.rows
     pub handles : All (λ h. Stands s h.object) s.handles
+    pub drawn : All (λ x. x.id < s.next_id) s.objects
+    pub descending : All (λ r. r.directory < r.object) s.rows
+    pub pending : All (λ x. Stands s x.object) s.pending
+    pub rising : AllPairs (λ a b. a.stamp < b.stamp) s.rows
+    pub stamped : All (λ r. r.stamp < s.next_stamp) s.rows
+    pub plain : All (λ r. is_barred r.directory r.name ≡ false) s.rows
+    pub live : All (λ h. is_live s h.process ≡ true) s.handles

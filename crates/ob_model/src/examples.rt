@@ -23,6 +23,13 @@ ghost use Rattle.ob_model.specs.Examples.{
   NamesWithoutViews,
   HoldsWithoutName,
   TemporaryGoes,
+  PagesOfADirectory,
+  MoreEntriesAreLeft,
+  PageBehindARowThatWent,
+  ParseRunsEnd,
+  CallsOfMadeAndClosed,
+  CallsOfTwoCloses,
+  ClosesOfAnEnd,
   OpeningIsSettled,
 };
 
@@ -124,6 +131,47 @@ pub fn holds_without_name()
 /// Without that handle both names go, and the object.
 pub fn temporary_goes()
     ensures { TemporaryGoes }
+{}
+
+/// A page has all entries that fit, or one alone where one is asked for; none where none is left, or
+/// where the first doesn't fit.
+pub fn pages_of_a_directory()
+    ensures { PagesOfADirectory }
+{}
+
+/// Where one byte of room is missing, a page says that more entries are left, and the next page begins
+/// with the first of them.
+pub fn more_entries_are_left()
+    ensures { MoreEntriesAreLeft }
+{}
+
+/// Where the row goes that a page ended with, the next page begins behind it and leaves nothing out.
+pub fn page_behind_a_row_that_went()
+    ensures { PageBehindARowThatWent }
+{}
+
+/// A parse run ends with what is made once its rest is used up, in two steps here; with a refusal or a
+/// text to look up where a step answers so; and with the object itself where there is no rest.
+pub fn parse_runs_end()
+    ensures { ParseRunsEnd }
+{}
+
+/// An object is opened at its create, closed and deleted; one whose open is refused at its create is
+/// deleted and never opened. The calls that are told of the run are those that the set got.
+pub fn calls_of_made_and_closed()
+    ensures { CallsOfMadeAndClosed }
+{}
+
+/// Of two closes each is given the handles that are left after it, and the last one is followed by the
+/// delete.
+pub fn calls_of_two_closes()
+    ensures { CallsOfTwoCloses }
+{}
+
+/// A process that ends closes its handles in the order in which they were opened, and each close is given
+/// the handles that are left after it.
+pub fn closes_of_an_end()
+    ensures { ClosesOfAnEnd }
 {}
 
 /// Settling leaves the opening state as it is, for each set of types.

@@ -20,8 +20,10 @@ ghost use Rattle.ob_model.specs.Laws.{
   HeldStays,
   OpeningIsSound,
   StepStaysSound,
+  StepIsTotal,
   StepHasOneEnd,
   RunHasOneEnd,
+  RunIsTotal,
 };
 ghost use Rattle.ob_model.specs.Laws.{
   ProcessesStaySound,
@@ -118,6 +120,12 @@ pub fn step_stays_sound<K, T, F, I>()
     ensures { StepStaysSound K T F I }
 {}
 
+/// In a sound state every event has an answer, and a state that it leads to: each process may start
+/// each command, and there is always one thing that the machine may do.
+pub fn step_is_total<K, T, F, I>()
+    ensures { StepIsTotal K T F I }
+{}
+
 /// A step with its answer leads to one state alone, from each state, sound or not: the value of a new
 /// handle is the machine's one choice, and the answer tells it.
 pub fn step_has_one_end<K, T, F, I>()
@@ -127,6 +135,12 @@ pub fn step_has_one_end<K, T, F, I>()
 /// So does a list of entries: a history says which state it leads to.
 pub fn run_has_one_end<K, T, F, I>()
     ensures { RunHasOneEnd K T F I }
+{}
+
+/// Every list of events has a run from the opening state: whatever is asked, in whatever order, there is
+/// a history of it.
+pub fn run_is_total<K, T, F, I>()
+    ensures { RunIsTotal K T F I }
 {}
 
 /// A process that begins or ends leaves a sound state, and so does a handle that is duplicated.

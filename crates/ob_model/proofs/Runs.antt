@@ -1,0 +1,25 @@
+-- Every list of events has a run.
+use Rattle.std.proofs.Common.{◌≡◌, ℕ, ◌+◌, List, [], ◌∷◌, map, refl, ap}
+use Rattle.ob_model.specs.declared.reply.Event.{Event}
+use Rattle.ob_model.specs.State.{State}
+use Rattle.ob_model.specs.Opening.{opening}
+use Rattle.ob_model.specs.Procedures.{Procedures}
+use Rattle.ob_model.specs.Run.{Entry, RunFrom, Run}
+use Rattle.ob_model.specs.Sound.{IsSound}
+use Rattle.ob_model.proofs.Soundness.{opening_sound}
+use Rattle.ob_model.proofs.Steps.{step_sound}
+use Rattle.ob_model.proofs.Total.{step_total}
+
+module _ {K T F I : Type 0} (g : Procedures K T F I) where
+  run_from_total : (s : State K T F I) (n : ℕ) (asked : List (ℕ × Event K)) → IsSound s
+      → (entries : List (Entry K)) × (t : State K T F I) × (map (λ e. (e.seat, e.event)) entries ≡ asked) × RunFrom g s n entries t
+  run_from_total s n [] sound = ([], s, refl, refl)
+  run_from_total s n (x ∷ xs) sound =
+      let step = step_total g s x.1 sound in
+      let rest = run_from_total step.1 (n + 1) xs (step_sound g s step.1 x.1 step.0 sound step.2) in
+      let entry : Entry K = record { number = n + 1; seat = x.0; event = x.1; answer = step.0 } in
+      (entry ∷ rest.0, rest.1, ap (λ (ys : List (ℕ × Event K)). x ∷ ys) rest.2, (step.1, refl, step.2, rest.3))
+
+  pub run_total : (first : T) (asked : List (ℕ × Event K))
+      → (entries : List (Entry K)) × (t : State K T F I) × (map (λ e. (e.seat, e.event)) entries ≡ asked) × Run g first entries t
+  run_total first asked = run_from_total (opening first) 0 asked (opening_sound first)
