@@ -1,6 +1,8 @@
 -- In a concrete state: that it is sound, by a test, and what a name ends with, by computing it.
 use Rattle.std.proofs.Common.{◌≡◌, ℕ, ◌<◌, nat_lt, arith, ◌&&◌, not, Bool, true, false, List, [], ◌∷◌, refl, Option, None, Some, MatchOption, is_some, subst}
 use Rattle.std.specs.List.{list_all}
+use Rattle.std.specs.Prelude.{AllPairs}
+use Rattle.std.proofs.lemmas.List.Kept.{AllPairs-cons}
 use Rattle.std.proofs.lemmas.Bool.{and_parts}
 use Rattle.std.proofs.lemmas.Bool.Decides.{nat_tests}
 use Rattle.std.proofs.lemmas.List.Sums.{AllPass-from_list_all}
@@ -9,6 +11,8 @@ use Rattle.ob_model.specs.State.{State, root_id, global_id, object_of, is_direct
 use Rattle.ob_model.specs.Procedures.{Procedures}
 use Rattle.ob_model.specs.Looks.{Look, Mode, LooksUp}
 use Rattle.ob_model.specs.declared.state.Row.{Row}
+use Rattle.ob_model.specs.declared.state.Held.{Held}
+use Rattle.ob_model.specs.Closing.{is_handle}
 use Rattle.ob_model.specs.Sound.{IsSound, IsDirectory, HasSoundMap, is_barred}
 use Rattle.ob_model.proofs.Soundness.{Rise, pairs_rise}
 use Rattle.ob_model.proofs.Lookup.{looked_up_name, looked_up_name-LooksUp}
@@ -27,9 +31,23 @@ rise [] h = tt
 rise (r ∷ []) h = tt
 rise (r ∷ q ∷ rows) h = let parts = and_parts (nat_lt r.stamp q.stamp) (do_rise (q ∷ rows)) h in (less r.stamp q.stamp parts.0, rise (q ∷ rows) parts.1)
 
-unbarred : (b : Bool) → not b ≡ true → b ≡ false
-unbarred true h = cc
-unbarred false h = refl
+is_false : (b : Bool) → not b ≡ true → b ≡ false
+is_false true h = cc
+is_false false h = refl
+
+-- handles differ in process or value
+abbrev pub do_differ : List Held → Bool
+do_differ [] = true
+do_differ (h ∷ hs) = list_all (λ x. not (is_handle h.process h.value x)) hs && do_differ hs
+
+differ : (hs : List Held) → do_differ hs ≡ true → AllPairs (λ a b. is_handle a.process a.value b ≡ false) hs
+differ [] e = λ i j d less within. absurd (omega (arith, within))
+differ (h ∷ hs) e =
+    let parts = and_parts (list_all (λ x. not (is_handle h.process h.value x)) hs) (do_differ hs) e in
+    AllPairs-cons (λ a b. is_handle a.process a.value b ≡ false) h hs
+    (All-weaker (λ x. not (is_handle h.process h.value x) ≡ true) (λ x. is_handle h.process h.value x ≡ false) (λ x other. is_false (is_handle h.process h.value x) other) hs
+    (AllPass-from_list_all (λ x. not (is_handle h.process h.value x)) hs parts.0))
+    (differ hs parts.1)
 
 module _ {K T F I : Type 0} where
   abbrev pub is_map_sound : State K T F I → Option ℕ → Bool
@@ -40,7 +58,8 @@ module _ {K T F I : Type 0} where
   abbrev pub is_orderly : State K T F I → Bool
   is_orderly s =
       list_all (λ x. is_some (object_of s x.object)) s.pending && (do_rise s.rows && (list_all (λ r. nat_lt r.stamp s.next_stamp) s.rows
-      && (list_all (λ r. not (is_barred r.directory r.name)) s.rows && list_all (λ h. is_live s h.process) s.handles)))
+      && (list_all (λ r. not (is_barred r.directory r.name)) s.rows && (list_all (λ h. is_live s h.process) s.handles
+      && (list_all (λ x. nat_lt x.number s.next_process) s.processes && do_differ s.handles)))))
 
   -- a test of whether a state is sound
   abbrev pub is_sound : State K T F I → Bool
@@ -72,10 +91,14 @@ module _ {K T F I : Type 0} where
       let stamped = list_all (λ r. nat_lt r.stamp s.next_stamp) s.rows in
       let plain = list_all (λ r. not (is_barred r.directory r.name)) s.rows in
       let live = list_all (λ h. is_live s h.process) s.handles in
-      let eighth = and_parts pending (rising && (stamped && (plain && live))) seventh.1 in
-      let ninth = and_parts rising (stamped && (plain && live)) eighth.1 in
-      let tenth = and_parts stamped (plain && live) ninth.1 in
-      let eleventh = and_parts plain live tenth.1 in
+      let numbered = list_all (λ x. nat_lt x.number s.next_process) s.processes in
+      let distinct = do_differ s.handles in
+      let eighth = and_parts pending (rising && (stamped && (plain && (live && (numbered && distinct))))) seventh.1 in
+      let ninth = and_parts rising (stamped && (plain && (live && (numbered && distinct)))) eighth.1 in
+      let tenth = and_parts stamped (plain && (live && (numbered && distinct))) ninth.1 in
+      let eleventh = and_parts plain (live && (numbered && distinct)) tenth.1 in
+      let twelfth = and_parts live (numbered && distinct) eleventh.1 in
+      let thirteenth = and_parts numbered distinct twelfth.1 in
       record {
         root = first.0;
         global = second.0;
@@ -87,8 +110,10 @@ module _ {K T F I : Type 0} where
         pending = AllPass-from_list_all (λ x. is_some (object_of s x.object)) s.pending eighth.0;
         rising = pairs_rise s.rows (rise s.rows ninth.0);
         stamped = All-weaker (λ r. nat_lt r.stamp s.next_stamp ≡ true) (λ r. r.stamp < s.next_stamp) (λ r e. less r.stamp s.next_stamp e) s.rows (AllPass-from_list_all (λ r. nat_lt r.stamp s.next_stamp) s.rows tenth.0);
-        plain = All-weaker (λ r. not (is_barred r.directory r.name) ≡ true) (λ r. is_barred r.directory r.name ≡ false) (λ r e. unbarred (is_barred r.directory r.name) e) s.rows (AllPass-from_list_all (λ r. not (is_barred r.directory r.name)) s.rows eleventh.0);
-        live = AllPass-from_list_all (λ h. is_live s h.process) s.handles eleventh.1;
+        plain = All-weaker (λ r. not (is_barred r.directory r.name) ≡ true) (λ r. is_barred r.directory r.name ≡ false) (λ r e. is_false (is_barred r.directory r.name) e) s.rows (AllPass-from_list_all (λ r. not (is_barred r.directory r.name)) s.rows eleventh.0);
+        live = AllPass-from_list_all (λ h. is_live s h.process) s.handles twelfth.0;
+        numbered = All-weaker (λ x. nat_lt x.number s.next_process ≡ true) (λ x. x.number < s.next_process) (λ x e. less x.number s.next_process e) s.processes (AllPass-from_list_all (λ x. nat_lt x.number s.next_process) s.processes thirteenth.0);
+        distinct = differ s.handles thirteenth.1;
       }
 
 module _ {K T F I : Type 0} (g : Procedures K T F I) (s : State K T F I) (sound : is_sound s ≡ true) (p : ℕ) (mode : Mode) (n : ℕ) where

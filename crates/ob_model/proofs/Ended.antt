@@ -1,11 +1,14 @@
 -- A process that begins or ends, or is given a handle, leaves a sound state; and one that has ended holds
 -- nothing and is gone.
 use Rattle.std.proofs.Common.{◌≡◌, ◌∙◌, ℕ, ◌==◌, Bool, true, false, ◌&&◌, ◌||◌, not, cond, List, [], ◌∷◌, filter, get_or, find, Option, None, Some, Result, Ok, Err, MatchOption, MatchResult, All, refl, ap, sym, subst}
-use Rattle.std.proofs.Common.{eq-eqb, eqb-true}
+use Rattle.std.proofs.Common.{eq-eqb, eqb-true, suc, ◌+◌, ◌<◌, arith}
+use Rattle.std.specs.Prelude.{AllPairs}
+use Rattle.std.proofs.lemmas.Bool.{ne_eqb}
+use Rattle.std.proofs.lemmas.List.Kept.{AllPairs-filter}
 use Rattle.std.specs.List.{list_any}
 use Rattle.std.specs.Option.{option_and_then, option_or, option_map_or, is_some}
 use Rattle.std.proofs.lemmas.List.Folds.{find-append, list_any_at}
-use Rattle.std.proofs.lemmas.List.Elements.{All-head, All-tail, All-push, All-filter, All-weaker}
+use Rattle.std.proofs.lemmas.List.Elements.{All-head, All-tail, All-push, All-filter, All-weaker, filter_passes}
 use Rattle.ob_base.specs.declared.status.Status.{Status}
 use Rattle.ob_base.specs.declared.status.Status.TheVariants.{Success, InvalidHandle, ProcessGone}
 use Rattle.ob_base.specs.Handle.{key_of}
@@ -22,6 +25,7 @@ use Rattle.ob_model.specs.Refusals.{gives, IsRefused}
 use Rattle.ob_model.specs.Processes.{handles_in, inherited_from, with_child, without_process, inherits_one, inherits, begun, closed_in_turn, ended, Duplicates}
 use Rattle.ob_model.specs.Sound.{IsSound, Stands, HasSoundMap, IsDirectory}
 use Rattle.ob_model.proofs.Finds.{find-filter, All-kept, filter_none}
+use Rattle.ob_model.proofs.Free.{find_none}
 use Rattle.ob_model.proofs.SoundPaths.{find_of}
 use Rattle.ob_model.proofs.Soundness.{settled_sound, granted_sound, closed_sound, stands-opened}
 
@@ -48,6 +52,26 @@ nothing_found {X} test (x ∷ xs) = go (test x) refl (nothing_found test xs)
     go true same more = more
     go false other more = ap (λ t. cond t (Some x) (find test (filter (λ y. not (test y)) xs))) other ∙ more
 
+-- who is live was numbered
+live_numbered : (xs : List Process) (n q : ℕ) → All (λ x. x.number < n) xs → is_some (find (λ x. x.number == q) xs) ≡ true → q < n
+live_numbered [] n q all h = cc
+live_numbered (x ∷ xs) n q all h = go (x.number == q) refl h (live_numbered xs n q (All-tail (λ y. y.number < n) x xs all))
+  where
+    go : (b : Bool) → (x.number == q) ≡ b → is_some (cond b (Some x) (find (λ y. y.number == q) xs)) ≡ true → (is_some (find (λ y. y.number == q) xs) ≡ true → q < n) → q < n
+    go true e h rest = subst (λ (i : ℕ). i < n) (eqb-true x.number q e) (All-head (λ y. y.number < n) x xs all)
+    go false e h rest = rest h
+
+-- of one process's handles that differ the values do
+values_differ : (p : ℕ) (a b : Held) → is_handle a.process a.value b ≡ false → (a.process == p) ≡ true → (b.process == p) ≡ true → (a.value == b.value) ≡ false
+values_differ p a b differ first second = go (a.value == b.value) refl
+  where
+    go : (t : Bool) → (a.value == b.value) ≡ t → t ≡ false
+    go true e =
+        let owned : (b.process == a.process) ≡ true = eq-eqb b.process a.process (eqb-true b.process p second ∙ sym (eqb-true a.process p first)) in
+        let valued : (b.value == a.value) ≡ true = eq-eqb b.value a.value (sym (eqb-true a.value b.value e)) in
+        cc
+    go false e = refl
+
 module _ {K T F I : Type 0} where
   -- a process that is live stays so beside a child, and the child is live
   live_with_child : (s : State K T F I) (p q : ℕ) → is_live s q ≡ true → is_live (with_child s p) q ≡ true
@@ -70,6 +94,14 @@ module _ {K T F I : Type 0} where
       go None e = ap (λ (b : Bool). is_some (cond b (Some child) None)) e
       go (Some x) e = refl
 
+  -- nobody has a handle under the next number
+  child_is_empty : (s : State K T F I) (value : ℕ) → IsSound s → held_of s s.next_process value ≡ None
+  child_is_empty s value sound =
+      find_none (λ h. h.process == s.next_process && h.value == value) s.handles
+      (λ k d within.
+      let less = live_numbered s.processes s.next_process (get_or s.handles k d).process sound.numbered (sound.live k d within) in
+      ap (λ (b : Bool). b && ((get_or s.handles k d).value == value)) (ne_eqb (get_or s.handles k d).process s.next_process (λ same. omega (arith, less, same))))
+
   -- a child's map is its parent's
   child_sound : (s : State K T F I) (p : ℕ) → IsSound s → IsSound (with_child s p)
   child_sound s p sound = record {
@@ -86,6 +118,9 @@ module _ {K T F I : Type 0} where
     stamped = sound.stamped;
     plain = sound.plain;
     live = All-weaker (λ h. is_live s h.process ≡ true) (λ h. is_live (with_child s p) h.process ≡ true) (λ h live. live_with_child s p h.process live) s.handles sound.live;
+    numbered = All-push (λ x. x.number < s.next_process + 1) s.processes _
+        (All-weaker (λ x. x.number < s.next_process) (λ x. x.number < s.next_process + 1) (λ x less. omega (arith, less)) s.processes sound.numbered) (omega arith);
+    distinct = sound.distinct;
   }
     where
       go : (o : Option Process) → MatchOption o (Unit {0}) (HasSoundMap s) → MatchOption (option_and_then (λ x. x.map) o) (Unit {0}) (IsDirectory s)
@@ -107,6 +142,8 @@ module _ {K T F I : Type 0} where
     stamped = sound.stamped;
     plain = sound.plain;
     live = λ k d within. stays (get_or s.handles k d).process (apart k d within) (sound.live k d within);
+    numbered = All-filter (λ x. not (x.number == p)) (λ x. x.number < s.next_process) s.processes sound.numbered;
+    distinct = sound.distinct;
   }
     where
       stays : (q : ℕ) → (q == p) ≡ false → is_live s q ≡ true → is_live (without_process s p) q ≡ true
@@ -115,12 +152,32 @@ module _ {K T F I : Type 0} where
 
 module _ {K T F I : Type 0} (g : Procedures K T F I) where
   -- what stands goes on to stand when a handle is inherited, and who is live goes on to live
-  inherits_one_sound : (s : State K T F I) (child : ℕ) (h : Held) → IsSound s → is_live s child ≡ true → Stands s h.object → IsSound (inherits_one g s child h)
-  inherits_one_sound s child h sound live stands = go (open_refusal g s h.object Inherited)
+  inherits_one_sound : (s : State K T F I) (child : ℕ) (h : Held)
+      → IsSound s → is_live s child ≡ true → held_of s child h.value ≡ None → Stands s h.object → IsSound (inherits_one g s child h)
+  inherits_one_sound s child h sound live free stands = go (open_refusal g s h.object Inherited)
     where
       go : (o : Option ℕ) → IsSound (option_map_or (λ _. s) o (with_handle (with_open g s h.object Inherited) child h.value h.object true))
-      go None = granted_sound g s child h.value h.object Inherited true sound live stands
+      go None = granted_sound g s child h.value h.object Inherited true sound live free stands
       go (Some k) = sound
+
+  -- and another value is as unused as it was
+  inherits_one_free : (s : State K T F I) (child : ℕ) (h : Held) (value : ℕ)
+      → (h.value == value) ≡ false → held_of s child value ≡ None → held_of (inherits_one g s child h) child value ≡ None
+  inherits_one_free s child h value other free = go (open_refusal g s h.object Inherited)
+    where
+      new : Held
+      new = record { process = child; value = h.value; object = h.object; inherit = true; order = s.next_order }
+
+      neither : (a b : Bool) → b ≡ false → (a && b) ≡ false
+      neither true b e = e
+      neither false b e = refl
+
+      go : (o : Option ℕ) → held_of (option_map_or (λ _. s) o (with_handle (with_open g s h.object Inherited) child h.value h.object true)) child value ≡ None
+      go None =
+          find-append (λ (x : Held). x.process == child && x.value == value) s.handles (new ∷ [])
+          ∙ ap (λ (o : Option Held). option_or o (find (λ (x : Held). x.process == child && x.value == value) (new ∷ []))) free
+          ∙ ap (λ (b : Bool). cond b (Some new) None) (neither (child == child) (h.value == value) other)
+      go (Some k) = free
 
   inherits_one_stands : (s : State K T F I) (child : ℕ) (h : Held) (m : ℕ) → Stands s m → Stands (inherits_one g s child h) m
   inherits_one_stands s child h m stands = go (open_refusal g s h.object Inherited)
@@ -136,17 +193,33 @@ module _ {K T F I : Type 0} (g : Procedures K T F I) where
       go None = live
       go (Some k) = live
 
-  inherits_sound : (s : State K T F I) (child : ℕ) (hs : List Held) → IsSound s → is_live s child ≡ true → All (λ h. Stands s h.object) hs → IsSound (inherits g s child hs)
-  inherits_sound s child [] sound live stand = sound
-  inherits_sound s child (h ∷ hs) sound live stand =
-      inherits_sound (inherits_one g s child h) child hs (inherits_one_sound s child h sound live (All-head (λ x. Stands s x.object) h hs stand)) (inherits_one_live s child h child live)
+  inherits_sound : (s : State K T F I) (child : ℕ) (hs : List Held)
+      → IsSound s → is_live s child ≡ true → All (λ h. Stands s h.object) hs → All (λ h. held_of s child h.value ≡ None) hs → AllPairs (λ a b. (a.value == b.value) ≡ false) hs
+      → IsSound (inherits g s child hs)
+  inherits_sound s child [] sound live stand free differ = sound
+  inherits_sound s child (h ∷ hs) sound live stand free differ =
+      inherits_sound (inherits_one g s child h) child hs
+      (inherits_one_sound s child h sound live (All-head (λ x. held_of s child x.value ≡ None) h hs free) (All-head (λ x. Stands s x.object) h hs stand)) (inherits_one_live s child h child live)
       (All-weaker (λ x. Stands s x.object) (λ x. Stands (inherits_one g s child h) x.object) (λ x there. inherits_one_stands s child h x.object there) hs
       (All-tail (λ x. Stands s x.object) h hs stand))
+      (λ k d within. inherits_one_free s child h (get_or hs k d).value (differ 0 (suc k) d (omega arith) (omega (arith, within))) (All-tail (λ x. held_of s child x.value ≡ None) h hs free k d within))
+      (λ i j d less within. differ (suc i) (suc j) d (omega (arith, less)) (omega (arith, within)))
 
   pub begun_sound : (s : State K T F I) (p : ℕ) (inherit : Bool) → IsSound s → IsSound (begun g s p inherit)
   begun_sound s p inherit sound =
       inherits_sound (with_child s p) s.next_process (inherited_from s p inherit) (child_sound s p sound) (child_is_live s p)
       (All-filter (λ h. h.inherit && inherit) (λ h. Stands s h.object) (handles_in s p) (All-filter (λ h. h.process == p) (λ h. Stands s h.object) s.handles sound.handles))
+      (λ k d within. child_is_empty s (get_or (inherited_from s p inherit) k d).value sound)
+      (λ i j d less within.
+      values_differ p (get_or (inherited_from s p inherit) i d) (get_or (inherited_from s p inherit) j d) (pairs i j d less within) (own i d (omega (arith, less, within))) (own j d within))
+    where
+      pairs : AllPairs (λ a b. is_handle a.process a.value b ≡ false) (inherited_from s p inherit)
+      pairs =
+          AllPairs-filter (λ a b. is_handle a.process a.value b ≡ false) (λ h. h.inherit && inherit) (handles_in s p)
+          (AllPairs-filter (λ a b. is_handle a.process a.value b ≡ false) (λ h. h.process == p) s.handles sound.distinct)
+
+      own : All (λ h. (h.process == p) ≡ true) (inherited_from s p inherit)
+      own = All-filter (λ h. h.inherit && inherit) (λ h. (h.process == p) ≡ true) (handles_in s p) (filter_passes (λ h. h.process == p) s.handles)
 
   closed_in_turn_sound : (s : State K T F I) (hs : List Held) → IsSound s → IsSound (closed_in_turn g s hs)
   closed_in_turn_sound s [] sound = sound
@@ -167,7 +240,7 @@ module _ {K T F I : Type 0} (g : Procedures K T F I) where
           go : (result : Result ℕ Status) (u : State K T F I) → Grants g s to x.object (record { inherit = inherit; exclusive = false }) Duplicated result u
               → MatchResult result (λ value. (answer ≡ gives Success (Handle value)) × (t ≡ settle g u)) (λ refusal. IsRefused s refusal answer t) → IsSound t
           go (Ok value) u grants end =
-              subst IsSound (sym end.1) (settled_sound g u (subst IsSound (sym grants.2) (granted_sound g s to value x.object Duplicated inherit sound live stands)))
+              subst IsSound (sym end.1) (settled_sound g u (subst IsSound (sym grants.2) (granted_sound g s to value x.object Duplicated inherit sound live grants.1.1 stands)))
           go (Err refusal) u grants end = subst IsSound (sym end.1) sound
 
       found : is_live s to ≡ true → (key : Option ℕ) → MatchOption (option_and_then (held_of s p) key) (IsRefused s InvalidHandle answer t) Does → IsSound t

@@ -11,7 +11,7 @@ use Rattle.ob_model.specs.Grants.{IsFreeValue}
 use Rattle.ob_model.specs.Closing.{is_handle}
 
 -- nothing is found where nothing passes
-find_none : {X : Type 0} (test : X → Bool) (xs : List X) → All (λ x. test x ≡ false) xs → find test xs ≡ None
+pub find_none : {X : Type 0} (test : X → Bool) (xs : List X) → All (λ x. test x ≡ false) xs → find test xs ≡ None
 find_none test [] none = refl
 find_none {X} test (x ∷ xs) none =
     ap (λ b. cond b (Some x) (find test xs)) (All-head (λ y. test y ≡ false) x xs none) ∙ find_none test xs (All-tail (λ y. test y ≡ false) x xs none)

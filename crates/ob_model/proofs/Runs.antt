@@ -1,10 +1,11 @@
--- Every list of events has a run.
-use Rattle.std.proofs.Common.{◌≡◌, ℕ, ◌+◌, List, [], ◌∷◌, map, refl, ap}
+-- Every list of events has a run, and a run is made of steps.
+use Rattle.std.proofs.Common.{◌≡◌, ℕ, ◌+◌, List, [], ◌∷◌, map, refl, sym, ap}
 use Rattle.ob_model.specs.declared.reply.Event.{Event}
 use Rattle.ob_model.specs.State.{State}
 use Rattle.ob_model.specs.Opening.{opening}
 use Rattle.ob_model.specs.Procedures.{Procedures}
 use Rattle.ob_model.specs.Run.{Entry, RunFrom, Run}
+use Rattle.ob_model.specs.Calls.{Passed, Passes, left_by}
 use Rattle.ob_model.specs.Sound.{IsSound}
 use Rattle.ob_model.proofs.Soundness.{opening_sound}
 use Rattle.ob_model.proofs.Steps.{step_sound}
@@ -23,3 +24,12 @@ module _ {K T F I : Type 0} (g : Procedures K T F I) where
   pub run_total : (first : T) (asked : List (ℕ × Event K))
       → (entries : List (Entry K)) × (t : State K T F I) × (map (λ e. (e.seat, e.event)) entries ≡ asked) × Run g first entries t
   run_total first asked = run_from_total (opening first) 0 asked (opening_sound first)
+
+  -- a run, step by step
+  pub run_passed : (s : State K T F I) (n : ℕ) (entries : List (Entry K)) (t : State K T F I) → RunFrom g s n entries t
+      → (steps : List (Passed K T F I)) × (map (λ x. x.entry) steps ≡ entries) × Passes g s n steps × (left_by s steps ≡ t)
+  run_passed s n [] t run = ([], refl, tt, sym run)
+  run_passed s n (e ∷ es) t run =
+      let rest = run_passed run.0 (n + 1) es t run.3 in
+      let first : Passed K T F I = record { entry = e; after = run.0 } in
+      (first ∷ rest.0, ap (λ (xs : List (Entry K)). e ∷ xs) rest.1, (run.1, run.2, rest.2), rest.3)

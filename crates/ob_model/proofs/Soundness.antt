@@ -16,7 +16,7 @@ use Rattle.ob_model.specs.declared.state.Row.{Row}
 use Rattle.ob_model.specs.declared.state.Held.{Held}
 use Rattle.ob_model.specs.declared.state.Process.{Process}
 use Rattle.ob_model.specs.declared.state.Pending.{Pending}
-use Rattle.ob_model.specs.State.{State, root_id, global_id, object_of, is_directory, is_directory_body, is_live}
+use Rattle.ob_model.specs.State.{State, root_id, global_id, object_of, is_directory, is_directory_body, is_live, held_of}
 use Rattle.ob_model.specs.Opening.{opening}
 use Rattle.ob_model.specs.Procedures.{Procedures, Reason, Created}
 use Rattle.ob_model.specs.Settle.{is_kept, is_alive, has_name, is_mapped, deleted_one, settle}
@@ -30,6 +30,27 @@ use Rattle.ob_model.proofs.Settled.{is_directory-settle, stands-settle, alive_fr
 -- whether what is found is a directory
 abbrev pub is_directory_object : {F I : Type 0} → Option (Object F I) → Bool
 is_directory_object found = option_map_or is_directory_body (option_map (λ x. x.body) found) false
+
+-- where nothing is found nothing passes
+not_found : {X : Type 0} (test : X → Bool) (xs : List X) → find test xs ≡ None → All (λ x. test x ≡ false) xs
+not_found test [] e = All-nil (λ x. test x ≡ false)
+not_found {X} test (x ∷ xs) e = go (test x) refl e (not_found test xs)
+  where
+    go : (b : Bool) → test x ≡ b → cond b (Some x) (find test xs) ≡ None → (find test xs ≡ None → All (λ y. test y ≡ false) xs) → All (λ y. test y ≡ false) (x ∷ xs)
+    go true f e rest = cc
+    go false f e rest = All-cons (λ y. test y ≡ false) x xs f (rest e)
+
+-- of two handles that differ in process or value each is another than the other
+other_handle : (a b c d : ℕ) → ((a == b) && (c == d)) ≡ false → ((b == a) && (d == c)) ≡ false
+other_handle a b c d differ = go (b == a) (d == c) refl refl
+  where
+    go : (x y : Bool) → (b == a) ≡ x → (d == c) ≡ y → (x && y) ≡ false
+    go true true e f =
+        let first : (a == b) ≡ true = eq-eqb a b (sym (eqb-true b a e)) in
+        let second : (c == d) ≡ true = eq-eqb c d (sym (eqb-true d c f)) in
+        cc
+    go true false e f = refl
+    go false y e f = refl
 
 -- rows rise by stamps where each has a lesser one than the next
 abbrev pub Rise : List Row → Type 0
@@ -179,6 +200,8 @@ module _ {K T F I : Type 0} where
         stamped = All-from_recursion (λ r. r.stamp < s.next_stamp) s.rows (omega arith, (omega arith, (omega arith, (omega arith, (omega arith, tt)))));
         plain = All-from_recursion (λ r. is_barred r.directory r.name ≡ false) s.rows (refl, (refl, (refl, (refl, (refl, tt)))));
         live = All-nil (λ h. is_live s h.process ≡ true);
+        numbered = All-from_recursion (λ x. x.number < s.next_process) s.processes (omega arith, tt);
+        distinct = λ i j d less within. absurd (omega (arith, within));
       }
 
   -- a map directory that stays a directory
@@ -239,6 +262,8 @@ module _ {K T F I : Type 0} where
         stamped = sound.stamped;
         plain = sound.plain;
         live = sound.live;
+        numbered = sound.numbered;
+        distinct = sound.distinct;
       }
 
   -- the row of an object that stands, at a place that isn't barred in a directory made before it, leaves a
@@ -260,6 +285,8 @@ module _ {K T F I : Type 0} where
         (drawn spot);
     plain = All-append (λ r. is_barred r.directory r.name ≡ false) s.rows (new_rows spot s.next_stamp o) sound.plain (fit spot inside);
     live = sound.live;
+    numbered = sound.numbered;
+    distinct = sound.distinct;
   }
     where
       below : (spot : Spot) → MatchOption spot (Unit {0}) (λ at. (at.0 < o) × (is_barred at.0 at.1 ≡ false)) → All (λ r. r.directory < r.object) (new_rows spot s.next_stamp o)
@@ -297,11 +324,14 @@ module _ {K T F I : Type 0} where
     stamped = sound.stamped;
     plain = sound.plain;
     live = sound.live;
+    numbered = sound.numbered;
+    distinct = sound.distinct;
   }
 
-  -- a live process's handle of an object that stands leaves a sound state
-  pub handle_sound : (s : State K T F I) (p value o : ℕ) (inherit : Bool) → IsSound s → is_live s p ≡ true → Stands s o → IsSound (with_handle s p value o inherit)
-  handle_sound s p value o inherit sound live stands = record {
+  -- a live process's handle of an unused value to an object that stands leaves a sound state
+  pub handle_sound : (s : State K T F I) (p value o : ℕ) (inherit : Bool)
+      → IsSound s → is_live s p ≡ true → held_of s p value ≡ None → Stands s o → IsSound (with_handle s p value o inherit)
+  handle_sound s p value o inherit sound live free stands = record {
     root = sound.root;
     global = sound.global;
     maps = sound.maps;
@@ -314,6 +344,9 @@ module _ {K T F I : Type 0} where
     stamped = sound.stamped;
     plain = sound.plain;
     live = All-push (λ h. is_live s h.process ≡ true) s.handles _ sound.live live;
+    numbered = sound.numbered;
+    distinct = all_pairs_push (λ a b. is_handle a.process a.value b ≡ false) s.handles _ sound.distinct
+        (λ k d within. other_handle (get_or s.handles k d).process p (get_or s.handles k d).value value (not_found (is_handle p value) s.handles free k d within));
   }
 
 module _ {K T F I : Type 0} (g : Procedures K T F I) where
@@ -354,6 +387,8 @@ module _ {K T F I : Type 0} (g : Procedures K T F I) where
     stamped = All-filter (is_kept s) (λ r. r.stamp < s.next_stamp) s.rows sound.stamped;
     plain = All-filter (is_kept s) (λ r. is_barred r.directory r.name ≡ false) s.rows sound.plain;
     live = sound.live;
+    numbered = sound.numbered;
+    distinct = sound.distinct;
   }
 
   -- an open leaves a sound state, whatever its object is
@@ -374,13 +409,15 @@ module _ {K T F I : Type 0} (g : Procedures K T F I) where
         stamped = sound.stamped;
         plain = sound.plain;
         live = sound.live;
+        numbered = sound.numbered;
+        distinct = sound.distinct;
       }
 
   -- an open and a grant of an object that stands to a live process leave a sound state
   pub granted_sound : (s : State K T F I) (p value o : ℕ) (reason : Reason) (inherit : Bool)
-      → IsSound s → is_live s p ≡ true → Stands s o → IsSound (with_handle (with_open g s o reason) p value o inherit)
-  granted_sound s p value o reason inherit sound live stands =
-      handle_sound (with_open g s o reason) p value o inherit (opened_sound s o reason sound) live (stands-opened s o o reason ∙ stands)
+      → IsSound s → is_live s p ≡ true → held_of s p value ≡ None → Stands s o → IsSound (with_handle (with_open g s o reason) p value o inherit)
+  granted_sound s p value o reason inherit sound live free stands =
+      handle_sound (with_open g s o reason) p value o inherit (opened_sound s o reason sound) live free (stands-opened s o o reason ∙ stands)
 
   -- a close leaves a sound state
   pub closed_sound : (s : State K T F I) (h : Held) → IsSound s → IsSound (closed_handle g s h)
@@ -400,13 +437,15 @@ module _ {K T F I : Type 0} (g : Procedures K T F I) where
         stamped = sound.stamped;
         plain = sound.plain;
         live = All-filter (λ x. not (is_handle h.process h.value x)) (λ x. is_live s x.process ≡ true) s.handles sound.live;
+        numbered = sound.numbered;
+        distinct = AllPairs-filter (λ a b. is_handle a.process a.value b ≡ false) (λ x. not (is_handle h.process h.value x)) s.handles sound.distinct;
       }
 
   -- a create of a live process, at a place that isn't barred in a directory or without a name, leaves a
   -- sound state
   pub created_sound : (s : State K T F I) (p : ℕ) (spot : Spot) (body : Body F I) (attrs value : ℕ)
-      → IsSound s → is_live s p ≡ true → MatchOption spot (Unit {0}) (λ at. IsDirectory s at.0 × (is_barred at.0 at.1 ≡ false)) → IsSound (created g s p spot body attrs value)
-  created_sound s p spot body attrs value sound live inside =
+      → IsSound s → is_live s p ≡ true → held_of s p value ≡ None → MatchOption spot (Unit {0}) (λ at. IsDirectory s at.0 × (is_barred at.0 at.1 ≡ false)) → IsSound (created g s p spot body attrs value)
+  created_sound s p spot body attrs value sound live free inside =
       let opened = record s { set = opened_set g s.set body Created } in
       let left = opened_body g s.set body Created in
       let permanent = is_some spot && has_flag permanent_flag attrs in
@@ -414,7 +453,7 @@ module _ {K T F I : Type 0} (g : Procedures K T F I) where
       let there = with_object opened left permanent exclusive in
       let stands : Stands there s.next_id = new_stands opened left permanent exclusive in
       handle_sound (with_row there spot s.next_id) p value s.next_id _
-      (row_sound there spot s.next_id (object_sound opened left permanent exclusive (set_sound s (opened_set g s.set body Created) s.next_id (omega arith) sound)) stands (below spot inside)) live stands
+      (row_sound there spot s.next_id (object_sound opened left permanent exclusive (set_sound s (opened_set g s.set body Created) s.next_id (omega arith) sound)) stands (below spot inside)) live free stands
     where
       below : (spot : Spot) → MatchOption spot (Unit {0}) (λ at. IsDirectory s at.0 × (is_barred at.0 at.1 ≡ false))
           → MatchOption spot (Unit {0}) (λ at. (at.0 < s.next_id) × (is_barred at.0 at.1 ≡ false))

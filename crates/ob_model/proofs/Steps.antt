@@ -100,7 +100,7 @@ module _ {K T F I : Type 0} (g : Procedures K T F I) where
       → MatchResult result (λ value. (answer ≡ gives status (Handle value)) × (t ≡ settle g u)) (λ refusal. IsRefused s refusal answer t) → IsSound t
   granted_or_refused_sound s t u p o asked status answer (Ok value) sound live stands grants h =
       subst IsSound (sym h.1)
-      (settled_sound g u (subst IsSound (sym grants.2) (granted_sound g s p value o Opened asked.inherit sound live stands)))
+      (settled_sound g u (subst IsSound (sym grants.2) (granted_sound g s p value o Opened asked.inherit sound live grants.1.1 stands)))
   granted_or_refused_sound s t u p o asked status answer (Err refusal) sound live stands grants h = refused_sound s t refusal answer sound h
 
   opens_at_sound : (s t : State K T F I) (p attrs : ℕ) (wanted : Wanted K) (status : Status) (o : ℕ) (answer : Answer)
@@ -132,7 +132,7 @@ module _ {K T F I : Type 0} (g : Procedures K T F I) where
       opened : (refusal : Option ℕ) → MatchOption refusal Given DroppedFor → IsSound t
       opened None h =
           subst IsSound (sym h.3)
-          (settled_sound g (created g s p spot (body_made g making) attrs h.0) (created_sound g s p spot (body_made g making) attrs h.0 sound live inside))
+          (settled_sound g (created g s p spot (body_made g making) attrs h.0) (created_sound g s p spot (body_made g making) attrs h.0 sound live h.1.1 inside))
       opened (Some k) h = subst IsSound (sym h.1) (dropped_sound g s (body_made g making) sound)
 
       go : (refusal : Option ℕ)

@@ -139,6 +139,11 @@ module _ {K T F I : Type 0} where
   Passes g s n [] = Unit {0}
   Passes g s n (x ∷ xs) = (x.entry.number ≡ n + 1) × Step g s x.entry.event x.entry.answer x.after × Passes g x.after (n + 1) xs
 
+  -- the state that the last of these steps left
+  abbrev pub left_by : State K T F I → List (Passed K T F I) → State K T F I
+  left_by s [] = s
+  left_by s (x ∷ xs) = left_by x.after xs
+
   -- the calls of these steps on an object, one step's after another's
   abbrev pub calls_of_run : State K T F I → List (Passed K T F I) → ℕ → List Call
   calls_of_run s [] o = []

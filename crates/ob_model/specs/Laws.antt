@@ -20,6 +20,7 @@ use Rattle.ob_model.specs.Sound.{IsSound, IsDirectory, Stands}
 use Rattle.ob_model.specs.Processes.{handles_in, begun, ended, Duplicates}
 use Rattle.ob_model.specs.Step.{Step}
 use Rattle.ob_model.specs.Run.{Entry, RunFrom, Run}
+use Rattle.ob_model.specs.Calls.{Passed, Passes, left_by}
 
 -- a text has one split at each length: as many components leave the same components and rest
 abbrev pub SplitIsUnique : Type 0
@@ -124,6 +125,12 @@ module _ (K T F I : Type 0) where
   RunHasOneEnd =
       (g : Procedures K T F I) (s : State K T F I) (n : ℕ) (entries : List (Entry K)) (t u : State K T F I)
       → RunFrom g s n entries t → RunFrom g s n entries u → t ≡ u
+
+  -- a run is made of steps that were passed one after another, of which its calls are told
+  abbrev pub RunIsPassed : Type 0
+  RunIsPassed =
+      (g : Procedures K T F I) (s : State K T F I) (n : ℕ) (entries : List (Entry K)) (t : State K T F I) → RunFrom g s n entries t
+      → (steps : List (Passed K T F I)) × (map (λ x. x.entry) steps ≡ entries) × Passes g s n steps × (left_by s steps ≡ t)
 
   -- every list of events, each with the seat whose caller asks, has a run
   abbrev pub RunIsTotal : Type 0

@@ -5,6 +5,7 @@ use Rattle.std.specs.Prelude.{◌≡◌, true, false, Bool, ◌&&◌, ◌==◌, 
 use Rattle.std.specs.Str.{bytes_eq}
 use Rattle.std.specs.Option.{is_some}
 use Rattle.ob_model.specs.declared.state.Process.{Process}
+use Rattle.ob_model.specs.Closing.{is_handle}
 use Rattle.ob_model.specs.State.{State, root_id, global_id, object_of, is_directory, is_live}
 
 -- a place in a directory that no name has: the root directory has no entry called `??`
@@ -27,7 +28,8 @@ module _ {K T F I : Type 0} where
   -- The root and `\GLOBAL??` are directories, so are all map directories, each row names an object
   -- that is there, and so does each handle and each pending open. The number of each object was drawn,
   -- and a row's directory was made before its object, so that each way up ends. Rows rise by stamps that
-  -- were drawn, no row of the root is called `??`, and the process of each handle is live.
+  -- were drawn, no row of the root is called `??`, the process of each handle is live, and has no two
+  -- handles of one value. The number of each process was drawn.
   pub record IsSound (s : State K T F I) : Type 0 where
     pub root : IsDirectory s root_id
     pub global : IsDirectory s global_id
@@ -41,3 +43,5 @@ module _ {K T F I : Type 0} where
     pub stamped : All (λ r. r.stamp < s.next_stamp) s.rows
     pub plain : All (λ r. is_barred r.directory r.name ≡ false) s.rows
     pub live : All (λ h. is_live s h.process ≡ true) s.handles
+    pub numbered : All (λ x. x.number < s.next_process) s.processes
+    pub distinct : AllPairs (λ a b. is_handle a.process a.value b ≡ false) s.handles

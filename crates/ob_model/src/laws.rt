@@ -24,6 +24,7 @@ ghost use Rattle.ob_model.specs.Laws.{
   StepHasOneEnd,
   RunHasOneEnd,
   RunIsTotal,
+  RunIsPassed,
 };
 ghost use Rattle.ob_model.specs.Laws.{
   ProcessesStaySound,
@@ -141,6 +142,11 @@ pub fn run_has_one_end<K, T, F, I>()
 /// a history of it.
 pub fn run_is_total<K, T, F, I>()
     ensures { RunIsTotal K T F I }
+{}
+
+/// A run is made of steps that were passed one after another, so that the calls of each run are told.
+pub fn run_is_passed<K, T, F, I>()
+    ensures { RunIsPassed K T F I }
 {}
 
 /// A process that begins or ends leaves a sound state, and so does a handle that is duplicated.
