@@ -18,6 +18,9 @@ fn laws_hold_at_a_concrete_set() {
     laws::step_stays_sound::<u8, u16, u32, u64>();
     laws::step_has_one_end::<u8, u16, u32, u64>();
     laws::run_has_one_end::<u8, u16, u32, u64>();
+    laws::step_is_total::<u8, u16, u32, u64>();
+    laws::run_is_total::<u8, u16, u32, u64>();
+    laws::run_is_passed::<u8, u16, u32, u64>();
     laws::processes_stay_sound::<u8, u16, u32, u64>();
     laws::ended_process_is_gone::<u8, u16, u32, u64>();
     laws::child_begins_without_handles::<u8, u16, u32, u64>();
@@ -53,6 +56,13 @@ fn laws_of_names_and_examples_are_called() {
     examples::names_without_views();
     examples::holds_without_name();
     examples::temporary_goes();
+    examples::pages_of_a_directory();
+    examples::more_entries_are_left();
+    examples::page_behind_a_row_that_went();
+    examples::parse_runs_end();
+    examples::calls_of_made_and_closed();
+    examples::calls_of_two_closes();
+    examples::closes_of_an_end();
 }
 
 #[test]
