@@ -74,15 +74,40 @@ module _ {K T F I : Type 0} (g : Procedures K T F I) where
     pub some_bytes : rest ≢ [] → 0 < used
     pub onward : used < length rest → g.parses (g.kind_of next) ≡ true
 
-  -- A lawful set, where Idle is the fact that an inner value stands for no open handle.
-  pub record IsLawful (Idle : I → Type 0) : Type 0 where
+  -- an open that is refused leaves the set and the inner value as they were
+  abbrev pub RefusedOpenKeeps : Type 0
+  RefusedOpenKeeps = (set : T) (inner : I) (reason : Reason) (k : ℕ) → g.refuses_to_open set inner reason ≡ Some k → g.opened set inner reason ≡ (set, inner)
+
+  -- what is made is idle: it stands for no open handle
+  abbrev pub MadeIsIdle : (I → Type 0) → Type 0
+  MadeIsIdle Idle = (kind : K) (args : List ℕ) → g.refuses_to_make kind args ≡ None → Idle ((g.made kind args).1)
+
+  -- a close that leaves no handle in the system leaves an idle inner value
+  abbrev pub LastClosedIsIdle : (I → Type 0) → Type 0
+  LastClosedIsIdle Idle = (set : T) (inner : I) (process_left : ℕ) → Idle ((g.closed set inner process_left 0).1)
+
+  -- kinds that are found the same are one kind
+  abbrev pub SameKindIsOne : Type 0
+  SameKindIsOne = (a b : K) → g.same_kind a b ≡ true → a ≡ b
+
+  -- a kind is found the same as itself
+  abbrev pub OwnKindIsSame : Type 0
+  OwnKindIsSame = (a : K) → g.same_kind a a ≡ true
+
+  -- The laws of parse procedures, where Idle is the fact that an inner value stands for no open
+  -- handle.
+  pub record IsLawfulParse (Idle : I → Type 0) : Type 0 where
     pub front : (face next : F) (rest : List ℕ) (used : ℕ) (inner : I) → g.parsed face rest ≡ Front used next inner → UsesFront rest used next
     pub itself : (face : F) (rest : List ℕ) → g.parsed face rest ≡ Itself → rest ≡ []
-    pub refused_open : (set : T) (inner : I) (reason : Reason) (k : ℕ) → g.refuses_to_open set inner reason ≡ Some k → g.opened set inner reason ≡ (set, inner)
-    pub made_idle : (kind : K) (args : List ℕ) → g.refuses_to_make kind args ≡ None → Idle ((g.made kind args).1)
     pub parsed_idle : (face next : F) (rest : List ℕ) (used : ℕ) (inner : I) → g.parsed face rest ≡ Front used next inner → Idle inner
-    pub closed_idle : (set : T) (inner : I) (process_left : ℕ) → Idle ((g.closed set inner process_left 0).1)
-    pub one_kind : (a b : K) → g.same_kind a b ≡ true → a ≡ b
-    pub own_kind : (a : K) → g.same_kind a a ≡ true
     pub own_face : (face : F) → g.same_face face face ≡ true
     pub same_answers : (a b : F) (rest : List ℕ) → g.same_face a b ≡ true → g.parsed a rest ≡ g.parsed b rest
+
+  -- A lawful set, where Idle is the fact that an inner value stands for no open handle.
+  pub record IsLawful (Idle : I → Type 0) : Type 0 where
+    pub refused_open : RefusedOpenKeeps
+    pub made_idle : MadeIsIdle Idle
+    pub closed_idle : LastClosedIsIdle Idle
+    pub one_kind : SameKindIsOne
+    pub own_kind : OwnKindIsSame
+    pub parse : IsLawfulParse Idle

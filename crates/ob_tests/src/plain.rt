@@ -86,6 +86,7 @@ fn laws_at_the_standard_set(_rt: HostRuntime) {
     laws::one_kind::<Standard>();
     laws::own_kind::<Standard>();
     laws::equal_kinds::<Standard>();
+    laws::is_lawful::<Standard>();
     accepted_opens_count::<Plain>();
     limits_are_decimal();
 }

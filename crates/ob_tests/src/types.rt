@@ -111,4 +111,5 @@ fn laws_at_a_set(_rt: HostRuntime) {
     laws::one_kind::<Doors>();
     laws::own_kind::<Doors>();
     laws::equal_kinds::<Doors>();
+    laws::is_lawful::<Doors>();
 }

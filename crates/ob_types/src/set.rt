@@ -1,6 +1,6 @@
 //! The procedures of a set of types.
 
-ghost use Rattle.std.specs.Prelude.{◌≡◌, ℕ, List, true, None, Some, IfOk, IfErr};
+ghost use Rattle.std.specs.Prelude.{◌≡◌, None, Some, IfOk, IfErr};
 ghost use Rattle.ob_model.specs.Procedures as model;
 ghost use Rattle.ob_types.specs.Told.{reason_of, IsTold};
 
@@ -66,19 +66,19 @@ pub trait TypeSet: Sized + Drop + Send {
         ensures { self.new ≡ procedures.deleted self.old inner };
 
     /// An open that is refused leaves the set and the inner value as they were.
-    ghost refused_open: { (set : Self) (inner : Self.Inner) (reason : model.Reason) (k : ℕ) → procedures.refuses_to_open set inner reason ≡ Some k → procedures.opened set inner reason ≡ (set, inner) };
+    ghost refused_open: { model.RefusedOpenKeeps procedures };
 
     /// What is made stands for no open handle.
-    ghost made_idle: { (kind : Self.Kind) (args : List ℕ) → procedures.refuses_to_make kind args ≡ None → idle ((procedures.made kind args).1) };
+    ghost made_idle: { model.MadeIsIdle procedures idle };
 
     /// A close that leaves no handle in the system leaves an idle inner value.
-    ghost closed_idle: { (set : Self) (inner : Self.Inner) (process_left : ℕ) → idle ((procedures.closed set inner process_left 0).1) };
+    ghost closed_idle: { model.LastClosedIsIdle procedures idle };
 
     /// Kinds that are found the same are one kind.
-    ghost one_kind: { (a b : Self.Kind) → procedures.same_kind a b ≡ true → a ≡ b };
+    ghost one_kind: { model.SameKindIsOne procedures };
 
     /// A kind is found the same as itself.
-    ghost own_kind: { (a : Self.Kind) → procedures.same_kind a a ≡ true };
+    ghost own_kind: { model.OwnKindIsSame procedures };
 
     /// `==` of kinds finds the same what the procedures find the same.
     ghost equal_kinds: { (a b : Self.Kind) → Self.Kind.PartialEq.eq a b ≡ procedures.same_kind a b };
