@@ -1,7 +1,9 @@
 //! Lines of each form, lines that are none, scripts that are cut into lines, and texts.
 
 use ob_base::Attrs;
-use ob_lines::{Form, HandleForm, NameForm, Offset, PlaceForm, Request, decode, form_of, read_line};
+use ob_lines::{
+    Form, HandleForm, NameForm, Offset, PlaceForm, Request, decode, form_of, read_line,
+};
 use ob_plain::PlainKind;
 use std::test::Fail;
 
@@ -375,7 +377,9 @@ fn a_script_is_read_line_by_line(rt: HostRuntime) {
     let script = b"stat\n\nstats\n#\nq close a".as_slice();
     let closes = Form::Asks {
         process: b"q".as_slice(),
-        request: Request::Close { handle: plain(b"a") },
+        request: Request::Close {
+            handle: plain(b"a"),
+        },
     };
     let forms: [Option<Form<&[u8]>>; 5] = [
         Some(Form::Stat),
@@ -407,7 +411,10 @@ fn only_lf_ends_a_line_and_the_last_may_lack_it(rt: HostRuntime) {
         (b"stat\nstat", b"stat"),
     ];
     for (script, rest) in table {
-        assert!(rt; read_line(script) == Some((Some(Form::Stat), rest)), "{script:?}");
+        assert!(rt;
+            read_line(script) == Some((Some(Form::Stat), rest)),
+            "{script:?}"
+        );
     }
     assert!(rt; read_line(b"\n") == Some((Some(Form::Nothing), b"".as_slice())));
     assert!(rt; read_line(b"stat\r\n") == Some((None, b"".as_slice())));
@@ -419,7 +426,10 @@ fn texts_of_a_line_spell_bytes(rt: HostRuntime) -> Result<(), Fail> {
     let table: [(&[u8], &[u8]); 4] = [
         (b"p1 link none - \"\" =l", b""),
         (b"p1 link none - \"\\A ~\" =l", b"\\A ~"),
-        (b"p1 link none - \"%00%ff%FF%22%25\" =l", b"\x00\xff\xff\x22\x25"),
+        (
+            b"p1 link none - \"%00%ff%FF%22%25\" =l",
+            b"\x00\xff\xff\x22\x25",
+        ),
         (b"p1 link none - \"%411\" =l", b"A1"),
     ];
     for (line, bytes) in table {

@@ -63,7 +63,10 @@ fn one_failed_read_ends_it(rt: HostRuntime) {
             for call in 0..READ.len() + 1 {
                 let mut failing = Trickle::new(READ, call, kind, lasts);
                 let outcome = read_script(rt.alloc(), &mut failing);
-                assert!(rt; matches!(&outcome, Err(ShellFault::Read)), "{lasts:?} at call {call}");
+                assert!(rt;
+                    matches!(&outcome, Err(ShellFault::Read)),
+                    "{lasts:?} at call {call}"
+                );
                 assert_eq!(rt; failing.rest().len(), READ.len() - call);
             }
         }
@@ -109,7 +112,10 @@ fn one_failed_write_ends_it(rt: HostRuntime) {
             for call in 0..WRITTEN.len() {
                 let mut failing = Sip::new(rt.alloc(), call, end, lasts);
                 let outcome = write_out(&mut failing, WRITTEN);
-                assert!(rt; matches!(outcome, Err(ShellFault::Write)), "{lasts:?} {end:?} at call {call}");
+                assert!(rt;
+                    matches!(outcome, Err(ShellFault::Write)),
+                    "{lasts:?} {end:?} at call {call}"
+                );
                 assert_eq!(rt; failing.taken(), &WRITTEN[..call]);
             }
         }
@@ -134,7 +140,10 @@ fn a_failed_read_runs_nothing(rt: HostRuntime) {
                 let mut reader = Trickle::new(SCRIPT, call, kind, lasts);
                 let mut writer = slow_writer(rt.alloc());
                 let outcome = run_script(rt.alloc(), &mut reader, &mut writer);
-                assert!(rt; matches!(outcome, Err(ShellFault::Read)), "{lasts:?} at call {call}");
+                assert!(rt;
+                    matches!(outcome, Err(ShellFault::Read)),
+                    "{lasts:?} at call {call}"
+                );
                 assert_eq!(rt; writer.taken().len(), 0);
                 assert_eq!(rt; reader.rest().len(), SCRIPT.len() - call);
             }
@@ -150,7 +159,10 @@ fn a_failed_write_leaves_a_beginning(rt: HostRuntime) {
                 let mut reader = SCRIPT;
                 let mut writer = Sip::new(rt.alloc(), call, end, lasts);
                 let outcome = run_script(rt.alloc(), &mut reader, &mut writer);
-                assert!(rt; matches!(outcome, Err(ShellFault::Write)), "{lasts:?} {end:?} at call {call}");
+                assert!(rt;
+                    matches!(outcome, Err(ShellFault::Write)),
+                    "{lasts:?} {end:?} at call {call}"
+                );
                 assert_eq!(rt; writer.taken(), &SHOWN[..call]);
             }
         }
