@@ -18,14 +18,14 @@ import sys
 import tempfile
 from pathlib import Path
 
-from wrong_bodies import ROOT, Unfit, Workshop, crates_listed, read_pairs, replaced
+from wrong_bodies import ROOT, Unfit, Workshop, crates_listed, proved, read_pairs, replaced
 
 
-def fault_of(crate, path, folder):
+def fault_of(crate, path, folder, base):
     """Why an edit is not refused; nothing where it is."""
     file, pairs = read_pairs(path)
     text = replaced((ROOT / "crates" / crate / file).read_text(), pairs)
-    shop = Workshop(crate, Path(folder) / f"{crate}-{path.stem}", 1)
+    shop = Workshop(crate, folder / f"{crate}-{path.stem}", base, 1)
     home = shop.folder / "crates" / crate
     (home / file).write_text(text)
     run = subprocess.run(["rt", "check", "--jobs", "1"], cwd=home, capture_output=True, text=True, check=False)
@@ -47,9 +47,13 @@ def main():
         for path in sorted((ROOT / "crates" / crate / "definitions").glob("*.edit"))
     ]
     failed = 0
-    with tempfile.TemporaryDirectory(prefix="definitions-") as folder:
+    with tempfile.TemporaryDirectory(prefix="definitions-") as name:
+        folder = Path(name)
+        base = folder / "proved"
+        if tried and not proved([crate for crate, _ in tried], base, os.cpu_count() or 1):
+            sys.exit("definitions: the crates themselves are not proved")
         with concurrent.futures.ThreadPoolExecutor(os.cpu_count() or 1) as pool:
-            runs = [(crate, path, pool.submit(fault_of, crate, path, folder)) for crate, path in tried]
+            runs = [(crate, path, pool.submit(fault_of, crate, path, folder, base)) for crate, path in tried]
             for crate, path, run in runs:
                 try:
                     fault = run.result()
