@@ -264,7 +264,9 @@ def verdicts(output):
     return found
 
 
-NOT_COPIED = shutil.ignore_patterns("must-fail", "wrong", "definitions", "*.o", "__pycache__")
+# what a copy of a crate goes without; a crate that is only stood on goes without the kept work of its checks too
+NOT_COPIED = ("must-fail", "wrong", "definitions", "*.o")
+KEPT_WORK = "incremental"
 
 
 def copied(crates, folder, source):
@@ -276,7 +278,8 @@ def copied(crates, folder, source):
     kept = [line for line in lines if re.split(r"[\s:]", line)[0] in needed]
     (folder / "crates.txt").write_text("\n".join(kept) + "\n")
     for name in needed:
-        shutil.copytree(source / "crates" / name, folder / "crates" / name, ignore=NOT_COPIED, symlinks=True)
+        skipped = shutil.ignore_patterns(*NOT_COPIED, *([] if name in crates else [KEPT_WORK]))
+        shutil.copytree(source / "crates" / name, folder / "crates" / name, ignore=skipped, symlinks=True)
     subprocess.run(["git", "init", "-q", str(folder)], check=True)
 
 
