@@ -13,8 +13,8 @@ fn make_and_close(alloc: Global) -> Result<(Reply, Reply), Fault> {
     let place = Place::At { root: None, name };
     let create = Command::CreateDirectory { place, attrs: 0 };
     let Started::Done(made) = core.start(Proc(1), &create)?;
-    let handle = match made.given {
-        Given::Handle(handle) => handle,
+    let handle = match &made.given {
+        Given::Handle(handle) => *handle,
         _ => Handle(0),
     };
     let Started::Done(closed) = core.start(Proc(1), &Command::Close { handle })?;
