@@ -1,7 +1,7 @@
-# make try    runs examples/first.ntns, or the script that SCRIPT names, at once: interpreted, and not proved
+# make try    runs examples/first.ntns, or the script that SCRIPT names, without proofs: in a minute or two
 # make run    the same by the proved program; the first build proves everything, which takes some minutes
 # make test   the gate: every proof from nothing, the wrong bodies that must be refused, every test
-# make definitions  tries turned definitions, which the laws and examples must refuse; by hand, half an hour
+# make definitions  tries turned definitions, which the laws and examples must refuse; by hand
 # make times  the gate again, with the processor seconds of each crate
 # make hostile refuses each request for memory of a run in turn; it takes a quarter of an hour
 # make bench  times the built program on generated scripts; it fails nothing
@@ -11,11 +11,11 @@ SCRIPT ?= examples/first.ntns
 .PHONY: try run test definitions times bench hostile build
 
 try:
-	@echo "make try: compiled without proofs, which takes up to a minute; nothing of it is proved" >&2
+	@echo "make try: compiled without proofs, which takes a minute or two; nothing of it is proved" >&2
 	@cd crates/ntns && rt try < "$(abspath $(SCRIPT))"
 
 run:
-	@test -x crates/ntns/out/ntns || echo "make run: the first build proves every crate and takes some minutes; make try shows the program at once" >&2
+	@test -x crates/ntns/out/ntns || echo "make run: the first build proves every crate and takes some minutes; make try shows the program sooner" >&2
 	@cd crates/ntns && rt run < "$(abspath $(SCRIPT))"
 
 test:
