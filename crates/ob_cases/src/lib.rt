@@ -1,11 +1,8 @@
-//! The worked cases: lines of scripts, whole scripts and the program's words, with what they print and how
-//! they end. The crate holds tests alone, since a crate with tests is proved twice.
+//! The worked cases: whole scripts and the program's words, with what they print and how they end. The crate holds tests alone, since a crate with tests is proved twice.
 #![tactic(auto)]
 
 #[cfg(test)]
 mod cases;
-#[cfg(test)]
-mod lines;
 #[cfg(test)]
 mod program;
 #[cfg(test)]

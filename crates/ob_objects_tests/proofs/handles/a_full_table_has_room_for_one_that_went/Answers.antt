@@ -2,7 +2,7 @@
 use Rattle.std.proofs.Common.{◌<◌, ◌==◌, not, All, sym, subst}
 use Rattle.std.proofs.lemmas.List.Elements.{All-filter}
 use Rattle.ob_model.specs.declared.state.Held.{Held}
-use Rattle.ob_tests.proofs.handles.a_full_table_has_room_for_one_that_went.Goals as goal
+use Rattle.ob_objects_tests.proofs.handles.a_full_table_has_room_for_one_that_went.Goals as goal
 
 pub grant-requires : goal.grant-requires
 grant-requires g c = record {

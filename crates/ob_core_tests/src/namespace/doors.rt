@@ -4,7 +4,7 @@ ghost use Rattle.std.specs.Prelude.{◌≡◌, true, false, List, [], ◌∷◌,
 ghost use Rattle.std.specs.Bool.{beq};
 ghost use Rattle.std.proofs.Common.{rules};
 ghost use Rattle.ob_model.specs.Procedures.{Refused};
-ghost use Rattle.ob_tests.specs.declared.namespace.doors.Door.TheVariants.{Free, Through, Locked};
+ghost use Rattle.ob_core_tests.specs.declared.namespace.doors.Door.TheVariants.{Free, Through, Locked};
 
 use ob_types::{Reason, Refusal, TypeSet};
 use std::alloc::Global;

@@ -2,7 +2,7 @@
 use Rattle.std.proofs.Common.{◌<◌, ◌≤◌, arith, sym, subst, All}
 use Rattle.std.proofs.lemmas.List.Elements.{All-filter, All-weaker}
 use Rattle.ob_dirs.proofs.Removed.{has_other}
-use Rattle.ob_tests.proofs.directories.a_name_comes_back_as_the_newest.Goals as goal
+use Rattle.ob_objects_tests.proofs.directories.a_name_comes_back_as_the_newest.Goals as goal
 
 pub put-requires : goal.put-requires
 put-requires g c =

@@ -4,7 +4,7 @@ ghost use Rattle.std.specs.Prelude.{◌≡◌, ◌≢◌, ◌<◌, ◌+◌, ◌^
 ghost use Rattle.std.specs.Option.{option_copied};
 ghost use Rattle.ob_objects.specs.Store.{directory_at, entries_at, entries_in, IsStore};
 ghost use Rattle.ob_lookup.specs.Closed.{IsClosed};
-ghost use Rattle.ob_tests.specs.Space.{IsSpace};
+ghost use Rattle.ob_lookup_tests.specs.Space.{IsSpace};
 
 use ob_base::{Fault, ObjId};
 use ob_dirs::Dir;
@@ -25,7 +25,7 @@ pub(crate) struct Space {
 
 impl Model for Space {
     ghost use Rattle.ob_objects.specs.Store.{Entries};
-    ghost use Rattle.ob_tests.specs.Space.{IsSpace};
+    ghost use Rattle.ob_lookup_tests.specs.Space.{IsSpace};
     ghost use Rattle.ob_plain.specs.declared.plain.PlainFace.{PlainFace};
     ghost use Rattle.ob_plain.specs.declared.plain.PlainInner.{PlainInner};
 

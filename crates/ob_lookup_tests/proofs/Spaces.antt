@@ -8,7 +8,7 @@ use Rattle.ob_objects.specs.declared.object.StoredObject.{StoredObject}
 use Rattle.ob_objects.specs.Store.{Entries, IsStore, stored_at, directory_at, entries_in, entries_at, rows_of}
 use Rattle.ob_objects.specs.Changes.{changed_at, body_with_name, with_name}
 use Rattle.ob_objects.proofs.Shown.{new_object_has_no_row, new_name_is_last, rows_are_entries}
-use Rattle.ob_tests.specs.Space.{IsSpace}
+use Rattle.ob_lookup_tests.specs.Space.{IsSpace}
 use Rattle.ob_lookup.proofs.Stays.{closed_with_object, closed_with_name, directory_with_object, new_object_there}
 
 -- what holds of rows holds of the entries that they are

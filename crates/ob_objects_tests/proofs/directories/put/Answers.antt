@@ -1,7 +1,7 @@
 -- A search that gave nothing shows the spelling free.
 use Rattle.std.proofs.Common.{◌≢◌, ◌∙◌, sym, subst, All}
 use Rattle.ob_dirs.proofs.Laws.{free_where_not_found}
-use Rattle.ob_tests.proofs.directories.put.Goals as goal
+use Rattle.ob_objects_tests.proofs.directories.put.Goals as goal
 
 pub insert-requires-clause-free : goal.insert-requires-clause-free
 insert-requires-clause-free c =

@@ -1,8 +1,8 @@
 -- The object comes, and then its name.
 use Rattle.std.proofs.Common.{◌+◌, subst, sym}
-use Rattle.ob_tests.specs.Space.{IsSpace}
-use Rattle.ob_tests.proofs.Spaces.{space_with_object, directory_there, entries_free, entries_newest, space_with_name}
-use Rattle.ob_tests.proofs.space.put.Goals as goal
+use Rattle.ob_lookup_tests.specs.Space.{IsSpace}
+use Rattle.ob_lookup_tests.proofs.Spaces.{space_with_object, directory_there, entries_free, entries_newest, space_with_name}
+use Rattle.ob_lookup_tests.proofs.space.put.Goals as goal
 
 pub insert_name-requires-clause-there : goal.insert_name-requires-clause-there
 insert_name-requires-clause-there c = λ κs. directory_there c.insert.new.self c.args.store.now c.args.id c.args.directory c.args.object c.in_ok-insert.ensures.last c.requires.there

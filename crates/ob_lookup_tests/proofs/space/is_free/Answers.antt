@@ -3,7 +3,7 @@ use Rattle.std.proofs.Common.{◌≢◌, ◌∙◌, ap, sym, subst, not, All, Op
 use Rattle.std.specs.Option.{option_copied, unwrap_or}
 use Rattle.ob_dirs.specs.declared.entry.DirEntry.{DirEntry}
 use Rattle.ob_dirs.proofs.Laws.{free_where_not_found}
-use Rattle.ob_tests.proofs.space.is_free.Goals as goal
+use Rattle.ob_lookup_tests.proofs.space.is_free.Goals as goal
 
 pub returns-clause-free : goal.returns-clause-free
 returns-clause-free c = λ is_true.

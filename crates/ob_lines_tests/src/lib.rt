@@ -1,0 +1,6 @@
+//! Tests of the grammar of script lines: lines of each form, lines that are none, and texts. The crate
+//! holds tests alone, since a crate with tests is proved twice.
+#![tactic(auto)]
+
+#[cfg(test)]
+mod lines;

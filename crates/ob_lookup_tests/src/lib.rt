@@ -1,0 +1,10 @@
+//! Tests of lookup: tables of names in small namespaces, and many namespaces beside a plain search.
+//! The crate holds tests alone, since a crate with tests is proved twice.
+#![tactic(auto)]
+
+#[cfg(test)]
+mod flat_rows;
+#[cfg(test)]
+mod lookup;
+#[cfg(test)]
+mod space;

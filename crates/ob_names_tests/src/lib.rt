@@ -1,0 +1,15 @@
+//! Tests of what knows no namespace: flags and statuses, the model's laws and examples, names, and sets
+//! of types, by their public functions: tables from outside, and what no clause says. The crate holds
+//! tests alone, since a crate with tests is proved twice.
+#![tactic(auto)]
+
+#[cfg(test)]
+mod base;
+#[cfg(test)]
+mod model;
+#[cfg(test)]
+mod names;
+#[cfg(test)]
+mod plain;
+#[cfg(test)]
+mod types;
