@@ -1,28 +1,39 @@
 #!/bin/sh
-# The gate: `rt ci`, then the wrong bodies that are tried many at once, then runs of the built program.
-# Each ends in a line 'N passed, M failed'; the last line here is their sum.
+# The gate: `rt ci`; beside it, on a copy, the wrong bodies that are tried many at once; then runs of the
+# built program. Each ends in a line 'N passed, M failed'; the last line here is their sum.
 # usage: gate/test.sh      at the top of the repository
 set -u
-log=$(mktemp)
-trap 'rm -f "$log" "$log.status"' EXIT
+logs=$(mktemp -d)
+trap 'rm -rf "$logs"' EXIT
 passed=0 failed=0
 
-# runs one part, and adds what its last line counts; a part that ends without such a line has failed
+# runs one part, shows what it prints, and keeps its exit status
 part() {
-    { "$@" 2>&1; echo $? > "$log.status"; } | tee "$log"
-    status=$(cat "$log.status")
-    counts=$(tail -n 1 "$log" | sed -n 's/^\([0-9][0-9]*\) passed, \([0-9][0-9]*\) failed$/\1 \2/p')
+    name=$1
+    shift
+    { "$@" 2>&1; echo $? > "$logs/$name.status"; } | tee "$logs/$name"
+}
+
+# adds what the last line of a part counts; a part that ends without such a line has failed
+count() {
+    counts=$(tail -n 1 "$logs/$1" | sed -n 's/^\([0-9][0-9]*\) passed, \([0-9][0-9]*\) failed$/\1 \2/p')
     if [ -z "$counts" ]; then
         failed=$((failed + 1))
         return
     fi
     passed=$((passed + ${counts% *}))
     failed=$((failed + ${counts#* }))
-    if [ "$status" -ne 0 ] && [ "${counts#* }" -eq 0 ]; then failed=$((failed + 1)); fi
+    if [ "$(cat "$logs/$1.status")" -ne 0 ] && [ "${counts#* }" -eq 0 ]; then failed=$((failed + 1)); fi
 }
 
-part rt ci
-part gate/wrong_bodies.py
-part gate/program.py crates/ntns/out/ntns
+# `rt ci` goes up one long chain of crates and leaves processors idle: half of them try the wrong bodies
+half=$(($(nproc) / 2))
+part wrong_bodies gate/wrong_bodies.py --fresh --jobs "$((half > 0 ? half : 1))" > /dev/null &
+beside=$!
+part ci rt ci
+wait "$beside"
+cat "$logs/wrong_bodies"
+part program gate/program.py crates/ntns/out/ntns
+for name in ci wrong_bodies program; do count "$name"; done
 echo "$passed passed, $failed failed"
 [ "$failed" -eq 0 ]

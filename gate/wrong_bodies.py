@@ -12,7 +12,7 @@ it, that isn't proved. Not a refusal, and reported with the edit's name:
 - its proof file cites a name that the edit takes away: then nothing is said of the body's meaning;
 - there is no verdict, since the edit does not compile, or does not apply.
 
-    gate/wrong_bodies.py [--jobs N] [--list] [CRATE..]
+    gate/wrong_bodies.py [--jobs N] [--fresh] [--list] [CRATE..]
 
 The last line is 'N passed, M failed'. The exit status is 0 where none failed, else 1.
 """
@@ -264,12 +264,14 @@ def verdicts(output):
     return found
 
 
-# what a copy of a crate goes without; a crate that is only stood on goes without the kept work of its checks too
+# what a copy of a crate goes without; a crate that is only stood on goes without the kept work of its checks
+# too, and a fresh copy without all that checks made
 NOT_COPIED = ("must-fail", "wrong", "definitions", "*.o")
 KEPT_WORK = "incremental"
+MADE = "out"
 
 
-def copied(crates, folder, source):
+def copied(crates, folder, source, fresh=False):
     """A repository of these crates and those that they stand on, copied from another one."""
     needed = set().union(*(with_dependencies(crate) for crate in crates))
     folder.mkdir(parents=True)
@@ -278,15 +280,16 @@ def copied(crates, folder, source):
     kept = [line for line in lines if re.split(r"[\s:]", line)[0] in needed]
     (folder / "crates.txt").write_text("\n".join(kept) + "\n")
     for name in needed:
-        skipped = shutil.ignore_patterns(*NOT_COPIED, *([] if name in crates else [KEPT_WORK]))
+        left_out = [*([] if name in crates else [KEPT_WORK]), *([MADE] if fresh else [])]
+        skipped = shutil.ignore_patterns(*NOT_COPIED, *left_out)
         shutil.copytree(source / "crates" / name, folder / "crates" / name, ignore=skipped, symlinks=True)
     subprocess.run(["git", "init", "-q", str(folder)], check=True)
 
 
-def proved(crates, folder, jobs):
+def proved(crates, folder, jobs, fresh):
     """Proves these crates once in a copy, so that each check of a batch goes over that work."""
     started = time.monotonic()
-    copied(crates, folder, ROOT)
+    copied(crates, folder, ROOT, fresh)
     command = ["rt", "all", "check", "--jobs", str(jobs)]
     run = subprocess.run(command, cwd=folder, capture_output=True, text=True, check=False)
     print(f"wrong bodies: the crates are checked in {time.monotonic() - started:.0f} s", flush=True)
@@ -435,6 +438,7 @@ def main():
     parser = argparse.ArgumentParser(description="Tries the wrong bodies in crates/NAME/wrong/.")
     parser.add_argument("crates", nargs="*", metavar="CRATE")
     parser.add_argument("--jobs", type=int, default=os.cpu_count() or 1, metavar="N")
+    parser.add_argument("--fresh", action="store_true", help="use nothing of what earlier checks left in out/")
     parser.add_argument("--list", action="store_true", help="list the edits and their functions, and try none")
     asked = parser.parse_args()
     listed = crates_listed()
@@ -451,7 +455,7 @@ def main():
         with tempfile.TemporaryDirectory(prefix="wrong-bodies-") as name:
             folder = Path(name)
             base = folder / "proved"
-            if edits and not proved(list(edits), base, asked.jobs):
+            if edits and not proved(list(edits), base, asked.jobs, asked.fresh):
                 print("wrong bodies: the crates themselves are not proved")
                 print(f"0 passed, {max(count, 1)} failed")
                 return 1

@@ -1,4 +1,5 @@
-//! The worked cases: whole scripts and the program's words, with what they print and how they end. The crate holds tests alone, since a crate with tests is proved twice.
+//! The worked cases: whole scripts and the program's words, with what they print and how they end. The
+//! crate holds tests alone, since a crate with tests is proved twice.
 #![tactic(auto)]
 
 #[cfg(test)]

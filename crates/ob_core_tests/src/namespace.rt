@@ -1,28 +1,45 @@
-//! The namespace: that calls succeed where memory is ample, and where a table ends.
+//! The namespace over a set of types of its own: what the set is called for, and where a table of
+//! handles ends. What scripts show of the standard set stands with the worked cases.
 
 mod doors;
-mod links;
 
 use doors::Doors;
-use ob_base::{Attrs, Fault, Handle, Proc, Status};
+use ob_base::{Fault, Handle, Proc, Status};
 use ob_core::{Bytes, Command, Core, Given, Place, Reply, Started};
 use std::alloc::{AllocError, Global};
 use std::test::Fail;
 
-const FIRST: Proc = Proc(1);
-
-fn place(alloc: Global, name: &[u8]) -> Result<Place, AllocError> {
-    let name = Bytes::from_slice(alloc, name)?;
-    Ok(Place::At { root: None, name })
+// What a step asks for, of `\Door` where it names something; a handle is the one that was given to the
+// step of this number, from 0.
+#[derive(Clone, Copy)]
+enum Ask {
+    MakeDoor,
+    MakeLockedDoor,
+    MakeUnnamedDoor,
+    MakeWall,
+    OpenDirectory,
+    OpenDoor,
+    OpenWall,
+    OpenAny,
+    Name(usize),
+    Close(usize),
 }
 
-fn directory(alloc: Global, name: &[u8], attrs: u32) -> Result<Command<bool>, AllocError> {
-    let place = place(alloc, name)?;
-    Ok(Command::CreateDirectory { place, attrs })
-}
+const DOOR: &[u8] = b"\\Door";
 
-fn make(alloc: Global, place: Place, kind: bool, args: &[u8]) -> Result<Command<bool>, AllocError> {
+// What is there behind the steps: objects, handles, and the number of the set's last call.
+type Left = (usize, usize, u8);
+
+fn make(alloc: Global, name: &[u8], kind: bool, args: &[u8]) -> Result<Command<bool>, AllocError> {
     let args = Bytes::from_slice(alloc, args)?;
+    let place = if name.is_empty() {
+        Place::Unnamed
+    } else {
+        Place::At {
+            root: None,
+            name: Bytes::from_slice(alloc, name)?,
+        }
+    };
     Ok(Command::CreateObject {
         place,
         attrs: 0,
@@ -31,7 +48,7 @@ fn make(alloc: Global, place: Place, kind: bool, args: &[u8]) -> Result<Command<
     })
 }
 
-fn open(alloc: Global, name: &[u8]) -> Result<Command<bool>, AllocError> {
+fn open_directory(alloc: Global, name: &[u8]) -> Result<Command<bool>, AllocError> {
     let name = Bytes::from_slice(alloc, name)?;
     Ok(Command::OpenDirectory {
         root: None,
@@ -40,7 +57,7 @@ fn open(alloc: Global, name: &[u8]) -> Result<Command<bool>, AllocError> {
     })
 }
 
-fn open_door(alloc: Global, name: &[u8], want: Option<bool>) -> Result<Command<bool>, AllocError> {
+fn open(alloc: Global, name: &[u8], want: Option<bool>) -> Result<Command<bool>, AllocError> {
     let name = Bytes::from_slice(alloc, name)?;
     Ok(Command::OpenObject {
         root: None,
@@ -50,189 +67,141 @@ fn open_door(alloc: Global, name: &[u8], want: Option<bool>) -> Result<Command<b
     })
 }
 
-fn reply(core: &mut Core<Doors>, process: Proc, command: &Command<bool>) -> Result<Reply, Fault> {
-    let Started::Done(reply) = core.start(process, command)?;
+fn command(alloc: Global, ask: Ask, given: &[Handle]) -> Result<Command<bool>, AllocError> {
+    match ask {
+        Ask::MakeDoor => make(alloc, DOOR, true, b""),
+        Ask::MakeLockedDoor => make(alloc, DOOR, true, b"locked"),
+        Ask::MakeUnnamedDoor => make(alloc, b"", true, b""),
+        Ask::MakeWall => make(alloc, DOOR, false, b""),
+        Ask::OpenDirectory => open_directory(alloc, DOOR),
+        Ask::OpenDoor => open(alloc, DOOR, Some(true)),
+        Ask::OpenWall => open(alloc, DOOR, Some(false)),
+        Ask::OpenAny => open(alloc, DOOR, None),
+        Ask::Name(step) => {
+            let handle = given_to(given, step);
+            Ok(Command::QueryName { handle })
+        }
+        Ask::Close(step) => {
+            let handle = given_to(given, step);
+            Ok(Command::Close { handle })
+        }
+    }
+}
+
+fn given_to(given: &[Handle], step: usize) -> Handle {
+    given.get(step).copied().unwrap_or(Handle(0))
+}
+
+fn reply(core: &mut Core<Doors>, command: &Command<bool>) -> Result<Reply, Fault> {
+    let Started::Done(reply) = core.start(Proc(1), command)?;
     Ok(reply)
 }
 
-fn value(reply: &Reply) -> u32 {
-    let Given::Handle(Handle(value)) = reply.given else {
-        return 0;
-    };
-    value
-}
-
-#[test]
-fn a_temporary_directory_goes_with_its_last_handle(rt: HostRuntime) -> Result<(), Fail> {
-    let alloc = rt.alloc();
-    let mut core = Core::new(alloc, Doors { last: 0 })?;
-    assert_eq!(rt; (core.objects(), core.handles()), (6, 0));
-
-    let made = reply(&mut core, FIRST, &directory(alloc, b"\\A", 0)?)?;
-    assert_eq!(rt; made.status, Status::Success);
-    let opened = reply(&mut core, FIRST, &open(alloc, b"\\A")?)?;
-    assert_eq!(rt; opened.status, Status::Success);
-    assert_eq!(rt; (core.objects(), core.handles()), (7, 2));
-
-    for given in [value(&made), value(&opened)] {
-        let close = Command::Close {
-            handle: Handle(given),
-        };
-        assert_eq!(rt; reply(&mut core, FIRST, &close)?.status, Status::Success);
-        assert_eq!(rt;
-            reply(&mut core, FIRST, &close)?.status,
-            Status::InvalidHandle
-        );
+fn handle_of(reply: &Reply) -> Handle {
+    match reply.given {
+        Given::Handle(handle) => handle,
+        _ => Handle(0),
     }
-    assert_eq!(rt; (core.objects(), core.handles()), (6, 0));
-    let missed = reply(&mut core, FIRST, &open(alloc, b"\\A")?)?;
-    assert_eq!(rt; missed.status, Status::ObjectNameNotFound);
-    Ok(())
 }
 
-#[test]
-fn a_permanent_directory_stays(rt: HostRuntime) -> Result<(), Fail> {
-    let alloc = rt.alloc();
+// What the steps leave of a new namespace, if each is answered with its status.
+fn play(alloc: Global, steps: &[(Ask, Status)]) -> Result<Option<Left>, Fail> {
     let mut core = Core::new(alloc, Doors { last: 0 })?;
-    let made = reply(
-        &mut core,
-        FIRST,
-        &directory(alloc, b"\\Device\\P", Attrs::PERMANENT)?,
-    )?;
-    let close = Command::Close {
-        handle: Handle(value(&made)),
-    };
-    assert_eq!(rt; reply(&mut core, FIRST, &close)?.status, Status::Success);
-    assert_eq!(rt; core.objects(), 7);
-    let opened = reply(&mut core, FIRST, &open(alloc, b"\\Device\\P")?)?;
-    assert_eq!(rt; opened.status, Status::Success);
-    Ok(())
-}
-
-#[test]
-fn an_object_is_opened_closed_and_deleted_by_its_set(rt: HostRuntime) -> Result<(), Fail> {
-    let alloc = rt.alloc();
-    let mut core = Core::new(alloc, Doors { last: 0 })?;
-    let made = reply(
-        &mut core,
-        FIRST,
-        &make(alloc, place(alloc, b"\\Door")?, true, b"")?,
-    )?;
-    assert_eq!(rt; made.status, Status::Success);
-    assert_eq!(rt;
-        (core.objects(), core.handles(), core.set().last),
-        (7, 1, 0)
-    );
-
-    for (want, status) in [
-        (None, Status::TypeRefused(9)),
-        (Some(true), Status::TypeRefused(9)),
-        (Some(false), Status::ObjectTypeMismatch),
-    ] {
-        let opened = reply(&mut core, FIRST, &open_door(alloc, b"\\Door", want)?)?;
-        assert_eq!(rt; opened.status, status);
+    let mut given = Vec::new(alloc);
+    for (ask, status) in steps {
+        let command = command(alloc, *ask, given.as_slice())?;
+        let reply = reply(&mut core, &command)?;
+        if reply.status != *status {
+            return Ok(None);
+        }
+        given.push(handle_of(&reply))?;
     }
-    let mismatched = reply(&mut core, FIRST, &open(alloc, b"\\Door")?)?;
-    assert_eq!(rt; mismatched.status, Status::ObjectTypeMismatch);
-
-    let name = Command::QueryName {
-        handle: Handle(value(&made)),
-    };
-    let named = reply(&mut core, FIRST, &name)?;
-    assert_eq!(rt; named.status, Status::Success);
-    let Given::Text(text) = named.given else {
-        assert!(rt; false);
-        return Ok(());
-    };
-    assert_eq!(rt; text.as_slice(), b"\\Door".as_slice());
-
-    let close = Command::Close {
-        handle: Handle(value(&made)),
-    };
-    assert_eq!(rt; reply(&mut core, FIRST, &close)?.status, Status::Success);
-    assert_eq!(rt;
-        (core.objects(), core.handles(), core.set().last),
-        (6, 0, 2)
-    );
-    Ok(())
+    Ok(Some((core.objects(), core.handles(), core.set().last)))
 }
 
 #[test]
-fn a_new_object_whose_open_is_refused_is_deleted(rt: HostRuntime) -> Result<(), Fail> {
-    let alloc = rt.alloc();
-    let mut core = Core::new(alloc, Doors { last: 0 })?;
-    let refused = reply(
-        &mut core,
-        FIRST,
-        &make(alloc, place(alloc, b"\\Door")?, true, b"locked")?,
-    )?;
-    assert_eq!(rt; refused.status, Status::TypeRefused(5));
-    assert_eq!(rt;
-        (core.objects(), core.handles(), core.set().last),
-        (6, 0, 2)
-    );
-    let missed = reply(&mut core, FIRST, &open_door(alloc, b"\\Door", None)?)?;
-    assert_eq!(rt; missed.status, Status::ObjectNameNotFound);
-    Ok(())
-}
-
-#[test]
-fn an_object_that_is_not_made_changes_nothing(rt: HostRuntime) -> Result<(), Fail> {
-    let alloc = rt.alloc();
-    let mut core = Core::new(alloc, Doors { last: 0 })?;
-    for place in [place(alloc, b"\\Wall")?, Place::Unnamed] {
-        let refused = reply(&mut core, FIRST, &make(alloc, place, false, b"")?)?;
-        assert_eq!(rt; refused.status, Status::TypeRefused(7));
-    }
-    assert_eq!(rt;
-        (core.objects(), core.handles(), core.set().last),
-        (6, 0, 0)
-    );
-    Ok(())
-}
-
-#[test]
-fn an_object_without_a_name_lives_with_its_handle(rt: HostRuntime) -> Result<(), Fail> {
-    let alloc = rt.alloc();
-    let mut core = Core::new(alloc, Doors { last: 0 })?;
-    let made = reply(&mut core, FIRST, &make(alloc, Place::Unnamed, true, b"")?)?;
-    assert_eq!(rt; (made.status, core.objects()), (Status::Success, 7));
-    let close = Command::Close {
-        handle: Handle(value(&made)),
-    };
-    assert_eq!(rt; reply(&mut core, FIRST, &close)?.status, Status::Success);
-    assert_eq!(rt; (core.objects(), core.set().last), (6, 2));
-    Ok(())
-}
-
-#[test]
-fn another_process_is_gone(rt: HostRuntime) -> Result<(), Fail> {
-    let alloc = rt.alloc();
-    let mut core = Core::new(alloc, Doors { last: 0 })?;
-    for process in [Proc(0), Proc(2)] {
-        let refused = reply(&mut core, process, &open(alloc, b"\\")?)?;
-        assert_eq!(rt; refused.status, Status::ProcessGone);
+fn a_set_is_called_as_its_objects_live(rt: HostRuntime) -> Result<(), Fail> {
+    let scenes: [(&[u8], &[(Ask, Status)], Left); 6] = [
+        (b"nothing is called at first", &[], (6, 0, 0)),
+        (
+            b"an open object is refused to a second open by its set",
+            &[
+                (Ask::MakeDoor, Status::Success),
+                (Ask::OpenAny, Status::TypeRefused(9)),
+                (Ask::OpenDoor, Status::TypeRefused(9)),
+                (Ask::OpenWall, Status::ObjectTypeMismatch),
+                (Ask::OpenDirectory, Status::ObjectTypeMismatch),
+                (Ask::Name(0), Status::Success),
+            ],
+            (7, 1, 0),
+        ),
+        (
+            b"the last close closes and deletes it",
+            &[
+                (Ask::MakeDoor, Status::Success),
+                (Ask::Close(0), Status::Success),
+                (Ask::Close(0), Status::InvalidHandle),
+                (Ask::OpenAny, Status::ObjectNameNotFound),
+            ],
+            (6, 0, 2),
+        ),
+        (
+            b"a new object whose open is refused is deleted, and its name goes",
+            &[
+                (Ask::MakeLockedDoor, Status::TypeRefused(5)),
+                (Ask::OpenAny, Status::ObjectNameNotFound),
+            ],
+            (6, 0, 2),
+        ),
+        (
+            b"an object that isn't made changes nothing",
+            &[
+                (Ask::MakeWall, Status::TypeRefused(7)),
+                (Ask::OpenAny, Status::ObjectNameNotFound),
+            ],
+            (6, 0, 0),
+        ),
+        (
+            b"an object without a name goes with its handle",
+            &[
+                (Ask::MakeUnnamedDoor, Status::Success),
+                (Ask::MakeDoor, Status::Success),
+                (Ask::Close(0), Status::Success),
+            ],
+            (7, 1, 2),
+        ),
+    ];
+    for (shows, steps, left) in scenes {
+        assert_eq!(rt; play(rt.alloc(), steps)?, Some(left), "{shows:?}");
     }
     Ok(())
+}
+
+// Opens the root so often, and says whether each open succeeded.
+fn opens(alloc: Global, core: &mut Core<Doors>, count: u32) -> Result<bool, Fail> {
+    let root = open_directory(alloc, b"\\")?;
+    for _ in 0..count {
+        let opened = reply(core, &root)?;
+        if opened.status != Status::Success {
+            return Ok(false);
+        }
+    }
+    Ok(true)
 }
 
 #[test]
 fn the_table_ends_at_65535_handles(rt: HostRuntime) -> Result<(), Fail> {
     let alloc = rt.alloc();
     let mut core = Core::new(alloc, Doors { last: 0 })?;
-    let root = open(alloc, b"\\")?;
-    for count in 0..65_535 {
-        let opened = reply(&mut core, FIRST, &root)?;
-        assert_eq!(rt; opened.status, Status::Success, "at {count}");
-    }
-    assert_eq!(rt; core.handles(), 65_535);
-    let refused = reply(&mut core, FIRST, &root)?;
+    assert!(rt; opens(alloc, &mut core, 65_535)?);
+    let root = open_directory(alloc, b"\\")?;
+    let refused = reply(&mut core, &root)?;
     assert_eq!(rt; refused.status, Status::InsufficientResources);
-    let close = Command::Close {
-        handle: Handle(262_140 + 3),
-    };
-    assert_eq!(rt; reply(&mut core, FIRST, &close)?.status, Status::Success);
-    let opened = reply(&mut core, FIRST, &root)?;
-    assert_eq!(rt; (opened.status, value(&opened)), (Status::Success, 262_140));
+    let handle = Handle(262_140 + 3);
+    let closed = reply(&mut core, &Command::Close { handle })?;
+    assert_eq!(rt; closed.status, Status::Success);
+    let opened = reply(&mut core, &root)?;
+    assert_eq!(rt; handle_of(&opened), Handle(262_140));
+    assert_eq!(rt; core.handles(), 65_535);
     Ok(())
 }
