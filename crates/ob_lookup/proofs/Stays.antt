@@ -1,5 +1,5 @@
 -- A closed store stays closed.
-use Rattle.std.proofs.Common.{◌≡◌, ◌∙◌, ℕ, ◌==◌, Bool, true, false, cond, [], ◌∷◌, ◌++◌, find, Option, None, Some, option_map, All, IsSome, refl, ap, sym, subst, eq-eqb}
+use Rattle.std.proofs.Common.{◌≡◌, ◌∙◌, ℕ, ◌==◌, Bool, true, false, cond, [], ◌∷◌, find, Option, None, Some, option_map, All, IsSome, refl, ap, sym, subst}
 use Rattle.std.proofs.lemmas.Bool.{false≢true}
 use Rattle.std.proofs.lemmas.List.Elements.{All-weaker, All-push}
 use Rattle.std.specs.Option.{option_and_then, is_some, unwrap_or}
@@ -10,7 +10,8 @@ use Rattle.ob_objects.specs.declared.object.StoredBody.{StoredBody}
 use Rattle.ob_objects.specs.declared.object.StoredBody.TheVariants.{Directory, Link, Other}
 use Rattle.ob_objects.specs.declared.object.StoredObject.{StoredObject}
 use Rattle.ob_objects.specs.Store.{Entries, stored_at, directory_of, directory_at, rows_of}
-use Rattle.ob_objects.specs.Changes.{changed_at, body_with_name, with_name}
+use Rattle.ob_objects.specs.Changes.{with_entry, changed_at, body_with_name, with_name}
+use Rattle.ob_objects.proofs.Entries.{stored_new, stored_other}
 use Rattle.ob_objects.proofs.Shown.{new_object_has_no_row, new_name_is_last}
 use Rattle.ob_lookup.specs.Closed.{ClosedWithObject, ClosedWithName}
 
@@ -29,45 +30,39 @@ module _ {F I : Type 0} where
   -- ---- an object more
 
   -- what was found still is
-  pub found_with_object : (store : Entries F I) (id k : ℕ) (x y : StoredObject F I) → stored_at store k ≡ Some y → stored_at (store ++ (id, x) ∷ []) k ≡ Some y
-  found_with_object [] id k x y e = cc
-  found_with_object (o ∷ store) id k x y e = go (o.0 == k) e (found_with_object store id k x y)
+  pub found_with_object : (store : Entries F I) (id k : ℕ) (x y : StoredObject F I) → stored_at store id ≡ None
+      → stored_at store k ≡ Some y → stored_at (with_entry store id x) k ≡ Some y
+  found_with_object store id k x y free e = stored_other store id k x (λ same. some_is_not_none (sym e ∙ ap (stored_at store) same ∙ free)) ∙ e
     where
-      go : (t : Bool) → option_map (λ z. z.1) (cond t (Some o) (find (λ z. z.0 == k) store)) ≡ Some y
-          → (stored_at store k ≡ Some y → stored_at (store ++ (id, x) ∷ []) k ≡ Some y)
-          → option_map (λ z. z.1) (cond t (Some o) (find (λ z. z.0 == k) (store ++ (id, x) ∷ []))) ≡ Some y
-      go true e more = e
-      go false e more = more e
+      some_is_not_none : Some y ≡ None → ⊥
+      some_is_not_none bad = cc
 
-  pub there_with_object : (store : Entries F I) (id k : ℕ) (x : StoredObject F I) → IsSome (stored_at store k) → IsSome (stored_at (store ++ (id, x) ∷ []) k)
-  there_with_object store id k x there =
+  pub there_with_object : (store : Entries F I) (id k : ℕ) (x : StoredObject F I) → stored_at store id ≡ None
+      → IsSome (stored_at store k) → IsSome (stored_at (with_entry store id x) k)
+  there_with_object store id k x free there =
       let was = some_of (stored_at store k) there in
-      ap is_some (found_with_object store id k x was.0 was.1)
+      ap is_some (found_with_object store id k x was.0 free was.1)
 
   -- the new object is there
-  pub new_object_there : (store : Entries F I) (id : ℕ) (x : StoredObject F I) → IsSome (stored_at (store ++ (id, x) ∷ []) id)
-  new_object_there [] id x = ap (λ t. is_some (option_map (λ (z : ℕ × StoredObject F I). z.1) (cond t (Some (id, x)) None))) (eq-eqb id id refl)
-  new_object_there (o ∷ store) id x = go (o.0 == id) (new_object_there store id x)
-    where
-      go : (t : Bool) → IsSome (stored_at (store ++ (id, x) ∷ []) id) → IsSome (option_map (λ z. z.1) (cond t (Some o) (find (λ z. z.0 == id) (store ++ (id, x) ∷ []))))
-      go true more = refl
-      go false more = more
+  pub new_object_there : (store : Entries F I) (id : ℕ) (x : StoredObject F I) → stored_at store id ≡ None → IsSome (stored_at (with_entry store id x) id)
+  new_object_there store id x free = ap is_some (stored_new store id x free)
 
   -- a directory has the entries that it had
-  pub directory_with_object : (store : Entries F I) (id d : ℕ) (x : StoredObject F I) → IsSome (directory_at store d) → directory_at (store ++ (id, x) ∷ []) d ≡ directory_at store d
-  directory_with_object store id d x there =
+  pub directory_with_object : (store : Entries F I) (id d : ℕ) (x : StoredObject F I) → stored_at store id ≡ None
+      → IsSome (directory_at store d) → directory_at (with_entry store id x) d ≡ directory_at store d
+  directory_with_object store id d x free there =
       let was = some_of (stored_at store d) (go (stored_at store d) there) in
-      ap (option_and_then (λ (y : StoredObject F I). directory_of y.body)) (found_with_object store id d x was.0 was.1 ∙ sym was.1)
+      ap (option_and_then (λ (y : StoredObject F I). directory_of y.body)) (found_with_object store id d x was.0 free was.1 ∙ sym was.1)
     where
       go : (o : Option (StoredObject F I)) → IsSome (option_and_then (λ y. directory_of y.body) o) → IsSome o
       go None e = e
       go (Some y) e = refl
 
   pub closed_with_object : ClosedWithObject F I
-  closed_with_object store id x closed none = record {
-    root = subst IsSome (sym (directory_with_object store id root_id x closed.root)) closed.root;
-    rows = subst (All (λ r. IsSome (stored_at (store ++ (id, x) ∷ []) r.object))) (sym (new_object_has_no_row store id x none))
-        (All-weaker (λ r. IsSome (stored_at store r.object)) (λ r. IsSome (stored_at (store ++ (id, x) ∷ []) r.object)) (λ r there. there_with_object store id r.object x there) (rows_of store) closed.rows);
+  closed_with_object store id x closed free none = record {
+    root = subst IsSome (sym (directory_with_object store id root_id x free closed.root)) closed.root;
+    rows = subst (All (λ r. IsSome (stored_at (with_entry store id x) r.object))) (sym (new_object_has_no_row store id x none))
+        (All-weaker (λ r. IsSome (stored_at store r.object)) (λ r. IsSome (stored_at (with_entry store id x) r.object)) (λ r there. there_with_object store id r.object x free there) (rows_of store) closed.rows);
   }
 
   -- ---- a name more

@@ -1,13 +1,13 @@
 -- Closed stores: what a lookup rests on, which is what of a sound state its objects and its rows tell.
 --
 -- Source: this profile.
-use Rattle.std.specs.Prelude.{◌≡◌, ℕ, ◌<◌, [], ◌∷◌, ◌++◌, All, IsSome, Option, MatchOption}
+use Rattle.std.specs.Prelude.{◌≡◌, ℕ, ◌<◌, [], All, IsSome, Option, None, MatchOption}
 use Rattle.ob_model.specs.State.{State, root_id}
 use Rattle.ob_model.specs.Sound.{IsSound}
 use Rattle.ob_dirs.specs.declared.entry.DirEntry.{DirEntry}
 use Rattle.ob_objects.specs.declared.object.StoredObject.{StoredObject}
 use Rattle.ob_objects.specs.Store.{Entries, IsStore, Shows, stored_at, directory_at, entries_in, rows_of}
-use Rattle.ob_objects.specs.Changes.{with_name}
+use Rattle.ob_objects.specs.Changes.{with_entry, with_name}
 
 module _ {F I : Type 0} where
   -- The root is a directory, and each row names an object that is there.
@@ -24,11 +24,11 @@ abbrev pub SoundIsClosed : (K T F I : Type 0) → Type 0
 SoundIsClosed K T F I = (s : State K T F I) (store : Entries F I) → Shows s store → IsSound s → IsClosed store
 
 module _ (F I : Type 0) where
-  -- a closed store stays so with a further object in which no entry lies
+  -- a closed store stays so with a further object, under a free id and with no entry in it
   abbrev pub ClosedWithObject : Type 0
   ClosedWithObject =
-      (store : Entries F I) (id : ℕ) (x : StoredObject F I) → IsClosed store → entries_in x.body ≡ []
-      → IsClosed (store ++ (id, x) ∷ [])
+      (store : Entries F I) (id : ℕ) (x : StoredObject F I) → IsClosed store → stored_at store id ≡ None → entries_in x.body ≡ []
+      → IsClosed (with_entry store id x)
 
   -- and with a further name, in a directory and of the greatest stamp, for an object that is there
   abbrev pub ClosedWithName : Type 0

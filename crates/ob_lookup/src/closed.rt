@@ -8,8 +8,8 @@ pub fn sound_is_closed<K, T, F, I>()
     ensures { SoundIsClosed K T F I }
 {}
 
-/// The laws by which a closed store stays closed: a further object brings no entry, and a further name
-/// is for an object that is there. Takes nothing and does nothing.
+/// The laws by which a closed store stays closed: a further object has a free id and brings no entry,
+/// and a further name is for an object that is there. Takes nothing and does nothing.
 pub fn closed_stays<F, I>()
     ensures object { ClosedWithObject F I }
     ensures name { ClosedWithName F I }

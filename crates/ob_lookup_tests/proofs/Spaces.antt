@@ -1,12 +1,13 @@
 -- The small namespaces of the tests, with an object more and then its name.
-use Rattle.std.proofs.Common.{◌≡◌, ◌≢◌, ℕ, ◌<◌, ◌+◌, ◌==◌, Bool, true, false, cond, List, [], ◌∷◌, ◌++◌, map, Option, All, IsSome, sym, subst, arith}
-use Rattle.std.proofs.lemmas.List.Elements.{All-nil, All-cons, All-head, All-tail, All-weaker, All-push, All-filter}
+use Rattle.std.proofs.Common.{◌≡◌, ◌≢◌, ℕ, ◌<◌, ◌+◌, ◌==◌, Bool, true, false, cond, List, [], ◌∷◌, map, Option, None, All, IsSome, sym, subst, arith}
+use Rattle.std.proofs.lemmas.List.Elements.{All-nil, All-cons, All-head, All-tail, All-weaker, All-map, All-push, All-filter}
 use Rattle.std.specs.Option.{unwrap_or}
 use Rattle.ob_dirs.specs.declared.entry.DirEntry.{DirEntry}
 use Rattle.ob_dirs.specs.Dir.{row_of}
 use Rattle.ob_objects.specs.declared.object.StoredObject.{StoredObject}
-use Rattle.ob_objects.specs.Store.{Entries, IsStore, stored_at, directory_at, entries_in, entries_at, rows_of}
-use Rattle.ob_objects.specs.Changes.{changed_at, body_with_name, with_name}
+use Rattle.ob_objects.specs.Store.{Entries, IsStore, object_of_stored, objects_of, stored_at, directory_at, entries_in, entries_at, rows_of}
+use Rattle.ob_objects.specs.Changes.{with_entry, changed_at, body_with_name, with_name}
+use Rattle.ob_objects.proofs.Follow.{newest_is_free, newest_is_last}
 use Rattle.ob_objects.proofs.Shown.{new_object_has_no_row, new_name_is_last, rows_are_entries}
 use Rattle.ob_lookup_tests.specs.Space.{IsSpace}
 use Rattle.ob_lookup.proofs.Stays.{closed_with_object, closed_with_name, directory_with_object, new_object_there}
@@ -23,33 +24,43 @@ module _ {F I : Type 0} where
   entries_below store n d is below =
       rows_below n d (entries_at store d) (subst (All (λ r. r.stamp < n)) (rows_are_entries store is d) (All-filter (λ r. r.directory == d) (λ r. r.stamp < n) (rows_of store) below))
 
+  -- the next number is above those of all objects, and so it is free
+  ids_of_objects : (store : Entries F I) (next : ℕ) → IsSpace store next → All (λ o. o.id < next) (objects_of store)
+  ids_of_objects store next is = All-map (λ o. o.id < next) (λ e. object_of_stored e.0 e.1) store is.ids
+
+  pub next_is_free : (store : Entries F I) (next : ℕ) → IsSpace store next → stored_at store next ≡ None
+  next_is_free store next is = newest_is_free store next (ids_of_objects store next is)
+
   -- with an object
-  pub space_with_object : (new store : Entries F I) (id : ℕ) (x : StoredObject F I) → new ≡ store ++ (id, x) ∷ [] → IsSpace store id → entries_in x.body ≡ [] → IsSpace new (id + 1)
-  space_with_object new store id x last is none = subst (λ (s : Entries F I). IsSpace s (id + 1)) (sym last) (record {
-    closed = closed_with_object store id x is.closed none;
-    ids = All-push (λ e. e.0 < id + 1) store (id, x) (All-weaker (λ e. e.0 < id) (λ e. e.0 < id + 1) (λ e below. omega (arith, below)) store is.ids) (omega arith);
+  pub space_with_object : (new store : Entries F I) (id : ℕ) (x : StoredObject F I) → new ≡ with_entry store id x → IsSpace store id → entries_in x.body ≡ [] → IsSpace new (id + 1)
+  space_with_object new store id x put is none = subst (λ (s : Entries F I). IsSpace s (id + 1)) (sym put) (record {
+    closed = closed_with_object store id x is.closed (next_is_free store id is) none;
+    ids = subst (All (λ e. e.0 < id + 1)) (sym (newest_is_last store id x (ids_of_objects store id is)))
+        (All-push (λ e. e.0 < id + 1) store (id, x) (All-weaker (λ e. e.0 < id) (λ e. e.0 < id + 1) (λ e below. omega (arith, below)) store is.ids) (omega arith));
     stamps = subst (All (λ r. r.stamp < id + 1)) (sym (new_object_has_no_row store id x none))
         (All-weaker (λ r. r.stamp < id) (λ r. r.stamp < id + 1) (λ r below. omega (arith, below)) (rows_of store) is.stamps);
   })
 
   -- its directory is there, has the entries that it had, and these are below
-  pub directory_there : (new store : Entries F I) (id d : ℕ) (x : StoredObject F I) → new ≡ store ++ (id, x) ∷ [] → IsSome (directory_at store d) → IsSome (directory_at new d)
-  directory_there new store id d x last there = subst (λ (s : Entries F I). IsSome (directory_at s d)) (sym last) (subst IsSome (sym (directory_with_object store id d x there)) there)
+  pub directory_there : (new store : Entries F I) (id d : ℕ) (x : StoredObject F I) → new ≡ with_entry store id x → stored_at store id ≡ None
+      → IsSome (directory_at store d) → IsSome (directory_at new d)
+  directory_there new store id d x put unused there =
+      subst (λ (s : Entries F I). IsSome (directory_at s d)) (sym put) (subst IsSome (sym (directory_with_object store id d x unused there)) there)
 
-  pub entries_free : (new store : Entries F I) (id d : ℕ) (x : StoredObject F I) (name : List ℕ) → new ≡ store ++ (id, x) ∷ [] → IsSome (directory_at store d)
-      → All (λ e. e.name ≢ name) (entries_at store d) → All (λ e. e.name ≢ name) (entries_at new d)
-  entries_free new store id d x name last there free =
-      subst (λ (s : Entries F I). All (λ e. e.name ≢ name) (entries_at s d)) (sym last)
-      (subst (λ (o : Option (List DirEntry)). All (λ e. e.name ≢ name) (unwrap_or o [])) (sym (directory_with_object store id d x there)) free)
+  pub entries_free : (new store : Entries F I) (id d : ℕ) (x : StoredObject F I) (name : List ℕ) → new ≡ with_entry store id x → stored_at store id ≡ None
+      → IsSome (directory_at store d) → All (λ e. e.name ≢ name) (entries_at store d) → All (λ e. e.name ≢ name) (entries_at new d)
+  entries_free new store id d x name put unused there free =
+      subst (λ (s : Entries F I). All (λ e. e.name ≢ name) (entries_at s d)) (sym put)
+      (subst (λ (o : Option (List DirEntry)). All (λ e. e.name ≢ name) (unwrap_or o [])) (sym (directory_with_object store id d x unused there)) free)
 
-  rows_stay_below : (new store : Entries F I) (id : ℕ) (x : StoredObject F I) → new ≡ store ++ (id, x) ∷ [] → entries_in x.body ≡ []
+  rows_stay_below : (new store : Entries F I) (id : ℕ) (x : StoredObject F I) → new ≡ with_entry store id x → entries_in x.body ≡ []
       → All (λ r. r.stamp < id) (rows_of store) → All (λ r. r.stamp < id) (rows_of new)
-  rows_stay_below new store id x last none below =
-      subst (λ (s : Entries F I). All (λ r. r.stamp < id) (rows_of s)) (sym last) (subst (All (λ r. r.stamp < id)) (sym (new_object_has_no_row store id x none)) below)
+  rows_stay_below new store id x put none below =
+      subst (λ (s : Entries F I). All (λ r. r.stamp < id) (rows_of s)) (sym put) (subst (All (λ r. r.stamp < id)) (sym (new_object_has_no_row store id x none)) below)
 
-  pub entries_newest : (new store : Entries F I) (id d : ℕ) (x : StoredObject F I) → new ≡ store ++ (id, x) ∷ [] → entries_in x.body ≡ [] → IsStore new
+  pub entries_newest : (new store : Entries F I) (id d : ℕ) (x : StoredObject F I) → new ≡ with_entry store id x → entries_in x.body ≡ [] → IsStore new
       → All (λ r. r.stamp < id) (rows_of store) → All (λ e. e.stamp < id) (entries_at new d)
-  entries_newest new store id d x last none is below = entries_below new id d is (rows_stay_below new store id x last none below)
+  entries_newest new store id d x put none is below = entries_below new id d is (rows_stay_below new store id x put none below)
 
   -- with its name
   ids_stay : (store : Entries F I) (n d : ℕ) (change : StoredObject F I → StoredObject F I) → All (λ e. e.0 < n) store → All (λ e. e.0 < n) (changed_at d change store)
@@ -62,15 +73,15 @@ module _ {F I : Type 0} where
       go true more = All-cons (λ (e : ℕ × StoredObject F I). e.0 < n) (o.0, change o.1) (changed_at d change store) (All-head (λ (e : ℕ × StoredObject F I). e.0 < n) o store all) more
       go false more = All-cons (λ (e : ℕ × StoredObject F I). e.0 < n) o (changed_at d change store) (All-head (λ (e : ℕ × StoredObject F I). e.0 < n) o store all) more
 
-  pub space_with_name : (named new store : Entries F I) (id d : ℕ) (x : StoredObject F I) (name : List ℕ) → new ≡ store ++ (id, x) ∷ []
+  pub space_with_name : (named new store : Entries F I) (id d : ℕ) (x : StoredObject F I) (name : List ℕ) → new ≡ with_entry store id x
       → named ≡ with_name new d (record { stamp = id; name = name; object = id }) → IsSpace store id → entries_in x.body ≡ [] → IsStore new → IsSome (directory_at store d)
       → IsSpace named (id + 1)
-  space_with_name named new store id d x name last is_named space none is there =
-      let whole = space_with_object new store id x last space none in
-      let dir = directory_there new store id d x last there in
-      let below = rows_stay_below new store id x last none space.stamps in
+  space_with_name named new store id d x name put is_named space none is there =
+      let whole = space_with_object new store id x put space none in
+      let dir = directory_there new store id d x put (next_is_free store id space) there in
+      let below = rows_stay_below new store id x put none space.stamps in
       let entry : DirEntry = record { stamp = id; name = name; object = id } in
-      let object = subst (λ (s : Entries F I). IsSome (stored_at s id)) (sym last) (new_object_there store id x) in
+      let object = subst (λ (s : Entries F I). IsSome (stored_at s id)) (sym put) (new_object_there store id x (next_is_free store id space)) in
       subst (λ (s : Entries F I). IsSpace s (id + 1)) (sym is_named) (record {
         closed = closed_with_name new d entry is whole.closed dir below object;
         ids = ids_stay new (id + 1) d (λ y. record y { body = body_with_name entry y.body }) whole.ids;

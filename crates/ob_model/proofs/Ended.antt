@@ -25,7 +25,7 @@ use Rattle.ob_model.specs.Refusals.{gives, IsRefused}
 use Rattle.ob_model.specs.Processes.{handles_in, inherited_from, with_child, without_process, inherits_one, inherits, begun, closed_in_turn, ended, Duplicates}
 use Rattle.ob_model.specs.Sound.{IsSound, Stands, HasSoundMap, IsDirectory}
 use Rattle.ob_model.proofs.Finds.{find-filter, All-kept, filter_none}
-use Rattle.ob_model.proofs.Free.{find_none}
+use Rattle.ob_model.proofs.Finds.{find_none}
 use Rattle.ob_model.proofs.SoundPaths.{find_of}
 use Rattle.ob_model.proofs.Soundness.{settled_sound, granted_sound, closed_sound, stands-opened}
 

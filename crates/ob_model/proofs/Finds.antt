@@ -1,7 +1,7 @@
 -- What is found in a list, and what a test of it says, after a filter, a map or one more element.
-use Rattle.std.proofs.Common.{◌≡◌, Bool, true, false, cond, ◌||◌, List, [], ◌∷◌, get_or, filter, find, map, All, Some, option_map, refl, ap}
+use Rattle.std.proofs.Common.{◌≡◌, Bool, true, false, cond, ◌||◌, List, [], ◌∷◌, get_or, filter, find, map, All, None, Some, option_map, refl, ap, ◌∙◌}
 use Rattle.std.specs.List.{list_any}
-use Rattle.std.proofs.lemmas.List.Elements.{All-head, All-tail, All-filter, filter_passes}
+use Rattle.std.proofs.lemmas.List.Elements.{All-nil, All-cons, All-head, All-tail, All-filter, filter_passes}
 
 -- a filter that keeps each element that the test finds changes nothing of what is found
 pub find-filter : {X : Type 0} (test keeps : X → Bool) → ((x : X) → test x ≡ true → keeps x ≡ true) → (xs : List X) → find test (filter keeps xs) ≡ find test xs
@@ -23,6 +23,21 @@ find-map {X = X} test f same (x ∷ xs) = rw (same x) (go (test x) (find-map tes
     go : (b : Bool) → find test (map f xs) ≡ option_map f (find test xs) → cond b (Some (f x)) (find test (map f xs)) ≡ option_map f (cond b (Some x) (find test xs))
     go true more = refl
     go false more = more
+
+-- nothing is found where nothing passes
+pub find_none : {X : Type 0} (test : X → Bool) (xs : List X) → All (λ x. test x ≡ false) xs → find test xs ≡ None
+find_none test [] none = refl
+find_none {X} test (x ∷ xs) none =
+    ap (λ b. cond b (Some x) (find test xs)) (All-head (λ y. test y ≡ false) x xs none) ∙ find_none test xs (All-tail (λ y. test y ≡ false) x xs none)
+
+-- where nothing is found nothing passes
+pub not_found : {X : Type 0} (test : X → Bool) (xs : List X) → find test xs ≡ None → All (λ x. test x ≡ false) xs
+not_found test [] e = All-nil (λ x. test x ≡ false)
+not_found {X} test (x ∷ xs) e = go (test x) refl e (not_found test xs)
+  where
+    go : (b : Bool) → test x ≡ b → cond b (Some x) (find test xs) ≡ None → (find test xs ≡ None → All (λ y. test y ≡ false) xs) → All (λ y. test y ≡ false) (x ∷ xs)
+    go true f e rest = cc
+    go false f e rest = All-cons (λ y. test y ≡ false) x xs f (rest e)
 
 -- a filter leaves what passes it as it is
 pub filter_all : {X : Type 0} (keeps : X → Bool) (xs : List X) → All (λ x. keeps x ≡ true) xs → filter keeps xs ≡ xs

@@ -1,5 +1,5 @@
 -- A process whose table isn't full has a free handle value: it has fewer handles than there are values.
-use Rattle.std.proofs.Common.{◌≡◌, ◌≢◌, ◌∙◌, ℕ, zero, suc, ◌+◌, ◌*◌, ◌<◌, ◌≤◌, ◌==◌, Bool, true, false, ◌&&◌, ◌||◌, not, cond, List, [], ◌∷◌, filter, find, None, Some, All, refl, ap, sym, arith, eqb-true}
+use Rattle.std.proofs.Common.{◌≡◌, ◌≢◌, ◌∙◌, ℕ, zero, suc, ◌+◌, ◌*◌, ◌<◌, ◌≤◌, ◌==◌, Bool, true, false, ◌&&◌, ◌||◌, not, cond, List, [], ◌∷◌, filter, All, refl, ap, sym, arith, eqb-true}
 use Rattle.std.specs.Prelude.{count_by}
 use Rattle.std.specs.List.{list_any}
 use Rattle.std.proofs.lemmas.Bool.{ne_eqb}
@@ -9,12 +9,7 @@ use Rattle.ob_model.specs.declared.state.Held.{Held}
 use Rattle.ob_model.specs.State.{State, table_size, most_handles}
 use Rattle.ob_model.specs.Grants.{IsFreeValue}
 use Rattle.ob_model.specs.Closing.{is_handle}
-
--- nothing is found where nothing passes
-pub find_none : {X : Type 0} (test : X → Bool) (xs : List X) → All (λ x. test x ≡ false) xs → find test xs ≡ None
-find_none test [] none = refl
-find_none {X} test (x ∷ xs) none =
-    ap (λ b. cond b (Some x) (find test xs)) (All-head (λ y. test y ≡ false) x xs none) ∙ find_none test xs (All-tail (λ y. test y ≡ false) x xs none)
+use Rattle.ob_model.proofs.Finds.{find_none}
 
 -- one passes, or none does
 some_or_none : {X : Type 0} (test : X → Bool) (xs : List X) → list_any test xs ≡ false → All (λ x. test x ≡ false) xs

@@ -6,6 +6,7 @@ pub mod Lookup
 pub mod Computed
 pub mod Onward
 pub mod Finds
+pub mod InOrder
 pub mod Splits
 pub mod Earliest
 pub mod Settled

@@ -5,7 +5,7 @@ use Rattle.std.specs.List.{list_any, AllPairs}
 use Rattle.std.specs.Option.{option_map_or, option_or}
 use Rattle.std.proofs.lemmas.Bool.{or_right}
 use Rattle.std.proofs.lemmas.List.Elements.{All-nil, All-cons, All-head, All-tail, All-from_recursion, All-append, All-push, All-map, All-weaker, All-filter}
-use Rattle.std.proofs.lemmas.List.Folds.{find-append, list_any_at}
+use Rattle.std.proofs.lemmas.List.Folds.{list_any_at}
 use Rattle.std.proofs.lemmas.List.Kept.{AllPairs-cons, AllPairs-filter}
 use Rattle.std.proofs.lemmas.List.Quantifiers.{all_pairs_push}
 use Rattle.ob_base.specs.Attrs.{has_flag, permanent_flag, exclusive_flag}
@@ -24,21 +24,13 @@ use Rattle.ob_model.specs.Grants.{opened_body, opened_set, opened_object, with_o
 use Rattle.ob_model.specs.Closing.{is_handle, closed_body, closed_object, closed_handle}
 use Rattle.ob_model.specs.Creates.{Spot, new_rows, with_object, with_row, created, dropped}
 use Rattle.ob_model.specs.Sound.{IsSound, IsDirectory, Stands, HasSoundMap, is_barred}
-use Rattle.ob_model.proofs.Finds.{find-map, All-kept}
+use Rattle.ob_model.proofs.Finds.{find-map, not_found, All-kept}
+use Rattle.ob_model.proofs.InOrder.{newest_is_free, in_order-All, in_order-find}
 use Rattle.ob_model.proofs.Settled.{is_directory-settle, stands-settle, alive_from_handle, alive_from_pin, alive_from_map, alive_from_row, rows_are_names}
 
 -- whether what is found is a directory
 abbrev pub is_directory_object : {F I : Type 0} → Option (Object F I) → Bool
 is_directory_object found = option_map_or is_directory_body (option_map (λ x. x.body) found) false
-
--- where nothing is found nothing passes
-not_found : {X : Type 0} (test : X → Bool) (xs : List X) → find test xs ≡ None → All (λ x. test x ≡ false) xs
-not_found test [] e = All-nil (λ x. test x ≡ false)
-not_found {X} test (x ∷ xs) e = go (test x) refl e (not_found test xs)
-  where
-    go : (b : Bool) → test x ≡ b → cond b (Some x) (find test xs) ≡ None → (find test xs ≡ None → All (λ y. test y ≡ false) xs) → All (λ y. test y ≡ false) (x ∷ xs)
-    go true f e rest = cc
-    go false f e rest = All-cons (λ y. test y ≡ false) x xs f (rest e)
 
 -- of two handles that differ in process or value each is another than the other
 other_handle : (a b c d : ℕ) → ((a == b) && (c == d)) ≡ false → ((b == a) && (d == c)) ≡ false
@@ -158,12 +150,19 @@ is_directory_object-or None other h = cc
 is_directory_object-or (Some x) other h = h
 
 module _ {K T F I : Type 0} where
+  -- where the next number is above all, a new object of it is found behind the others
+  found_behind : (s : State K T F I) (body : Body F I) (permanent exclusive : Bool) (m : ℕ) → All (λ x. x.id < s.next_id) s.objects
+      → object_of (with_object s body permanent exclusive) m
+      ≡ option_or (object_of s m) (find (λ x. x.id == m) (record { id = s.next_id; body = body; permanent = permanent; exclusive = exclusive } ∷ []))
+  found_behind s body permanent exclusive m drawn =
+      let new : Object F I = record { id = s.next_id; body = body; permanent = permanent; exclusive = exclusive } in
+      in_order-find (λ x. x.id) new s.objects m (newest_is_free (λ x. x.id) new s.objects drawn)
+
   -- a new object leaves each directory one
-  pub is_directory-with_object : (s : State K T F I) (body : Body F I) (permanent exclusive : Bool) (m : ℕ)
+  pub is_directory-with_object : (s : State K T F I) (body : Body F I) (permanent exclusive : Bool) (m : ℕ) → All (λ x. x.id < s.next_id) s.objects
       → is_directory s m ≡ true → is_directory (with_object s body permanent exclusive) m ≡ true
-  is_directory-with_object s body permanent exclusive m h =
-      rw (find-append (λ x. x.id == m) s.objects (record { id = s.next_id; body = body; permanent = permanent; exclusive = exclusive } ∷ []))
-      (is_directory_object-or (object_of s m) _ h)
+  is_directory-with_object s body permanent exclusive m drawn h =
+      ap is_directory_object (found_behind s body permanent exclusive m drawn) ∙ is_directory_object-or (object_of s m) _ h
 
 -- what is found is found before what comes behind, and else what comes behind is
 is_some-or_left : {F I : Type 0} (found other : Option (Object F I)) → is_some found ≡ true → is_some (option_or found other) ≡ true
@@ -233,29 +232,28 @@ module _ {K T F I : Type 0} where
   sound_handles s t stays xs each = All-weaker (λ h. Stands s h.object) (λ h. Stands t h.object) (λ h k. stays h.object k) xs each
 
   -- a new object leaves what stands, and stands itself
-  pub stands-with_object : (s : State K T F I) (body : Body F I) (permanent exclusive : Bool) (m : ℕ)
+  pub stands-with_object : (s : State K T F I) (body : Body F I) (permanent exclusive : Bool) (m : ℕ) → All (λ x. x.id < s.next_id) s.objects
       → Stands s m → Stands (with_object s body permanent exclusive) m
-  stands-with_object s body permanent exclusive m h =
-      rw (find-append (λ x. x.id == m) s.objects (record { id = s.next_id; body = body; permanent = permanent; exclusive = exclusive } ∷ []))
-      (is_some-or_left (object_of s m) _ h)
+  stands-with_object s body permanent exclusive m drawn h = ap is_some (found_behind s body permanent exclusive m drawn) ∙ is_some-or_left (object_of s m) _ h
 
-  pub new_stands : (s : State K T F I) (body : Body F I) (permanent exclusive : Bool) → Stands (with_object s body permanent exclusive) s.next_id
-  new_stands s body permanent exclusive =
-      rw (find-append (λ x. x.id == s.next_id) s.objects (record { id = s.next_id; body = body; permanent = permanent; exclusive = exclusive } ∷ []))
-      (is_some-or_right (object_of s s.next_id) _ (rw (eq-eqb s.next_id s.next_id refl) refl))
+  pub new_stands : (s : State K T F I) (body : Body F I) (permanent exclusive : Bool) → All (λ x. x.id < s.next_id) s.objects
+      → Stands (with_object s body permanent exclusive) s.next_id
+  new_stands s body permanent exclusive drawn =
+      ap is_some (found_behind s body permanent exclusive s.next_id drawn)
+      ∙ is_some-or_right (object_of s s.next_id) _ (rw (eq-eqb s.next_id s.next_id refl) refl)
 
   -- a new object leaves a sound state
   object_sound : (s : State K T F I) (body : Body F I) (permanent exclusive : Bool) → IsSound s → IsSound (with_object s body permanent exclusive)
   object_sound s body permanent exclusive sound =
       let t = with_object s body permanent exclusive in
-      let stays = λ (m : ℕ) (h : Stands s m). stands-with_object s body permanent exclusive m h in
+      let stays = λ (m : ℕ) (h : Stands s m). stands-with_object s body permanent exclusive m sound.drawn h in
       record {
-        root = is_directory-with_object s body permanent exclusive root_id sound.root;
-        global = is_directory-with_object s body permanent exclusive global_id sound.global;
-        maps = sound_maps s t (λ o h. is_directory-with_object s body permanent exclusive o h) s.processes sound.maps;
+        root = is_directory-with_object s body permanent exclusive root_id sound.drawn sound.root;
+        global = is_directory-with_object s body permanent exclusive global_id sound.drawn sound.global;
+        maps = sound_maps s t (λ o h. is_directory-with_object s body permanent exclusive o sound.drawn h) s.processes sound.maps;
         rows = sound_rows s t stays s.rows sound.rows;
         handles = sound_handles s t stays s.handles sound.handles;
-        drawn = All-push (λ x. x.id < s.next_id + 1) s.objects _ (drawn_more s.next_id (s.next_id + 1) s.objects (omega arith) sound.drawn) (omega arith);
+        drawn = in_order-All (λ x. x.id) (λ x. x.id < s.next_id + 1) _ s.objects (omega arith) (drawn_more s.next_id (s.next_id + 1) s.objects (omega arith) sound.drawn);
         descending = sound.descending;
         pending = sound_pending s t stays s.pending sound.pending;
         rising = sound.rising;
@@ -451,7 +449,7 @@ module _ {K T F I : Type 0} (g : Procedures K T F I) where
       let permanent = is_some spot && has_flag permanent_flag attrs in
       let exclusive = has_flag exclusive_flag attrs in
       let there = with_object opened left permanent exclusive in
-      let stands : Stands there s.next_id = new_stands opened left permanent exclusive in
+      let stands : Stands there s.next_id = new_stands opened left permanent exclusive sound.drawn in
       handle_sound (with_row there spot s.next_id) p value s.next_id _
       (row_sound there spot s.next_id (object_sound opened left permanent exclusive (set_sound s (opened_set g s.set body Created) s.next_id (omega arith) sound)) stands (below spot inside)) live free stands
     where

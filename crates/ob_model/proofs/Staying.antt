@@ -1,11 +1,11 @@
 -- What is settled stays so when a handle or an object with one comes, and after each step.
-use Rattle.std.proofs.Common.{◌≡◌, ◌∙◌, ℕ, ◌==◌, Bool, true, false, ◌&&◌, ◌||◌, not, if◌then◌else◌, List, [], ◌∷◌, ◌++◌, find, All, Option, None, Some, option_map, refl, ap, sym, subst, eq-eqb, eqb-true, get_or}
+use Rattle.std.proofs.Common.{◌≡◌, ◌∙◌, ℕ, ◌==◌, Bool, true, false, ◌&&◌, ◌||◌, not, if◌then◌else◌, List, [], ◌∷◌, ◌++◌, All, Option, None, Some, option_map, refl, ap, sym, subst, eq-eqb, eqb-true, get_or}
 use Rattle.std.specs.List.{list_any}
-use Rattle.std.specs.Option.{option_map_or, option_or, is_some}
+use Rattle.std.specs.Option.{option_map_or, is_some}
 use Rattle.std.proofs.lemmas.Bool.{and_from, false≢true}
 use Rattle.std.proofs.lemmas.List.Elements.{All-nil, All-append, All-push, All-map, All-weaker, All-from_recursion}
 use Rattle.std.proofs.lemmas.List.{append-nil}
-use Rattle.std.proofs.lemmas.List.Folds.{find-append, list_any-append}
+use Rattle.std.proofs.lemmas.List.Folds.{list_any-append}
 use Rattle.ob_base.specs.Attrs.{has_flag, permanent_flag, exclusive_flag, inherit_flag}
 use Rattle.ob_model.specs.declared.reply.Answer.{Answer}
 use Rattle.ob_model.specs.declared.reply.Event.{Event}
@@ -22,6 +22,7 @@ use Rattle.ob_model.specs.Creates.{Spot, new_rows, created}
 use Rattle.ob_model.specs.Opening.{opening}
 use Rattle.ob_model.specs.Step.{Step}
 use Rattle.ob_model.proofs.Finds.{filter_all, filter_none, list_any_weaker}
+use Rattle.ob_model.proofs.InOrder.{in_order-All, in_order-others}
 use Rattle.ob_model.proofs.Ended.{any_filter}
 use Rattle.ob_model.proofs.Settled.{alive_from_root, alive_from_handle, alive_from_name, kept_twice, objects_alive}
 use Rattle.ob_model.proofs.Soundness.{find_id-map, opened_object-id, opened_object-is_directory, closed_object-id, closed_object-is_directory}
@@ -45,13 +46,24 @@ and_grows true true a' b' first second h = and_from a' b' (first refl) (second r
 and_grows true false a' b' first second h = cc
 and_grows false b a' b' first second h = cc
 
+or_both : (a b c : Bool) → (a ≡ true → c ≡ true) → (b ≡ true → c ≡ true) → (a || b) ≡ true → c ≡ true
+or_both true b c first second h = first refl
+or_both false b c first second h = second h
+
+-- what stays, or is permanent with a name, still is where it stays for a handle in place of its permanence
+named_grows : (a p n a' p' n' held : Bool) → (a ≡ true → a' ≡ true) → (p ≡ true → (p' || held) ≡ true) → (n ≡ true → n' ≡ true) → (held ≡ true → a' ≡ true)
+    → (a || (p && n)) ≡ true → (a' || (p' && n')) ≡ true
+named_grows true p n a' p' n' held stays permanent named stays_held h = or_left a' (p' && n') (stays refl)
+named_grows false true n a' true n' held stays permanent named stays_held h = or_right' a' n' (named h)
+named_grows false true n a' false n' held stays permanent named stays_held h = or_left a' false (stays_held (permanent refl))
+named_grows false false n a' p' n' held stays permanent named stays_held h = cc
+
 -- A state that has what another one has, and more.
-module _ {K T F I : Type 0} (s u : State K T F I) (permanent : (o : ℕ) → is_permanent s o ≡ true → is_permanent u o ≡ true)
+module _ {K T F I : Type 0} (s u : State K T F I) (permanent : (o : ℕ) → is_permanent s o ≡ true → (is_permanent u o || has_handle u o) ≡ true)
     (held : (o : ℕ) → has_handle s o ≡ true → has_handle u o ≡ true) (pinned : (o : ℕ) → is_pinned s o ≡ true → is_pinned u o ≡ true)
     (mapped : (o : ℕ) → is_mapped s o ≡ true → is_mapped u o ≡ true) (more : List Row) (rows : u.rows ≡ s.rows ++ more) where
   kept_grows : (r : Row) → is_kept s r ≡ true → is_kept u r ≡ true
-  kept_grows r =
-      or_grows (is_permanent s r.object) (has_handle s r.object) (is_permanent u r.object) (has_handle u r.object) (permanent r.object) (held r.object)
+  kept_grows r = or_both (is_permanent s r.object) (has_handle s r.object) _ (permanent r.object) (λ h. or_right' (is_permanent u r.object) _ (held r.object h))
 
   any_grows : (p q : Row → Bool) → ((r : Row) → p r ≡ true → q r ≡ true) → list_any p s.rows ≡ true → list_any q u.rows ≡ true
   any_grows p q weaker some =
@@ -61,10 +73,11 @@ module _ {K T F I : Type 0} (s u : State K T F I) (permanent : (o : ℕ) → is_
   alive_grows : (o : ℕ) → is_alive s o ≡ true → is_alive u o ≡ true
   alive_grows o =
       or_grows _ (holds_kept s o) _ (holds_kept u o)
-      (or_grows _ (is_permanent s o && has_name s o) _ (is_permanent u o && has_name u o)
+      (named_grows _ (is_permanent s o) (has_name s o) _ (is_permanent u o) (has_name u o) (has_handle u o)
       (or_grows _ (is_mapped s o) _ (is_mapped u o)
       (or_grows _ (is_pinned s o) _ (is_pinned u o) (or_grows (o == root_id) (has_handle s o) (o == root_id) (has_handle u o) (λ h. h) (held o)) (pinned o)) (mapped o))
-      (and_grows (is_permanent s o) (has_name s o) (is_permanent u o) (has_name u o) (permanent o) (any_grows (λ r. r.object == o) (λ r. r.object == o) (λ r h. h))))
+      (permanent o) (any_grows (λ r. r.object == o) (λ r. r.object == o) (λ r h. h))
+      (λ h. or_left _ (is_mapped u o) (or_left _ (is_pinned u o) (or_right' (o == root_id) (has_handle u o) h))))
       (any_grows (λ r. (r.directory == o) && is_kept s r) (λ r. (r.directory == o) && is_kept u r)
       (λ r. and_grows (r.directory == o) (is_kept s r) (r.directory == o) (is_kept u r) (λ h. h) (kept_grows r)))
 
@@ -91,7 +104,7 @@ module _ {K T F I : Type 0} (g : Procedures K T F I) where
   pub granted_settled : (s : State K T F I) (p value o : ℕ) (reason : Reason) (inherit : Bool) → IsSettled s → IsSettled (with_handle (with_open g s o reason) p value o inherit)
   granted_settled s p value o reason inherit settled =
       let u = with_handle (with_open g s o reason) p value o inherit in
-      let permanent = λ (m : ℕ). permanent-opened s o m reason in
+      let permanent = λ (m : ℕ) (h : is_permanent s m ≡ true). or_left (is_permanent u m) (has_handle u m) (permanent-opened s o m reason h) in
       let held = λ (m : ℕ). handle_stays s.handles (record { process = p; value = value; object = o; inherit = inherit; order = s.next_order }) m in
       record {
         names = All-weaker (λ r. is_kept s r ≡ true) (λ r. is_kept u r ≡ true) (λ r h. kept_grows s u permanent held (λ m h. h) (λ m h. h) [] (sym (append-nil s.rows)) r h) s.rows settled.names;
@@ -108,10 +121,9 @@ module _ {K T F I : Type 0} (g : Procedures K T F I) where
         (All-append (λ r. is_kept u r ≡ true) s.rows (new_rows spot s.next_stamp s.next_id)
         (All-weaker (λ r. is_kept s r ≡ true) (λ r. is_kept u r ≡ true) (λ r h. kept_grows s u permanent held (λ m h. h) (λ m h. h) (new_rows spot s.next_stamp s.next_id) refl r h) s.rows settled.names)
         (new spot));
-    objects = All-push (λ x. is_alive u x.id ≡ true) s.objects _
+    objects = in_order-All (λ x. x.id) (λ x. is_alive u x.id ≡ true) object s.objects (alive_from_handle u s.next_id mine)
         (All-weaker (λ x. is_alive s x.id ≡ true) (λ x. is_alive u x.id ≡ true)
-        (λ x h. alive_grows s u permanent held (λ m h. h) (λ m h. h) (new_rows spot s.next_stamp s.next_id) refl x.id h) s.objects settled.objects)
-        (alive_from_handle u s.next_id mine);
+        (λ x h. alive_grows s u permanent held (λ m h. h) (λ m h. h) (new_rows spot s.next_stamp s.next_id) refl x.id h) s.objects settled.objects);
   }
     where
       u : State K T F I
@@ -131,15 +143,14 @@ module _ {K T F I : Type 0} (g : Procedures K T F I) where
       object : Object F I
       object = record { id = s.next_id; body = opened_body g s.set body Created; permanent = is_some spot && has_flag permanent_flag attrs; exclusive = has_flag exclusive_flag attrs }
 
-      permanent : (m : ℕ) → is_permanent s m ≡ true → is_permanent u m ≡ true
-      permanent m h =
-          ap (λ (x : Option (Object F I)). option_map_or (λ y. y.permanent) x false) (find-append (λ x. x.id == m) s.objects (object ∷ []))
-          ∙ go (object_of s m) h
+      permanent : (m : ℕ) → is_permanent s m ≡ true → (is_permanent u m || has_handle u m) ≡ true
+      permanent m h = go (s.next_id == m) refl
         where
-          go : (x : Option (Object F I)) → option_map_or (λ y. y.permanent) x false ≡ true
-              → option_map_or (λ y. y.permanent) (option_or x (find (λ y. y.id == m) (object ∷ []))) false ≡ true
-          go None h = cc
-          go (Some x) h = h
+          go : (t : Bool) → (s.next_id == m) ≡ t → (is_permanent u m || has_handle u m) ≡ true
+          go true e = or_right' (is_permanent u m) (has_handle u m) (subst (λ n. has_handle u n ≡ true) (eqb-true s.next_id m e) mine)
+          go false e =
+              or_left (is_permanent u m) (has_handle u m)
+              (ap (λ (x : Option (Object F I)). option_map_or (λ y. y.permanent) x false) (in_order-others (λ x. x.id) (λ x. x.id == m) object s.objects e) ∙ h)
 
       new : (spot : Spot) → All (λ r. is_kept u r ≡ true) (new_rows spot s.next_stamp s.next_id)
       new None = All-nil (λ r. is_kept u r ≡ true)

@@ -18,7 +18,7 @@ use Rattle.ob_model.specs.declared.state.Row.{Row}
 use Rattle.ob_model.specs.declared.state.Wanted.{Wanted}
 use Rattle.ob_model.specs.declared.state.Wanted.TheVariants as wanted
 use Rattle.ob_model.specs.Names.{is_name}
-use Rattle.ob_model.specs.State.{State, greatest_number, most_objects}
+use Rattle.ob_model.specs.State.{State, greatest_number, most_objects, insert_object}
 use Rattle.ob_model.specs.Looks.{Mode, Look, At, Vacant, Parse, Refused}
 use Rattle.ob_model.specs.Procedures.{Procedures, Created}
 use Rattle.ob_model.specs.Settle.{settle, deleted_one}
@@ -75,7 +75,7 @@ module _ {K T F I : Type 0} where
   -- the state with a new object, and with the row of an object
   abbrev pub with_object : State K T F I → Body F I → Bool → Bool → State K T F I
   with_object s body permanent exclusive = record s {
-    objects = s.objects ++ record { id = s.next_id; body = body; permanent = permanent; exclusive = exclusive } ∷ [];
+    objects = insert_object (record { id = s.next_id; body = body; permanent = permanent; exclusive = exclusive }) s.objects;
     next_id = s.next_id + 1;
   }
 

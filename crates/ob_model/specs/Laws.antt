@@ -1,13 +1,15 @@
 -- What shows that the definitions say what they should: the statements of the law functions in
 -- src/laws.rt, which prove them.
-use Rattle.std.specs.Prelude.{◌≡◌, ℕ, ◌+◌, ◌≤◌, Bool, true, false, ◌&&◌, ◌||◌, ◌==◌, List, [], ◌∷◌, ◌++◌, length, map, All, Contains, Option, MatchOption, if◌then◌else◌}
+use Rattle.std.specs.Prelude.{◌≡◌, ◌≢◌, ℕ, ◌+◌, ◌<◌, ◌≤◌, Bool, true, false, ◌&&◌, ◌||◌, ◌==◌, List, [], ◌∷◌, ◌++◌, length, map, All, AllPairs, Contains, Option, Some, MatchOption, if◌then◌else◌}
+use Rattle.std.specs.List.{find}
 use Rattle.ob_model.specs.declared.state.Body.{Body}
 use Rattle.ob_model.specs.declared.state.Held.{Held}
+use Rattle.ob_model.specs.declared.state.Object.{Object}
 use Rattle.ob_model.specs.declared.state.Row.{Row}
 use Rattle.ob_model.specs.declared.reply.Answer.{Answer}
 use Rattle.ob_model.specs.declared.reply.Event.{Event}
 use Rattle.ob_model.specs.Names.{separator, joined, IsRest, IsSplit, substituted, ends_in_separator, begins_with_separator}
-use Rattle.ob_model.specs.State.{State, root_id, object_of, is_live}
+use Rattle.ob_model.specs.State.{State, root_id, insert_object, object_of, is_live}
 use Rattle.ob_model.specs.Opening.{opening}
 use Rattle.ob_model.specs.Paths.{Origin, found, is_match, IsPath, directory_at}
 use Rattle.ob_model.specs.Procedures.{Procedures, Reason}
@@ -49,6 +51,31 @@ pub record IsFoundRow {K T F I : Type 0} (s : State K T F I) (d : ℕ) (c : List
   pub stands : Contains s.rows r
   pub matches : is_match d c fold r ≡ true
   pub least : All (λ q. is_match d c fold q ≡ true → r.stamp ≤ q.stamp) s.rows
+
+-- An object more stands in order of numbers. Where all numbers are below its own it is the last; where no
+-- object has its number, numbers that rise still do, and its number leads to it.
+module _ (F I : Type 0) where
+  abbrev pub NewestIsLast : Type 0
+  NewestIsLast = (x : Object F I) (objects : List (Object F I)) → All (λ o. o.id < x.id) objects → insert_object x objects ≡ objects ++ x ∷ []
+
+  abbrev pub NumbersStayRising : Type 0
+  NumbersStayRising =
+      (x : Object F I) (objects : List (Object F I)) → All (λ o. o.id ≢ x.id) objects
+      → AllPairs (λ a b. a.id < b.id) objects → AllPairs (λ a b. a.id < b.id) (insert_object x objects)
+
+  abbrev pub NewIsFound : Type 0
+  NewIsFound =
+      (x : Object F I) (objects : List (Object F I)) → All (λ o. o.id ≢ x.id) objects
+      → find (λ o. o.id == x.id) (insert_object x objects) ≡ Some x
+
+  -- any other number leads to what it led to, and there is one object more
+  abbrev pub OthersAreFound : Type 0
+  OthersAreFound =
+      (x : Object F I) (objects : List (Object F I)) (id : ℕ) → id ≢ x.id
+      → find (λ o. o.id == id) (insert_object x objects) ≡ find (λ o. o.id == id) objects
+
+  abbrev pub OneObjectMore : Type 0
+  OneObjectMore = (x : Object F I) (objects : List (Object F I)) → length (insert_object x objects) ≡ length objects + 1
 
 module _ (K T F I : Type 0) where
   -- found is the row of least stamp among those whose names are equal, and none where there is none

@@ -3,7 +3,7 @@
 --
 -- Sources: Windows Internals, Object Manager (object directories, handles and the process handle
 -- table, session namespace); the opening state, the counters and the limits are this profile.
-use Rattle.std.specs.Prelude.{ℕ, ◌-◌, ◌^◌, Bool, true, false, ◌&&◌, ◌==◌, List, Option, count_by}
+use Rattle.std.specs.Prelude.{ℕ, ◌-◌, ◌^◌, Bool, true, false, ◌&&◌, ◌==◌, nat_lt, if◌then◌else◌, List, [], ◌∷◌, Option, count_by}
 use Rattle.std.specs.List.{find}
 use Rattle.std.specs.Option.{option_map, is_some, option_map_or}
 use Rattle.ob_model.specs.declared.state.Body.{Body}
@@ -58,6 +58,17 @@ most_handles = 65535
 
 abbrev pub most_objects : ℕ
 most_objects = 1048576
+
+-- a list by rising numbers with one element more, in its order: before the first of a greater number
+abbrev pub in_order : {X : Type 0} → (X → ℕ) → X → List X → List X
+in_order number x [] = x ∷ []
+in_order number x (y ∷ ys) = if nat_lt (number x) (number y) then x ∷ y ∷ ys else y ∷ in_order number x ys
+
+-- The objects with one more, by rising numbers. A new number is mostly the greatest, and its object the
+-- last; but what a parse makes has the number of the parse's ticket, and objects that were made while the
+-- parse was pending have greater ones. So this asks only that no object has the number.
+abbrev pub insert_object : {F I : Type 0} → Object F I → List (Object F I) → List (Object F I)
+insert_object x objects = in_order (λ o. o.id) x objects
 
 -- whether a body is that of a directory
 abbrev pub is_directory_body : {F I : Type 0} → Body F I → Bool

@@ -5,6 +5,13 @@
 //! and the inner values of any set of types.
 
 ghost use Rattle.ob_model.specs.Laws.{
+  NewestIsLast,
+  NumbersStayRising,
+  NewIsFound,
+  OthersAreFound,
+  OneObjectMore,
+};
+ghost use Rattle.ob_model.specs.Laws.{
   SplitIsUnique,
   SplitJoinsBack,
   SubstitutedLength,
@@ -94,6 +101,17 @@ pub fn name_look_is_unique<K, T, F, I>()
 /// root handle, if any, is there.
 pub fn name_look_is_total<K, T, F, I>()
     ensures { NameLookIsTotal K T F I }
+{}
+
+/// An object more stands in order of numbers: it is the last where its number is the greatest; and where its
+/// number is free, numbers that rise still do, and it is found under its own. Any other number leads to what
+/// it led to.
+pub fn objects_stand_in_order<F, I>()
+    ensures last { NewestIsLast F I }
+    ensures rising { NumbersStayRising F I }
+    ensures found { NewIsFound F I }
+    ensures others { OthersAreFound F I }
+    ensures count { OneObjectMore F I }
 {}
 
 /// Settling a settled state changes nothing.

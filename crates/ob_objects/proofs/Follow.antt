@@ -2,7 +2,7 @@
 -- back.
 use Rattle.std.proofs.Common.{◌≡◌, ◌∙◌, ℕ, suc, ◌<◌, ◌==◌, Bool, true, false, cond, not, List, [], ◌∷◌, ◌++◌, filter, find, map, Option, None, Some, option_map, All, refl, ap, sym, subst, arith, append-nil, eq-eqb}
 use Rattle.std.proofs.lemmas.Bool.Decides.{nat_tests}
-use Rattle.std.proofs.lemmas.List.Elements.{All-nil, All-cons, All-head, All-tail, All-push, All-weaker, filter-append}
+use Rattle.std.proofs.lemmas.List.Elements.{All-nil, All-cons, All-head, All-tail, All-weaker, filter-append}
 use Rattle.std.proofs.lemmas.List.Kept.{AllPairs-cons}
 use Rattle.std.proofs.lemmas.Map.Keys.{sorted_head, sorted_tail}
 use Rattle.std.specs.declared.cmp.Ordering.TheVariants.{Less}
@@ -11,7 +11,11 @@ use Rattle.std.specs.List.Sorted.{IsStrictlySortedBy}
 use Rattle.std.specs.Map.{keys_of}
 use Rattle.std.specs.Option.{option_and_then, option_map_or}
 use Rattle.std.specs.Ordering.{nat_cmp}
-use Rattle.ob_model.proofs.Finds.{filter_all}
+use Rattle.ob_model.proofs.Finds.{find_none, not_found, filter_all}
+use Rattle.ob_model.proofs.InOrder.{in_order-back, in_order-map}
+use Rattle.ob_model.proofs.InOrder.{newest_is_last as last_in_order}
+use Rattle.ob_model.proofs.Soundness.{opened_object-id}
+use Rattle.ob_model.specs.State.{insert_object}
 use Rattle.ob_model.specs.declared.state.Object.{Object}
 use Rattle.ob_model.specs.declared.state.Row.{Row}
 use Rattle.ob_model.specs.Procedures.{Procedures, Reason}
@@ -23,18 +27,16 @@ use Rattle.ob_objects.specs.declared.object.StoredBody.{StoredBody}
 use Rattle.ob_objects.specs.declared.object.StoredBody.TheVariants.{Directory, Link, Other}
 use Rattle.ob_objects.specs.declared.object.StoredObject.{StoredObject}
 use Rattle.ob_objects.specs.Store.{Entries, stored_at, entries_in, body_of_stored, object_of_stored, objects_of, rows_in_turn}
-use Rattle.ob_objects.specs.Changes.{without_object, body_with_name, body_without_name, with_name, without_name}
-use Rattle.ob_objects.specs.Laws.{FoundIsStored, ObjectsAreAsMany, IdsRise, NewObjectIsTheLast, ObjectGoesAlone, NewestIsNewest, StoreWithObjectIsStore, RefusalIsTheMachines, SetAfterOpenIsTheMachines, SetAfterCloseIsTheMachines, NewObjectOpens, ObjectIsTakenBack, NameIsTakenBack, BothAreTakenBack}
+use Rattle.ob_objects.specs.Changes.{with_entry, without_object, body_with_name, body_without_name, with_name, without_name}
+use Rattle.ob_objects.specs.Laws.{FoundIsStored, ObjectsAreAsMany, IdsRise, NewObjectStandsInOrder, ObjectGoesAlone, NewestIsFree, NewestIsLast, StoreWithObjectIsStore, NewObjectIsStored, OthersStayStored, RefusalIsTheMachines, SetAfterOpenIsTheMachines, SetAfterCloseIsTheMachines, NewObjectOpens, ObjectIsTakenBack, NameIsTakenBack, BothAreTakenBack}
 use Rattle.ob_objects.proofs.ByStamp.{by_stamp-All}
+use Rattle.ob_objects.proofs.Entries.{stored_free, stored_new, stored_other, rising_with_entry, directories_with_entry}
 use Rattle.ob_objects.proofs.Shown.{find_object, all_parts, new_object_has_no_row, stored_is_object, opened_is_machines}
 
 -- ---- numbers
 
 less_is_below : (k y : ℕ) → nat_cmp k y ≡ Less → k < y
 less_is_below k y e = grind (arith, nat_tests)
-
-below_is_less : (k y : ℕ) → k < y → nat_cmp k y ≡ Less
-below_is_less k y below = grind (arith, nat_tests)
 
 below_differs : (k id : ℕ) → k < id → (k == id) ≡ false
 below_differs k id below = grind (arith, nat_tests)
@@ -75,9 +77,8 @@ module _ {F I : Type 0} where
 
   -- ---- an object comes, or goes
 
-  pub new_object_is_last : NewObjectIsTheLast F I
-  new_object_is_last [] id x = refl
-  new_object_is_last (e ∷ store) id x = ap (λ os. object_of_stored e.0 e.1 ∷ os) (new_object_is_last store id x)
+  pub new_object_in_order : NewObjectStandsInOrder F I
+  new_object_in_order store id x = in_order-map (λ e. e.0) (λ o. o.id) (λ e. object_of_stored e.0 e.1) (λ e. refl) (id, x) store
 
   pub object_goes_alone : ObjectGoesAlone F I
   object_goes_alone [] id = refl
@@ -89,45 +90,37 @@ module _ {F I : Type 0} where
       go true more = more
       go false more = ap (λ os. object_of_stored e.0 e.1 ∷ os) more
 
-  pub newest_is_newest : NewestIsNewest F I
-  newest_is_newest [] id below = All-nil (λ e. e.0 < id)
-  newest_is_newest (e ∷ store) id below =
+  ids_below : (store : Entries F I) (id : ℕ) → All (λ o. o.id < id) (objects_of store) → All (λ e. e.0 < id) store
+  ids_below [] id below = All-nil (λ e. e.0 < id)
+  ids_below (e ∷ store) id below =
       All-cons (λ (x : ℕ × StoredObject F I). x.0 < id) e store (All-head (λ (o : Object F I). o.id < id) (object_of_stored e.0 e.1) (objects_of store) below)
-      (newest_is_newest store id (All-tail (λ (o : Object F I). o.id < id) (object_of_stored e.0 e.1) (objects_of store) below))
+      (ids_below store id (All-tail (λ (o : Object F I). o.id < id) (object_of_stored e.0 e.1) (objects_of store) below))
 
-  keys_above : (k id : ℕ) (x : StoredObject F I) (store : Entries F I) → k < id → AllByRecursion (λ y. nat_cmp k y ≡ Less) (keys_of store)
-      → AllByRecursion (λ y. nat_cmp k y ≡ Less) (keys_of (store ++ (id, x) ∷ []))
-  keys_above k id x [] below above = (below_is_less k id below, tt)
-  keys_above k id x (e ∷ store) below above = (above.0, keys_above k id x store below above.1)
+  pub newest_is_free : NewestIsFree F I
+  newest_is_free store id below =
+      ap (option_map (λ (e : ℕ × StoredObject F I). e.1))
+      (find_none (λ e. e.0 == id) store
+      (All-weaker (λ (e : ℕ × StoredObject F I). e.0 < id) (λ (e : ℕ × StoredObject F I). (e.0 == id) ≡ false) (λ e less. below_differs e.0 id less) store (ids_below store id below)))
 
-  keys_rise : (store : Entries F I) (id : ℕ) (x : StoredObject F I) → All (λ e. e.0 < id) store
-      → IsStrictlySortedBy nat_cmp (keys_of store) → IsStrictlySortedBy nat_cmp (keys_of (store ++ (id, x) ∷ []))
-  unfolding IsStrictlySortedBy
-  keys_rise [] id x below rising = (tt, tt)
-  keys_rise (e ∷ store) id x below rising = (
-    keys_above e.0 id x store (All-head (λ (y : ℕ × StoredObject F I). y.0 < id) e store below) (sorted_head nat_cmp e.0 (keys_of store) rising),
-    keys_rise store id x (All-tail (λ (y : ℕ × StoredObject F I). y.0 < id) e store below) (sorted_tail nat_cmp e.0 (keys_of store) rising),
-  )
+  pub newest_is_last : NewestIsLast F I
+  newest_is_last store id x below = last_in_order (λ e. e.0) (id, x) store (ids_below store id below)
 
   pub store_with_object : StoreWithObjectIsStore F I
-  store_with_object store id x is below none = record {
-    rising = keys_rise store id x (newest_is_newest store id below) is.rising;
-    directories = All-push (λ e. IsDir (entries_in e.1.body)) store (id, x) is.directories (subst IsDir (sym none) none_is_dir);
+  store_with_object store id x is free none = record {
+    rising = rising_with_entry store id x free is.rising;
+    directories = directories_with_entry store id x (subst IsDir (sym none) none_is_dir) is.directories;
   }
 
-  -- ---- what came last is taken back
+  pub new_object_is_stored : NewObjectIsStored F I
+  new_object_is_stored store id x free = stored_new store id x free
 
-  others_stay : (store : Entries F I) (id : ℕ) → All (λ e. e.0 < id) store → All (λ e. not (e.0 == id) ≡ true) store
-  others_stay store id below =
-      All-weaker (λ (e : ℕ × StoredObject F I). e.0 < id) (λ (e : ℕ × StoredObject F I). not (e.0 == id) ≡ true) (λ e less. ap not (below_differs e.0 id less)) store below
+  pub others_stay_stored : OthersStayStored F I
+  others_stay_stored store id other x differ = stored_other store id other x differ
+
+  -- ---- what came is taken back
 
   pub object_taken_back : ObjectIsTakenBack F I
-  object_taken_back store id x below =
-      filter-append (λ (e : ℕ × StoredObject F I). not (e.0 == id)) store ((id, x) ∷ [])
-      ∙ ap (λ es. es ++ filter (λ (e : ℕ × StoredObject F I). not (e.0 == id)) ((id, x) ∷ []))
-      (filter_all (λ (e : ℕ × StoredObject F I). not (e.0 == id)) store (others_stay store id (newest_is_newest store id below)))
-      ∙ ap (λ t. store ++ cond (not t) ((id, x) ∷ []) []) (eq-eqb id id refl)
-      ∙ append-nil store
+  object_taken_back store id x free = in_order-back (λ e. e.0) (id, x) store (stored_free store id free)
 
   body_taken_back : (entry : DirEntry) (body : StoredBody F I) → All (λ e. e.stamp < entry.stamp) (entries_in body)
       → body_without_name entry.stamp (body_with_name entry body) ≡ body
@@ -171,18 +164,10 @@ module _ {F I : Type 0} where
   name_taken_back store d entry below = names_taken_back store d entry (by_stamp-All (λ r. r.stamp < entry.stamp) (rows_in_turn store) below)
 
   pub both_taken_back : BothAreTakenBack F I
-  both_taken_back store id x d entry none newest below =
-      ap (λ es. without_object es id) (name_taken_back (store ++ (id, x) ∷ []) d entry
+  both_taken_back store id x d entry none free below =
+      ap (λ es. without_object es id) (name_taken_back (with_entry store id x) d entry
       (subst (All (λ r. r.stamp < entry.stamp)) (sym (new_object_has_no_row store id x none)) below))
-      ∙ object_taken_back store id x newest
-
-  -- what came last is stored
-  stored_last : (store : Entries F I) (id : ℕ) (x : StoredObject F I) → All (λ e. e.0 < id) store → stored_at (store ++ (id, x) ∷ []) id ≡ Some x
-  stored_last [] id x below = ap (λ t. option_map (λ (e : ℕ × StoredObject F I). e.1) (cond t (Some (id, x)) None)) (eq-eqb id id refl)
-  stored_last (e ∷ store) id x below =
-      ap (λ t. option_map (λ (y : ℕ × StoredObject F I). y.1) (cond t (Some e) (find (λ y. y.0 == id) (store ++ (id, x) ∷ []))))
-      (below_differs e.0 id (All-head (λ (y : ℕ × StoredObject F I). y.0 < id) e store below))
-      ∙ stored_last store id x (All-tail (λ (y : ℕ × StoredObject F I). y.0 < id) e store below)
+      ∙ object_taken_back store id x free
 
 module _ {K T F I : Type 0} where
   -- ---- the set is asked as the machine asks it
@@ -215,23 +200,29 @@ module _ {K T F I : Type 0} where
       go None = refl
       go (Some x) = refl
 
-  -- ---- an object that came last is opened
+  -- ---- an object that came is opened
 
-  last_opened : (g : Procedures K T F I) (set : T) (reason : Reason) (os : List (Object F I)) (o : Object F I) → All (λ x. x.id < o.id) os
-      → map (opened_object g set o.id reason) (os ++ o ∷ []) ≡ os ++ record o { body = opened_body g set o.body reason } ∷ []
-  last_opened g set reason [] o below = ap (λ t. cond t (record o { body = opened_body g set o.body reason }) o ∷ []) (eq-eqb o.id o.id refl)
-  last_opened g set reason (x ∷ os) o below =
-      ap (λ t. cond t (record x { body = opened_body g set x.body reason }) x ∷ map (opened_object g set o.id reason) (os ++ o ∷ []))
-      (below_differs x.id o.id (All-head (λ (y : Object F I). y.id < o.id) x os below))
-      ∙ ap (λ xs. x ∷ xs) (last_opened g set reason os o (All-tail (λ (y : Object F I). y.id < o.id) x os below))
+  -- the others stay as they are
+  others_unopened : (g : Procedures K T F I) (set : T) (reason : Reason) (id : ℕ) (os : List (Object F I)) → All (λ x. (x.id == id) ≡ false) os
+      → map (opened_object g set id reason) os ≡ os
+  others_unopened g set reason id [] other = refl
+  others_unopened g set reason id (x ∷ os) other =
+      ap (λ t. cond t (record x { body = opened_body g set x.body reason }) x ∷ map (opened_object g set id reason) os) (All-head (λ (y : Object F I). (y.id == id) ≡ false) x os other)
+      ∙ ap (λ xs. x ∷ xs) (others_unopened g set reason id os (All-tail (λ (y : Object F I). (y.id == id) ≡ false) x os other))
+
+  new_opened : (g : Procedures K T F I) (set : T) (reason : Reason) (os : List (Object F I)) (o : Object F I) → All (λ x. (x.id == o.id) ≡ false) os
+      → map (opened_object g set o.id reason) (insert_object o os) ≡ insert_object (record o { body = opened_body g set o.body reason }) os
+  new_opened g set reason os o free =
+      in_order-map (λ x. x.id) (λ x. x.id) (opened_object g set o.id reason) (opened_object-id g set o.id reason) o os
+      ∙ (λ i. insert_object (cond (eq-eqb o.id o.id refl i) (record o { body = opened_body g set o.body reason }) o) (others_unopened g set reason o.id os free i))
 
   pub new_object_opens : NewObjectOpens K T F I
-  new_object_opens g store set id x reason below = (
-    (opened_is_machines g (store ++ (id, x) ∷ []) set id reason).0
-        ∙ ap (map (opened_object g set id reason)) (new_object_is_last store id x)
-        ∙ last_opened g set reason (objects_of store) (object_of_stored id x) below,
-    ap (option_and_then (λ (y : StoredObject F I). open_refusal_of g set (body_of_stored y.body) reason)) (stored_last store id x (newest_is_newest store id below)),
-    ap (λ (o : Option (StoredObject F I)). option_map_or (λ y. opened_set g set (body_of_stored y.body) reason) o set) (stored_last store id x (newest_is_newest store id below)),
+  new_object_opens g store set id x reason free = (
+    (opened_is_machines g (with_entry store id x) set id reason).0
+        ∙ ap (map (opened_object g set id reason)) (new_object_in_order store id x)
+        ∙ new_opened g set reason (objects_of store) (object_of_stored id x) (not_found (λ o. o.id == id) (objects_of store) (find_object store id ∙ ap (option_map (object_of_stored id)) free)),
+    ap (option_and_then (λ (y : StoredObject F I). open_refusal_of g set (body_of_stored y.body) reason)) (stored_new store id x free),
+    ap (λ (o : Option (StoredObject F I)). option_map_or (λ y. opened_set g set (body_of_stored y.body) reason) o set) (stored_new store id x free),
   )
 
 -- what is told of the object that is stored is told of the object in the state

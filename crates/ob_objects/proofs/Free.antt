@@ -13,6 +13,7 @@ use Rattle.ob_objects.specs.declared.object.StoredBody.TheVariants.{Directory, L
 use Rattle.ob_objects.specs.declared.object.StoredObject.{StoredObject}
 use Rattle.ob_objects.specs.Store.{stored_at, directory_of, entries_at, body_of_stored, object_of_stored}
 use Rattle.ob_objects.specs.Laws.{NameMayBeInserted}
+use Rattle.ob_objects.proofs.Entries.{nothing_mapped}
 use Rattle.ob_objects.proofs.Shown.{stored_is_object, store_finds, rows_are_entries}
 use Rattle.ob_objects.proofs.Follow.{entries_of_rows}
 
@@ -37,10 +38,6 @@ none_named (e ∷ es) name fold none = go (is_named name fold e) refl none (none
     go false other none more =
         All-cons (λ x. x.name ≢ name) e es (λ same. false≢true (sym other ∙ ap (λ n. same_name fold n name) same ∙ own_name fold name)) (more none)
 
-no_row : {X Y : Type 0} (f : X → Y) (o : Option X) → option_map f o ≡ None → o ≡ None
-no_row f None e = refl
-no_row f (Some x) e = cc
-
 directory_stands : {F I : Type 0} (d : ℕ) (o : Option (StoredObject F I))
     → option_map_or is_directory_body (option_map (λ (x : Object F I). x.body) (option_map (object_of_stored d) o)) false ≡ true → IsSome (option_and_then (λ x. directory_of x.body) o)
 directory_stands d None is = absurd (false≢true is)
@@ -58,6 +55,6 @@ name_may_be_inserted {K} {T} {F} {I} s store is shows d name fold stamp there no
     (All-filter (λ r. r.directory == d) (λ r. r.stamp < stamp) s.rows newest) in (
       directory_stands d (stored_at store d)
           (sym (ap (λ o. option_map_or is_directory_body (option_map (λ (x : Object F I). x.body) o) false) (stored_is_object s store shows d)) ∙ there),
-      none_named (entries_at store d) name fold (no_row (row_of d) (entry_found (entries_at store d) name fold) (sym (store_finds s store is shows d name fold) ∙ none)),
+      none_named (entries_at store d) name fold (nothing_mapped (row_of d) (entry_found (entries_at store d) name fold) (sym (store_finds s store is shows d name fold) ∙ none)),
       entries_of_rows (λ r. r.stamp < stamp) d (entries_at store d) below,
     )

@@ -1,4 +1,5 @@
 pub mod ByStamp
+pub mod Entries
 pub mod Written
 pub mod Bodies
 pub mod Shown

@@ -1,6 +1,6 @@
 -- The objects and the rows of a store: those of each directory, and what changes of the store make of
 -- them.
-use Rattle.std.proofs.Common.{◌≡◌, ◌∙◌, ℕ, ◌<◌, ◌==◌, ◌&&◌, Bool, true, false, cond, not, List, [], ◌∷◌, ◌++◌, filter, find, map, Some, option_map, All, IsSome, refl, ap, sym, subst, eqb-true, append_assoc, append-nil, arith}
+use Rattle.std.proofs.Common.{◌≡◌, ◌∙◌, ℕ, ◌<◌, ◌==◌, ◌&&◌, Bool, true, false, cond, not, nat_lt, List, [], ◌∷◌, ◌++◌, filter, find, map, Some, option_map, All, IsSome, refl, ap, sym, subst, eqb-true, append_assoc, append-nil, arith}
 use Rattle.std.proofs.lemmas.Bool.{false≢true}
 use Rattle.std.proofs.lemmas.List.Elements.{All-nil, All-cons, All-head, All-tail, filter-append}
 use Rattle.std.specs.Option.{option_and_then, unwrap_or}
@@ -19,7 +19,7 @@ use Rattle.ob_objects.specs.declared.object.StoredBody.TheVariants.{Directory, L
 use Rattle.ob_objects.specs.declared.object.StoredObject.{StoredObject}
 use Rattle.ob_objects.specs.Rows.{by_stamp}
 use Rattle.ob_objects.specs.Store.{Entries, stored_at, directory_of, directory_at, entries_in, entries_at, body_of_stored, object_of_stored, objects_of, rows_in_turn, rows_of}
-use Rattle.ob_objects.specs.Changes.{changed_at, without_object, body_with_name, body_without_name, with_name, without_name, stored_opened, stored_closed}
+use Rattle.ob_objects.specs.Changes.{with_entry, changed_at, without_object, body_with_name, body_without_name, with_name, without_name, stored_opened, stored_closed}
 use Rattle.ob_objects.specs.Laws.{StoredIsTheObject, StoreFindsWhatTheStateFinds, OpenedIsTheMachines, ClosedIsTheMachines, RowsAreByStamp, RowsAreTheEntries, NewObjectHasNoRow, RowsGoWithTheirDirectory, NewNameIsTheLastRow, RowGoesWithItsName, NamesChangeNoObject, PermanenceIsTheObjects}
 use Rattle.ob_objects.proofs.ByStamp.{Rises, ComesFirst, by_stamp-Rises, by_stamp-same, filter-by_stamp, by_stamp-All, by_stamp-last, AreByStamp-from_Rises}
 use Rattle.ob_model.proofs.Ids.{Differ, Differ-from_rising, changed, changed-none}
@@ -104,9 +104,17 @@ module _ {F I : Type 0} where
       ap (λ rs. map (row_of x.0) (entries_in x.1.body) ++ rs) (rows_in_turn-append xs ys)
       ∙ sym (append_assoc (map (row_of x.0) (entries_in x.1.body)) (rows_in_turn xs) (rows_in_turn ys))
 
+  no_row_more : (store : Entries F I) (id : ℕ) (x : StoredObject F I) → entries_in x.body ≡ [] → rows_in_turn (with_entry store id x) ≡ rows_in_turn store
+  no_row_more [] id x none = ap (λ es. map (row_of id) es ++ []) none
+  no_row_more (e ∷ store) id x none = go (nat_lt id e.0) (no_row_more store id x none)
+    where
+      go : (t : Bool) → rows_in_turn (with_entry store id x) ≡ rows_in_turn store
+          → rows_in_turn (cond t ((id, x) ∷ e ∷ store) (e ∷ with_entry store id x)) ≡ rows_in_turn (e ∷ store)
+      go true more = ap (λ es. map (row_of id) es ++ rows_in_turn (e ∷ store)) none
+      go false more = ap (λ rs. map (row_of e.0) (entries_in e.1.body) ++ rs) more
+
   pub new_object_has_no_row : NewObjectHasNoRow F I
-  new_object_has_no_row store id x none =
-      ap by_stamp (rows_in_turn-append store ((id, x) ∷ []) ∙ ap (λ es. rows_in_turn store ++ (map (row_of id) es ++ [])) none ∙ append-nil (rows_in_turn store))
+  new_object_has_no_row store id x none = ap by_stamp (no_row_more store id x none)
 
   without_object-rows : (store : Entries F I) (id : ℕ) → rows_in_turn (without_object store id) ≡ filter (λ r. not (r.directory == id)) (rows_in_turn store)
   without_object-rows [] id = refl

@@ -1,7 +1,7 @@
 -- What a map's calls make of a store. Each lemma has the map's entries inside the store, the store as
 -- it is seen, and the key that is the id.
-use Rattle.std.proofs.Common.{◌≡◌, ◌∙◌, ℕ, ◌<◌, ◌==◌, Bool, true, false, cond, not, List, [], ◌∷◌, ◌++◌, Option, None, Some, Result, Ok, Err, OnErr, All, ap, sym, subst}
-use Rattle.std.proofs.lemmas.List.Elements.{All-head, All-tail, All-cons, All-push, All-filter}
+use Rattle.std.proofs.Common.{◌≡◌, ◌∙◌, ℕ, ◌==◌, Bool, true, false, cond, not, List, [], ◌∷◌, Option, None, Some, Result, Ok, Err, OnErr, All, ap, sym, subst}
+use Rattle.std.proofs.lemmas.List.Elements.{All-head, All-tail, All-cons, All-filter}
 use Rattle.std.proofs.lemmas.Map.{keys-set_value}
 use Rattle.std.proofs.lemmas.Map.Entries.{All-lookup}
 use Rattle.std.proofs.lemmas.Map.Steps.{set_value_same}
@@ -17,8 +17,9 @@ use Rattle.ob_dirs.specs.declared.entry.DirEntry.{DirEntry}
 use Rattle.ob_dirs.specs.Dir.{IsDir}
 use Rattle.ob_objects.specs.declared.object.StoredObject.{StoredObject}
 use Rattle.ob_objects.specs.Store.{Entries, IsStore, stored_at, directory_of, directory_at, entries_in, entries_at, body_of_stored}
-use Rattle.ob_objects.specs.Changes.{changed_at, without_object, refusal_to_open, set_after_open, set_after_close}
-use Rattle.ob_model.proofs.Ids.{Differ-from_rising, lookup-id, insert_entry-last, remove_entry-id, changed-absent, set_value-id}
+use Rattle.ob_objects.specs.Changes.{with_entry, changed_at, without_object, refusal_to_open, set_after_open, set_after_close}
+use Rattle.ob_objects.proofs.Entries.{insert_entry-in_order, stored_free, directories_with_entry}
+use Rattle.ob_model.proofs.Ids.{Differ-from_rising, lookup-id, remove_entry-id, changed-absent, set_value-id}
 
 -- what an error leaves follows from what else it leaves, and from what holds in any case
 pub on_error : {X E : Type 0} (P Q : Type 0) (r : Result X E) → (P → Q) → OnErr r P → OnErr r Q
@@ -54,17 +55,17 @@ module _ {F I : Type 0} where
 
   -- ---- an object comes, or goes
 
-  pub inserted_last : (new inside now : Entries F I) (key id : ℕ) (x : StoredObject F I)
-      → new ≡ insert_entry nat_cmp inside key x → inside ≡ now → key ≡ id → All (λ e. e.0 < id) now → new ≡ now ++ (id, x) ∷ []
-  inserted_last new inside now key id x e same is_id newest =
-      e ∙ ap (λ es. insert_entry nat_cmp es key x) same ∙ ap (λ k. insert_entry nat_cmp now k x) is_id ∙ insert_entry-last id x now newest
+  pub inserted_put : (new inside now : Entries F I) (key id : ℕ) (x : StoredObject F I)
+      → new ≡ insert_entry nat_cmp inside key x → inside ≡ now → key ≡ id → stored_at now id ≡ None → new ≡ with_entry now id x
+  inserted_put new inside now key id x e same is_id free =
+      e ∙ ap (λ es. insert_entry nat_cmp es key x) same ∙ ap (λ k. insert_entry nat_cmp now k x) is_id ∙ insert_entry-in_order id x now (stored_free now id free)
 
   pub inserted_store : (new inside now : Entries F I) (id : ℕ) (x : StoredObject F I)
-      → IsStore inside → inside ≡ now → new ≡ now ++ (id, x) ∷ [] → IsStrictlySortedBy nat_cmp (keys_of new) → IsDir (entries_in x.body) → IsStore new
-  inserted_store new inside now id x is same last rising dir = record {
+      → IsStore inside → inside ≡ now → new ≡ with_entry now id x → IsStrictlySortedBy nat_cmp (keys_of new) → IsDir (entries_in x.body) → IsStore new
+  inserted_store new inside now id x is same put rising dir = record {
     rising = rising;
-    directories = subst (All (λ e. IsDir (entries_in e.1.body))) (sym last)
-        (All-push (λ e. IsDir (entries_in e.1.body)) now (id, x) (subst (All (λ e. IsDir (entries_in e.1.body))) same is.directories) dir);
+    directories = subst (All (λ e. IsDir (entries_in e.1.body))) (sym put)
+        (directories_with_entry now id x dir (subst (All (λ e. IsDir (entries_in e.1.body))) same is.directories));
   }
 
   pub removed_without : (new inside now : Entries F I) (key id : ℕ)

@@ -3,6 +3,7 @@
 -- Source: this profile.
 use Rattle.std.specs.Prelude.{ℕ, Bool, ◌==◌, not, if◌then◌else◌, [], ◌∷◌, ◌++◌, filter, map, Option}
 use Rattle.std.specs.Option.{option_and_then, option_map_or}
+use Rattle.ob_model.specs.State.{in_order}
 use Rattle.ob_model.specs.Procedures.{Procedures, Reason}
 use Rattle.ob_model.specs.Grants.{open_refusal_of, opened_set}
 use Rattle.ob_model.specs.Closing.{closed_set}
@@ -13,6 +14,10 @@ use Rattle.ob_objects.specs.declared.object.StoredObject.{StoredObject}
 use Rattle.ob_objects.specs.Store.{Entries, stored_at, body_of_stored}
 
 module _ {F I : Type 0} where
+  -- the store with an object more, in order of ids
+  abbrev pub with_entry : Entries F I → ℕ → StoredObject F I → Entries F I
+  with_entry store id x = in_order (λ e. e.0) (id, x) store
+
   -- the store with the object of an id changed, where there is one
   abbrev pub changed_at : ℕ → (StoredObject F I → StoredObject F I) → Entries F I → Entries F I
   changed_at id change store = map (λ e. if e.0 == id then (e.0, change e.1) else e) store

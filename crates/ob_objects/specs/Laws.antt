@@ -1,10 +1,10 @@
 -- How a store and the state that shows it go together: the statements of the law functions in
 -- src/laws.rt.
-use Rattle.std.specs.Prelude.{◌≡◌, ◌≢◌, ℕ, ◌<◌, Bool, true, ◌&&◌, ◌==◌, not, if◌then◌else◌, List, [], ◌∷◌, ◌++◌, length, None, All, filter, map, IsSome}
+use Rattle.std.specs.Prelude.{◌≡◌, ◌≢◌, ℕ, ◌<◌, Bool, true, ◌&&◌, ◌==◌, not, if◌then◌else◌, List, [], ◌∷◌, ◌++◌, length, None, Some, All, filter, map, IsSome}
 use Rattle.std.specs.List.{AllPairs, find}
 use Rattle.std.specs.Option.{option_map, option_map_or}
 use Rattle.ob_model.specs.declared.state.Object.{Object}
-use Rattle.ob_model.specs.State.{State, object_of, body_of, is_directory}
+use Rattle.ob_model.specs.State.{State, insert_object, object_of, body_of, is_directory}
 use Rattle.ob_model.specs.Paths.{found}
 use Rattle.ob_model.specs.Procedures.{Procedures, Reason}
 use Rattle.ob_model.specs.Grants.{open_refusal_of, open_refusal, opened_object, opened_body, opened_set, with_open}
@@ -14,7 +14,7 @@ use Rattle.ob_dirs.specs.Dir.{AreEntries, entry_found, row_of}
 use Rattle.ob_objects.specs.declared.object.StoredObject.{StoredObject}
 use Rattle.ob_objects.specs.Rows.{AreByStamp}
 use Rattle.ob_objects.specs.Store.{Entries, IsStore, Shows, stored_at, directory_at, entries_at, entries_in, body_of_stored, object_of_stored, objects_of, rows_of}
-use Rattle.ob_objects.specs.Changes.{without_object, with_name, without_name, with_permanence, refusal_to_open, with_opened, set_after_open, with_closed, set_after_close}
+use Rattle.ob_objects.specs.Changes.{with_entry, without_object, with_name, without_name, with_permanence, refusal_to_open, with_opened, set_after_open, with_closed, set_after_close}
 
 module _ (K T F I : Type 0) where
   -- the object of a number is what is stored under it
@@ -62,16 +62,16 @@ module _ (K T F I : Type 0) where
       → (id process_left system_left : ℕ)
       → set_after_close g store s.set id process_left system_left ≡ option_map_or (closed_set g s.set process_left system_left) (body_of s id) s.set
 
-  -- an object that came last is opened as its body says: the others stay, and the set says of it what
-  -- it says of the body
+  -- an object that came under a free id is opened as its body says: the others stay, and the set says of
+  -- it what it says of the body
   abbrev pub NewObjectOpens : Type 0
   NewObjectOpens =
       (g : Procedures K T F I) (store : Entries F I) (set : T) (id : ℕ) (x : StoredObject F I) (reason : Reason)
-      → All (λ o. o.id < id) (objects_of store)
-      → (objects_of (with_opened g (store ++ (id, x) ∷ []) set id reason)
-      ≡ objects_of store ++ record (object_of_stored id x) { body = opened_body g set (body_of_stored x.body) reason } ∷ [])
-      × (refusal_to_open g (store ++ (id, x) ∷ []) set id reason ≡ open_refusal_of g set (body_of_stored x.body) reason)
-      × (set_after_open g (store ++ (id, x) ∷ []) set id reason ≡ opened_set g set (body_of_stored x.body) reason)
+      → stored_at store id ≡ None
+      → (objects_of (with_opened g (with_entry store id x) set id reason)
+      ≡ insert_object (record (object_of_stored id x) { body = opened_body g set (body_of_stored x.body) reason }) (objects_of store))
+      × (refusal_to_open g (with_entry store id x) set id reason ≡ open_refusal_of g set (body_of_stored x.body) reason)
+      × (set_after_open g (with_entry store id x) set id reason ≡ opened_set g set (body_of_stored x.body) reason)
 
   -- where the state finds nothing in a directory, a name of these bytes may be put there, with a stamp
   -- above those of all rows
@@ -97,31 +97,45 @@ module _ (F I : Type 0) where
   abbrev pub IdsRise : Type 0
   IdsRise = (store : Entries F I) → IsStore store → AllPairs (λ a b. a.id < b.id) (objects_of store)
 
-  -- a further object is the last one, and one that is taken out goes alone
-  abbrev pub NewObjectIsTheLast : Type 0
-  NewObjectIsTheLast =
+  -- a further object stands in order of ids, and one that is taken out goes alone
+  abbrev pub NewObjectStandsInOrder : Type 0
+  NewObjectStandsInOrder =
       (store : Entries F I) (id : ℕ) (x : StoredObject F I)
-      → objects_of (store ++ (id, x) ∷ []) ≡ objects_of store ++ object_of_stored id x ∷ []
+      → objects_of (with_entry store id x) ≡ insert_object (object_of_stored id x) (objects_of store)
 
   abbrev pub ObjectGoesAlone : Type 0
   ObjectGoesAlone =
       (store : Entries F I) (id : ℕ) → objects_of (without_object store id) ≡ filter (λ o. not (o.id == id)) (objects_of store)
 
-  -- an id above those of all objects is above those of the store
-  abbrev pub NewestIsNewest : Type 0
-  NewestIsNewest = (store : Entries F I) (id : ℕ) → All (λ o. o.id < id) (objects_of store) → All (λ e. e.0 < id) store
+  -- an id above those of all objects is free, and its object is the last
+  abbrev pub NewestIsFree : Type 0
+  NewestIsFree = (store : Entries F I) (id : ℕ) → All (λ o. o.id < id) (objects_of store) → stored_at store id ≡ None
 
-  -- a store with an object more, in which no entry lies, is a store
+  abbrev pub NewestIsLast : Type 0
+  NewestIsLast =
+      (store : Entries F I) (id : ℕ) (x : StoredObject F I) → All (λ o. o.id < id) (objects_of store)
+      → with_entry store id x ≡ store ++ (id, x) ∷ []
+
+  -- a store with an object more, under a free id and with no entry in it, is a store
   abbrev pub StoreWithObjectIsStore : Type 0
   StoreWithObjectIsStore =
-      (store : Entries F I) (id : ℕ) (x : StoredObject F I) → IsStore store → All (λ o. o.id < id) (objects_of store)
-      → entries_in x.body ≡ [] → IsStore (store ++ (id, x) ∷ [])
+      (store : Entries F I) (id : ℕ) (x : StoredObject F I) → IsStore store → stored_at store id ≡ None
+      → entries_in x.body ≡ [] → IsStore (with_entry store id x)
 
-  -- an object that came last, a name that came last, and both of them can be taken back
+  -- the object of a free id is stored under it, and under the others is what was there
+  abbrev pub NewObjectIsStored : Type 0
+  NewObjectIsStored = (store : Entries F I) (id : ℕ) (x : StoredObject F I) → stored_at store id ≡ None → stored_at (with_entry store id x) id ≡ Some x
+
+  abbrev pub OthersStayStored : Type 0
+  OthersStayStored =
+      (store : Entries F I) (id other : ℕ) (x : StoredObject F I) → other ≢ id
+      → stored_at (with_entry store id x) other ≡ stored_at store other
+
+  -- an object that came under a free id, a name that came last, and both of them can be taken back
   abbrev pub ObjectIsTakenBack : Type 0
   ObjectIsTakenBack =
-      (store : Entries F I) (id : ℕ) (x : StoredObject F I) → All (λ o. o.id < id) (objects_of store)
-      → without_object (store ++ (id, x) ∷ []) id ≡ store
+      (store : Entries F I) (id : ℕ) (x : StoredObject F I) → stored_at store id ≡ None
+      → without_object (with_entry store id x) id ≡ store
 
   abbrev pub NameIsTakenBack : Type 0
   NameIsTakenBack =
@@ -131,8 +145,8 @@ module _ (F I : Type 0) where
   abbrev pub BothAreTakenBack : Type 0
   BothAreTakenBack =
       (store : Entries F I) (id : ℕ) (x : StoredObject F I) (directory : ℕ) (entry : DirEntry)
-      → entries_in x.body ≡ [] → All (λ o. o.id < id) (objects_of store) → All (λ r. r.stamp < entry.stamp) (rows_of store)
-      → without_object (without_name (with_name (store ++ (id, x) ∷ []) directory entry) directory entry.stamp) id ≡ store
+      → entries_in x.body ≡ [] → stored_at store id ≡ None → All (λ r. r.stamp < entry.stamp) (rows_of store)
+      → without_object (without_name (with_name (with_entry store id x) directory entry) directory entry.stamp) id ≡ store
 
   -- the rows of a store are by rising stamps
   abbrev pub RowsAreByStamp : Type 0
@@ -146,7 +160,7 @@ module _ (F I : Type 0) where
   abbrev pub NewObjectHasNoRow : Type 0
   NewObjectHasNoRow =
       (store : Entries F I) (id : ℕ) (x : StoredObject F I) → entries_in x.body ≡ []
-      → rows_of (store ++ (id, x) ∷ []) ≡ rows_of store
+      → rows_of (with_entry store id x) ≡ rows_of store
 
   -- with an object go the rows that stand in it, and no others
   abbrev pub RowsGoWithTheirDirectory : Type 0

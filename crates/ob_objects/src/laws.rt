@@ -22,10 +22,13 @@ ghost use Rattle.ob_objects.specs.Laws.{
   FoundIsStored,
   ObjectsAreAsMany,
   IdsRise,
-  NewObjectIsTheLast,
+  NewObjectStandsInOrder,
   ObjectGoesAlone,
-  NewestIsNewest,
+  NewestIsFree,
+  NewestIsLast,
   StoreWithObjectIsStore,
+  NewObjectIsStored,
+  OthersStayStored,
   NameMayBeInserted,
   RefusalIsTheMachines,
   SetAfterOpenIsTheMachines,
@@ -87,13 +90,24 @@ pub fn objects_are_stored<F, I>()
     ensures rising { IdsRise F I }
 {}
 
-/// The objects follow what is stored as it comes and goes: a new one of the greatest id is the last,
-/// and what is left is a store; one that is taken out goes alone.
+/// The objects follow what is stored as it comes and goes: a new one of a free id stands in order of
+/// ids, and what is left is a store; one that is taken out goes alone.
 pub fn objects_follow<F, I>()
-    ensures new { NewObjectIsTheLast F I }
+    ensures new { NewObjectStandsInOrder F I }
     ensures gone { ObjectGoesAlone F I }
-    ensures newest { NewestIsNewest F I }
     ensures store { StoreWithObjectIsStore F I }
+{}
+
+/// An object that comes under a free id is stored under it, and the others stay as they are.
+pub fn a_new_object_is_stored<F, I>()
+    ensures new { NewObjectIsStored F I }
+    ensures others { OthersStayStored F I }
+{}
+
+/// An id above those of all objects is free, and its object is the last of the store.
+pub fn the_newest_is_the_last<F, I>()
+    ensures free { NewestIsFree F I }
+    ensures last { NewestIsLast F I }
 {}
 
 /// Where the state finds nothing in a directory, with `fold` or without, a name of these bytes may be
@@ -110,12 +124,13 @@ pub fn set_is_the_machines<K, T, F, I>()
     ensures closed { SetAfterCloseIsTheMachines K T F I }
 {}
 
-/// An object that came last is opened as its body says, and the others stay.
+/// An object that came under a free id is opened as its body says, and the others stay.
 pub fn a_new_object_opens<K, T, F, I>()
     ensures { NewObjectOpens K T F I }
 {}
 
-/// What came last can be taken back: an object, a name, and an object with a name.
+/// What came can be taken back: an object of a free id, a name that came last, and an object with such
+/// a name.
 pub fn what_came_last_is_taken_back<F, I>()
     ensures object { ObjectIsTakenBack F I }
     ensures name { NameIsTakenBack F I }

@@ -1,6 +1,6 @@
 //! The store.
 
-ghost use Rattle.std.specs.Prelude.{◌≡◌, ◌≢◌, ◌<◌, ◌==◌, [], ◌∷◌, ◌++◌, length, None, Some};
+ghost use Rattle.std.specs.Prelude.{◌≡◌, ◌≢◌, ◌<◌, ◌==◌, [], length, None, Some};
 ghost use Rattle.std.specs.Prelude.{All, IsSome, IfOk, IfErr, OnErr};
 ghost use Rattle.std.specs.Prelude.{false};
 ghost use Rattle.std.specs.List.{find, list_any};
@@ -10,7 +10,7 @@ ghost use Rattle.ob_types.specs.Told.{reason_of};
 ghost use Rattle.ob_objects.specs.Store.{IsStore, stored_at, directory_at, entries_at};
 ghost use Rattle.ob_objects.specs.Store.{objects_of, rows_of};
 ghost use Rattle.ob_objects.specs.Named.{row_of_named, FindsName, FindsLast};
-ghost use Rattle.ob_objects.specs.Changes.{without_object, with_name, without_name, with_permanence};
+ghost use Rattle.ob_objects.specs.Changes.{with_entry, without_object, with_name, without_name, with_permanence};
 ghost use Rattle.ob_objects.specs.Changes.{
   refusal_to_open,
   with_opened,
@@ -172,16 +172,19 @@ impl<T: TypeSet> Store<T> {
         None
     }
 
-    /// Stores an object under an id, which must be above all ids of the store.
+    /// Stores an object under an id that no object has; it stands in order of ids, before the first of a
+    /// greater one.
     ///
     /// The only fault is `Memory`; then the object is dropped and nothing has changed.
+    ///
+    /// Source: the ids are this profile.
     pub fn insert(
         &mut self,
         id: ObjId,
         object: StoredObject<T::Face, T::Inner>,
     ) -> Result<(), Fault>
-        requires newest { All (λ e. e.0 < id) self.old }
-        ensures last { IfOk result (λ _. self.new ≡ self.old ++ (id, object) ∷ []) }
+        requires free { stored_at self.old id ≡ None }
+        ensures put { IfOk result (λ _. self.new ≡ with_entry self.old id object) }
         ensures memory { IfErr result (λ fault. fault ≡ Fault.Memory) }
         ensures unchanged { OnErr result (self.new ≡ self.old) }
     {

@@ -1,8 +1,7 @@
 //! A small store, and each law at a concrete set of types.
 
-ghost use Rattle.std.specs.Prelude.{◌≡◌, [], Some, IfOk};
-ghost use Rattle.std.specs.Prelude.{◌<◌, All};
-ghost use Rattle.ob_objects.specs.Store.{directory_at};
+ghost use Rattle.std.specs.Prelude.{◌≡◌, [], None, Some, IfOk};
+ghost use Rattle.ob_objects.specs.Store.{stored_at, directory_at};
 
 use ob_base::ObjId;
 use ob_dirs::Dir;
@@ -44,7 +43,8 @@ fn link(alloc: Global, target: &[u8]) -> Result<Stored, Fail> {
 // A store of a directory, 1, a link, 2, and an event, 5.
 fn three(alloc: Global) -> Result<Store<Standard>, Fail>
     ensures directory { IfOk result (λ store. directory_at store 1 ≡ Some []) }
-    ensures ids { IfOk result (λ store. All (λ e. e.0 < 6) store) }
+    ensures free { IfOk result (λ store. stored_at store 6 ≡ None) }
+    ensures between { IfOk result (λ store. stored_at store 3 ≡ None) }
 {
     let mut store = Store::new(alloc);
     store.insert(ObjId(1), temporary(StoredBody::Directory(Dir::new(alloc))))?;
@@ -172,6 +172,27 @@ fn the_last_object_is_sought(rt: HostRuntime) -> Result<(), Fail> {
     Ok(())
 }
 
+// What a ticket that was drawn before stands for comes behind younger objects, and stands before them.
+#[test]
+fn a_lower_id_stands_in_order(rt: HostRuntime) -> Result<(), Fail> {
+    let alloc = rt.alloc();
+    let mut store = three(alloc)?;
+    store.insert(ObjId(3), temporary(StoredBody::directory(alloc)))?;
+    assert_eq!(rt; store.len(), 4);
+    assert!(rt; store.is_directory(ObjId(3)));
+    assert!(rt; !store.is_directory(ObjId(5)));
+    let last = store.last_where(|_| true);
+    let before = store.last_where(|id| id != ObjId(5));
+    let first = store.last_where(|id| id != ObjId(5) && id != ObjId(3));
+    assert_eq!(rt; last, Some(ObjId(5)));
+    assert_eq!(rt; before, Some(ObjId(3)));
+    assert_eq!(rt; first, Some(ObjId(2)));
+    assert!(rt; store.remove(ObjId(3)).is_some());
+    assert!(rt; store.get(ObjId(3)).is_none());
+    assert_eq!(rt; store.len(), 3);
+    Ok(())
+}
+
 #[test]
 fn an_object_tells_what_it_is(rt: HostRuntime) -> Result<(), Fail> {
     let alloc = rt.alloc();
@@ -233,6 +254,8 @@ fn laws_hold_at_a_concrete_set(_rt: HostRuntime) {
     laws::permanence_is_the_objects::<u32, u64>();
     laws::objects_are_stored::<u32, u64>();
     laws::objects_follow::<u32, u64>();
+    laws::a_new_object_is_stored::<u32, u64>();
+    laws::the_newest_is_the_last::<u32, u64>();
     laws::a_name_may_be_inserted::<u8, u16, u32, u64>();
     laws::set_is_the_machines::<u8, u16, u32, u64>();
     laws::a_new_object_opens::<u8, u16, u32, u64>();

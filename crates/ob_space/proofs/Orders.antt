@@ -22,6 +22,7 @@ use Rattle.ob_model.specs.Settle.{settle, is_alive, is_kept, is_permanent, has_h
 use Rattle.ob_model.specs.Grants.{with_open, with_handle, opened_object, opened_body, IsFreeValue}
 use Rattle.ob_model.specs.Closing.{is_handle, without_handle, closed_handle, closed_object, closed_body}
 use Rattle.ob_model.specs.Creates.{Spot, new_rows, with_object, with_row}
+use Rattle.ob_model.proofs.InOrder.{newest_is_free, in_order-All, in_order-rising}
 use Rattle.ob_model.proofs.Soundness.{root_stands, opened_root, closed_root, opened_object-id, closed_object-id, is_directory-with_object}
 use Rattle.ob_model.proofs.Finds.{filter_all, filter_none}
 use Rattle.ob_space.specs.Orderly.{IsIdleBody, is_held, IsIdleUnheld, IsNamedPermanent, IsOrderly}
@@ -302,17 +303,16 @@ module _ {K T F I : Type 0} (idle : I → Type 0) (s : State K T F I) (orderly :
       let handle : Held = record { process = p; value = value; object = s.next_id; inherit = inherit; order = s.next_order } in
       let t : State K T F I = record s { rows = s.rows ++ new_rows spot s.next_stamp s.next_id } in
       record {
-        root = is_directory-with_object s body permanent exclusive root_id orderly.root;
-        rising = all_pairs_push (λ a b. a.id < b.id) s.objects new orderly.rising orderly.drawn;
-        drawn = All-push (λ x. x.id < s.next_id + 1) s.objects new (All-weaker (λ x. x.id < s.next_id) (λ x. x.id < s.next_id + 1) (λ x less. omega (arith, less)) s.objects orderly.drawn) (omega arith);
+        root = is_directory-with_object s body permanent exclusive root_id orderly.drawn orderly.root;
+        rising = in_order-rising (λ x. x.id) new s.objects (newest_is_free (λ x. x.id) new s.objects orderly.drawn) orderly.rising;
+        drawn = in_order-All (λ x. x.id) (λ x. x.id < s.next_id + 1) new s.objects (omega arith) (All-weaker (λ x. x.id < s.next_id) (λ x. x.id < s.next_id + 1) (λ x less. omega (arith, less)) s.objects orderly.drawn);
         descending = All-append (λ r. r.directory < r.object) s.rows (new_rows spot s.next_stamp s.next_id) orderly.descending (row_descends spot inside);
         stamped = All-append (λ r. r.stamp < s.next_stamp + length (new_rows spot s.next_stamp s.next_id)) s.rows (new_rows spot s.next_stamp s.next_id)
             (All-weaker (λ r. r.stamp < s.next_stamp) (λ r. r.stamp < s.next_stamp + length (new_rows spot s.next_stamp s.next_id)) (λ r less. omega (arith, less)) s.rows orderly.stamped)
             (row_stamped spot);
-        named = All-push (IsNamedPermanent t) s.objects new (All-weaker (IsNamedPermanent s) (IsNamedPermanent t) still_named s.objects orderly.named) (λ permanent. new_named spot (placed permanent));
-        unheld = All-push (IsIdleUnheld idle (s.handles ++ handle ∷ [])) s.objects new
-            (All-weaker (IsIdleUnheld idle s.handles) (IsIdleUnheld idle (s.handles ++ handle ∷ [])) (λ x before unheld. before (unheld_before s.handles handle x.id unheld).0) s.objects orderly.unheld)
-            (λ unheld. held_itself handle refl unheld);
+        named = in_order-All (λ x. x.id) (IsNamedPermanent t) new s.objects (λ permanent. new_named spot (placed permanent)) (All-weaker (IsNamedPermanent s) (IsNamedPermanent t) still_named s.objects orderly.named);
+        unheld = in_order-All (λ x. x.id) (IsIdleUnheld idle (s.handles ++ handle ∷ [])) new s.objects (λ unheld. held_itself handle refl unheld)
+            (All-weaker (IsIdleUnheld idle s.handles) (IsIdleUnheld idle (s.handles ++ handle ∷ [])) (λ x before unheld. before (unheld_before s.handles handle x.id unheld).0) s.objects orderly.unheld);
         own = All-push (λ h. h.process ≡ 1) s.handles handle orderly.own first;
         distinct = all_pairs_push (λ a b. a.value ≢ b.value) s.handles handle orderly.distinct (value_differs s orderly p first value free);
         few = omega (arith, length-append s.handles (handle ∷ []), room, own_size s orderly p first);

@@ -1,13 +1,13 @@
 -- Where a new object is to stand, and what is there when it does, in the words of the machine.
-use Rattle.std.specs.Prelude.{◌≡◌, ◌≢◌, ℕ, ◌<◌, Bool, true, List, [], ◌∷◌, ◌++◌, Option, None, Some, All, IsSome, MatchOption}
-use Rattle.ob_model.specs.State.{State, is_directory}
+use Rattle.std.specs.Prelude.{◌≡◌, ◌≢◌, ℕ, ◌<◌, Bool, true, List, ◌++◌, Option, None, Some, All, IsSome, MatchOption}
+use Rattle.ob_model.specs.State.{State, insert_object, is_directory}
 use Rattle.ob_model.specs.Paths.{found}
 use Rattle.ob_model.specs.Creates as machine
 use Rattle.ob_model.specs.Grants.{opened_body, opened_set}
 use Rattle.ob_model.specs.Procedures.{Procedures, Created}
 use Rattle.ob_objects.specs.declared.object.StoredObject.{StoredObject}
 use Rattle.ob_objects.specs.Store.{Entries, directory_at, entries_at, body_of_stored}
-use Rattle.ob_objects.specs.Changes.{with_name, without_name}
+use Rattle.ob_objects.specs.Changes.{with_entry, with_name, without_name}
 use Rattle.ob_space.specs.declared.placing.Spot.{Spot}
 
 -- where a new object is to stand
@@ -34,9 +34,9 @@ IsFreeSpot store stamp spot =
 
 -- the store with an object more, and with its name, where a spot is given
 abbrev pub with_placed : {F I : Type 0} → Entries F I → ℕ → ℕ → Option Spot → StoredObject F I → Entries F I
-with_placed store id stamp None x = store ++ (id, x) ∷ []
+with_placed store id stamp None x = with_entry store id x
 with_placed store id stamp (Some spot) x =
-    with_name (store ++ (id, x) ∷ []) spot.directory (record { stamp = stamp; name = spot.name; object = id })
+    with_name (with_entry store id x) spot.directory (record { stamp = stamp; name = spot.name; object = id })
 
 -- the store without the name of a stamp in a directory, where one is given
 abbrev pub without_name_in : {F I : Type 0} → Entries F I → Option ℕ → ℕ → Entries F I
@@ -49,7 +49,8 @@ abbrev pub placed : {K T F I : Type 0} → Procedures K T F I → State K T F I 
 placed g s spot x =
     let body = body_of_stored x.body in
     record s {
-      objects = s.objects ++ record { id = s.next_id; body = opened_body g s.set body Created; permanent = x.permanent; exclusive = x.exclusive } ∷ [];
+      objects =
+          insert_object (record { id = s.next_id; body = opened_body g s.set body Created; permanent = x.permanent; exclusive = x.exclusive }) s.objects;
       rows = s.rows ++ machine.new_rows spot s.next_stamp s.next_id;
       set = opened_set g s.set body Created;
     }

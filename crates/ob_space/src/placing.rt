@@ -92,7 +92,7 @@ fn put_in<T: TypeSet>(
     spot: Option<Spot>,
     object: StoredObject<T::Face, T::Inner>,
 ) -> Result<(), Fault>
-    requires newest { All (λ e. e.0 < id) store.old }
+    requires id { stored_at store.old id ≡ None }
     requires free { IsFreeSpot store.old stamp spot }
     ensures put { IfOk result (λ _. store.new ≡ with_placed store.old id stamp spot object) }
     ensures err { OnErr result (store.new ≡ store.old) }

@@ -5,11 +5,11 @@ use Rattle.std.specs.Option.{is_some}
 use Rattle.ob_objects.specs.declared.object.StoredObject.{StoredObject}
 use Rattle.ob_space.specs.Orderly.{IsIdleBody}
 use Rattle.ob_objects.specs.Store.{body_of_stored}
-use Rattle.ob_space.proofs.Placed.{next_is_newest, vacant_is_free, is_placed, is_dropped, object_there, object_is}
+use Rattle.ob_space.proofs.Placed.{next_is_free, vacant_is_free, is_placed, is_dropped, object_there, object_is}
 use Rattle.ob_space.proofs.placing.place_new.Goals as goal
 
-pub put_in-requires-clause-newest : goal.put_in-requires-clause-newest
-put_in-requires-clause-newest g c κs within = next_is_newest g.row.T-Kind.Denot g.T.TypeSet.procedures g.T.TypeSet.idle c.args.space.now c.requires.orderly
+pub put_in-requires-clause-id : goal.put_in-requires-clause-id
+put_in-requires-clause-id g c κs within = next_is_free g.row.T-Kind.Denot g.T.TypeSet.procedures g.T.TypeSet.idle c.args.space.now c.requires.orderly
 
 pub put_in-requires-clause-free : goal.put_in-requires-clause-free
 put_in-requires-clause-free g c κs within =

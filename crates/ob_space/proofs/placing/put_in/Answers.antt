@@ -1,20 +1,20 @@
--- The name's directory is an old one; and what came last is taken back.
+-- The name's directory is an old one; and what came is taken back.
 use Rattle.ob_space.proofs.Placed.{free_behind, object_back}
 use Rattle.ob_space.proofs.placing.put_in.Goals as goal
 
 pub insert_name-requires-clause-there : goal.insert_name-requires-clause-there
 insert_name-requires-clause-there g c κs within =
-    (free_behind c.args.store.now c.insert.new.self _ c.args.stamp c.args.spot c.in-Some.spot c.in-Some.is c.in_ok-insert.ensures.last c.requires.free).0
+    (free_behind c.args.store.now c.insert.new.self c.args.id c.args.object c.args.stamp c.args.spot c.in-Some.spot c.in-Some.is c.requires.id c.in_ok-insert.ensures.put c.requires.free).0
 
 pub insert_name-requires-clause-free : goal.insert_name-requires-clause-free
 insert_name-requires-clause-free g c κs within =
-    (free_behind c.args.store.now c.insert.new.self _ c.args.stamp c.args.spot c.in-Some.spot c.in-Some.is c.in_ok-insert.ensures.last c.requires.free).1
+    (free_behind c.args.store.now c.insert.new.self c.args.id c.args.object c.args.stamp c.args.spot c.in-Some.spot c.in-Some.is c.requires.id c.in_ok-insert.ensures.put c.requires.free).1
 
 pub insert_name-requires-clause-newest : goal.insert_name-requires-clause-newest
 insert_name-requires-clause-newest g c κs within =
-    (free_behind c.args.store.now c.insert.new.self _ c.args.stamp c.args.spot c.in-Some.spot c.in-Some.is c.in_ok-insert.ensures.last c.requires.free).2
+    (free_behind c.args.store.now c.insert.new.self c.args.id c.args.object c.args.stamp c.args.spot c.in-Some.spot c.in-Some.is c.requires.id c.in_ok-insert.ensures.put c.requires.free).2
 
 pub returns-in-Err-clause-err : goal.returns-in-Err-clause-err
 returns-in-Err-clause-err g c =
     object_back c.args.store.now c.insert.new.self c.insert_name.new.self c.remove.new.self c.args.id c.args.object
-    c.requires.newest c.in_ok-insert.ensures.last c.in-Err.ensures.unchanged c.remove.ensures.others
+    c.requires.id c.in_ok-insert.ensures.put c.in-Err.ensures.unchanged c.remove.ensures.others
