@@ -8,9 +8,3 @@ mod cases;
 mod program;
 #[cfg(test)]
 mod runs;
-#[cfg(test)]
-mod scripts;
-#[cfg(test)]
-mod shell;
-#[cfg(test)]
-mod streams;
