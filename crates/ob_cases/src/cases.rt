@@ -265,9 +265,7 @@ const CASES: [Case; 41] = [
 fn worked_cases_print_what_they_show(rt: HostRuntime) {
     for case in &CASES {
         let left = run(rt.alloc(), case.script);
-        assert_eq!(rt; left.output.as_slice(), case.prints, "{:?}", case.shows);
-        assert_eq!(rt; left.status, case.status, "{:?}", case.shows);
-        assert_eq!(rt; left.errors.len(), 0, "{:?}", case.shows);
+        assert!(rt; left.is(case.status, case.prints, b""), "{:?}", case.shows);
     }
 }
 
@@ -383,9 +381,7 @@ fn long_names_and_lines_end_where_the_rules_say(rt: HostRuntime) -> Result<(), F
     for (front, byte, times, back, prints, wanted) in table {
         let script = repeated(rt.alloc(), front, byte, times, back)?;
         let left = run(rt.alloc(), script.as_slice());
-        assert_eq!(rt; left.output.as_slice(), prints, "at {times}");
-        assert_eq!(rt; left.status, wanted, "at {times}");
-        assert_eq!(rt; left.errors.len(), 0, "at {times}");
+        assert!(rt; left.is(wanted, prints, b""), "at {times}");
     }
     Ok(())
 }
@@ -432,9 +428,7 @@ fn a_chain_of_32_links_is_followed_and_no_longer_one(rt: HostRuntime) -> Result<
         let script = chain(rt.alloc(), first)?;
         let prints = chain_prints(rt.alloc(), last, reply)?;
         let left = run(rt.alloc(), script.as_slice());
-        assert_eq!(rt; left.output.as_slice(), prints.as_slice(), "from {first}");
-        assert_eq!(rt; left.status, 0, "from {first}");
-        assert_eq!(rt; left.errors.len(), 0, "from {first}");
+        assert!(rt; left.is(0, prints.as_slice(), b""), "from {first}");
     }
     Ok(())
 }
@@ -452,9 +446,7 @@ fn a_path_of_32_767_bytes_is_told(rt: HostRuntime) -> Result<(), Fail> {
         b"\"\n",
     )?;
     let left = run(rt.alloc(), script.as_slice());
-    assert!(rt; left.output.as_slice() == prints.as_slice());
-    assert_eq!(rt; left.status, 0);
-    assert_eq!(rt; left.errors.len(), 0);
+    assert!(rt; left.is(0, prints.as_slice(), b""));
     Ok(())
 }
 
@@ -462,11 +454,6 @@ fn a_path_of_32_767_bytes_is_told(rt: HostRuntime) -> Result<(), Fail> {
 fn a_script_that_is_too_long_runs_no_line(rt: HostRuntime) -> Result<(), Fail> {
     let script = repeated(rt.alloc(), b"p1 close z\n", b'\n', 16_777_206, b"")?;
     let left = run(rt.alloc(), script.as_slice());
-    assert_eq!(rt; left.status, 1);
-    assert_eq!(rt; left.output.len(), 0);
-    assert_eq!(rt;
-        left.errors.as_slice(),
-        b"ntns: input too long\n".as_slice()
-    );
+    assert!(rt; left.is(1, b"", b"ntns: input too long\n"));
     Ok(())
 }

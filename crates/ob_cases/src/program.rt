@@ -114,9 +114,7 @@ fn mistakes_end_with_2(rt: HostRuntime) {
         (["ntns", "run", "one", "b"].as_slice(), ONE_FILE_IS_ENOUGH),
     ] {
         let left = serve_words(rt.alloc(), words);
-        assert_eq!(rt; left.status, 2);
-        assert_eq!(rt; left.output.len(), 0);
-        assert_eq!(rt; left.errors.as_slice(), told.as_bytes());
+        assert!(rt; left.is(2, b"", told.as_bytes()));
     }
 }
 
@@ -145,12 +143,7 @@ fn the_script_of_a_file_is_run(rt: HostRuntime) {
         ["ntns", "run", "one", "--"].as_slice(),
     ] {
         let left = serve_words(rt.alloc(), words);
-        assert_eq!(rt; left.status, 0);
-        assert_eq!(rt;
-            left.output.as_slice(),
-            b"1: INVALID_HANDLE\n2: PROCESS_GONE\n".as_slice()
-        );
-        assert_eq!(rt; left.errors.len(), 0);
+        assert!(rt; left.is(0, b"1: INVALID_HANDLE\n2: PROCESS_GONE\n", b""));
     }
 }
 
@@ -162,9 +155,7 @@ fn a_file_that_cannot_be_opened_is_told(rt: HostRuntime) {
         (["ntns", "run", "big"].as_slice(), "ntns: want of memory\n"),
     ] {
         let left = serve_words(rt.alloc(), words);
-        assert_eq!(rt; left.status, 1);
-        assert_eq!(rt; left.output.len(), 0);
-        assert_eq!(rt; left.errors.as_slice(), told.as_bytes());
+        assert!(rt; left.is(1, b"", told.as_bytes()));
     }
 }
 
@@ -221,9 +212,7 @@ fn help_that_is_asked_for_ends_with_0(rt: HostRuntime) {
         (["ntns", "help", "run"].as_slice(), HELP_OF_RUN),
     ] {
         let left = serve_words(rt.alloc(), words);
-        assert_eq!(rt; left.status, 0);
-        assert_eq!(rt; left.output.as_slice(), told.as_bytes());
-        assert_eq!(rt; left.errors.len(), 0);
+        assert!(rt; left.is(0, told.as_bytes(), b""));
     }
 }
 

@@ -13,6 +13,15 @@ pub struct Left {
     pub errors: Vec<u8>,
 }
 
+impl Left {
+    // Whether it is this.
+    pub fn is(&self, status: u8, output: &[u8], errors: &[u8]) -> bool {
+        self.status == status
+            && self.output.as_slice() == output
+            && self.errors.as_slice() == errors
+    }
+}
+
 // Runs a script.
 pub fn run(alloc: Global, script: &[u8]) -> Left {
     let mut reader = script;
