@@ -1,5 +1,5 @@
 -- A lookup ends as the turn at its first stop does.
-use Rattle.std.proofs.Common.{◌≡◌, ℕ, zero, suc, ◌-◌, ◌<◌, Bool, true, false, nat_lt, if◌then◌else◌, List, [], length, Option, MatchOption, MatchBool, Result, Ok, Err, IfOk, refl, sym, subst, arith}
+use Rattle.std.proofs.Common.{◌≡◌, ℕ, zero, suc, ◌-◌, ◌<◌, Bool, true, false, nat_lt, if◌then◌else◌, List, [], length, Option, MatchOption, MatchBool, Result, Ok, Err, IfOk, OnErr, refl, sym, subst, arith}
 use Rattle.ob_base.specs.declared.status.Status.TheVariants.{NameTooLong, ReparseLimit}
 use Rattle.ob_model.specs.declared.state.Body.{Body}
 use Rattle.ob_model.specs.Names.{longest_name, substituted}
@@ -7,17 +7,34 @@ use Rattle.ob_model.specs.State.{State}
 use Rattle.ob_model.specs.Paths.{Origin}
 use Rattle.ob_model.specs.Procedures.{Procedures, without_parse}
 use Rattle.ob_model.specs.Looks as machine
+use Rattle.ob_model.proofs.Lookup.{looks_up_unique}
 use Rattle.ob_lookup.specs.declared.next.Next.{Next}
 use Rattle.ob_lookup.specs.declared.next.Next.TheVariants as next
 use Rattle.ob_lookup.specs.declared.walk.Stop.{Stop}
 use Rattle.ob_lookup.specs.declared.walk.Stop.TheVariants.{Missed, Directory, Link, Other}
 use Rattle.ob_lookup.specs.Walk.{stop_of, Meets}
-use Rattle.ob_lookup.specs.Look.{next_at, Ended, Restarted, turn_at, turn_of, IfAgain, LooksAgain, Goes}
+use Rattle.ob_lookup.specs.Look.{next_at, Turn, Ended, Restarted, turn_at, turn_of, MayWantMemory, TurnMayWantMemory, IfAgain, LooksAgain, Goes}
 
 -- what follows of a value
 pub if_ok : {X E : Type 0} (P Q : X → Type 0) (r : Result X E) → ((x : X) → P x → Q x) → IfOk r P → IfOk r Q
 if_ok P Q (Ok x) follows h = follows x h
 if_ok P Q (Err e) follows h = h
+
+pub if_again : (found : Next) (P Q : Type 0) → (P → Q) → IfAgain found P → IfAgain found Q
+if_again (next.Over end) P Q follows h = h
+if_again (next.Again text) P Q follows h = follows h
+
+pub from_again : (found : Next) (text : List ℕ) (P : Type 0) → found ≡ next.Again text → IfAgain found P → P
+from_again (next.Over end) text P e h = cc
+from_again (next.Again again) text P e h = h
+
+pub on_any_err : {X E : Type 0} (P : Type 0) (r : Result X E) → P → OnErr r P
+on_any_err P (Ok x) h = tt
+on_any_err P (Err e) h = h
+
+pub on_err : {X E : Type 0} (P Q : Type 0) (r : Result X E) → (P → Q) → OnErr r P → OnErr r Q
+on_err P Q (Ok x) follows h = h
+on_err P Q (Err e) follows h = follows h
 
 -- a text is looked up again only where a reparse is left
 pub again_left : (found : Next) (n : ℕ) (what : machine.Next) → turn_of found ≡ turn_at n what → IfAgain found (0 < n)
@@ -25,6 +42,16 @@ again_left (next.Over end) n what e = tt
 again_left (next.Again text) (suc n) what e = omega arith
 again_left (next.Again text) zero (machine.Over end) e = cc
 again_left (next.Again text) zero (machine.Follow target rest) e = cc
+
+-- and with none left it would have been refused
+pub again_wants : (found : Next) (n : ℕ) (what : machine.Next) → turn_of found ≡ turn_at n what → IfAgain found (TurnMayWantMemory (turn_at 0 what))
+again_wants (next.Over end) n what e = tt
+again_wants (next.Again text) n (machine.Over end) e = absurd (over_ends n e)
+  where
+    over_ends : (m : ℕ) → Restarted text ≡ turn_at m (machine.Over end) → ⊥
+    over_ends zero e = cc
+    over_ends (suc m) e = cc
+again_wants (next.Again text) n (machine.Follow target rest) e = refl
 
 module _ {K T F I : Type 0} (g : Procedures K T F I) (s : State K T F I) (p : ℕ) (mode : machine.Mode) where
   -- what is to be done at a stop, where no object parses
@@ -61,3 +88,17 @@ module _ {K T F I : Type 0} (g : Procedures K T F I) (s : State K T F I) (p : �
       → Goes (without_parse g) s p mode n (turn_at n (next_at mode stop)) end → machine.Looks (without_parse g) s p mode n place text end
   looks_by_turn zero place text stop end stops meets goes = (stop_of stop, next_at mode stop, stops, next_is zero stop meets, ends_last (next_at mode stop) end goes)
   looks_by_turn (suc n) place text stop end stops meets goes = (stop_of stop, next_at mode stop, stops, next_is (suc n) stop meets, ends_more n (next_at mode stop) end goes)
+
+  -- with no reparse left it has an end for which memory may be wanted, where the turn there is one
+  pub wants_by_turn : (place : Origin) (text : List ℕ) (stop : Stop) → machine.IsStop s place text mode.fold (stop_of stop) → Meets s stop
+      → TurnMayWantMemory (turn_at 0 (next_at mode stop)) → (end : machine.Look) × MayWantMemory end × machine.Looks (without_parse g) s p mode 0 place text end
+  wants_by_turn place text stop stops meets wants = go (turn_at 0 (next_at mode stop)) refl wants
+    where
+      go : (turn : Turn) → turn_at 0 (next_at mode stop) ≡ turn → TurnMayWantMemory turn → (end : machine.Look) × MayWantMemory end × machine.Looks (without_parse g) s p mode 0 place text end
+      go (Ended end) e wants = (end, wants, looks_by_turn 0 place text stop end stops meets (subst (λ (turn : Turn). Goes (without_parse g) s p mode 0 turn end) (sym e) refl))
+      go (Restarted text) e wants = absurd wants
+
+-- the end of a name with no reparse left is its only one
+pub only_wants : {K T F I : Type 0} (g : Procedures K T F I) (s : State K T F I) (p : ℕ) (mode : machine.Mode) (root : Option ℕ) (name : List ℕ) (end found : machine.Look)
+    → machine.LooksUp (without_parse g) s p mode 0 root name end → machine.LooksUp (without_parse g) s p mode 0 root name found → MayWantMemory found → MayWantMemory end
+only_wants g s p mode root name end found looks looked wants = subst MayWantMemory (looks_up_unique (without_parse g) s p mode 0 root name found end looked looks) wants

@@ -5,7 +5,7 @@ use Rattle.std.specs.Prelude.{◌≡◌, ℕ, zero, suc, ◌-◌, false, nat_lt,
 use Rattle.ob_base.specs.declared.status.Status.TheVariants.{ObjectPathSyntaxBad, NameTooLong, ReparseLimit}
 use Rattle.ob_model.specs.Names.{longest_name, substituted}
 use Rattle.ob_model.specs.State.{State}
-use Rattle.ob_model.specs.Paths.{origin_of}
+use Rattle.ob_model.specs.Paths.{Origin, origin_of}
 use Rattle.ob_model.specs.Procedures.{Procedures, without_parse}
 use Rattle.ob_model.specs.Looks as machine
 use Rattle.ob_objects.specs.Store.{Entries, Shows}
@@ -50,6 +50,19 @@ abbrev pub turn_of : Next → Turn
 turn_of (next.Over end) = Ended (look_of end)
 turn_of (next.Again text) = Restarted text
 
+-- The ends of a lookup with no reparse left for which a lookup with any number left may want memory: a
+-- vacant place, whose component is copied, and the refusal in place of a text that a link makes.
+abbrev pub MayWantMemory : machine.Look → Type 0
+MayWantMemory (machine.At id) = ⊥
+MayWantMemory (machine.Vacant directory component) = Unit {0}
+MayWantMemory (machine.Parse id rest n) = ⊥
+MayWantMemory (machine.Refused status) = status ≡ ReparseLimit
+
+-- the same of what comes of a stop, with no reparse left
+abbrev pub TurnMayWantMemory : Turn → Type 0
+TurnMayWantMemory (Ended end) = MayWantMemory end
+TurnMayWantMemory (Restarted text) = ⊥
+
 -- a fact, where a text is to be looked up again
 abbrev pub IfAgain : Next → Type 0 → Type 0
 IfAgain (next.Over end) fact = Unit {0}
@@ -66,6 +79,16 @@ module _ {K T F I : Type 0} (g : Procedures K T F I) where
   abbrev pub Goes : State K T F I → ℕ → machine.Mode → ℕ → Turn → machine.Look → Type 0
   Goes s p mode n (Ended found) end = end ≡ found
   Goes s p mode n (Restarted text) end = LooksAgain s p mode (n - 1) text end
+
+  -- with no reparse left, a lookup from here has such an end
+  abbrev pub WalkMayWantMemory : Entries F I → machine.Mode → Origin → List ℕ → Type 0
+  WalkMayWantMemory store mode place text =
+      (s : State K T F I) (p : ℕ) → Shows s store → (end : machine.Look) × MayWantMemory end × machine.Looks (without_parse g) s p mode 0 place text end
+
+  -- what a name ends with then, in any state that shows the store, is such an end
+  abbrev pub NameMayWantMemory : Entries F I → machine.Mode → Option ℕ → List ℕ → Type 0
+  NameMayWantMemory store mode root name =
+      (s : State K T F I) (p : ℕ) (end : machine.Look) → Shows s store → machine.LooksUp (without_parse g) s p mode 0 root name end → MayWantMemory end
 
   -- a name is looked up with this end in every state that shows the store, for every process, where
   -- no object parses

@@ -1,13 +1,13 @@
 //! The lookup.
 
-ghost use Rattle.std.specs.Prelude.{◌≡◌, ◌<◌, ℕ, IsSome, IfOk, IfErr};
+ghost use Rattle.std.specs.Prelude.{◌≡◌, ◌<◌, ℕ, IsSome, IfOk, IfErr, OnErr};
 ghost use Rattle.ob_model.specs.State.{State};
 ghost use Rattle.ob_model.specs.Procedures.{without_parse};
 ghost use Rattle.ob_model.specs.Looks as machine;
 ghost use Rattle.ob_objects.specs.Store.{Shows, directory_at};
 ghost use Rattle.ob_lookup.specs.Closed.{IsClosed, IsRootThere};
 ghost use Rattle.ob_lookup.specs.Walk.{place_of, text_of};
-ghost use Rattle.ob_lookup.specs.Look.{mode_of, look_of, turn_of, IfAgain, LooksAgain, Goes, LooksUpIn};
+ghost use Rattle.ob_lookup.specs.Look.{mode_of, look_of, turn_of, IfAgain, LooksAgain, Goes, LooksUpIn, WalkMayWantMemory, NameMayWantMemory};
 
 use crate::next::{Next, at_stop};
 use crate::start::{Start, absolute, begin};
@@ -37,7 +37,9 @@ use std::alloc::Global;
 /// No object is asked to parse what follows it in a name, and `\??` is a name like another: parse
 /// procedures and device maps have not come yet.
 ///
-/// The only fault is `Memory`, for a text that a link makes or for a vacant component.
+/// The only fault is `Memory`, for a text that a link makes or for a vacant component. So there is none where
+/// no link is followed and no vacant place is found: where the name, looked up with no reparse left, ends at
+/// an object or in another refusal than `ReparseLimit`.
 ///
 /// Source: Windows Internals, Object Manager (object names, symbolic links); OBJECT_ATTRIBUTES
 /// structure (Windows Driver Kit). The refusals and their order are this profile.
@@ -53,6 +55,7 @@ pub fn look<T: TypeSet>(
     requires root { IsRootThere store.now root }
     ensures end { IfOk result (λ look.
         LooksUpIn T.procedures store.now (mode_of mode) budget root name.entry (look_of look)) }
+    ensures wants { OnErr result (NameMayWantMemory T.procedures store.now (mode_of mode) root name.entry) }
     ensures memory { IfErr result (λ fault. fault ≡ Fault.Memory) }
 {
     let start = match begin(store, root, name) {
@@ -86,6 +89,10 @@ fn look_from<T: TypeSet>(
         (s : State T.Kind T T.Face T.Inner) (p : ℕ) (end : machine.Look) → Shows s store.now
         → Goes (without_parse T.procedures) s p (mode_of mode) left (turn_of next) end
         → machine.Looks (without_parse T.procedures) s p (mode_of mode) left (place_of start.entry) (text_of start.entry) end) }
+    ensures again { IfOk result (λ next. IfAgain next
+        (WalkMayWantMemory T.procedures store.now (mode_of mode) (place_of start.entry) (text_of start.entry))) }
+    ensures wants { OnErr result
+        (WalkMayWantMemory T.procedures store.now (mode_of mode) (place_of start.entry) (text_of start.entry)) }
     ensures memory { IfErr result (λ fault. fault ≡ Fault.Memory) }
 {
     at_stop(alloc, walk(store, start, mode.fold), mode, left)

@@ -1,8 +1,8 @@
 //! What is done where a walk stops.
 
-ghost use Rattle.std.specs.Prelude.{◌≡◌, IfOk, IfErr};
+ghost use Rattle.std.specs.Prelude.{◌≡◌, IfOk, IfErr, OnErr};
 ghost use Rattle.ob_model.specs.Looks as machine;
-ghost use Rattle.ob_lookup.specs.Look.{mode_of, look_of, next_at, turn_at, turn_of};
+ghost use Rattle.ob_lookup.specs.Look.{mode_of, look_of, next_at, turn_at, turn_of, TurnMayWantMemory};
 
 use crate::start::ROOT;
 use crate::walk::Stop;
@@ -23,6 +23,7 @@ pub(crate) enum Next {
 /// What is done at a stop, with so many reparses left.
 pub(crate) fn at_stop(alloc: Global, stop: Stop<'_>, mode: Mode, left: u32) -> Result<Next, Fault>
     ensures turn { IfOk result (λ next. turn_of next ≡ turn_at left (next_at (mode_of mode) stop.entry)) }
+    ensures wants { OnErr result (TurnMayWantMemory (turn_at 0 (next_at (mode_of mode) stop.entry))) }
     ensures memory { IfErr result (λ fault. fault ≡ Fault.Memory) }
 {
     match stop {
@@ -45,8 +46,11 @@ fn at_miss(
     component: Name<'_>,
     last: bool,
 ) -> Result<Look, AllocError>
-    ensures { IfOk result (λ look.
+    ensures end { IfOk result (λ look.
         machine.at_miss (mode_of mode) directory component.entry last ≡ machine.Over (look_of look)) }
+    ensures wants { OnErr result
+        (machine.at_miss (mode_of mode) directory component.entry last
+        ≡ machine.Over (machine.Vacant directory component.entry)) }
 {
     let bytes = component.as_slice();
     if bytes.is_empty() {
@@ -77,6 +81,8 @@ fn at_link(
 ) -> Result<Next, Fault>
     ensures turn { IfOk result (λ next. turn_of next
         ≡ turn_at left (machine.at_link (mode_of mode) id target.entry rest.entry)) }
+    ensures wants { OnErr result
+        (machine.at_link (mode_of mode) id target.entry rest.entry ≡ machine.Follow target.entry rest.entry) }
     ensures memory { IfErr result (λ fault. fault ≡ Fault.Memory) }
 {
     let follows = mode.follow && !mode.create;

@@ -4,7 +4,7 @@ use Rattle.ob_model.specs.State.{State}
 use Rattle.ob_model.specs.Procedures.{without_parse}
 use Rattle.ob_model.specs.Looks as machine
 use Rattle.ob_objects.specs.Store.{Shows}
-use Rattle.ob_lookup.specs.Look.{mode_of, turn_of, IfAgain, Goes}
+use Rattle.ob_lookup.specs.Look.{mode_of, turn_of, MayWantMemory, IfAgain, Goes}
 use Rattle.ob_lookup.proofs.lookup.look.Given as goal
 
 abbrev pub invariant-loop-next : goal.invariant-loop-next
@@ -13,6 +13,8 @@ invariant-loop-next g l = record {
   goes : (s : State g.row.T-Kind.Denot g.row.T.Denot g.row.T-Face.Denot g.row.T-Inner.Denot) (p : ℕ) (end : machine.Look) → Shows s l.store
       → Goes (without_parse g.T.TypeSet.procedures) s p (mode_of l.mode) l.left (turn_of l.next) end
       → machine.LooksUp (without_parse g.T.TypeSet.procedures) s p (mode_of l.mode) l.budget l.fn.root l.fn.name end;
+  wants : IfAgain l.next ((s : State g.row.T-Kind.Denot g.row.T.Denot g.row.T-Face.Denot g.row.T-Inner.Denot) (p : ℕ) → Shows s l.store
+      → (end : machine.Look) × MayWantMemory end × machine.LooksUp (without_parse g.T.TypeSet.procedures) s p (mode_of l.mode) 0 l.fn.root l.fn.name end);
 }
 
 abbrev pub decreases-loop-next : goal.decreases-loop-next
