@@ -64,9 +64,9 @@ abbrev pub in_order : {X : Type 0} → (X → ℕ) → X → List X → List X
 in_order number x [] = x ∷ []
 in_order number x (y ∷ ys) = if nat_lt (number x) (number y) then x ∷ y ∷ ys else y ∷ in_order number x ys
 
--- The objects with one more, by rising numbers. A new number is mostly the greatest, and its object the
--- last; but what a parse makes has the number of the parse's ticket, and objects that were made while the
--- parse was pending have greater ones. So this asks only that no object has the number.
+-- The objects with one more, of a number that none of them has, by rising numbers. A new number is mostly
+-- the greatest, and its object the last; but what a parse makes has the number of the parse's ticket, and
+-- objects that were made while the parse was pending have greater ones.
 abbrev pub insert_object : {F I : Type 0} → Object F I → List (Object F I) → List (Object F I)
 insert_object x objects = in_order (λ o. o.id) x objects
 
