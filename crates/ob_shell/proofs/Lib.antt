@@ -1,7 +1,7 @@
 pub mod Readers
 pub mod Writers
+pub mod Gathered
 pub mod Worded
-pub mod Printed
 pub mod Told
 pub mod Behind
 pub mod Offsets

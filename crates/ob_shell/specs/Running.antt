@@ -16,8 +16,9 @@ use Rattle.ob_shell.specs.declared.run.Ending.TheVariants as ending
 use Rattle.ob_shell.specs.Words.{Words, process_of}
 use Rattle.ob_shell.specs.Machine.{standard, Space, counts_of}
 use Rattle.ob_shell.specs.Commands.{IsCommand, words_after}
-use Rattle.ob_shell.specs.Printed.{output_line, reply_text, counts_text}
-use Rattle.ob_shell.specs.Shown.{PlaysPartTo}
+use Rattle.ob_output.specs.Printed.{output_line, reply_text, counts_text}
+use Rattle.ob_shell.specs.Shown.{Plays, PlaysFirst, PlaysPartTo}
+use Rattle.ob_shell.specs.Writing.{Gathers}
 use Rattle.ob_shell.specs.declared.fault.ShellFault.{ShellFault}
 use Rattle.ob_shell.specs.declared.fault.ShellFault.TheVariants as fault
 
@@ -52,6 +53,11 @@ outcome_end number (outcome.Counted counts) = None
 outcome_end number (outcome.Replied reply) = None
 outcome_end number outcome.NoLine = Some (ending.BadLine number)
 outcome_end number outcome.NoMemory = Some (ending.NoMemoryAt number)
+
+-- what was gathered, of which a block has the rest, is what the script plays, and the run ended so
+abbrev pub GathersRun : Option (List ℕ) → Option (List ℕ) → List ℕ → List ℕ → Ending → Type 0
+GathersRun old new script has end =
+    (output : List ℕ) × Plays script output end × PlaysFirst script output end × Gathers old new [] output has
 
 -- what a writer holds after a fault of a run of the script: a beginning of what lines of it play
 -- after a fault of the writer, and no more than before after want of memory; no other fault comes

@@ -19,7 +19,7 @@ use Rattle.ob_lines.specs.Script.{Forms, BeginsWithForms}
 use Rattle.ob_shell.specs.Words.{Words, no_words, process_of}
 use Rattle.ob_shell.specs.Machine.{Standard, standard, Space, IsFresh, counts_of}
 use Rattle.ob_shell.specs.Commands.{IsCommand, words_after}
-use Rattle.ob_shell.specs.Printed.{output_line, reply_text, counts_text}
+use Rattle.ob_output.specs.Printed.{output_line, reply_text, counts_text}
 
 -- the entries of a run of the machine that a script asks for
 abbrev pub Entries : Type 0
@@ -65,10 +65,13 @@ abbrev pub Plays : List ℕ → List ℕ → Ending → Type 0
 Plays script output end =
     (forms : Forms) × (rest : List ℕ) × BeginsWithForms script forms rest × (end ≡ ending.Done → rest ≡ []) × PlaysForms forms output end
 
+-- lines of the script, from its first on, play this output and end so
+abbrev pub PlaysFirst : List ℕ → List ℕ → Ending → Type 0
+PlaysFirst script output end = (forms : Forms) × (rest : List ℕ) × BeginsWithForms script forms rest × PlaysForms forms output end
+
 -- what lines of the script from its first on play has this beginning, and goes on behind it
 abbrev pub PlaysPart : List ℕ → List ℕ → Type 0
-PlaysPart script front =
-    (forms : Forms) × (rest back : List ℕ) × (end : Ending) × BeginsWithForms script forms rest × (back ≢ []) × PlaysForms forms (front ++ back) end
+PlaysPart script front = (back : List ℕ) × (end : Ending) × (back ≢ []) × PlaysFirst script (front ++ back) end
 
 -- what was written to a writer is what the script plays, and the run ended so
 abbrev pub PlaysTo : Option (List ℕ) → Option (List ℕ) → List ℕ → Ending → Type 0

@@ -12,12 +12,13 @@ ghost use Rattle.ob_shell.specs.Commands.{value_after, given_handle};
 ghost use Rattle.ob_shell.specs.Running.{IsAnswered, IsDone};
 
 use crate::asked::{Asker, command_of};
-use crate::counts::{Counts, counts_of};
+use crate::counts::counts_of;
 use crate::words::{Word, keep, process_of, set, value_of, word_in};
 use ob_base::{Fault, Handle, Proc, Status};
 use ob_core::{Core, Started};
 use ob_lines::{Form, Request, word_of};
 use ob_model::{Command, Given, Reply};
+use ob_output::Counts;
 use ob_plain::{PlainKind, Standard};
 use std::alloc::Global;
 use std::collections::BTreeMap;
