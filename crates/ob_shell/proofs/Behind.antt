@@ -9,6 +9,9 @@ use Rattle.ob_model.specs.declared.reply.Event.TheVariants.{Start}
 use Rattle.ob_model.specs.Opening.{opening}
 use Rattle.ob_model.specs.Step.{Step}
 use Rattle.ob_model.specs.Run.{Entry, RunFrom}
+use Rattle.ob_model.specs.Sound.{IsSound}
+use Rattle.ob_model.proofs.Soundness.{opening_sound}
+use Rattle.ob_model.proofs.Steps.{step_sound}
 use Rattle.ob_plain.specs.declared.plain.PlainKind.{PlainKind}
 use Rattle.ob_plain.specs.Counting.{opens_of, closes_of, deletes_of}
 use Rattle.ob_output.specs.declared.counts.Counts.{Counts}
@@ -21,14 +24,15 @@ use Rattle.ob_shell.specs.declared.run.Ending.TheVariants as ending
 use Rattle.ob_lines.specs.declared.form.Form.{Form}
 use Rattle.ob_lines.specs.Script.{Forms, BeginsWithLine, BeginsWithForms, found_seen}
 use Rattle.ob_lines.specs.Grammar.{word_of, form_seen, request_seen}
-use Rattle.ob_lines.proofs.Scripted.{begins_more}
+use Rattle.ob_lines.proofs.Scripted.{HaveTexts, begins_more, goes_on}
 use Rattle.ob_shell.specs.Words.{Words, no_words, with_word, process_of}
 use Rattle.ob_shell.specs.Writing.{AppendsFront, Gathers}
 use Rattle.ob_shell.proofs.Gathered.{gathers_nothing, gathers_more, gathers_front, gathers_out, gathers_out_front}
 use Rattle.ob_shell.specs.Machine.{Standard, standard, Space, IsFresh}
 use Rattle.ob_shell.specs.Commands.{IsCommand, value_after}
 use Rattle.ob_output.specs.Printed.{output_line, reply_text, counts_text}
-use Rattle.ob_shell.specs.Shown.{Entries, Shows, PlaysForms, PlaysFirst, PlaysTo, PlaysPartTo}
+use Rattle.ob_shell.specs.Shown.{Entries, Shows, PlaysForms, PlaysOn, PlaysFirst, PlaysTo, PlaysPartTo}
+use Rattle.ob_shell.proofs.Totals.{shows_total}
 use Rattle.ob_shell.specs.Running.{IsAnswered, IsDone, outcome_text, outcome_end, GathersRun}
 
 -- a request is answered by a step for the command that it spells, and by setting its word
@@ -55,6 +59,7 @@ replied form process request p words new s s' reply l e a =
 -- what they show from here on stands behind it
 pub record RunsBehind (script rest : List ℕ) (number : ℕ) (words : Words) (s : Space) (done : Forms) (so_far : List ℕ) (count : ℕ) : Type 0 where
   pub read : BeginsWithForms script done rest
+  pub sound : IsSound s
   pub onward : (forms : Forms) (entries : Entries) (t : Space) (output : List ℕ) (end : Ending) → RunFrom standard s count entries t
       → Shows (number + 1) forms words s entries output end → PlaysForms (done ++ forms) (so_far ++ output) end
 
@@ -79,6 +84,7 @@ stands_first old has script words first s none f w e = record {
   count = 0;
   runs = record {
     read = refl;
+    sound = subst IsSound (sym e) (opening_sound first);
     onward = λ forms entries t output end run shows.
         let P : Space → Type 0 = λ x. RunFrom standard x 0 entries t in
         let Q : Space → Type 0 = λ x. Shows 1 forms words x entries output end in
@@ -100,12 +106,23 @@ count_after count (outcome.Replied reply) = count + 1
 count_after count outcome.NoLine = count
 count_after count outcome.NoMemory = count
 
+-- a line that goes on leaves a sound state sound
+sound_after : (form : Option (Form (List ℕ))) (number : ℕ) (words words' : Words) (s s' : Space) (o : Outcome) → IsDone form words s o words' s' → None ≡ outcome_end number o
+    → IsSound s → IsSound s'
+sound_after form number words words' s s' outcome.Idle (l, w, e) n sound = subst IsSound (sym e) sound
+sound_after form number words words' s s' (outcome.Counted counts) (l, k, w, e) n sound = subst IsSound (sym e) sound
+sound_after form number words words' s s' (outcome.Replied reply) (p, r, l, (c, command, step, w)) n sound =
+    step_sound standard s s' (Start (process_of p) c) (Done reply) sound step
+sound_after form number words words' s s' outcome.NoLine d n sound = cc
+sound_after form number words words' s s' outcome.NoMemory d n sound = cc
+
 -- a line that goes on stands behind what was shown before it
 runs_more : (script rest behind : List ℕ) (form : Option (Form (List ℕ))) (number : ℕ) (words words' : Words) (s s' : Space) (o : Outcome) (done : Forms) (so_far : List ℕ) (count : ℕ)
     → RunsBehind script rest number words s done so_far count → BeginsWithLine rest form behind → IsDone form words s o words' s' → None ≡ outcome_end (number + 1) o
     → RunsBehind script behind (number + 1) words' s' (done ++ form ∷ []) (so_far ++ outcome_text (number + 1) o) (count_after count o)
 runs_more script rest behind form number words words' s s' o done so_far count b e d n = record {
   read = begins_more script rest behind done form b.read e;
+  sound = sound_after form (number + 1) words words' s s' o d n b.sound;
   onward = λ forms entries t output end run shows.
       rw (append_assoc done (form ∷ []) forms, append_assoc so_far (outcome_text (number + 1) o) output) (go o d n forms entries t output end run shows);
 }
@@ -160,13 +177,43 @@ plays_done script rest number words s done so_far count b =
 first_done : (script rest : List ℕ) (number : ℕ) (words : Words) (s : Space) (done : Forms) (so_far : List ℕ) (count : ℕ) → RunsBehind script rest number words s done so_far count
     → PlaysFirst script so_far ending.Done
 first_done script rest number words s done so_far count b =
-    (done, rest, b.read, plays_done script rest number words s done so_far count b)
+    (done, rest, b.read, plays_done script rest number words s done so_far count b, λ all whole. on all (goes_on script rest done all b.read whole))
+  where
+    on : (all : Forms) → (later : Forms) × (all ≡ done ++ later) × HaveTexts later → PlaysOn all so_far ending.Done
+    on all (later, e, texts) =
+        let rest = shows_total later (number + 1) words s count texts b.sound in
+        let P : Forms → Type 0 = λ x. PlaysForms x (so_far ++ rest.2) rest.3 in
+        (rest.2, rest.3, rest.4, subst P (sym e) (b.onward later rest.0 rest.1 rest.2 rest.3 rest.5 rest.6))
+
+-- all lines play what those play of which the last ended the run
+on_ended : (all : Forms) (output : List ℕ) (number : ℕ) (o : Outcome) (end : Ending) → Some end ≡ outcome_end number o → PlaysForms all output end → PlaysOn all output end
+on_ended all output number o (ending.BadLine line) n h = h
+on_ended all output number o (ending.NoMemoryAt line) n h = h
+on_ended all output number outcome.Idle ending.Done n h = cc
+on_ended all output number (outcome.Counted counts) ending.Done n h = cc
+on_ended all output number (outcome.Replied reply) ending.Done n h = cc
+on_ended all output number outcome.NoLine ending.Done n h = cc
+on_ended all output number outcome.NoMemory ending.Done n h = cc
 
 first_ended : (script rest behind : List ℕ) (form : Option (Form (List ℕ))) (number : ℕ) (words words' : Words) (s s' : Space) (o : Outcome) (end : Ending) (done : Forms) (so_far : List ℕ) (count : ℕ)
     → RunsBehind script rest number words s done so_far count → BeginsWithLine rest form behind → IsDone form words s o words' s' → Some end ≡ outcome_end (number + 1) o
     → PlaysFirst script (so_far ++ outcome_text (number + 1) o) end
-first_ended script rest behind form number words words' s s' o end done so_far count b e d n =
-    (done ++ form ∷ [], behind, begins_more script rest behind done form b.read e, runs_end script rest form number words words' s s' o end done so_far count b d n [])
+first_ended script rest behind form number words words' s s' o end done so_far count b e d n = (
+  done ++ form ∷ [],
+  behind,
+  read,
+  runs_end script rest form number words words' s s' o end done so_far count b d n [],
+  λ all whole. on all (goes_on script behind (done ++ form ∷ []) all read whole),
+)
+  where
+    read : BeginsWithForms script (done ++ form ∷ []) behind
+    read = begins_more script rest behind done form b.read e
+
+    on : (all : Forms) → (later : Forms) × (all ≡ (done ++ form ∷ []) ++ later) × HaveTexts later → PlaysOn all (so_far ++ outcome_text (number + 1) o) end
+    on all (later, e, texts) =
+        let P : Forms → Type 0 = λ x. PlaysForms x (so_far ++ outcome_text (number + 1) o) end in
+        on_ended all (so_far ++ outcome_text (number + 1) o) (number + 1) o end n
+        (subst P (sym (e ∙ append_assoc done (form ∷ []) later)) (runs_end script rest form number words words' s s' o end done so_far count b d n later))
 
 -- the last line was run
 pub stands_last : (old new : Option (List ℕ)) (has script rest : List ℕ) (number : ℕ) (words : Words) (s : Space) → StandsBehind old new has script rest number words s

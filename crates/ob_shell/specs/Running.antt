@@ -54,13 +54,14 @@ outcome_end number (outcome.Replied reply) = None
 outcome_end number outcome.NoLine = Some (ending.BadLine number)
 outcome_end number outcome.NoMemory = Some (ending.NoMemoryAt number)
 
--- what was gathered, of which a block has the rest, is what the script plays, and the run ended so
+-- what was gathered, of which a block has the rest, is what the script plays, and the run ended so; and
+-- what its first lines play
 abbrev pub GathersRun : Option (List ℕ) → Option (List ℕ) → List ℕ → List ℕ → Ending → Type 0
 GathersRun old new script has end =
     (output : List ℕ) × Plays script output end × PlaysFirst script output end × Gathers old new [] output has
 
--- what a writer holds after a fault of a run of the script: a beginning of what lines of it play
--- after a fault of the writer, and no more than before after want of memory; no other fault comes
+-- what a writer holds after a fault of a run of the script: a beginning of what it plays after a fault of
+-- the writer, and no more than before after want of memory; no other fault comes
 abbrev pub StopsPlaying : List ℕ → ShellFault → Option (List ℕ) → Option (List ℕ) → Type 0
 StopsPlaying script fault.Write old new = PlaysPartTo old new script
 StopsPlaying script fault.Memory old new = new ≡ old

@@ -52,7 +52,8 @@ pub fn run_script<R: Read, W: Write>(
     ensures played { IfOk result (λ ending. IfSome (R.remaining reader.old) (λ script.
         PlaysTo (W.contents writer.old) (W.contents writer.new) script ending)) }
 
-    // After a fault of the writer: a beginning of what lines of the script play, and not all of it.
+    // After a fault of the writer: a beginning of what lines of the script from its first on play, and not all
+    // of it; and where the whole script is run, it plays that and goes on from there, or has ended there.
     ensures part { IsErrOf result ShellFault.Write → IfSome (R.remaining reader.old) (λ script.
         PlaysPartTo (W.contents writer.old) (W.contents writer.new) script) }
 
