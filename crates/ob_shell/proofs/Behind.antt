@@ -1,13 +1,11 @@
 -- What the rest of a script shows, behind what was shown so far.
 use Rattle.std.proofs.Common.{◌≡◌, ℕ, ◌+◌, List, [], ◌∷◌, ◌++◌, Option, Some, None, refl, sym, ap, ◌∙◌, subst, append_assoc, append-nil, inl, inr}
-use Rattle.std.specs.Borrow.{Bor}
 use Rattle.std.specs.Io.KnownBytes.{Appends}
 use Rattle.ob_model.specs.declared.command.Command.{Command}
 use Rattle.ob_model.specs.declared.reply.Reply.{Reply}
 use Rattle.ob_model.specs.declared.reply.Answer.TheVariants.{Done}
 use Rattle.ob_model.specs.declared.reply.Event.TheVariants.{Start}
 use Rattle.ob_model.specs.Opening.{opening}
-use Rattle.ob_model.specs.Step.{Step}
 use Rattle.ob_model.specs.Run.{Entry, RunFrom}
 use Rattle.ob_model.specs.Sound.{IsSound}
 use Rattle.ob_model.proofs.Soundness.{opening_sound}
@@ -15,45 +13,21 @@ use Rattle.ob_model.proofs.Steps.{step_sound}
 use Rattle.ob_plain.specs.declared.plain.PlainKind.{PlainKind}
 use Rattle.ob_plain.specs.Counting.{opens_of, closes_of, deletes_of}
 use Rattle.ob_output.specs.declared.counts.Counts.{Counts}
-use Rattle.ob_lines.specs.declared.form.Form.TheVariants.{Asks}
-use Rattle.ob_lines.specs.declared.request.Request.{Request}
 use Rattle.ob_shell.specs.declared.line.Outcome.{Outcome}
 use Rattle.ob_shell.specs.declared.line.Outcome.TheVariants as outcome
 use Rattle.ob_shell.specs.declared.run.Ending.{Ending}
 use Rattle.ob_shell.specs.declared.run.Ending.TheVariants as ending
 use Rattle.ob_lines.specs.declared.form.Form.{Form}
-use Rattle.ob_lines.specs.Script.{Forms, BeginsWithLine, BeginsWithForms, found_seen}
-use Rattle.ob_lines.specs.Grammar.{word_of, form_seen, request_seen}
+use Rattle.ob_lines.specs.Script.{Forms, BeginsWithLine, BeginsWithForms}
 use Rattle.ob_lines.proofs.Scripted.{HaveTexts, begins_more, goes_on}
-use Rattle.ob_shell.specs.Words.{Words, no_words, with_word, process_of}
+use Rattle.ob_shell.specs.Words.{Words, no_words, process_of}
 use Rattle.ob_shell.specs.Writing.{AppendsFront, Gathers}
 use Rattle.ob_shell.proofs.Gathered.{gathers_nothing, gathers_more, gathers_front, gathers_out, gathers_out_front}
 use Rattle.ob_shell.specs.Machine.{Standard, standard, Space, IsFresh}
-use Rattle.ob_shell.specs.Commands.{IsCommand, value_after}
 use Rattle.ob_output.specs.Printed.{output_line, reply_text, counts_text}
 use Rattle.ob_shell.specs.Shown.{Entries, Shows, PlaysForms, PlaysOn, PlaysFirst, PlaysTo, PlaysPartTo}
 use Rattle.ob_shell.proofs.Totals.{shows_total}
-use Rattle.ob_shell.specs.Running.{IsAnswered, IsDone, outcome_text, outcome_end, GathersRun}
-
--- a request is answered by a step for the command that it spells, and by setting its word
-pub answered : (request : Request (List ℕ)) (p q : ℕ) (words mid new : Words) (s s' : Space) (reply : Reply) (c : Command PlainKind) (w : List ℕ) (v b : ℕ)
-    → mid ≡ words → IsCommand request (mid p) c → Step standard s (Start p c) (Done reply) s' → q ≡ p → w ≡ word_of request → b ≡ mid q w
-    → v ≡ value_after request reply b → new ≡ with_word mid q w v → IsAnswered request p words s reply new s'
-answered request p q words mid new s s' reply c w v b m command step e f g h n =
-    let same : words p ≡ mid p = ap (λ (x : Words). x p) (sym m) in
-    let P : (List ℕ → ℕ) → Type 0 = λ x. IsCommand request x c in
-    (c, subst P (sym same) command, step, n ∙ (rw (h, g, e, f, m) refl))
-
--- the form that asks for something, as it is seen
-pub asks_seen : (found : Option (Form (Bor (List ℕ)))) (form : Form (Bor (List ℕ))) (process : Bor (List ℕ)) (request : Request (Bor (List ℕ)))
-    → found ≡ Some form → form ≡ Asks process request → found_seen found ≡ Some (Asks process.now (request_seen request))
-asks_seen found form process request e f =
-    let P : Form (Bor (List ℕ)) → Type 0 = λ x. found_seen found ≡ Some (form_seen x) in subst P f (ap found_seen e)
-
-pub replied : (form : Option (Form (List ℕ))) (process : List ℕ) (request : Request (List ℕ)) (p : ℕ) (words new : Words) (s s' : Space) (reply : Reply)
-    → form ≡ Some (Asks process request) → p ≡ process_of process → IsAnswered request p words s reply new s' → IsDone form words s (outcome.Replied reply) new s'
-replied form process request p words new s s' reply l e a =
-    let P : ℕ → Type 0 = λ x. IsAnswered request x words s reply new s' in (process, request, l, subst P e a)
+use Rattle.ob_shell.specs.Running.{IsDone, outcome_text, outcome_end, GathersRun}
 
 -- the rest of the script stands behind the lines that were run, which show so much: whatever forms come,
 -- what they show from here on stands behind it

@@ -3,6 +3,7 @@ pub mod Writers
 pub mod Gathered
 pub mod Worded
 pub mod Told
+pub mod Answered
 pub mod Totals
 pub mod Behind
 pub mod Offsets

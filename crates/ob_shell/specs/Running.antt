@@ -13,9 +13,10 @@ use Rattle.ob_shell.specs.declared.line.Outcome.{Outcome}
 use Rattle.ob_shell.specs.declared.line.Outcome.TheVariants as outcome
 use Rattle.ob_shell.specs.declared.run.Ending.{Ending}
 use Rattle.ob_shell.specs.declared.run.Ending.TheVariants as ending
-use Rattle.ob_shell.specs.Words.{Words, process_of}
+use Rattle.ob_lines.specs.Grammar.{word_of}
+use Rattle.ob_shell.specs.Words.{Words, with_value, process_of}
 use Rattle.ob_shell.specs.Machine.{standard, Space, counts_of}
-use Rattle.ob_shell.specs.Commands.{IsCommand, words_after}
+use Rattle.ob_shell.specs.Commands.{IsCommand, value_after, words_after}
 use Rattle.ob_output.specs.Printed.{output_line, reply_text, counts_text}
 use Rattle.ob_shell.specs.Shown.{Plays, PlaysFirst, PlaysPartTo}
 use Rattle.ob_shell.specs.Writing.{Gathers}
@@ -27,6 +28,12 @@ abbrev pub IsAnswered : Request (List ℕ) → ℕ → Words → Space → Reply
 IsAnswered request process words s reply words' s' =
     (c : Command PlainKind) × IsCommand request (words process) c × Step standard s (Start process c) (Done reply) s'
     × (words' ≡ words_after request process reply words)
+
+-- the same, as the values of that process's words tell it
+abbrev pub IsAnsweredAlone : Request (List ℕ) → ℕ → (List ℕ → ℕ) → Space → Reply → (List ℕ → ℕ) → Space → Type 0
+IsAnsweredAlone request process values s reply values' s' =
+    (c : Command PlainKind) × IsCommand request values c × Step standard s (Start process c) (Done reply) s'
+    × (values' ≡ with_value values (word_of request) (value_after request reply (values (word_of request))))
 
 -- what became of a line of this form, and what it left; none: a line that is no script line
 abbrev pub IsDone : Option (Form (List ℕ)) → Words → Space → Outcome → Words → Space → Type 0

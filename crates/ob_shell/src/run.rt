@@ -10,12 +10,12 @@ use crate::fault::ShellFault;
 use crate::line::{Outcome, perform};
 use crate::printing::write_outcome;
 use crate::reading::{SCRIPT_LIMIT, read_script};
+use crate::words::Table;
 use crate::writing::write_out;
 use ob_core::Core;
 use ob_lines::read_line;
 use ob_plain::{Counting, Plain};
 use std::alloc::Global;
-use std::collections::BTreeMap;
 use std::io::{Read, Write};
 
 // The bytes of output that are written at once.
@@ -117,7 +117,7 @@ fn run_lines<W: Write>(
         Ok(core) => core,
         Err(_) => return Err(ShellFault::Memory),
     };
-    let mut words = BTreeMap::new(alloc);
+    let mut words = [Table::new(alloc), Table::new(alloc)];
     let mut rest = script;
     let mut number: u64 = 0;
     while let Some((form, behind)) = read_line(rest) {

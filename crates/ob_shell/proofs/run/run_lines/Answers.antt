@@ -1,5 +1,5 @@
 -- Each line's outcome stands behind what was run and written before it.
-use Rattle.std.proofs.Common.{◌≡◌, sym, ◌∙◌, arith, subst, List, ℕ, Option}
+use Rattle.std.proofs.Common.{◌≡◌, sym, ◌∙◌, arith, subst, List, [], ◌∷◌, ℕ, Option}
 use Rattle.ob_shell.specs.declared.fault.ShellFault.{ShellFault}
 use Rattle.ob_shell.specs.declared.fault.ShellFault.TheVariants.{Write}
 use Rattle.ob_lines.specs.Script.{found_seen}
@@ -15,9 +15,9 @@ stopped script f old new e p = let P : ShellFault → Type 0 = λ x. StopsPlayin
 
 pub loop-form-init : goal.loop-form-init
 loop-form-init g c = (
-  stands_first (g.W.Write.contents c.args.writer.now) c.args.block.now.items c.args.script.now (values_of c.new-words.result) c.new.result c.in-Ok.core c.requires.empty
+  stands_first (g.W.Write.contents c.args.writer.now) c.args.block.now.items c.args.script.now (values_of (c.new-3.result ∷ c.new-4.result ∷ [])) c.new.result c.in-Ok.core c.requires.empty
       (is_fresh c.new.result c.new.ensures.opens c.new.ensures.closes c.new.ensures.deletes)
-      (no_values c.new-words.result c.new-words.ensures.empty) c.in-Ok.ensures.opening,
+      (no_values c.new-3.result c.new-4.result c.new-3.ensures.empty c.new-4.ensures.empty) c.in-Ok.ensures.opening,
   omega arith,
   c.requires.capacity,
 )
