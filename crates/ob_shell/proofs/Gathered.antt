@@ -1,5 +1,5 @@
 -- Lemmas on what a writer and a block hold while bytes are gathered part by part.
-use Rattle.std.proofs.Common.{◌≡◌, ◌∙◌, ℕ, List, [], ◌++◌, refl, ap, sym, append_assoc, append-nil, subst, Option, Result, Ok, Err, OnOk, OnErr}
+use Rattle.std.proofs.Common.{◌≡◌, ◌∙◌, ℕ, List, [], ◌++◌, refl, ap, sym, append_assoc, append-nil, subst, Option, Result, Ok, Err, OnOk}
 use Rattle.std.specs.Io.KnownBytes.{Appends}
 use Rattle.std.proofs.KnownBytes.{Appends-nil, Appends-trans}
 use Rattle.ob_shell.specs.Writing.{AppendsFront, Gathers}
@@ -57,16 +57,6 @@ pub record GathersUpTo (old new : Option (List ℕ)) (had bytes rest has : List 
 -- nothing is gathered at first
 pub up_to_nothing : (old : Option (List ℕ)) (had bytes : List ℕ) → GathersUpTo old old had bytes bytes had
 up_to_nothing old had bytes = record { front = []; joined = refl; gathered = gathers_nothing old had }
-
--- what holds anyway holds at a fault
-pub at_err : {T E : Type 0} (r : Result T E) (P : Type 0) → P → OnErr r P
-at_err (Ok x) P h = tt
-at_err (Err e) P h = h
-
--- what follows at a fault
-pub at_err_weaker : {T E : Type 0} (r : Result T E) (P Q : Type 0) → (P → Q) → OnErr r P → OnErr r Q
-at_err_weaker (Ok x) P Q f h = tt
-at_err_weaker (Err e) P Q f h = f h
 
 -- what follows where there is no fault
 pub at_ok_weaker : {T E : Type 0} (r : Result T E) (P Q : Type 0) → (P → Q) → OnOk r P → OnOk r Q

@@ -1,8 +1,7 @@
 -- Where the block isn't written whole, a beginning of it stands.
 use Rattle.std.proofs.Common.{subst}
 use Rattle.ob_shell.specs.Writing.{AppendsFront}
-use Rattle.ob_shell.proofs.Writers.{front-append}
-use Rattle.ob_shell.proofs.Gathered.{at_err}
+use Rattle.ob_shell.proofs.Writers.{front-append, at_err}
 use Rattle.ob_shell.proofs.writing.gather.Goals as goal
 
 pub returns-in_err-write_out-clause-front : goal.returns-in_err-write_out-clause-front
