@@ -239,7 +239,7 @@ request_has_texts bytes (QueryName h) s = tt
 line_has_texts : (line p : List ℕ) (r : Request (List ℕ)) → IsLine line (Asks p r) → HasTexts r
 line_has_texts line p r (rest, e, word, (operands, f, s), short) = request_has_texts operands r s
 
-form_has_texts : (line : List ℕ) (form : Form (List ℕ)) → IsLine line form → FormHasTexts form
+pub form_has_texts : (line : List ℕ) (form : Form (List ℕ)) → IsLine line form → FormHasTexts form
 form_has_texts line Nothing l = tt
 form_has_texts line Stat l = tt
 form_has_texts line (Asks p r) l = line_has_texts line p r l

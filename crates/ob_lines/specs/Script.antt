@@ -25,6 +25,10 @@ abbrev pub BeginsWithForms : List ℕ → Forms → List ℕ → Type 0
 BeginsWithForms script [] rest = script ≡ rest
 BeginsWithForms script (form ∷ forms) rest = (behind : List ℕ) × BeginsWithLine script form behind × BeginsWithForms behind forms rest
 
+-- the script has a reading: its lines, from the first to the last, are of some forms
+abbrev pub HasReading : List ℕ → Type 0
+HasReading script = (forms : Forms) × BeginsWithForms script forms []
+
 -- two readings of a script agree as far as both go
 abbrev pub ScriptsHaveOneReading : Type 0
 ScriptsHaveOneReading =

@@ -19,5 +19,5 @@ mod verb;
 pub use form::{Form, LONGEST_LINE, form_of, lines_have_one_form};
 pub use handle::{HandleForm, Offset, offset_value};
 pub use request::{NameForm, PlaceForm, Request, word_of};
-pub use script::{read_line, scripts_have_one_reading};
+pub use script::{every_script_has_a_reading, read_line, scripts_have_one_reading};
 pub use text::{decode, texts_spell_one_thing};

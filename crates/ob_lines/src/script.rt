@@ -3,7 +3,7 @@
 ghost use Rattle.std.specs.Prelude.{◌≡◌, ◌<◌, ◌∷◌, [], length, IfSome, IfNone};
 ghost use Rattle.ob_lines.specs.Lines.{lines_of};
 ghost use Rattle.ob_lines.specs.Grammar.{FormHasTexts, form_seen};
-ghost use Rattle.ob_lines.specs.Script.{BeginsWithLine, found_seen, ScriptsHaveOneReading};
+ghost use Rattle.ob_lines.specs.Script.{BeginsWithLine, found_seen, HasReading, ScriptsHaveOneReading};
 
 use crate::form::{Form, form_of};
 use crate::split::split_at;
@@ -42,6 +42,18 @@ fn first_line(bytes: &[u8]) -> Option<(&[u8], &[u8])>
             let nothing: &[u8] = &[];
             Some((bytes, nothing))
         }
+    }
+}
+
+/// Each script has a reading: forms of all its lines. [`scripts_have_one_reading`] says that there is no
+/// other. The call reads the script line by line and answers nothing; a caller makes it to have the fact.
+/// Where a contract says what holds for each reading of a script, it says it of this one. Takes no memory.
+pub fn every_script_has_a_reading(script: &[u8])
+    ensures { HasReading script.now }
+{
+    let mut rest = script;
+    while let Some((_form, behind)) = read_line(rest) {
+        rest = behind;
     }
 }
 

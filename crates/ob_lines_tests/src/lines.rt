@@ -2,7 +2,8 @@
 
 use ob_base::Attrs;
 use ob_lines::{
-    Form, HandleForm, NameForm, Offset, PlaceForm, Request, decode, form_of, read_line,
+    Form, HandleForm, NameForm, Offset, PlaceForm, Request, decode, every_script_has_a_reading,
+    form_of, read_line, scripts_have_one_reading,
 };
 use ob_plain::PlainKind;
 use std::test::Fail;
@@ -419,6 +420,22 @@ fn only_lf_ends_a_line_and_the_last_may_lack_it(rt: HostRuntime) {
     assert!(rt; read_line(b"\n") == Some((Some(Form::Nothing), b"".as_slice())));
     assert!(rt; read_line(b"stat\r\n") == Some((None, b"".as_slice())));
     assert!(rt; read_line(b"stat\0") == Some((None, b"".as_slice())));
+}
+
+// The calls answer nothing; what they are for is told by their contracts, and here they return.
+#[test]
+fn every_script_is_read_in_one_way() {
+    let scripts: [&[u8]; 5] = [
+        b"",
+        b"\n",
+        b"stat\n\nstat",
+        b"stat\0\nstat\n",
+        b"p1 close a\r\n",
+    ];
+    for script in scripts {
+        every_script_has_a_reading(script);
+    }
+    scripts_have_one_reading();
 }
 
 #[test]

@@ -1,139 +1,106 @@
 -- What the rest of a script shows, behind what was shown so far.
 use Rattle.std.proofs.Common.{◌≡◌, ℕ, ◌+◌, List, [], ◌∷◌, ◌++◌, Option, Some, None, refl, sym, ap, ◌∙◌, subst, append_assoc, append-nil, inl, inr}
-use Rattle.std.specs.Borrow.{Bor}
 use Rattle.std.specs.Io.KnownBytes.{Appends}
-use Rattle.std.proofs.KnownBytes.{Appends-nil, Appends-trans}
 use Rattle.ob_model.specs.declared.command.Command.{Command}
 use Rattle.ob_model.specs.declared.reply.Reply.{Reply}
 use Rattle.ob_model.specs.declared.reply.Answer.TheVariants.{Done}
 use Rattle.ob_model.specs.declared.reply.Event.TheVariants.{Start}
 use Rattle.ob_model.specs.Opening.{opening}
-use Rattle.ob_model.specs.Step.{Step}
 use Rattle.ob_model.specs.Run.{Entry, RunFrom}
+use Rattle.ob_model.specs.Sound.{IsSound}
+use Rattle.ob_model.proofs.Soundness.{opening_sound}
+use Rattle.ob_model.proofs.Steps.{step_sound}
 use Rattle.ob_plain.specs.declared.plain.PlainKind.{PlainKind}
 use Rattle.ob_plain.specs.Counting.{opens_of, closes_of, deletes_of}
-use Rattle.ob_shell.specs.declared.counts.Counts.{Counts}
-use Rattle.ob_lines.specs.declared.form.Form.TheVariants.{Asks}
-use Rattle.ob_lines.specs.declared.request.Request.{Request}
+use Rattle.ob_output.specs.declared.counts.Counts.{Counts}
 use Rattle.ob_shell.specs.declared.line.Outcome.{Outcome}
 use Rattle.ob_shell.specs.declared.line.Outcome.TheVariants as outcome
 use Rattle.ob_shell.specs.declared.run.Ending.{Ending}
 use Rattle.ob_shell.specs.declared.run.Ending.TheVariants as ending
 use Rattle.ob_lines.specs.declared.form.Form.{Form}
-use Rattle.ob_lines.specs.Script.{Forms, BeginsWithLine, BeginsWithForms, found_seen}
-use Rattle.ob_lines.specs.Grammar.{word_of, form_seen, request_seen}
-use Rattle.ob_lines.proofs.Scripted.{begins_more}
-use Rattle.ob_shell.specs.Words.{Words, no_words, with_word, process_of}
-use Rattle.ob_shell.specs.Writing.{AppendsFront}
+use Rattle.ob_lines.specs.Script.{Forms, BeginsWithLine, BeginsWithForms}
+use Rattle.ob_lines.proofs.Scripted.{HaveTexts, begins_more, goes_on}
+use Rattle.ob_shell.specs.Words.{Words, no_words, process_of}
+use Rattle.ob_shell.specs.Writing.{AppendsFront, Gathers}
+use Rattle.ob_shell.proofs.Gathered.{gathers_nothing, gathers_more, gathers_front, gathers_out, gathers_out_front}
 use Rattle.ob_shell.specs.Machine.{Standard, standard, Space, IsFresh}
-use Rattle.ob_shell.specs.Commands.{IsCommand, value_after}
-use Rattle.ob_shell.specs.Printed.{output_line, reply_text, counts_text}
-use Rattle.ob_shell.specs.Shown.{Entries, Shows, PlaysForms, PlaysTo, PlaysPartTo}
-use Rattle.ob_shell.specs.Running.{IsAnswered, IsDone, outcome_text, outcome_end}
+use Rattle.ob_output.specs.Printed.{output_line, reply_text, counts_text}
+use Rattle.ob_shell.specs.Shown.{Entries, Shows, PlaysForms, PlaysOn, PlaysFirst, PlaysTo, PlaysPartTo}
+use Rattle.ob_shell.proofs.Totals.{shows_total}
+use Rattle.ob_shell.specs.Running.{IsDone, outcome_text, outcome_end, GathersRun}
 
--- a request is answered by a step for the command that it spells, and by setting its word
-pub answered : (request : Request (List ℕ)) (p q : ℕ) (words mid new : Words) (s s' : Space) (reply : Reply) (c : Command PlainKind) (w : List ℕ) (v b : ℕ)
-    → mid ≡ words → IsCommand request (mid p) c → Step standard s (Start p c) (Done reply) s' → q ≡ p → w ≡ word_of request → b ≡ mid q w
-    → v ≡ value_after request reply b → new ≡ with_word mid q w v → IsAnswered request p words s reply new s'
-answered request p q words mid new s s' reply c w v b m command step e f g h n =
-    let same : words p ≡ mid p = ap (λ (x : Words). x p) (sym m) in
-    let P : (List ℕ → ℕ) → Type 0 = λ x. IsCommand request x c in
-    (c, subst P (sym same) command, step, n ∙ (rw (h, g, e, f, m) refl))
+-- the rest of the script stands behind the lines that were run, which show so much: whatever forms come,
+-- what they show from here on stands behind it
+pub record RunsBehind (script rest : List ℕ) (number : ℕ) (words : Words) (s : Space) (done : Forms) (so_far : List ℕ) (count : ℕ) : Type 0 where
+  pub read : BeginsWithForms script done rest
+  pub sound : IsSound s
+  pub onward : (forms : Forms) (entries : Entries) (t : Space) (output : List ℕ) (end : Ending) → RunFrom standard s count entries t
+      → Shows (number + 1) forms words s entries output end → PlaysForms (done ++ forms) (so_far ++ output) end
 
--- the form that asks for something, as it is seen
-pub asks_seen : (found : Option (Form (Bor (List ℕ)))) (form : Form (Bor (List ℕ))) (process : Bor (List ℕ)) (request : Request (Bor (List ℕ)))
-    → found ≡ Some form → form ≡ Asks process request → found_seen found ≡ Some (Asks process.now (request_seen request))
-asks_seen found form process request e f =
-    let P : Form (Bor (List ℕ)) → Type 0 = λ x. found_seen found ≡ Some (form_seen x) in subst P f (ap found_seen e)
-
-pub replied : (form : Option (Form (List ℕ))) (process : List ℕ) (request : Request (List ℕ)) (p : ℕ) (words new : Words) (s s' : Space) (reply : Reply)
-    → form ≡ Some (Asks process request) → p ≡ process_of process → IsAnswered request p words s reply new s' → IsDone form words s (outcome.Replied reply) new s'
-replied form process request p words new s s' reply l e a =
-    let P : ℕ → Type 0 = λ x. IsAnswered request x words s reply new s' in (process, request, l, subst P e a)
-
--- the rest of the script stands behind what was run and written so far: whatever forms come, what
--- they show from here on stands behind it
-pub record StandsBehind (old new : Option (List ℕ)) (script rest : List ℕ) (number : ℕ) (words : Words) (s : Space) : Type 0 where
+-- so it does, and what they show was gathered: of it a block has the rest
+pub record StandsBehind (old new : Option (List ℕ)) (has script rest : List ℕ) (number : ℕ) (words : Words) (s : Space) : Type 0 where
   pub done : Forms
   pub so_far : List ℕ
   pub count : ℕ
-  pub read : BeginsWithForms script done rest
-  pub written : Appends old new so_far
-  pub onward : (forms : Forms) (entries : Entries) (t : Space) (output : List ℕ) (end : Ending) → RunFrom standard s count entries t
-      → Shows (number + 1) forms words s entries output end → PlaysForms (done ++ forms) (so_far ++ output) end
+  pub runs : RunsBehind script rest number words s done so_far count
+  pub gathered : Gathers old new [] so_far has
 
 -- a set of which nothing is counted is fresh
 pub is_fresh : (set : Standard) → opens_of set ≡ 0 → closes_of set ≡ 0 → deletes_of set ≡ 0 → IsFresh set
 is_fresh set o c d = record { no_opens = o; no_closes = c; no_deletes = d }
 
--- at first nothing was run and written
-pub stands_first : (old : Option (List ℕ)) (script : List ℕ) (words : Words) (first : Standard) (s : Space) → IsFresh first → words ≡ no_words → s ≡ opening first
-    → StandsBehind old old script script 0 words s
-stands_first old script words first s f w e = record {
+-- at first nothing was run and gathered
+pub stands_first : (old : Option (List ℕ)) (has script : List ℕ) (words : Words) (first : Standard) (s : Space) → has ≡ [] → IsFresh first → words ≡ no_words → s ≡ opening first
+    → StandsBehind old old has script script 0 words s
+stands_first old has script words first s none f w e = record {
   done = [];
   so_far = [];
   count = 0;
-  read = refl;
-  written = Appends-nil old;
-  onward = λ forms entries t output end run shows.
-      let P : Space → Type 0 = λ x. RunFrom standard x 0 entries t in
-      let Q : Space → Type 0 = λ x. Shows 1 forms words x entries output end in
-      let R : Words → Type 0 = λ x. Shows 1 forms x (opening first) entries output end in
-      (first, entries, t, f, subst P e run, subst R w (subst Q e shows));
+  runs = record {
+    read = refl;
+    sound = subst IsSound (sym e) (opening_sound first);
+    onward = λ forms entries t output end run shows.
+        let P : Space → Type 0 = λ x. RunFrom standard x 0 entries t in
+        let Q : Space → Type 0 = λ x. Shows 1 forms words x entries output end in
+        let R : Words → Type 0 = λ x. Shows 1 forms x (opening first) entries output end in
+        (first, entries, t, f, subst P e run, subst R w (subst Q e shows));
+  };
+  gathered = let G : List ℕ → Type 0 = λ x. Gathers old old [] [] x in subst G (sym none) (gathers_nothing old []);
 }
-
--- the last line was run
-pub stands_last : (old new : Option (List ℕ)) (script rest : List ℕ) (number : ℕ) (words : Words) (s : Space) → StandsBehind old new script rest number words s
-    → rest ≡ [] → PlaysTo old new script ending.Done
-stands_last old new script rest number words s b none =
-    let P : Forms → Type 0 = λ x. PlaysForms x (b.so_far ++ []) ending.Done in
-    let plays : PlaysForms b.done (b.so_far ++ []) ending.Done = subst P (append-nil b.done) (b.onward [] [] s [] ending.Done refl (refl, refl, refl)) in
-    (b.so_far ++ [], (b.done, rest, b.read, λ _. none, plays), rw append-nil b.written)
 
 -- the entry of a line's step
 abbrev entry_of : ℕ → ℕ → Command PlainKind → Reply → Entry PlainKind
 entry_of count p c reply = record { number = count + 1; seat = 0; event = Start p c; answer = Done reply }
 
--- what a line that goes on, or ends the run, shows alone
-pub shows_alone : (form : Option (Form (List ℕ))) (number : ℕ) (words words' : Words) (s s' : Space) (count : ℕ) (o : Outcome) → IsDone form words s o words' s'
-    → (entries : Entries) × (t : Space) × (end : Ending) × RunFrom standard s count entries t × Shows number (form ∷ []) words s entries (outcome_text number o) end
-shows_alone form number words words' s s' count outcome.Idle (l, w, e) =
-    ([], s, ending.Done, refl, rw l (refl, refl, refl))
-shows_alone form number words words' s s' count (outcome.Counted counts) (l, k, w, e) =
-    ([], s, ending.Done, refl, rw l ([], ap (λ (x : Counts). output_line number (counts_text x)) k ∙ sym (append-nil _), (refl, refl, refl)))
-shows_alone form number words words' s s' count (outcome.Replied reply) (p, r, l, (c, command, step, w)) = (
-  entry_of count (process_of p) c reply ∷ [],
-  s',
-  ending.Done,
-  (s', refl, step, refl),
-  rw l (inl (entry_of count (process_of p) c reply, [], [], c, reply, s', command, refl, refl, refl, step, refl, sym (append-nil _), (refl, refl, refl))),
-)
-shows_alone form number words words' s s' count outcome.NoLine l =
-    ([], s, ending.BadLine number, refl, rw l (refl, refl, refl))
-shows_alone form number words words' s s' count outcome.NoMemory (p, r, l) =
-    ([], s, ending.NoMemoryAt number, refl, rw l (inr (refl, refl, refl)))
+-- how many entries there are behind a line
+abbrev count_after : ℕ → Outcome → ℕ
+count_after count outcome.Idle = count
+count_after count (outcome.Counted counts) = count
+count_after count (outcome.Replied reply) = count + 1
+count_after count outcome.NoLine = count
+count_after count outcome.NoMemory = count
+
+-- a line that goes on leaves a sound state sound
+sound_after : (form : Option (Form (List ℕ))) (number : ℕ) (words words' : Words) (s s' : Space) (o : Outcome) → IsDone form words s o words' s' → None ≡ outcome_end number o
+    → IsSound s → IsSound s'
+sound_after form number words words' s s' outcome.Idle (l, w, e) n sound = subst IsSound (sym e) sound
+sound_after form number words words' s s' (outcome.Counted counts) (l, k, w, e) n sound = subst IsSound (sym e) sound
+sound_after form number words words' s s' (outcome.Replied reply) (p, r, l, (c, command, step, w)) n sound =
+    step_sound standard s s' (Start (process_of p) c) (Done reply) sound step
+sound_after form number words words' s s' outcome.NoLine d n sound = cc
+sound_after form number words words' s s' outcome.NoMemory d n sound = cc
 
 -- a line that goes on stands behind what was shown before it
-pub stands_more : (old mid new : Option (List ℕ)) (script rest behind : List ℕ) (form : Option (Form (List ℕ))) (number : ℕ) (words words' : Words) (s s' : Space) (o : Outcome)
-    → StandsBehind old mid script rest number words s → BeginsWithLine rest form behind → IsDone form words s o words' s'
-    → None ≡ outcome_end (number + 1) o → Appends mid new (outcome_text (number + 1) o) → StandsBehind old new script behind (number + 1) words' s'
-stands_more old mid new script rest behind form number words words' s s' o b e d n a = record {
-  done = b.done ++ form ∷ [];
-  so_far = b.so_far ++ outcome_text (number + 1) o;
-  count = count_after o;
-  read = begins_more script rest behind b.done form b.read e;
-  written = Appends-trans old mid new b.so_far (outcome_text (number + 1) o) b.written a;
+runs_more : (script rest behind : List ℕ) (form : Option (Form (List ℕ))) (number : ℕ) (words words' : Words) (s s' : Space) (o : Outcome) (done : Forms) (so_far : List ℕ) (count : ℕ)
+    → RunsBehind script rest number words s done so_far count → BeginsWithLine rest form behind → IsDone form words s o words' s' → None ≡ outcome_end (number + 1) o
+    → RunsBehind script behind (number + 1) words' s' (done ++ form ∷ []) (so_far ++ outcome_text (number + 1) o) (count_after count o)
+runs_more script rest behind form number words words' s s' o done so_far count b e d n = record {
+  read = begins_more script rest behind done form b.read e;
+  sound = sound_after form (number + 1) words words' s s' o d n b.sound;
   onward = λ forms entries t output end run shows.
-      rw (append_assoc b.done (form ∷ []) forms, append_assoc b.so_far (outcome_text (number + 1) o) output) (go o d n forms entries t output end run shows);
+      rw (append_assoc done (form ∷ []) forms, append_assoc so_far (outcome_text (number + 1) o) output) (go o d n forms entries t output end run shows);
 }
   where
-    count_after : Outcome → ℕ
-    count_after outcome.Idle = b.count
-    count_after (outcome.Counted counts) = b.count
-    count_after (outcome.Replied reply) = b.count + 1
-    count_after outcome.NoLine = b.count
-    count_after outcome.NoMemory = b.count
-
     -- a line that leaves the words and the state
     same : (forms : Forms) (entries : Entries) (output : List ℕ) (end : Ending) → words' ≡ words → s' ≡ s
         → Shows (number + 1 + 1) forms words' s' entries output end → Shows (number + 1 + 1) forms words s entries output end
@@ -143,31 +110,125 @@ stands_more old mid new script rest behind form number words words' s s' o b e d
         subst R e (subst Q w shows)
 
     go : (o : Outcome) → IsDone form words s o words' s' → None ≡ outcome_end (number + 1) o
-        → (forms : Forms) (entries : Entries) (t : Space) (output : List ℕ) (end : Ending) → RunFrom standard s' (count_after o) entries t
-        → Shows (number + 1 + 1) forms words' s' entries output end → PlaysForms (b.done ++ (form ∷ forms)) (b.so_far ++ (outcome_text (number + 1) o ++ output)) end
+        → (forms : Forms) (entries : Entries) (t : Space) (output : List ℕ) (end : Ending) → RunFrom standard s' (count_after count o) entries t
+        → Shows (number + 1 + 1) forms words' s' entries output end → PlaysForms (done ++ (form ∷ forms)) (so_far ++ (outcome_text (number + 1) o ++ output)) end
     go outcome.Idle (l, w, e) n forms entries t output end run shows =
-        let P : Space → Type 0 = λ x. RunFrom standard x b.count entries t in
+        let P : Space → Type 0 = λ x. RunFrom standard x count entries t in
         b.onward (form ∷ forms) entries t output end (subst P e run) (rw l (same forms entries output end w e shows))
     go (outcome.Counted counts) (l, k, w, e) n forms entries t output end run shows =
-        let P : Space → Type 0 = λ x. RunFrom standard x b.count entries t in
+        let P : Space → Type 0 = λ x. RunFrom standard x count entries t in
         b.onward (form ∷ forms) entries t (output_line (number + 1) (counts_text counts) ++ output) end (subst P e run)
         (rw l (output, ap (λ (x : Counts). output_line (number + 1) (counts_text x) ++ output) k, same forms entries output end w e shows))
     go (outcome.Replied reply) (p, r, l, (c, command, step, w)) n forms entries t output end run shows =
         let Q : Words → Type 0 = λ x. Shows (number + 1 + 1) forms x s' entries output end in
-        b.onward (form ∷ forms) (entry_of b.count (process_of p) c reply ∷ entries) t (output_line (number + 1) (reply_text reply) ++ output) end (s', refl, step, run)
-        (rw l (inl (entry_of b.count (process_of p) c reply, entries, output, c, reply, s', command, refl, refl, refl, step, refl, refl, subst Q w shows)))
+        b.onward (form ∷ forms) (entry_of count (process_of p) c reply ∷ entries) t (output_line (number + 1) (reply_text reply) ++ output) end (s', refl, step, run)
+        (rw l (inl (entry_of count (process_of p) c reply, entries, output, c, reply, s', command, refl, refl, refl, step, refl, refl, subst Q w shows)))
     go outcome.NoLine h n forms entries t output end run shows = cc
     go outcome.NoMemory d n forms entries t output end run shows = cc
 
--- a line that ends the run
-pub stands_end : (old mid new : Option (List ℕ)) (script rest behind : List ℕ) (form : Option (Form (List ℕ))) (number : ℕ) (words words' : Words) (s s' : Space) (o : Outcome) (end : Ending)
-    → StandsBehind old mid script rest number words s → BeginsWithLine rest form behind → IsDone form words s o words' s'
-    → Some end ≡ outcome_end (number + 1) o → Appends mid new (outcome_text (number + 1) o) → PlaysTo old new script end
-stands_end old mid new script rest behind form number words words' s s' o end b e d n a = (
-  b.so_far ++ outcome_text (number + 1) o,
-  (b.done ++ form ∷ [], behind, begins_more script rest behind b.done form b.read e, not_done o n, go o d n),
-  Appends-trans old mid new b.so_far (outcome_text (number + 1) o) b.written a,
+-- a line that ends the run, whatever lines stand behind it
+runs_end : (script rest : List ℕ) (form : Option (Form (List ℕ))) (number : ℕ) (words words' : Words) (s s' : Space) (o : Outcome) (end : Ending) (done : Forms) (so_far : List ℕ) (count : ℕ)
+    → RunsBehind script rest number words s done so_far count → IsDone form words s o words' s' → Some end ≡ outcome_end (number + 1) o
+    → (later : Forms) → PlaysForms (done ++ (form ∷ later)) (so_far ++ outcome_text (number + 1) o) end
+runs_end script rest form number words words' s s' outcome.Idle end done so_far count b d n later = cc
+runs_end script rest form number words words' s s' (outcome.Counted counts) end done so_far count b d n later = cc
+runs_end script rest form number words words' s s' (outcome.Replied reply) end done so_far count b d n later = cc
+runs_end script rest form number words words' s s' outcome.NoLine end done so_far count b l n later =
+    let same : end ≡ ending.BadLine (number + 1) = cc in
+    b.onward (form ∷ later) [] s (outcome_text (number + 1) outcome.NoLine) end refl (rw l (refl, refl, same))
+runs_end script rest form number words words' s s' outcome.NoMemory end done so_far count b (p, r, l) n later =
+    let same : end ≡ ending.NoMemoryAt (number + 1) = cc in
+    b.onward (form ∷ later) [] s (outcome_text (number + 1) outcome.NoMemory) end refl (rw l (inr (refl, refl, same)))
+
+-- the lines that were run, where none ended the run, and where the last one did
+plays_done : (script rest : List ℕ) (number : ℕ) (words : Words) (s : Space) (done : Forms) (so_far : List ℕ) (count : ℕ) → RunsBehind script rest number words s done so_far count
+    → PlaysForms done so_far ending.Done
+plays_done script rest number words s done so_far count b =
+    let P : Forms → Type 0 = λ x. PlaysForms x (so_far ++ []) ending.Done in
+    let Q : List ℕ → Type 0 = λ x. PlaysForms done x ending.Done in
+    subst Q (append-nil so_far) (subst P (append-nil done) (b.onward [] [] s [] ending.Done refl (refl, refl, refl)))
+
+first_done : (script rest : List ℕ) (number : ℕ) (words : Words) (s : Space) (done : Forms) (so_far : List ℕ) (count : ℕ) → RunsBehind script rest number words s done so_far count
+    → PlaysFirst script so_far ending.Done
+first_done script rest number words s done so_far count b =
+    (done, rest, b.read, plays_done script rest number words s done so_far count b, λ all whole. on all (goes_on script rest done all b.read whole))
+  where
+    on : (all : Forms) → (later : Forms) × (all ≡ done ++ later) × HaveTexts later → PlaysOn all so_far ending.Done
+    on all (later, e, texts) =
+        let rest = shows_total later (number + 1) words s count texts b.sound in
+        let P : Forms → Type 0 = λ x. PlaysForms x (so_far ++ rest.2) rest.3 in
+        (rest.2, rest.3, rest.4, subst P (sym e) (b.onward later rest.0 rest.1 rest.2 rest.3 rest.5 rest.6))
+
+-- all lines play what those play of which the last ended the run
+on_ended : (all : Forms) (output : List ℕ) (number : ℕ) (o : Outcome) (end : Ending) → Some end ≡ outcome_end number o → PlaysForms all output end → PlaysOn all output end
+on_ended all output number o (ending.BadLine line) n h = h
+on_ended all output number o (ending.NoMemoryAt line) n h = h
+on_ended all output number outcome.Idle ending.Done n h = cc
+on_ended all output number (outcome.Counted counts) ending.Done n h = cc
+on_ended all output number (outcome.Replied reply) ending.Done n h = cc
+on_ended all output number outcome.NoLine ending.Done n h = cc
+on_ended all output number outcome.NoMemory ending.Done n h = cc
+
+first_ended : (script rest behind : List ℕ) (form : Option (Form (List ℕ))) (number : ℕ) (words words' : Words) (s s' : Space) (o : Outcome) (end : Ending) (done : Forms) (so_far : List ℕ) (count : ℕ)
+    → RunsBehind script rest number words s done so_far count → BeginsWithLine rest form behind → IsDone form words s o words' s' → Some end ≡ outcome_end (number + 1) o
+    → PlaysFirst script (so_far ++ outcome_text (number + 1) o) end
+first_ended script rest behind form number words words' s s' o end done so_far count b e d n = (
+  done ++ form ∷ [],
+  behind,
+  read,
+  runs_end script rest form number words words' s s' o end done so_far count b d n [],
+  λ all whole. on all (goes_on script behind (done ++ form ∷ []) all read whole),
 )
+  where
+    read : BeginsWithForms script (done ++ form ∷ []) behind
+    read = begins_more script rest behind done form b.read e
+
+    on : (all : Forms) → (later : Forms) × (all ≡ (done ++ form ∷ []) ++ later) × HaveTexts later → PlaysOn all (so_far ++ outcome_text (number + 1) o) end
+    on all (later, e, texts) =
+        let P : Forms → Type 0 = λ x. PlaysForms x (so_far ++ outcome_text (number + 1) o) end in
+        on_ended all (so_far ++ outcome_text (number + 1) o) (number + 1) o end n
+        (subst P (sym (e ∙ append_assoc done (form ∷ []) later)) (runs_end script rest form number words words' s s' o end done so_far count b d n later))
+
+-- the last line was run
+pub stands_last : (old new : Option (List ℕ)) (has script rest : List ℕ) (number : ℕ) (words : Words) (s : Space) → StandsBehind old new has script rest number words s
+    → rest ≡ [] → GathersRun old new script has ending.Done
+stands_last old new has script rest number words s b none = (
+  b.so_far,
+  (b.done, rest, b.runs.read, λ _. none, plays_done script rest number words s b.done b.so_far b.count b.runs),
+  first_done script rest number words s b.done b.so_far b.count b.runs,
+  b.gathered,
+)
+
+-- a line that goes on
+pub stands_more : (old mid new : Option (List ℕ)) (had has script rest behind : List ℕ) (form : Option (Form (List ℕ))) (number : ℕ) (words words' : Words) (s s' : Space) (o : Outcome)
+    → StandsBehind old mid had script rest number words s → BeginsWithLine rest form behind → IsDone form words s o words' s'
+    → None ≡ outcome_end (number + 1) o → Gathers mid new had (outcome_text (number + 1) o) has → StandsBehind old new has script behind (number + 1) words' s'
+stands_more old mid new had has script rest behind form number words words' s s' o b e d n a = record {
+  done = b.done ++ form ∷ [];
+  so_far = b.so_far ++ outcome_text (number + 1) o;
+  count = count_after b.count o;
+  runs = runs_more script rest behind form number words words' s s' o b.done b.so_far b.count b.runs e d n;
+  gathered = gathers_more old mid new [] had has b.so_far (outcome_text (number + 1) o) b.gathered a;
+}
+
+-- a line that ends the run
+pub stands_end : (old mid new : Option (List ℕ)) (had has script rest behind : List ℕ) (form : Option (Form (List ℕ))) (number : ℕ) (words words' : Words) (s s' : Space) (o : Outcome) (end : Ending)
+    → StandsBehind old mid had script rest number words s → BeginsWithLine rest form behind → IsDone form words s o words' s'
+    → Some end ≡ outcome_end (number + 1) o → Gathers mid new had (outcome_text (number + 1) o) has → GathersRun old new script has end
+stands_end old mid new had has script rest behind form number words words' s s' o end b e d n a =
+    let first : PlaysFirst script (b.so_far ++ outcome_text (number + 1) o) end =
+    first_ended script rest behind form number words words' s s' o end b.done b.so_far b.count b.runs e d n in (
+      b.so_far ++ outcome_text (number + 1) o,
+      (
+        b.done ++ form ∷ [],
+        behind,
+        begins_more script rest behind b.done form b.runs.read e,
+        not_done o n,
+        runs_end script rest form number words words' s s' o end b.done b.so_far b.count b.runs d n [],
+      ),
+      first,
+      gathers_more old mid new [] had has b.so_far (outcome_text (number + 1) o) b.gathered a,
+    )
   where
     not_done : (o : Outcome) → Some end ≡ outcome_end (number + 1) o → end ≡ ending.Done → behind ≡ []
     not_done outcome.Idle n all = cc
@@ -176,38 +237,34 @@ stands_end old mid new script rest behind form number words words' s s' o end b 
     not_done outcome.NoLine n all = cc
     not_done outcome.NoMemory n all = cc
 
-    go : (o : Outcome) → IsDone form words s o words' s' → Some end ≡ outcome_end (number + 1) o → PlaysForms (b.done ++ (form ∷ [])) (b.so_far ++ outcome_text (number + 1) o) end
-    go outcome.Idle d n = cc
-    go (outcome.Counted counts) d n = cc
-    go (outcome.Replied reply) d n = cc
-    go outcome.NoLine l n =
-        let same : end ≡ ending.BadLine (number + 1) = cc in
-        b.onward (form ∷ []) [] s (outcome_text (number + 1) outcome.NoLine) end refl (rw l (refl, refl, same))
-    go outcome.NoMemory (p, r, l) n =
-        let same : end ≡ ending.NoMemoryAt (number + 1) = cc in
-        b.onward (form ∷ []) [] s (outcome_text (number + 1) outcome.NoMemory) end refl (rw l (inr (refl, refl, same)))
+-- a beginning of what lines show was written
+part_of : (old new : Option (List ℕ)) (script output : List ℕ) (end : Ending) → PlaysFirst script output end → AppendsFront old new output → PlaysPartTo old new script
+part_of old new script output end first f =
+    let P : List ℕ → Type 0 = λ x. PlaysFirst script x end in
+    (f.front, (f.back, end, f.unwritten, subst P f.joined first), f.written)
 
--- a line that was not written whole
-pub stands_part : (old mid new : Option (List ℕ)) (script rest behind : List ℕ) (form : Option (Form (List ℕ))) (number : ℕ) (words words' : Words) (s s' : Space) (o : Outcome)
-    → StandsBehind old mid script rest number words s → BeginsWithLine rest form behind → IsDone form words s o words' s'
-    → AppendsFront mid new (outcome_text (number + 1) o) → PlaysPartTo old new script
-stands_part old mid new script rest behind form number words words' s s' o b e d f =
-    go (shows_alone form (number + 1) words words' s s' b.count o d)
+-- a line at which a write failed
+pub stands_part : (old mid new : Option (List ℕ)) (had script rest behind : List ℕ) (form : Option (Form (List ℕ))) (number : ℕ) (words words' : Words) (s s' : Space) (o : Outcome)
+    → StandsBehind old mid had script rest number words s → BeginsWithLine rest form behind → IsDone form words s o words' s'
+    → AppendsFront mid new (had ++ outcome_text (number + 1) o) → PlaysPartTo old new script
+stands_part old mid new had script rest behind form number words words' s s' o b e d f = go (outcome_end (number + 1) o) refl
   where
-    go : (entries : Entries) × (t : Space) × (end : Ending) × RunFrom standard s b.count entries t × Shows (number + 1) (form ∷ []) words s entries (outcome_text (number + 1) o) end
-        → PlaysPartTo old new script
-    go (entries, t, end, run, shows) =
-        let text : b.so_far ++ outcome_text (number + 1) o ≡ (b.so_far ++ f.front) ++ f.back = ap (λ x. b.so_far ++ x) f.joined ∙ sym (append_assoc b.so_far f.front f.back) in
-        let P : List ℕ → Type 0 = λ x. PlaysForms (b.done ++ form ∷ []) x end in (
-          b.so_far ++ f.front,
-          (
-            b.done ++ form ∷ [],
-            behind,
-            f.back,
-            end,
-            begins_more script rest behind b.done form b.read e,
-            f.unwritten,
-            subst P text (b.onward (form ∷ []) entries t (outcome_text (number + 1) o) end run shows),
-          ),
-          Appends-trans old mid new b.so_far f.front b.written f.written,
-        )
+    written : AppendsFront old new (b.so_far ++ outcome_text (number + 1) o)
+    written = gathers_front old mid new [] had b.so_far (outcome_text (number + 1) o) b.gathered f
+
+    go : (end : Option Ending) → end ≡ outcome_end (number + 1) o → PlaysPartTo old new script
+    go None n =
+        part_of old new script (b.so_far ++ outcome_text (number + 1) o) ending.Done
+        (first_done script behind (number + 1) words' s' (b.done ++ form ∷ []) (b.so_far ++ outcome_text (number + 1) o) (count_after b.count o)
+        (runs_more script rest behind form number words words' s s' o b.done b.so_far b.count b.runs e d n))
+        written
+    go (Some end) n =
+        part_of old new script (b.so_far ++ outcome_text (number + 1) o) end
+        (first_ended script rest behind form number words words' s s' o end b.done b.so_far b.count b.runs e d n) written
+
+-- the end of a run, where the block was written, and where that write failed
+pub run_written : (old mid new : Option (List ℕ)) (script has : List ℕ) (end : Ending) → GathersRun old mid script has end → Appends mid new has → PlaysTo old new script end
+run_written old mid new script has end (output, plays, first, g) a = (output, plays, gathers_out old mid new output has g a)
+
+pub run_part : (old mid new : Option (List ℕ)) (script has : List ℕ) (end : Ending) → GathersRun old mid script has end → AppendsFront mid new has → PlaysPartTo old new script
+run_part old mid new script has end (output, plays, first, g) f = part_of old new script output end first (gathers_out_front old mid new output has g f)

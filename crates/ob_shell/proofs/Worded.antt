@@ -1,58 +1,44 @@
--- Values of handle words, and the maps that keep them.
-use Rattle.std.proofs.Common.{◌≡◌, ℕ, Bool, true, false, cond, eqb, ◌&&◌, List, [], ◌∷◌, Ordering, Less, Equal, Greater, inl, inr, ◌<◌, Option, Some, None, sym, ap, ◌∙◌, refl, arith}
-use Rattle.std.specs.Prelude.{unwrap_or, IsSome}
+-- Values of handle words, and the tables that keep them.
+use Rattle.std.proofs.Common.{◌≡◌, ℕ, zero, suc, ◌+◌, ◌<◌, Bool, true, false, not, cond, List, [], ◌∷◌, length, inl, inr, Option, Some, None, is_some, sym, ap, ◌∙◌, refl, subst, arith}
+use Rattle.std.proofs.Math.ListN.{set}
+use Rattle.std.specs.Prelude.{unwrap_or}
+use Rattle.std.specs.List.{position, position_or_len, slice_get}
+use Rattle.std.specs.Map.{lookup, keys_of}
+use Rattle.std.specs.Option.{option_map_or}
+use Rattle.std.specs.Str.{bytes_eq}
 use Rattle.std.specs.declared.vec.Vec.{Vec}
 use Rattle.std.specs.declared.alloc.Global.{Global}
-use Rattle.std.specs.BTreeMap.{BTreeMap}
-use Rattle.std.specs.Ordering.{ordering_then, nat_cmp, is_eq, match_ordering}
-use Rattle.std.specs.Cmp.Lexicographic.{slice_cmp}
-use Rattle.std.specs.Str.{bytes_eq}
-use Rattle.std.specs.BTreeMap.{insert_entry}
-use Rattle.std.specs.Map.{lookup}
 use Rattle.std.proofs.lemmas.Slice.Eq.{bytes_eq-Decides}
-use Rattle.std.proofs.lemmas.Bool.{and_parts, and_from, eqb-true, eq-eqb, ne_eqb, cases_order}
-use Rattle.std.proofs.lemmas.Cmp.{same_from_slice_cmp}
-use Rattle.std.proofs.lemmas.Bool.Decides.{nat_tests}
-use Rattle.ob_shell.specs.Words.{Words, no_words, values_of, with_word}
+use Rattle.std.proofs.lemmas.Bool.{eq-eqb, ne_eqb, cases_eq}
+use Rattle.indexmap.specs.IndexMap.{IndexMap, insert_entry, set_value_at}
+use Rattle.indexmap.proofs.MapLemmas.{Found-position}
+use Rattle.ob_shell.specs.Words.{no_words, with_word, with_value, value_among, values_in, values_of, IsAt}
 
-abbrev Kept : Type 0
-Kept = BTreeMap (ℕ × Vec ℕ Global) ℕ
+abbrev Entries : Type 0
+Entries = List (Vec ℕ Global × ℕ)
 
-abbrev order : ℕ × Vec ℕ Global → ℕ × Vec ℕ Global → Ordering
-order x y = ordering_then (nat_cmp x.0 y.0) (slice_cmp nat_cmp x.1.items y.1.items)
+abbrev is_word : List ℕ → Vec ℕ Global → Bool
+is_word word key = bytes_eq word key.items
 
--- the order of keys tells whether they are one word of one process
-same_bytes : (xs ys : List ℕ) → is_eq (slice_cmp nat_cmp xs ys) ≡ bytes_eq xs ys
-same_bytes xs ys = same_from_slice_cmp nat_cmp is_eq bytes_eq refl (λ _ _. refl) (λ _ _. refl) (λ x y xs ys o h. grind (arith, nat_tests)) xs ys (slice_cmp nat_cmp xs ys) refl
+abbrev same_key : Vec ℕ Global → Vec ℕ Global → Bool
+same_key x y = bytes_eq x.items y.items
 
-nat_cmp_same : (q : ℕ) → nat_cmp q q ≡ Equal
-nat_cmp_same q = grind (arith, nat_tests)
+-- tests of bytes
+same_bytes : (xs ys : List ℕ) → bytes_eq xs ys ≡ true → xs ≡ ys
+same_bytes xs ys e = (bytes_eq-Decides xs ys).0 e
 
-eqb_same : (q : ℕ) → eqb q q ≡ true
-eqb_same q = eq-eqb q q refl
+own_bytes : (xs ys : List ℕ) → xs ≡ ys → bytes_eq xs ys ≡ true
+own_bytes xs ys e = (bytes_eq-Decides xs ys).1 e
 
-nat_cmp_less : (p q : ℕ) → p < q → nat_cmp p q ≡ Less
-nat_cmp_less p q l = grind (arith, nat_tests)
+both_same : (a b : Bool) → (a ≡ true → b ≡ true) → (b ≡ true → a ≡ true) → a ≡ b
+both_same true b f g = sym (f refl)
+both_same false true f g = g refl
+both_same false false f g = refl
 
-nat_cmp_more : (p q : ℕ) → q < p → nat_cmp p q ≡ Greater
-nat_cmp_more p q l = grind (arith, nat_tests)
+flipped : (xs ys : List ℕ) → bytes_eq xs ys ≡ bytes_eq ys xs
+flipped xs ys = both_same _ _ (λ e. own_bytes ys xs (sym (same_bytes xs ys e))) (λ e. own_bytes xs ys (sym (same_bytes ys xs e)))
 
--- two words of one process are told apart by their bytes
-at_is : (p q : ℕ) (w v : List ℕ) → is_eq (ordering_then (nat_cmp p q) (slice_cmp nat_cmp w v)) ≡ (eqb p q && bytes_eq w v)
-at_is p q w v = elim (cases_order p q) [
-  | inl e ↦ rw (e, nat_cmp_same q, eqb_same q) (same_bytes w v)
-  | inr (inl l) ↦ rw (nat_cmp_less p q l, ne_eqb p q (λ e. omega arith)) refl
-  | inr (inr l) ↦ rw (nat_cmp_more p q l, ne_eqb p q (λ e. omega arith)) refl
-]
-
-at_true : (p q : ℕ) (w v : List ℕ) → is_eq (ordering_then (nat_cmp p q) (slice_cmp nat_cmp w v)) ≡ true → (p ≡ q) × (w ≡ v)
-at_true p q w v e =
-    let both : (eqb p q ≡ true) × (bytes_eq w v ≡ true) = and_parts _ _ (sym (at_is p q w v) ∙ e) in
-    (eqb-true _ _ both.0, (bytes_eq-Decides w v).0 both.1)
-
-at_back : (p q : ℕ) (w v : List ℕ) → p ≡ q → w ≡ v → is_eq (ordering_then (nat_cmp p q) (slice_cmp nat_cmp w v)) ≡ true
-at_back p q w v e f = at_is p q w v ∙ and_from _ _ (eq-eqb p q e) ((bytes_eq-Decides w v).1 f)
-
+-- a word that is tested behind an equal one, and behind another
 picks_equal : (a b : Bool) (v x : ℕ) (l : Option ℕ) → b ≡ a → cond b (Some v) l ≡ cond a (Some v) (cond b (Some x) l)
 picks_equal true true v x l e = refl
 picks_equal false false v x l e = refl
@@ -65,94 +51,151 @@ picks_apart true false v x l h = refl
 picks_apart false true v x l h = refl
 picks_apart false false v x l h = refl
 
--- the test doesn't depend on the side
-flipped : (p q : ℕ) (w v : List ℕ) → (eqb p q && bytes_eq w v) ≡ true → (eqb q p && bytes_eq v w) ≡ true
-flipped p q w v e =
-    let both : (eqb p q ≡ true) × (bytes_eq w v ≡ true) = and_parts _ _ e in
-    and_from _ _ (eq-eqb q p (sym (eqb-true _ _ both.0))) ((bytes_eq-Decides v w).1 (sym ((bytes_eq-Decides w v).0 both.1)))
+apart : (word w key : List ℕ) → bytes_eq word key ≡ false → bytes_eq w key ≡ true → bytes_eq word w ≡ true → ⊥
+apart word w key differs here there =
+    let yes : bytes_eq word key ≡ true = own_bytes word key (same_bytes word w there ∙ same_bytes w key here) in cc
 
-at_is_flipped : (p q : ℕ) (w v : List ℕ) → is_eq (ordering_then (nat_cmp p q) (slice_cmp nat_cmp w v)) ≡ (eqb q p && bytes_eq v w)
-at_is_flipped p q w v = at_is p q w v ∙ both_same _ _ (flipped p q w v) (flipped q p v w)
+alike : (word w key : List ℕ) → bytes_eq word key ≡ true → bytes_eq w key ≡ bytes_eq word w
+alike word w key e = ap (λ x. bytes_eq w x) (sym (same_bytes word key e)) ∙ flipped w word
+
+-- a word's value where the value at a slot was set
+lookup_set : (es : Entries) (slot : ℕ) (word : List ℕ) (v : ℕ) (w : List ℕ) → IsAt es slot word
+    → lookup (is_word w) (set_value_at es slot v) ≡ cond (bytes_eq word w) (Some v) (lookup (is_word w) es)
+lookup_set [] slot word v w at = absurd at
+lookup_set (e ∷ es) zero word v w at = picks_equal (bytes_eq word w) (bytes_eq w e.0.items) v e.1 (lookup (is_word w) es) (alike word w e.0.items at)
+lookup_set (e ∷ es) (suc slot) word v w (differs, at) =
+    rw (lookup_set es slot word v w at) (picks_apart (bytes_eq word w) (bytes_eq w e.0.items) v e.1 (lookup (is_word w) es) (apart word w e.0.items differs))
+
+-- a word's value where an entry was added
+lookup_added : (es : Entries) (k : Vec ℕ Global) (v : ℕ) (w : List ℕ)
+    → lookup (is_word w) (insert_entry same_key es k v) ≡ cond (bytes_eq k.items w) (Some v) (lookup (is_word w) es)
+lookup_added [] k v w = ap (λ b. cond b (Some v) None) (flipped w k.items)
+lookup_added (e ∷ es) k v w = go (bytes_eq k.items e.0.items) refl (lookup_added es k v w)
   where
-    both_same : (a b : Bool) → (a ≡ true → b ≡ true) → (b ≡ true → a ≡ true) → a ≡ b
-    both_same true b f g = sym (f refl)
-    both_same false true f g = g refl
-    both_same false false f g = refl
+    go : (b : Bool) → bytes_eq k.items e.0.items ≡ b → lookup (is_word w) (insert_entry same_key es k v) ≡ cond (bytes_eq k.items w) (Some v) (lookup (is_word w) es)
+        → lookup (is_word w) (cond b ((e.0, v) ∷ es) (e ∷ insert_entry same_key es k v))
+        ≡ cond (bytes_eq k.items w) (Some v) (cond (bytes_eq w e.0.items) (Some e.1) (lookup (is_word w) es))
+    go true q h = picks_equal (bytes_eq k.items w) (bytes_eq w e.0.items) v e.1 (lookup (is_word w) es) (alike k.items w e.0.items q)
+    go false q h = rw h (picks_apart (bytes_eq k.items w) (bytes_eq w e.0.items) v e.1 (lookup (is_word w) es) (apart k.items w e.0.items q))
 
--- a word's value in the list of a map's entries to which a word was added
-lookup_insert : (es : List ((ℕ × Vec ℕ Global) × ℕ)) (k : ℕ × Vec ℕ Global) (v p : ℕ) (w : List ℕ)
-    → lookup (λ e. is_eq (ordering_then (nat_cmp p e.0) (slice_cmp nat_cmp w e.1.items))) (insert_entry order es k v)
-    ≡ cond (eqb k.0 p && bytes_eq k.1.items w) (Some v) (lookup (λ e. is_eq (ordering_then (nat_cmp p e.0) (slice_cmp nat_cmp w e.1.items))) es)
-lookup_insert [] k v p w = rw at_keys refl
+same_values : (f g : List ℕ → ℕ) → ((w : List ℕ) → f w ≡ g w) → f ≡ g
+same_values f g h = λ i w. h w i
+
+chosen : (b : Bool) (v : ℕ) (o : Option ℕ) → unwrap_or (cond b (Some v) o) 0 ≡ cond b v (unwrap_or o 0)
+chosen true v o = refl
+chosen false v o = refl
+
+-- a slot that is set sets its word
+pub set_values : {S : Type 0} (m n : IndexMap (Vec ℕ Global) ℕ S) (slot : ℕ) (word : List ℕ) (v : ℕ) → n.entries ≡ set_value_at m.entries slot v → IsAt m.entries slot word
+    → values_in n ≡ with_value (values_in m) word v
+set_values {S} m n slot word v e at = same_values _ _ (λ w.
+    ap (λ (es : Entries). value_among es w) e
+    ∙ (ap (λ (o : Option ℕ). unwrap_or o 0) (lookup_set m.entries slot word v w at) ∙ chosen (bytes_eq word w) v (lookup (is_word w) m.entries)))
+
+-- a word that is added with the value 0 leaves all values as they were
+none_found : (o : Option ℕ) → is_some o ≡ false → unwrap_or o 0 ≡ 0
+none_found None e = refl
+none_found (Some x) e = cc
+
+pub added_values : {S : Type 0} (m n : IndexMap (Vec ℕ Global) ℕ S) (k : Vec ℕ Global) (word : List ℕ) → n.entries ≡ insert_entry same_key m.entries k 0 → k.items ≡ word
+    → is_some (lookup (is_word word) m.entries) ≡ false → values_in n ≡ values_in m
+added_values {S} m n k word e same none = same_values _ _ (λ w.
+    ap (λ (es : Entries). value_among es w) e
+    ∙ (ap (λ (o : Option ℕ). unwrap_or o 0) (lookup_added m.entries k 0 w)
+    ∙ (chosen (bytes_eq k.items w) 0 (lookup (is_word w) m.entries) ∙ kept w (bytes_eq k.items w) refl)))
   where
-    at_keys : is_eq (ordering_then (nat_cmp p k.0) (slice_cmp nat_cmp w k.1.items)) ≡ (eqb k.0 p && bytes_eq k.1.items w)
-    at_keys = at_is_flipped p k.0 w k.1.items
-lookup_insert (e ∷ es) k v p w = go (lookup_insert es k v p w) (order k e.0) refl
+    kept : (w : List ℕ) (b : Bool) → bytes_eq k.items w ≡ b → cond b 0 (value_among m.entries w) ≡ value_among m.entries w
+    kept w true q =
+        let here : w ≡ word = sym (same_bytes k.items w q) ∙ same in
+        rw here (sym (none_found (lookup (is_word word) m.entries) none))
+    kept w false q = refl
+
+-- the slot of a word that was found, and of one that was added
+at_zero : (b : Bool) (n : ℕ) → cond (not b) (1 + n) 0 ≡ 0 → b ≡ true
+at_zero true n e = refl
+at_zero false n e = absurd (omega arith)
+
+at_more : (b : Bool) (n i : ℕ) → cond (not b) (1 + n) 0 ≡ suc i → (b ≡ false) × (n ≡ i)
+at_more true n i e = absurd (omega arith)
+at_more false n i e = (refl, omega arith)
+
+at_first : (es : Entries) (slot : ℕ) (word : List ℕ) → position_or_len (is_word word) (keys_of es) ≡ slot → slot < length es → IsAt es slot word
+at_first [] slot word e l = absurd (omega arith)
+at_first (e ∷ es) zero word p l = at_zero (bytes_eq word e.0.items) (position_or_len (is_word word) (keys_of es)) p
+at_first (e ∷ es) (suc slot) word p l =
+    let more = at_more (bytes_eq word e.0.items) (position_or_len (is_word word) (keys_of es)) slot p in
+    (more.0, at_first es slot word more.1 (omega arith))
+
+pub at_found : (es : Entries) (slot : ℕ) (word : List ℕ) → position (is_word word) (keys_of es) ≡ Some slot → IsAt es slot word
+at_found es slot word p =
+    let found = Found-position (is_word word) es slot p in at_first es slot word found.or_len found.within
+
+at_added : (es : Entries) (k : Vec ℕ Global) (v : ℕ) → IsAt (insert_entry same_key es k v) (position_or_len (same_key k) (keys_of es)) k.items
+at_added [] k v = own_bytes k.items k.items refl
+at_added (e ∷ es) k v = go (bytes_eq k.items e.0.items) refl (at_added es k v)
   where
-    found : Bool
-    found = eqb k.0 p && bytes_eq k.1.items w
+    go : (b : Bool) → bytes_eq k.items e.0.items ≡ b → IsAt (insert_entry same_key es k v) (position_or_len (same_key k) (keys_of es)) k.items
+        → IsAt (cond b ((e.0, v) ∷ es) (e ∷ insert_entry same_key es k v)) (cond (not b) (1 + position_or_len (same_key k) (keys_of es)) 0) k.items
+    go true q h = q
+    go false q h =
+        let P : ℕ → Type 0 = λ x. IsAt (e ∷ insert_entry same_key es k v) x k.items in
+        let next : suc (position_or_len (same_key k) (keys_of es)) ≡ 1 + position_or_len (same_key k) (keys_of es) = omega arith in
+        subst P next (q, h)
 
-    test : ℕ × Vec ℕ Global → Bool
-    test x = is_eq (ordering_then (nat_cmp p x.0) (slice_cmp nat_cmp w x.1.items))
+pub at_new : {S : Type 0} (m n : IndexMap (Vec ℕ Global) ℕ S) (k : Vec ℕ Global) (v slot : ℕ) (word : List ℕ) → n.entries ≡ insert_entry same_key m.entries k v
+    → slot ≡ position_or_len (same_key k) (keys_of m.entries) → k.items ≡ word → IsAt n.entries slot word
+at_new {S} m n k v slot word e p same = rw (e, p, ← same) (at_added m.entries k v)
 
-    rest : Option ℕ
-    rest = lookup (λ x. is_eq (ordering_then (nat_cmp p x.0) (slice_cmp nat_cmp w x.1.items))) es
+-- the value at a slot is its word's
+pub value_here : (es : Entries) (slot : ℕ) (word : List ℕ) (k : Vec ℕ Global) (x : ℕ) → slice_get es slot ≡ Some (k, x) → IsAt es slot word → x ≡ value_among es word
+value_here [] slot word k x e at = absurd at
+value_here (y ∷ es) zero word k x e at =
+    let same : y ≡ (k, x) = cc in rw at (sym (ap (λ (z : Vec ℕ Global × ℕ). z.1) same))
+value_here (y ∷ es) (suc slot) word k x e (differs, at) = rw differs (value_here es slot word k x e at)
 
-    at_key : test k ≡ found
-    at_key = at_is_flipped p k.0 w k.1.items
+-- one table of several
+get_set : {A : Type 0} (ts : List A) (p : ℕ) (t t' : A) → slice_get ts p ≡ Some t → slice_get (set ts p t') p ≡ Some t'
+get_set [] p t t' e = cc
+get_set (x ∷ ts) zero t t' e = refl
+get_set (x ∷ ts) (suc p) t t' e = get_set ts p t t' e
 
-    go : lookup (λ x. is_eq (ordering_then (nat_cmp p x.0) (slice_cmp nat_cmp w x.1.items))) (insert_entry order es k v) ≡ cond found (Some v) rest
-        → (o : Ordering) → order k e.0 ≡ o
-        → lookup (λ x. is_eq (ordering_then (nat_cmp p x.0) (slice_cmp nat_cmp w x.1.items))) (match_ordering o ((k, v) ∷ e ∷ es) ((e.0, v) ∷ es) (e ∷ insert_entry order es k v))
-        ≡ cond found (Some v) (cond (test e.0) (Some e.1) rest)
-    go h Less q = rw at_key refl
-    go h Equal q =
-        let same : (k.0 ≡ e.0.0) × (k.1.items ≡ e.0.1.items) = at_true k.0 e.0.0 k.1.items e.0.1.items (rw q refl) in
-        picks_equal found (test e.0) v e.1 rest (rw (← same.0, ← same.1) at_key)
-    go h Greater q =
-        rw h
-        (picks_apart found (test e.0) v e.1 rest (λ here there.
-        let one : (p ≡ e.0.0) × (w ≡ e.0.1.items) = at_true p e.0.0 w e.0.1.items here in
-        let two : (p ≡ k.0) × (w ≡ k.1.items) = at_true p k.0 w k.1.items (at_key ∙ there) in
-        let equal : is_eq (order k e.0) ≡ true = at_back k.0 e.0.0 k.1.items e.0.1.items (sym two.0 ∙ one.0) (sym two.1 ∙ one.1) in
-        let bad = rw q at equal in cc))
+get_other : {A : Type 0} (ts : List A) (p q : ℕ) (t' : A) → (p ≡ q → ⊥) → slice_get (set ts p t') q ≡ slice_get ts q
+get_other [] p q t' h = refl
+get_other (x ∷ ts) zero zero t' h = absurd (h refl)
+get_other (x ∷ ts) zero (suc q) t' h = refl
+get_other (x ∷ ts) (suc p) zero t' h = refl
+get_other (x ∷ ts) (suc p) (suc q) t' h = get_other ts p q t' (λ e. h (ap suc e))
 
-same_values : (f g : Words) → ((p : ℕ) (w : List ℕ) → f p w ≡ g p w) → f ≡ g
-same_values f g h = λ i p w. h p w i
+pub tables_at : {S : Type 0} (tables : List (IndexMap (Vec ℕ Global) ℕ S)) (p : ℕ) (t : IndexMap (Vec ℕ Global) ℕ S) → slice_get tables p ≡ Some t
+    → values_of tables p ≡ values_in t
+tables_at {S} tables p t e = same_values _ _ (λ w. ap (λ (o : Option (IndexMap (Vec ℕ Global) ℕ S)). option_map_or (λ table. values_in table w) o 0) e)
 
--- a map to which a word was added keeps the values with that word's
-pub put_values : (m n : BTreeMap (ℕ × Vec ℕ Global) ℕ) (k : ℕ × Vec ℕ Global) (v : ℕ) → n.entries ≡ insert_entry order m.entries k v
-    → values_of n ≡ with_word (values_of m) k.0 k.1.items v
-put_values m n k v e = same_values _ _ (λ p w.
-    let test : ℕ × Vec ℕ Global → Bool = λ x. is_eq (ordering_then (nat_cmp p x.0) (slice_cmp nat_cmp w x.1.items)) in
-    ap (λ (es : List ((ℕ × Vec ℕ Global) × ℕ)). unwrap_or (lookup test es) 0) e
-    ∙ (ap (λ (o : Option ℕ). unwrap_or o 0) (lookup_insert m.entries k v p w) ∙ chosen (eqb k.0 p && bytes_eq k.1.items w) v (lookup test m.entries)))
+pub tables_set : {S : Type 0} (tables : List (IndexMap (Vec ℕ Global) ℕ S)) (p : ℕ) (t t' : IndexMap (Vec ℕ Global) ℕ S) (word : List ℕ) (v : ℕ) → slice_get tables p ≡ Some t
+    → values_in t' ≡ with_value (values_in t) word v → values_of (set tables p t') ≡ with_word (values_of tables) p word v
+tables_set {S} tables p t t' word v e n = λ i q w. one q w i
   where
-    chosen : (b : Bool) (v : ℕ) (o : Option ℕ) → unwrap_or (cond b (Some v) o) 0 ≡ cond b v (unwrap_or o 0)
-    chosen true v o = refl
-    chosen false v o = refl
+    told : Option (IndexMap (Vec ℕ Global) ℕ S) → List ℕ → ℕ
+    told o w = option_map_or (λ table. values_in table w) o 0
 
--- a word that is set to its own value leaves all as it is
-pub with_itself : (words : Words) (p : ℕ) (w : List ℕ) → with_word words p w (words p w) ≡ words
-with_itself words p w = same_values _ _ (λ q u. same q u (eqb p q && bytes_eq w u) refl)
+    one : (q : ℕ) (w : List ℕ) → values_of (set tables p t') q w ≡ with_word (values_of tables) p word v q w
+    one q w = elim (cases_eq p q) [
+      | inl h ↦
+          rw (
+            ← h,
+            eq-eqb p p refl,
+            ap (λ (o : Option (IndexMap (Vec ℕ Global) ℕ S)). option_map_or (λ table. values_in table w) o 0) (get_set tables p t t' e),
+            ap (λ (o : Option (IndexMap (Vec ℕ Global) ℕ S)). option_map_or (λ table. values_in table w) o 0) e,
+          )
+          (ap (λ (f : List ℕ → ℕ). f w) n)
+      | inr h ↦
+          rw (ne_eqb p q h) (ap (λ (o : Option (IndexMap (Vec ℕ Global) ℕ S)). option_map_or (λ table. values_in table w) o 0) (get_other tables p q t' h))
+    ]
+
+-- tables without entries keep no word
+pub no_values : {S : Type 0} (t u : IndexMap (Vec ℕ Global) ℕ S) → t.entries ≡ [] → u.entries ≡ [] → values_of (t ∷ u ∷ []) ≡ no_words
+no_values {S} t u e f = λ i q w. one q w i
   where
-    same : (q : ℕ) (u : List ℕ) (b : Bool) → (eqb p q && bytes_eq w u) ≡ b → cond b (words p w) (words q u) ≡ words q u
-    same q u true e =
-        let both : (eqb p q ≡ true) × (bytes_eq w u ≡ true) = and_parts _ _ e in
-        rw (eqb-true p q both.0, (bytes_eq-Decides w u).0 both.1) refl
-    same q u false e = refl
-
-pub keep_values : (m n : BTreeMap (ℕ × Vec ℕ Global) ℕ) (k : ℕ × Vec ℕ Global) (v p : ℕ) (w : List ℕ) → n.entries ≡ insert_entry order m.entries k v
-    → k.0 ≡ p → k.1.items ≡ w → v ≡ values_of m p w → values_of n ≡ values_of m
-keep_values m n k v p w e a b c =
-    put_values m n k v e ∙ (rw (a, b, c) refl ∙ with_itself (values_of m) p w)
-
--- a word that the map has is there
-pub no_room : (o : Option ℕ) → IsSome o → o ≡ None → ⊥
-no_room None some none = let h = some in cc
-no_room (Some x) some none = cc
-
--- a map without entries keeps no word
-pub no_values : (m : BTreeMap (ℕ × Vec ℕ Global) ℕ) → m.entries ≡ [] → values_of m ≡ no_words
-no_values m e = same_values _ _ (λ p w.
-    ap (λ (es : List ((ℕ × Vec ℕ Global) × ℕ)). unwrap_or (lookup (λ (x : ℕ × Vec ℕ Global). is_eq (ordering_then (nat_cmp p x.0) (slice_cmp nat_cmp w x.1.items))) es) 0) e)
+    one : (q : ℕ) (w : List ℕ) → values_of (t ∷ u ∷ []) q w ≡ 0
+    one zero w = ap (λ (es : Entries). value_among es w) e
+    one (suc zero) w = ap (λ (es : Entries). value_among es w) f
+    one (suc (suc q)) w = refl

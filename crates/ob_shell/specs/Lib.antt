@@ -4,7 +4,6 @@ pub mod Writing
 pub mod Words
 pub mod Machine
 pub mod Commands
-pub mod Printed
 pub mod Shown
 pub mod Running
 pub mod Offsets

@@ -11,7 +11,7 @@ use Rattle.ob_plain.specs.declared.plain.PlainInner.{PlainInner}
 use Rattle.ob_plain.specs.declared.counting.Counting.{Counting}
 use Rattle.ob_plain.specs.Plain.{plain_procedures}
 use Rattle.ob_plain.specs.Counting.{counting_procedures, opens_of, closes_of, deletes_of}
-use Rattle.ob_shell.specs.declared.counts.Counts.{Counts}
+use Rattle.ob_output.specs.declared.counts.Counts.{Counts}
 
 -- the value of the standard set: the plain types, counted
 abbrev pub Standard : Type 0

@@ -13,11 +13,13 @@ use Rattle.ob_shell.specs.declared.line.Outcome.{Outcome}
 use Rattle.ob_shell.specs.declared.line.Outcome.TheVariants as outcome
 use Rattle.ob_shell.specs.declared.run.Ending.{Ending}
 use Rattle.ob_shell.specs.declared.run.Ending.TheVariants as ending
-use Rattle.ob_shell.specs.Words.{Words, process_of}
+use Rattle.ob_lines.specs.Grammar.{word_of}
+use Rattle.ob_shell.specs.Words.{Words, with_value, process_of}
 use Rattle.ob_shell.specs.Machine.{standard, Space, counts_of}
-use Rattle.ob_shell.specs.Commands.{IsCommand, words_after}
-use Rattle.ob_shell.specs.Printed.{output_line, reply_text, counts_text}
-use Rattle.ob_shell.specs.Shown.{PlaysPartTo}
+use Rattle.ob_shell.specs.Commands.{IsCommand, value_after, words_after}
+use Rattle.ob_output.specs.Printed.{output_line, reply_text, counts_text}
+use Rattle.ob_shell.specs.Shown.{Plays, PlaysFirst, PlaysPartTo}
+use Rattle.ob_shell.specs.Writing.{Gathers}
 use Rattle.ob_shell.specs.declared.fault.ShellFault.{ShellFault}
 use Rattle.ob_shell.specs.declared.fault.ShellFault.TheVariants as fault
 
@@ -26,6 +28,12 @@ abbrev pub IsAnswered : Request (List ℕ) → ℕ → Words → Space → Reply
 IsAnswered request process words s reply words' s' =
     (c : Command PlainKind) × IsCommand request (words process) c × Step standard s (Start process c) (Done reply) s'
     × (words' ≡ words_after request process reply words)
+
+-- the same, as the values of that process's words tell it
+abbrev pub IsAnsweredAlone : Request (List ℕ) → ℕ → (List ℕ → ℕ) → Space → Reply → (List ℕ → ℕ) → Space → Type 0
+IsAnsweredAlone request process values s reply values' s' =
+    (c : Command PlainKind) × IsCommand request values c × Step standard s (Start process c) (Done reply) s'
+    × (values' ≡ with_value values (word_of request) (value_after request reply (values (word_of request))))
 
 -- what became of a line of this form, and what it left; none: a line that is no script line
 abbrev pub IsDone : Option (Form (List ℕ)) → Words → Space → Outcome → Words → Space → Type 0
@@ -53,8 +61,14 @@ outcome_end number (outcome.Replied reply) = None
 outcome_end number outcome.NoLine = Some (ending.BadLine number)
 outcome_end number outcome.NoMemory = Some (ending.NoMemoryAt number)
 
--- what a writer holds after a fault of a run of the script: a beginning of what lines of it play
--- after a fault of the writer, and no more than before after want of memory; no other fault comes
+-- what was gathered, of which a block has the rest, is what the script plays, and the run ended so; and
+-- what its first lines play
+abbrev pub GathersRun : Option (List ℕ) → Option (List ℕ) → List ℕ → List ℕ → Ending → Type 0
+GathersRun old new script has end =
+    (output : List ℕ) × Plays script output end × PlaysFirst script output end × Gathers old new [] output has
+
+-- what a writer holds after a fault of a run of the script: a beginning of what it plays after a fault of
+-- the writer, and no more than before after want of memory; no other fault comes
 abbrev pub StopsPlaying : List ℕ → ShellFault → Option (List ℕ) → Option (List ℕ) → Type 0
 StopsPlaying script fault.Write old new = PlaysPartTo old new script
 StopsPlaying script fault.Memory old new = new ≡ old

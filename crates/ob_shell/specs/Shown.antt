@@ -19,7 +19,7 @@ use Rattle.ob_lines.specs.Script.{Forms, BeginsWithForms}
 use Rattle.ob_shell.specs.Words.{Words, no_words, process_of}
 use Rattle.ob_shell.specs.Machine.{Standard, standard, Space, IsFresh, counts_of}
 use Rattle.ob_shell.specs.Commands.{IsCommand, words_after}
-use Rattle.ob_shell.specs.Printed.{output_line, reply_text, counts_text}
+use Rattle.ob_output.specs.Printed.{output_line, reply_text, counts_text}
 
 -- the entries of a run of the machine that a script asks for
 abbrev pub Entries : Type 0
@@ -65,15 +65,36 @@ abbrev pub Plays : List ℕ → List ℕ → Ending → Type 0
 Plays script output end =
     (forms : Forms) × (rest : List ℕ) × BeginsWithForms script forms rest × (end ≡ ending.Done → rest ≡ []) × PlaysForms forms output end
 
--- what lines of the script from its first on play has this beginning, and goes on behind it
+-- an ending other than one for want of memory
+abbrev pub FindsMemory : Ending → Type 0
+FindsMemory ending.Done = Unit {0}
+FindsMemory (ending.BadLine number) = Unit {0}
+FindsMemory (ending.NoMemoryAt number) = ⊥
+
+-- Lines of all these forms play what the first of them do, which play this output and end so. Where one
+-- of those ended the run, all play the same; else all play some output behind it, and want no memory.
+abbrev pub PlaysOn : Forms → List ℕ → Ending → Type 0
+PlaysOn all output ending.Done = (more : List ℕ) × (end : Ending) × FindsMemory end × PlaysForms all (output ++ more) end
+PlaysOn all output (ending.BadLine number) = PlaysForms all output (ending.BadLine number)
+PlaysOn all output (ending.NoMemoryAt number) = PlaysForms all output (ending.NoMemoryAt number)
+
+-- Lines of the script, from its first on, play this output and end so, and the whole script plays that or
+-- goes on from there, by each reading of it. There is one reading of every script, and no other:
+-- `every_script_has_a_reading` and `scripts_have_one_reading` of `ob_lines` say so.
+abbrev pub PlaysFirst : List ℕ → List ℕ → Ending → Type 0
+PlaysFirst script output end =
+    (forms : Forms) × (rest : List ℕ) × BeginsWithForms script forms rest × PlaysForms forms output end
+    × ((all : Forms) → BeginsWithForms script all [] → PlaysOn all output end)
+
+-- what lines of the script from its first on play has this beginning, and goes on behind it; and the whole
+-- script plays that or goes on from there
 abbrev pub PlaysPart : List ℕ → List ℕ → Type 0
-PlaysPart script front =
-    (forms : Forms) × (rest back : List ℕ) × (end : Ending) × BeginsWithForms script forms rest × (back ≢ []) × PlaysForms forms (front ++ back) end
+PlaysPart script front = (back : List ℕ) × (end : Ending) × (back ≢ []) × PlaysFirst script (front ++ back) end
 
 -- what was written to a writer is what the script plays, and the run ended so
 abbrev pub PlaysTo : Option (List ℕ) → Option (List ℕ) → List ℕ → Ending → Type 0
 PlaysTo old new script end = (output : List ℕ) × Plays script output end × Appends old new output
 
--- what was written to a writer is a beginning of what lines of the script play
+-- what was written to a writer is a beginning of what lines of the script play, and of what all do
 abbrev pub PlaysPartTo : Option (List ℕ) → Option (List ℕ) → List ℕ → Type 0
 PlaysPartTo old new script = (front : List ℕ) × PlaysPart script front × Appends old new front

@@ -1,27 +1,27 @@
 //! The command that a request spells.
 
-ghost use Rattle.std.specs.Prelude.{◌≡◌, IfOk};
-ghost use Rattle.ob_lines.specs.Parts.{text_of, handle_seen, name_seen, place_seen};
-ghost use Rattle.ob_lines.specs.Grammar.{HasPlaceText, HasTexts, request_seen};
-ghost use Rattle.ob_shell.specs.Words.{values_of};
+ghost use Rattle.std.specs.Prelude.{◌≡◌, ◌+◌, min, IfOk};
+ghost use Rattle.ob_lines.specs.Parts.{offset_value, text_of, name_seen, place_seen};
+ghost use Rattle.ob_lines.specs.Grammar.{HasPlaceText, HasTexts, request_seen, word_of};
+ghost use Rattle.ob_shell.specs.Words.{values_in};
 ghost use Rattle.ob_lines.specs.Text.{IsText, Spells};
-ghost use Rattle.ob_shell.specs.Commands.{handle_meant, root_of, IsCommand, IsCreateDirectory, IsCreateLink, IsCreateObject, IsOpenDirectory, IsOpenLink, IsOpenObject, IsPlace};
+ghost use Rattle.ob_shell.specs.Commands.{greatest_named, root_of, IsCommand, IsCreateDirectory, IsCreateLink, IsCreateObject, IsOpenDirectory, IsOpenLink, IsOpenObject, IsPlace};
 ghost use Rattle.ob_shell.specs.Offsets.{OffsetsAreAddedInFull};
 
-use crate::words::{Word, value_of, word_in};
-use ob_base::{Handle, Proc};
-use ob_lines::{HandleForm, NameForm, PlaceForm, Request, decode, offset_value};
+use crate::words::{Table, value_of};
+use ob_base::Handle;
+use ob_lines::{NameForm, Offset, PlaceForm, Request, decode, offset_value};
 use ob_model::{Bytes, Command, Place};
 use ob_plain::PlainKind;
 use std::alloc::{AllocError, Global};
-use std::collections::BTreeMap;
 
-// The process that asks for something, the words of all processes, and the allocator of what is made.
+// The words of the process that asks for something, the value of the word that its request names
+// itself, and the allocator of what is made.
 #[derive(Clone, Copy)]
 pub struct Asker<'a> {
     pub alloc: Global,
-    pub process: Proc,
-    pub words: &'a BTreeMap<Word, Handle>,
+    pub table: &'a Table,
+    pub own: Handle,
 }
 
 // The command that a line asks for, or want of memory.
@@ -29,8 +29,9 @@ pub type Asked = Result<Command<PlainKind>, AllocError>;
 
 // The command that a request spells, with the words of its process.
 pub fn command_of(asker: &Asker<'_>, request: Request<&[u8]>) -> Asked
-    requires { HasTexts (request_seen request) }
-    ensures { IfOk result (IsCommand (request_seen request.entry) (values_of asker.now.words.now asker.now.process)) }
+    requires texts { HasTexts (request_seen request) }
+    requires own { asker.now.own ≡ values_in asker.now.table.now (word_of (request_seen request)) }
+    ensures { IfOk result (IsCommand (request_seen request.entry) (values_in asker.now.table.now)) }
 {
     match request {
         Request::CreateDirectory { place, attrs, .. } => create_directory(asker, place, attrs),
@@ -56,15 +57,15 @@ pub fn command_of(asker: &Asker<'_>, request: Request<&[u8]>) -> Asked
             ..
         } => open_object(asker, want, name, attrs),
         Request::Close { handle } => {
-            let handle = handle_of(asker, handle)?;
+            let handle = with_offset(asker.own, handle.offset);
             Ok(Command::Close { handle })
         }
         Request::QueryLink { handle } => {
-            let handle = handle_of(asker, handle)?;
+            let handle = with_offset(asker.own, handle.offset);
             Ok(Command::QueryLink { handle })
         }
         Request::QueryName { handle } => {
-            let handle = handle_of(asker, handle)?;
+            let handle = with_offset(asker.own, handle.offset);
             Ok(Command::QueryName { handle })
         }
     }
@@ -73,7 +74,7 @@ pub fn command_of(asker: &Asker<'_>, request: Request<&[u8]>) -> Asked
 // The create of a directory.
 fn create_directory(asker: &Asker<'_>, place: PlaceForm<&[u8]>, attrs: u32) -> Asked
     requires { HasPlaceText (place_seen place) }
-    ensures { IfOk result (IsCreateDirectory (place_seen place.entry) attrs (values_of asker.now.words.now asker.now.process)) }
+    ensures { IfOk result (IsCreateDirectory (place_seen place.entry) attrs (values_in asker.now.table.now)) }
 {
     let place = place_of(asker, place)?;
     Ok(Command::CreateDirectory { place, attrs })
@@ -83,7 +84,7 @@ fn create_directory(asker: &Asker<'_>, place: PlaceForm<&[u8]>, attrs: u32) -> A
 fn create_link(asker: &Asker<'_>, place: PlaceForm<&[u8]>, attrs: u32, target: &[u8]) -> Asked
     requires place { HasPlaceText (place_seen place) }
     requires target { IsText target.now }
-    ensures { IfOk result (IsCreateLink (place_seen place.entry) attrs target.now (values_of asker.now.words.now asker.now.process)) }
+    ensures { IfOk result (IsCreateLink (place_seen place.entry) attrs target.now (values_in asker.now.table.now)) }
 {
     let place = place_of(asker, place)?;
     let target = decode(asker.alloc, target)?;
@@ -104,7 +105,7 @@ fn create_object(
 ) -> Asked
     requires place { HasPlaceText (place_seen place) }
     requires args { IsText args.now }
-    ensures { IfOk result (IsCreateObject kind (place_seen place.entry) attrs args.now (values_of asker.now.words.now asker.now.process)) }
+    ensures { IfOk result (IsCreateObject kind (place_seen place.entry) attrs args.now (values_in asker.now.table.now)) }
 {
     let place = place_of(asker, place)?;
     let args = decode(asker.alloc, args)?;
@@ -119,9 +120,9 @@ fn create_object(
 // The open of a directory.
 fn open_directory(asker: &Asker<'_>, name: NameForm<&[u8]>, attrs: u32) -> Asked
     requires { IsText (text_of (name_seen name)) }
-    ensures { IfOk result (IsOpenDirectory (name_seen name.entry) attrs (values_of asker.now.words.now asker.now.process)) }
+    ensures { IfOk result (IsOpenDirectory (name_seen name.entry) attrs (values_in asker.now.table.now)) }
 {
-    let root = root_of(asker, name)?;
+    let root = root_of(asker, name);
     let name = bytes_of(asker, name)?;
     Ok(Command::OpenDirectory { root, name, attrs })
 }
@@ -129,9 +130,9 @@ fn open_directory(asker: &Asker<'_>, name: NameForm<&[u8]>, attrs: u32) -> Asked
 // The open of a symbolic link.
 fn open_link(asker: &Asker<'_>, name: NameForm<&[u8]>, attrs: u32) -> Asked
     requires { IsText (text_of (name_seen name)) }
-    ensures { IfOk result (IsOpenLink (name_seen name.entry) attrs (values_of asker.now.words.now asker.now.process)) }
+    ensures { IfOk result (IsOpenLink (name_seen name.entry) attrs (values_in asker.now.table.now)) }
 {
-    let root = root_of(asker, name)?;
+    let root = root_of(asker, name);
     let name = bytes_of(asker, name)?;
     Ok(Command::OpenLink { root, name, attrs })
 }
@@ -144,9 +145,9 @@ fn open_object(
     attrs: u32,
 ) -> Asked
     requires { IsText (text_of (name_seen name)) }
-    ensures { IfOk result (IsOpenObject want (name_seen name.entry) attrs (values_of asker.now.words.now asker.now.process)) }
+    ensures { IfOk result (IsOpenObject want (name_seen name.entry) attrs (values_in asker.now.table.now)) }
 {
-    let root = root_of(asker, name)?;
+    let root = root_of(asker, name);
     let name = bytes_of(asker, name)?;
     Ok(Command::OpenObject {
         root,
@@ -159,11 +160,11 @@ fn open_object(
 // The place that a line means.
 fn place_of(asker: &Asker<'_>, place: PlaceForm<&[u8]>) -> Result<Place, AllocError>
     requires { HasPlaceText (place_seen place) }
-    ensures { IfOk result (IsPlace (place_seen place.entry) (values_of asker.now.words.now asker.now.process)) }
+    ensures { IfOk result (IsPlace (place_seen place.entry) (values_in asker.now.table.now)) }
 {
     match place {
         PlaceForm::Named(name) => {
-            let root = root_of(asker, name)?;
+            let root = root_of(asker, name);
             let name = bytes_of(asker, name)?;
             Ok(Place::At { root, name })
         }
@@ -172,14 +173,13 @@ fn place_of(asker: &Asker<'_>, place: PlaceForm<&[u8]>) -> Result<Place, AllocEr
 }
 
 // The handle that a name is relative to; none for an absolute name.
-fn root_of(asker: &Asker<'_>, name: NameForm<&[u8]>) -> Result<Option<Handle>, AllocError>
-    ensures { IfOk result (λ root. root ≡ root_of (name_seen name.entry) (values_of asker.now.words.now asker.now.process)) }
+fn root_of(asker: &Asker<'_>, name: NameForm<&[u8]>) -> Option<Handle>
+    ensures { result ≡ root_of (name_seen name.entry) (values_in asker.now.table.now) }
 {
     match name {
-        NameForm::Absolute(_) => Ok(None),
+        NameForm::Absolute(_) => None,
         NameForm::Relative { root, .. } => {
-            let handle = handle_of(asker, root)?;
-            Ok(Some(handle))
+            Some(with_offset(value_of(asker.table, root.word), root.offset))
         }
     }
 }
@@ -195,13 +195,11 @@ fn bytes_of(asker: &Asker<'_>, name: NameForm<&[u8]>) -> Result<Bytes, AllocErro
     }
 }
 
-// The handle that a line means: the value of its word, and the number that is added to it.
-fn handle_of(asker: &Asker<'_>, handle: HandleForm<&[u8]>) -> Result<Handle, AllocError>
-    ensures { IfOk result (λ meant. meant ≡ handle_meant (handle_seen handle.entry) (values_of asker.now.words.now asker.now.process)) }
+// The handle that is meant: the value of a word, and the number that is added to it.
+fn with_offset(value: Handle, offset: Offset) -> Handle
+    ensures { result ≡ min (value + offset_value offset) greatest_named }
 {
-    let word = word_in(asker.alloc, asker.process, handle.word)?;
-    let value = value_of(asker.words, &word);
-    Ok(Handle(value.0.saturating_add(offset_value(handle.offset))))
+    Handle(value.0.saturating_add(offset_value(offset)))
 }
 
 /// The law that in a run what is added to the value of a handle word is added in full: no word holds more

@@ -5,7 +5,6 @@ mod asked;
 mod counts;
 mod fault;
 mod line;
-mod output;
 mod printing;
 mod reading;
 mod run;

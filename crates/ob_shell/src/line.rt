@@ -1,26 +1,26 @@
 //! One line of a script.
 
-ghost use Rattle.std.specs.Prelude.{◌≡◌, IfOk, IfSome};
+ghost use Rattle.std.specs.Prelude.{◌≡◌, ◌<◌, length, IfOk, IfSome};
 ghost use Rattle.ob_model.specs.declared.reply.Event.TheVariants.{Start};
 ghost use Rattle.ob_model.specs.declared.reply.Answer.TheVariants.{Done};
 ghost use Rattle.ob_model.specs.Step.{Step};
 ghost use Rattle.ob_lines.specs.Grammar.{HasTexts, FormHasTexts, form_seen, request_seen};
 ghost use Rattle.ob_lines.specs.Script.{found_seen};
-ghost use Rattle.ob_shell.specs.Words.{values_of};
+ghost use Rattle.ob_shell.specs.Words.{values_in, values_of};
 ghost use Rattle.ob_shell.specs.Machine.{standard};
 ghost use Rattle.ob_shell.specs.Commands.{value_after, given_handle};
-ghost use Rattle.ob_shell.specs.Running.{IsAnswered, IsDone};
+ghost use Rattle.ob_shell.specs.Running.{IsAnsweredAlone, IsDone};
 
 use crate::asked::{Asker, command_of};
-use crate::counts::{Counts, counts_of};
-use crate::words::{Word, keep, process_of, set, value_of, word_in};
+use crate::counts::counts_of;
+use crate::words::{Table, process_of, set_at, slot_of, value_at};
 use ob_base::{Fault, Handle, Proc, Status};
 use ob_core::{Core, Started};
 use ob_lines::{Form, Request, word_of};
 use ob_model::{Command, Given, Reply};
+use ob_output::Counts;
 use ob_plain::{PlainKind, Standard};
 use std::alloc::Global;
-use std::collections::BTreeMap;
 
 // What became of a line.
 #[derive(Debug, Drop)]
@@ -37,14 +37,16 @@ pub enum Outcome {
     NoMemory,
 }
 
-// Runs a line of this form; none: a line that is no script line.
+// Runs a line of this form; none: a line that is no script line. Each process that is spoken of has a
+// table of its words.
 pub fn perform(
     alloc: Global,
     core: &mut Core<Standard>,
-    words: &mut BTreeMap<Word, Handle>,
+    words: &mut [Table],
     form: Option<Form<&[u8]>>,
 ) -> Outcome
-    requires { IfSome form (λ form. FormHasTexts (form_seen form)) }
+    requires texts { IfSome form (λ form. FormHasTexts (form_seen form)) }
+    requires tables { 1 < length words.old }
     ensures { IsDone (found_seen form.entry) (values_of words.old) core.old result (values_of words.new) core.new }
 {
     match form {
@@ -52,7 +54,14 @@ pub fn perform(
         Some(Form::Nothing) => Outcome::Idle,
         Some(Form::Stat) => Outcome::Counted(counts_of(core)),
         Some(Form::Asks { process, request }) => {
-            match ask(alloc, core, words, process_of(process), request) {
+            let process = process_of(process);
+            match ask(
+                alloc,
+                core,
+                &mut words[process.0 as usize],
+                process,
+                request,
+            ) {
                 Ok(reply) => Outcome::Replied(reply),
                 Err(_) => Outcome::NoMemory,
             }
@@ -60,29 +69,28 @@ pub fn perform(
     }
 }
 
-// Runs the request of a process. All that can want memory comes before the step.
+// Runs the request of a process, with its words. All that can want memory comes before the step.
 fn ask(
     alloc: Global,
     core: &mut Core<Standard>,
-    words: &mut BTreeMap<Word, Handle>,
+    table: &mut Table,
     process: Proc,
     request: Request<&[u8]>,
 ) -> Result<Reply, Fault>
     requires { HasTexts (request_seen request) }
-    ensures { IfOk result (λ reply. IsAnswered (request_seen request.entry) process (values_of words.old) core.old
-        reply (values_of words.new) core.new) }
+    ensures { IfOk result (λ reply. IsAnsweredAlone (request_seen request.entry) process (values_in table.old) core.old
+        reply (values_in table.new) core.new) }
 {
-    let word = word_in(alloc, process, word_of(request))?;
-    keep(alloc, words, &word)?;
+    let slot = slot_of(alloc, table, word_of(request))?;
+    let before = value_at(table, slot);
     let asker = Asker {
         alloc,
-        process,
-        words: &*words,
+        table: &*table,
+        own: before,
     };
     let command = command_of(&asker, request)?;
     let reply = start(core, process, &command)?;
-    let value = value_after(request, &reply, value_of(words, &word));
-    set(words, word, value);
+    set_at(table, slot, value_after(request, &reply, before));
     Ok(reply)
 }
 

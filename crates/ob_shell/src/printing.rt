@@ -1,85 +1,111 @@
 //! Writing what became of a line.
 
-ghost use Rattle.std.specs.Prelude.{◌≡◌, ◌++◌, OnOk, OnErr, IfErr};
-ghost use Rattle.std.specs.Io.KnownBytes.{Appends};
+ghost use Rattle.std.specs.Prelude.{◌≡◌, ◌≤◌, ◌++◌, vec_capacity, OnOk, OnErr, IfErr};
 ghost use Rattle.ob_shell.specs.declared.fault.ShellFault.TheVariants.{Write};
-ghost use Rattle.ob_shell.specs.Writing.{AppendsFront};
-ghost use Rattle.ob_shell.specs.Printed.{output_line, status_text, printed_bytes, given_text, reply_text};
+ghost use Rattle.ob_shell.specs.Writing.{AppendsFront, Gathers};
+ghost use Rattle.ob_output.specs.Printed.{output_line, status_text, printed_bytes, given_text, reply_text};
 ghost use Rattle.ob_shell.specs.Running.{outcome_text};
 ghost use Rattle.ob_model.specs.declared.reply.Given.TheVariants.{Text};
 
 use crate::fault::ShellFault;
 use crate::line::Outcome;
-use crate::output::{counts_line, printed_part, status_line, text_front, text_line};
-use crate::writing::write_out;
+use crate::writing::gather;
 use ob_base::Status;
 use ob_model::{Given, Reply};
+use ob_output::{counts_line, printed_part, status_line, text_front, text_line};
 use std::io::Write;
 
 // How many bytes of a text are printed at once.
 const PART: usize = 64;
 
-// Writes what became of the line of a number.
+// Writes what became of the line of a number, by way of the block.
 pub fn write_outcome<W: Write>(
     writer: &mut W,
+    block: &mut Vec<u8>,
     number: u64,
     outcome: &Outcome,
 ) -> Result<(), ShellFault>
-    ensures ok { OnOk result (Appends (W.contents writer.old) (W.contents writer.new) (outcome_text number outcome.now)) }
+    requires { 192 ≤ vec_capacity block.old }
+    ensures ok { OnOk result (Gathers (W.contents writer.old) (W.contents writer.new) block.old.items (outcome_text number outcome.now) block.new.items) }
     ensures fault { IfErr result (λ fault. fault ≡ Write) }
-    ensures front { OnErr result (AppendsFront (W.contents writer.old) (W.contents writer.new) (outcome_text number outcome.now)) }
+    ensures front { OnErr result (AppendsFront (W.contents writer.old) (W.contents writer.new) (block.old.items ++ outcome_text number outcome.now)) }
+    ensures capacity { vec_capacity block.old ≤ vec_capacity block.new }
 {
     match outcome {
         Outcome::Idle => Ok(()),
-        Outcome::Counted(counts) => write_out(writer, counts_line(number, *counts).as_slice()),
-        Outcome::Replied(reply) => write_reply(writer, number, reply),
-        Outcome::NoLine => write_out(writer, text_line(number, b"not a script line").as_slice()),
-        Outcome::NoMemory => write_out(writer, text_line(number, b"want of memory").as_slice()),
+        Outcome::Counted(counts) => gather(writer, block, counts_line(number, *counts).as_slice()),
+        Outcome::Replied(reply) => write_reply(writer, block, number, reply),
+        Outcome::NoLine => gather(
+            writer,
+            block,
+            text_line(number, b"not a script line").as_slice(),
+        ),
+        Outcome::NoMemory => gather(
+            writer,
+            block,
+            text_line(number, b"want of memory").as_slice(),
+        ),
     }
 }
 
-// Writes the line of a number and a reply.
-fn write_reply<W: Write>(writer: &mut W, number: u64, reply: &Reply) -> Result<(), ShellFault>
-    ensures ok { OnOk result (Appends (W.contents writer.old) (W.contents writer.new) (output_line number (reply_text reply.now))) }
+// Writes the line of a number and a reply, by way of the block.
+fn write_reply<W: Write>(
+    writer: &mut W,
+    block: &mut Vec<u8>,
+    number: u64,
+    reply: &Reply,
+) -> Result<(), ShellFault>
+    requires { 192 ≤ vec_capacity block.old }
+    ensures ok { OnOk result (Gathers (W.contents writer.old) (W.contents writer.new) block.old.items (output_line number (reply_text reply.now)) block.new.items) }
     ensures fault { IfErr result (λ fault. fault ≡ Write) }
-    ensures front { OnErr result (AppendsFront (W.contents writer.old) (W.contents writer.new) (output_line number (reply_text reply.now))) }
+    ensures front { OnErr result (AppendsFront (W.contents writer.old) (W.contents writer.new) (block.old.items ++ output_line number (reply_text reply.now))) }
+    ensures capacity { vec_capacity block.old ≤ vec_capacity block.new }
 {
     match &reply.given {
-        Given::Nothing => write_out(writer, status_line(number, reply.status).as_slice()),
-        Given::Handle(_) => write_out(writer, status_line(number, reply.status).as_slice()),
-        Given::Text(text) => write_text(writer, number, reply.status, text.as_slice()),
+        Given::Nothing => gather(writer, block, status_line(number, reply.status).as_slice()),
+        Given::Handle(_) => gather(writer, block, status_line(number, reply.status).as_slice()),
+        Given::Text(text) => write_text(writer, block, number, reply.status, text.as_slice()),
     }
 }
 
-// Writes the line of a number, a status and a text that is given.
+// Writes the line of a number, a status and a text that is given, by way of the block.
 fn write_text<W: Write>(
     writer: &mut W,
+    block: &mut Vec<u8>,
     number: u64,
     status: Status,
     text: &[u8],
 ) -> Result<(), ShellFault>
-    ensures ok { OnOk result (Appends (W.contents writer.old) (W.contents writer.new)
-        (output_line number (status_text status ++ given_text (Text text.now)))) }
+    requires { 192 ≤ vec_capacity block.old }
+    ensures ok { OnOk result (Gathers (W.contents writer.old) (W.contents writer.new) block.old.items
+        (output_line number (status_text status ++ given_text (Text text.now))) block.new.items) }
     ensures fault { IfErr result (λ fault. fault ≡ Write) }
     ensures front { OnErr result (AppendsFront (W.contents writer.old) (W.contents writer.new)
-        (output_line number (status_text status ++ given_text (Text text.now)))) }
+        (block.old.items ++ output_line number (status_text status ++ given_text (Text text.now)))) }
+    ensures capacity { vec_capacity block.old ≤ vec_capacity block.new }
 {
-    write_out(writer, text_front(number, status).as_slice())?;
-    write_printed(writer, text)?;
-    write_out(writer, b"\"\n")
+    gather(writer, block, text_front(number, status).as_slice())?;
+    write_printed(writer, block, text)?;
+    gather(writer, block, b"\"\n")
 }
 
-// Writes the bytes of a text, as they are printed.
-fn write_printed<W: Write>(writer: &mut W, text: &[u8]) -> Result<(), ShellFault>
-    ensures ok { OnOk result (Appends (W.contents writer.old) (W.contents writer.new) (printed_bytes text.now)) }
+// Writes the bytes of a text, as they are printed, by way of the block.
+fn write_printed<W: Write>(
+    writer: &mut W,
+    block: &mut Vec<u8>,
+    text: &[u8],
+) -> Result<(), ShellFault>
+    requires { 192 ≤ vec_capacity block.old }
+    ensures ok { OnOk result (Gathers (W.contents writer.old) (W.contents writer.new) block.old.items (printed_bytes text.now) block.new.items) }
     ensures fault { IfErr result (λ fault. fault ≡ Write) }
-    ensures front { OnErr result (AppendsFront (W.contents writer.old) (W.contents writer.new) (printed_bytes text.now)) }
+    ensures front { OnErr result (AppendsFront (W.contents writer.old) (W.contents writer.new) (block.old.items ++ printed_bytes text.now)) }
+    ensures capacity { vec_capacity block.old ≤ vec_capacity block.new }
 {
     let mut rest = text;
     while !rest.is_empty() {
         let count = rest.len().min(PART);
         let part = printed_part(&rest[..count]);
-        match write_out(writer, part.as_slice()) {
+        match gather(writer, block, part.as_slice()) {
             Ok(()) => rest = &rest[count..],
             Err(fault) => return Err(fault),
         }

@@ -1,22 +1,25 @@
 //! The run of a script.
 
-ghost use Rattle.std.specs.Prelude.{◌≡◌, ◌≢◌, ◌+◌, ◌<◌, ◌≤◌, ◌∷◌, [], length, IfOk, IfErr, OnOk, OnErr, IsErr, IfSome, IfNone, IsErrOf};
-ghost use Rattle.std.specs.Io.KnownBytes.{Appends};
+ghost use Rattle.std.specs.Prelude.{◌≡◌, ◌≢◌, ◌+◌, ◌<◌, ◌≤◌, [], ◌++◌, length, vec_capacity, IfOk, IfErr, OnOk, OnErr, IsErr, IfSome, IsErrOf};
 ghost use Rattle.ob_shell.specs.Reading.{StopsLong, TakesAtMost};
-ghost use Rattle.ob_shell.specs.Writing.{AppendsFront};
+ghost use Rattle.ob_shell.specs.Writing.{AppendsFront, Gathers};
 ghost use Rattle.ob_shell.specs.Shown.{PlaysTo, PlaysPartTo};
-ghost use Rattle.ob_shell.specs.Running.{outcome_text, outcome_end, StopsPlaying};
+ghost use Rattle.ob_shell.specs.Running.{outcome_text, outcome_end, GathersRun, StopsPlaying};
 
 use crate::fault::ShellFault;
 use crate::line::{Outcome, perform};
 use crate::printing::write_outcome;
 use crate::reading::{SCRIPT_LIMIT, read_script};
+use crate::words::Table;
+use crate::writing::write_out;
 use ob_core::Core;
 use ob_lines::read_line;
 use ob_plain::{Counting, Plain};
 use std::alloc::Global;
-use std::collections::BTreeMap;
 use std::io::{Read, Write};
+
+// The bytes of output that are written at once.
+const BLOCK: usize = 65_536;
 
 /// How a run of a script ends that no fault ended. (this profile)
 #[derive(Clone, Copy, PartialEq, Eq, Debug)]
@@ -32,11 +35,14 @@ pub enum Ending {
 /// Reads a script, runs it from the opening state with the standard set of types, and writes its
 /// replies, a line each; docs/script.md has the language.
 ///
-/// The script is read whole before its first line runs, and each read and each write is made once.
-/// The faults are `Read`, `TooLong` (more than 16,777,216 bytes) and `Memory`, after which nothing
-/// was written, and `Write`, after which a beginning of the output was written. A command that finds
-/// no memory is no fault: the run ends there with `NoMemoryAt`. The writer is not flushed.
-/// Source: this profile.
+/// The script is read whole before its first line runs, and each read and each write is made once. The
+/// output is written in blocks of at most 65,536 bytes: each when the next part of a line has no room in
+/// it, and the last when the run ends.
+///
+/// The faults are `Read`, `TooLong` (more than 16,777,216 bytes) and `Memory`, after which nothing was
+/// written, and `Write`, after which a beginning of the output was written; lines whose replies were not
+/// written may have been run before it. A command that finds no memory is no fault: the run ends there
+/// with `NoMemoryAt`. The writer is not flushed. Source: this profile.
 pub fn run_script<R: Read, W: Write>(
     alloc: Global,
     reader: &mut R,
@@ -46,7 +52,8 @@ pub fn run_script<R: Read, W: Write>(
     ensures played { IfOk result (λ ending. IfSome (R.remaining reader.old) (λ script.
         PlaysTo (W.contents writer.old) (W.contents writer.new) script ending)) }
 
-    // After a fault of the writer: a beginning of what lines of the script play, and not all of it.
+    // After a fault of the writer: a beginning of what lines of the script from its first on play, and not all
+    // of it; and where the whole script is run, it plays that and goes on from there, or has ended there.
     ensures part { IsErrOf result ShellFault.Write → IfSome (R.remaining reader.old) (λ script.
         PlaysPartTo (W.contents writer.old) (W.contents writer.new) script) }
 
@@ -75,23 +82,48 @@ pub fn run_script<R: Read, W: Write>(
     }
 }
 
-// Runs a script that was read.
+// Runs a script that was read, and writes what it shows.
 fn run_text<W: Write>(alloc: Global, script: &[u8], writer: &mut W) -> Result<Ending, ShellFault>
     requires { length script.now ≤ SCRIPT_LIMIT }
     ensures played { IfOk result (λ ending. PlaysTo (W.contents writer.old) (W.contents writer.new) script.now ending) }
+    ensures fault { IfErr result (λ fault. StopsPlaying script.now fault (W.contents writer.old) (W.contents writer.new)) }
+{
+    let Ok(mut block) = Vec::with_capacity(alloc, BLOCK) else {
+        return Err(ShellFault::Memory);
+    };
+    match run_lines(alloc, script, writer, &mut block) {
+        Ok(ending) => match write_out(writer, block.as_slice()) {
+            Ok(()) => Ok(ending),
+            Err(unwritten) => Err(unwritten),
+        },
+        Err(fault) => Err(fault),
+    }
+}
+
+// Runs the lines of a script, and gathers what they show in the block.
+fn run_lines<W: Write>(
+    alloc: Global,
+    script: &[u8],
+    writer: &mut W,
+    block: &mut Vec<u8>,
+) -> Result<Ending, ShellFault>
+    requires script { length script.now ≤ SCRIPT_LIMIT }
+    requires empty { block.old.items ≡ [] }
+    requires capacity { 192 ≤ vec_capacity block.old }
+    ensures played { IfOk result (λ ending. GathersRun (W.contents writer.old) (W.contents writer.new) script.now block.new.items ending) }
     ensures fault { IfErr result (λ fault. StopsPlaying script.now fault (W.contents writer.old) (W.contents writer.new)) }
 {
     let mut core = match Core::new(alloc, Counting::new(Plain)) {
         Ok(core) => core,
         Err(_) => return Err(ShellFault::Memory),
     };
-    let mut words = BTreeMap::new(alloc);
+    let mut words = [Table::new(alloc), Table::new(alloc)];
     let mut rest = script;
     let mut number: u64 = 0;
     while let Some((form, behind)) = read_line(rest) {
         number += 1;
         let outcome = perform(alloc, &mut core, &mut words, form);
-        match show(writer, number, outcome) {
+        match show(writer, block, number, outcome) {
             Ok(None) => {}
             Ok(Some(ending)) => return Ok(ending),
             Err(fault) => return Err(fault),
@@ -101,18 +133,21 @@ fn run_text<W: Write>(alloc: Global, script: &[u8], writer: &mut W) -> Result<En
     Ok(Ending::Done)
 }
 
-// Writes what became of a line, and says how that ends the run, where it does.
+// Writes what became of a line, by way of the block, and says how that ends the run, where it does.
 fn show<W: Write>(
     writer: &mut W,
+    block: &mut Vec<u8>,
     number: u64,
     outcome: Outcome,
 ) -> Result<Option<Ending>, ShellFault>
+    requires { 192 ≤ vec_capacity block.old }
     ensures ending { IfOk result (λ ending. ending ≡ outcome_end number outcome) }
-    ensures ok { OnOk result (Appends (W.contents writer.old) (W.contents writer.new) (outcome_text number outcome)) }
+    ensures ok { OnOk result (Gathers (W.contents writer.old) (W.contents writer.new) block.old.items (outcome_text number outcome) block.new.items) }
     ensures fault { IfErr result (λ fault. fault ≡ ShellFault.Write) }
-    ensures front { OnErr result (AppendsFront (W.contents writer.old) (W.contents writer.new) (outcome_text number outcome)) }
+    ensures front { OnErr result (AppendsFront (W.contents writer.old) (W.contents writer.new) (block.old.items ++ outcome_text number outcome)) }
+    ensures capacity { vec_capacity block.old ≤ vec_capacity block.new }
 {
-    match write_outcome(writer, number, &outcome) {
+    match write_outcome(writer, block, number, &outcome) {
         Ok(()) => Ok(ending_of(number, &outcome)),
         Err(fault) => Err(fault),
     }

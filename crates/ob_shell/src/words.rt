@@ -1,18 +1,20 @@
 //! Process words, and the values of handle words.
 
-ghost use Rattle.std.specs.Prelude.{◌≡◌, IfOk, OnOk};
-ghost use Rattle.ob_shell.specs.Words.{process_of, values_of, with_word, HasWord};
+ghost use Rattle.std.specs.Prelude.{◌≡◌, ◌≤◌, ◌<◌, ℕ, List, IfOk};
+ghost use Rattle.indexmap.specs.IndexMap.{index_map_len};
+ghost use Rattle.ob_shell.specs.Words.{process_of, values_in, with_value, IsAt};
 
+use indexmap::IndexMap;
 use ob_base::{Handle, Proc};
 use std::alloc::{AllocError, Global};
-use std::collections::BTreeMap;
 
-// A handle word of a process: the process's number, and the word's bytes.
-pub type Word = (u32, Vec<u8>);
+// The handle words of one process, and their values. A word that was found keeps its slot.
+pub type Table = IndexMap<Vec<u8>, Handle>;
 
 // The process of a process word.
 pub fn process_of(word: &[u8]) -> Proc
-    ensures { result ≡ process_of word.now }
+    ensures is { result ≡ process_of word.now }
+    ensures known { result ≤ 1 }
 {
     if word == b"p1".as_slice() {
         Proc(1)
@@ -21,43 +23,44 @@ pub fn process_of(word: &[u8]) -> Proc
     }
 }
 
-// A word of a process.
-pub fn word_in(alloc: Global, process: Proc, bytes: &[u8]) -> Result<Word, AllocError>
-    ensures process { IfOk result (λ word. word.0 ≡ process) }
-    ensures bytes { IfOk result (λ word. word.1.items ≡ bytes.now) }
-{
-    Ok((process.0, bytes.to_vec(alloc)?))
-}
-
 // The value of a word: 0 where it was never set.
-pub fn value_of(words: &BTreeMap<Word, Handle>, word: &Word) -> Handle
-    ensures { result ≡ values_of words.now word.now.0 word.now.1.items }
+pub fn value_of(table: &Table, word: &[u8]) -> Handle
+    ensures { result ≡ values_in table.now word.now }
 {
-    words.get(word).copied().unwrap_or(Handle(0))
+    table.get(word).copied().unwrap_or(Handle(0))
 }
 
-// Makes room for a word, which keeps its value.
-pub fn keep(
-    alloc: Global,
-    words: &mut BTreeMap<Word, Handle>,
-    word: &Word,
-) -> Result<(), AllocError>
-    ensures same { values_of words.new ≡ values_of words.old }
-    ensures kept { OnOk result (HasWord words.new word.now.0 word.now.1.items) }
+// The slot of a word. One that has none gets one, which wants memory, and keeps the value 0.
+pub fn slot_of(alloc: Global, table: &mut Table, word: &[u8]) -> Result<usize, AllocError>
+    ensures same { values_in table.new ≡ values_in table.old }
+    ensures within { IfOk result (λ slot. slot < index_map_len table.new) }
+    ensures at { IfOk result (λ slot. IsAt table.new.entries slot word.now) }
 {
-    let value = value_of(words, word);
-    let own = word_in(alloc, Proc(word.0), word.1.as_slice())?;
-    words.insert(own, value)?;
-    Ok(())
-}
-
-// Sets a word that has room.
-pub fn set(words: &mut BTreeMap<Word, Handle>, word: Word, value: Handle)
-    requires { HasWord words.old word.0 word.1.items }
-    ensures { values_of words.new ≡ with_word (values_of words.old) word.0 word.1.items value }
-{
-    match words.insert(word, value) {
-        Ok(_) => {}
-        Err(_) => {}
+    match table.get_index_of(word) {
+        Some(slot) => Ok(slot),
+        None => {
+            let own = word.to_vec(alloc)?;
+            let (slot, _) = table.insert_full(own, Handle(0))?;
+            Ok(slot)
+        }
     }
+}
+
+// The value of the word that has this slot.
+pub fn value_at(table: &Table, slot: usize) -> Handle
+    requires { slot < index_map_len table.now }
+    ensures { (word : List ℕ) → IsAt table.now.entries slot word → result ≡ values_in table.now word }
+{
+    match table.get_index(slot) {
+        Some((_, value)) => *value,
+        None => Handle(0),
+    }
+}
+
+// Sets the word that has this slot.
+pub fn set_at(table: &mut Table, slot: usize, value: Handle)
+    requires { slot < index_map_len table.old }
+    ensures { (word : List ℕ) → IsAt table.old.entries slot word → values_in table.new ≡ with_value (values_in table.old) word value }
+{
+    table[slot] = value;
 }

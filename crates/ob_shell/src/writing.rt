@@ -1,8 +1,8 @@
-//! Writing the output, each part of it once.
+//! Writing the output: in blocks, each of them once.
 
-ghost use Rattle.std.specs.Prelude.{◌≡◌, OnOk, OnErr, IfErr};
+ghost use Rattle.std.specs.Prelude.{◌≡◌, ◌+◌, ◌≤◌, ◌++◌, length, vec_len, vec_capacity, OnOk, OnErr, IfErr};
 ghost use Rattle.std.specs.Io.KnownBytes.{Appends};
-ghost use Rattle.ob_shell.specs.Writing.{AppendsFront};
+ghost use Rattle.ob_shell.specs.Writing.{AppendsFront, Gathers};
 
 use crate::ShellFault;
 use std::io::Write;
@@ -28,4 +28,26 @@ pub fn write_out<W: Write>(writer: &mut W, bytes: &[u8]) -> Result<(), ShellFaul
         }
     }
     Ok(())
+}
+
+// Gathers the bytes in a block. Where the block has no room for them, it is written and emptied first.
+pub fn gather<W: Write>(writer: &mut W, block: &mut Vec<u8>, bytes: &[u8]) -> Result<(), ShellFault>
+    requires { length bytes.now ≤ vec_capacity block.old }
+    ensures ok { OnOk result (Gathers (W.contents writer.old) (W.contents writer.new) block.old.items bytes.now block.new.items) }
+    ensures fault { IfErr result (λ fault. fault ≡ ShellFault.Write) }
+    ensures front { OnErr result
+        (AppendsFront (W.contents writer.old) (W.contents writer.new) (block.old.items ++ bytes.now)) }
+    ensures capacity { vec_capacity block.old ≤ vec_capacity block.new }
+
+    // Nothing is written while there is room.
+    ensures waits { vec_len block.old + length bytes.now ≤ vec_capacity block.old → writer.new ≡ writer.old }
+{
+    if block.capacity() - block.len() < bytes.len() {
+        write_out(writer, block.as_slice())?;
+        block.clear();
+    }
+    match block.extend_from_slice(bytes) {
+        Ok(()) => Ok(()),
+        Err(_) => Err(ShellFault::Write),
+    }
 }

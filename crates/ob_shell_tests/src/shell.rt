@@ -1,6 +1,6 @@
 //! The shell's public functions over streams that trickle and fail, and its faults in words.
 
-use crate::streams::{End, Lasts, Sip, Trickle};
+use crate::streams::{End, Lasts, Sip, Tally, Trickle};
 use ob_shell::{Ending, ShellFault, read_script, run_script, write_out};
 use std::alloc::{AllocError, Global};
 use std::io::{ErrorKind, Read, repeat};
@@ -167,6 +167,30 @@ fn a_failed_write_leaves_a_beginning(rt: HostRuntime) {
             }
         }
     }
+}
+
+// Closes of a word that was never set print 9 lines of 18 bytes, 90 of 19, 900 of 20, and then lines of 21:
+// 2,000 print 40,893 bytes, which one block has room for, and 4,000 print 82,893.
+#[test]
+fn output_is_written_in_blocks(rt: HostRuntime) -> Result<(), Fail> {
+    for (lines, calls, bytes) in [
+        (0, 0, 0),
+        (1, 1, 18),
+        (2_000, 1, 40_893),
+        (4_000, 2, 82_893),
+    ] {
+        let mut script = Vec::new(rt.alloc());
+        for _ in 0..lines {
+            script.extend_from_slice(b"p1 close a\n")?;
+        }
+        let mut reader = script.as_slice();
+        let mut writer = Tally { calls: 0, bytes: 0 };
+        let ended = run_script(rt.alloc(), &mut reader, &mut writer)?;
+        assert_eq!(rt; ended, Ending::Done);
+        assert_eq!(rt; writer.calls, calls);
+        assert_eq!(rt; writer.bytes, bytes);
+    }
+    Ok(())
 }
 
 const FAULTS: [(ShellFault, &'static str); 5] = [

@@ -115,3 +115,22 @@ impl Write for Sip {
         Ok(())
     }
 }
+
+/// A writer that takes all that it is given, and counts calls and bytes.
+#[derive(Drop)]
+pub struct Tally {
+    pub calls: usize,
+    pub bytes: usize,
+}
+
+impl Write for Tally {
+    fn write(&mut self, buf: &[u8]) -> io::Result<usize> {
+        self.calls = self.calls.saturating_add(1);
+        self.bytes = self.bytes.saturating_add(buf.len());
+        Ok(buf.len())
+    }
+
+    fn flush(&mut self) -> io::Result<()> {
+        Ok(())
+    }
+}

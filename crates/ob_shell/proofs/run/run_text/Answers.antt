@@ -1,54 +1,21 @@
--- Each line's outcome stands behind what was run and written before it.
-use Rattle.std.proofs.Common.{◌≡◌, sym, ◌∙◌, arith, subst, List, ℕ, Option}
+-- What the block has at the end is written behind what was.
+use Rattle.std.proofs.Common.{◌≡◌, sym, subst, List, ℕ, Option}
 use Rattle.ob_shell.specs.declared.fault.ShellFault.{ShellFault}
 use Rattle.ob_shell.specs.declared.fault.ShellFault.TheVariants.{Write}
-use Rattle.ob_lines.specs.Script.{found_seen}
-use Rattle.ob_shell.specs.Words.{values_of}
-use Rattle.ob_shell.specs.Shown.{PlaysPartTo}
-use Rattle.ob_shell.specs.Running.{StopsPlaying}
-use Rattle.ob_shell.proofs.Worded.{no_values}
-use Rattle.ob_shell.proofs.Behind.{is_fresh, stands_first, stands_more, stands_end, stands_part, stands_last}
+use Rattle.ob_shell.specs.Running.{GathersRun, StopsPlaying}
+use Rattle.ob_shell.specs.Writing.{AppendsFront}
+use Rattle.ob_shell.specs.declared.run.Ending.{Ending}
+use Rattle.ob_shell.proofs.Behind.{run_part}
 use Rattle.ob_shell.proofs.run.run_text.Goals as goal
 
-stopped : (script : List ℕ) (f : ShellFault) (old new : Option (List ℕ)) → f ≡ Write → PlaysPartTo old new script → StopsPlaying script f old new
-stopped script f old new e p = let P : ShellFault → Type 0 = λ x. StopsPlaying script x old new in subst P (sym e) p
+stopped : (script has bytes : List ℕ) (end : Ending) (f : ShellFault) (old mid new : Option (List ℕ)) → f ≡ Write → bytes ≡ has → GathersRun old mid script has end
+    → AppendsFront mid new bytes → StopsPlaying script f old new
+stopped script has bytes end f old mid new e same g front =
+    let P : ShellFault → Type 0 = λ x. StopsPlaying script x old new in
+    subst P (sym e) (run_part old mid new script has end g (subst (AppendsFront mid new) same front))
 
-pub loop-form-init : goal.loop-form-init
-loop-form-init g c = (
-  stands_first (g.W.Write.contents c.args.writer.now) c.args.script.now (values_of c.new-words.result) c.new.result c.in-Ok.core
-      (is_fresh c.new.result c.new.ensures.opens c.new.ensures.closes c.new.ensures.deletes)
-      (no_values c.new-words.result c.new-words.ensures.empty) c.in-Ok.ensures.opening,
-  omega arith,
-)
-
-pub overflow_add-number : goal.overflow_add-number
-overflow_add-number g c = omega (arith, c.loop-form.invariant.1, c.in-Some.ensures.shorter, c.requires)
-
-pub returns-in-Ok-Some-clause-played : goal.returns-in-Ok-Some-clause-played
-returns-in-Ok-Some-clause-played g c =
-    stands_end (g.W.Write.contents c.args.writer.now) (g.W.Write.contents c.loop-form.writer) (g.W.Write.contents c.show.new.writer)
-    c.args.script.now c.loop-form.rest.now c.in-Some.behind.now (found_seen c.in-Some.form) c.loop-form.number
-    (values_of c.loop-form.words) (values_of c.perform-outcome.new.words) c.loop-form.core c.perform-outcome.new.core c.perform-outcome.result c.in-Ok-Some.ending
-    c.loop-form.invariant.0 c.in-Some.ensures.found c.perform-outcome.ensures (sym c.in-Ok-Some.field-0-is ∙ c.in-Ok-Some.ensures.ending) c.in-Ok-Some.ensures.ok
-
-pub returns-in-Err-show-clause-fault : goal.returns-in-Err-show-clause-fault
-returns-in-Err-show-clause-fault g c =
-    stopped c.args.script.now c.in-Err-show.fault (g.W.Write.contents c.args.writer.now) (g.W.Write.contents c.show.new.writer) c.in-Err-show.ensures.fault
-    (stands_part (g.W.Write.contents c.args.writer.now) (g.W.Write.contents c.loop-form.writer) (g.W.Write.contents c.show.new.writer)
-    c.args.script.now c.loop-form.rest.now c.in-Some.behind.now (found_seen c.in-Some.form) c.loop-form.number
-    (values_of c.loop-form.words) (values_of c.perform-outcome.new.words) c.loop-form.core c.perform-outcome.new.core c.perform-outcome.result
-    c.loop-form.invariant.0 c.in-Some.ensures.found c.perform-outcome.ensures c.in-Err-show.ensures.front)
-
-pub loop-form-preserved : goal.loop-form-preserved
-loop-form-preserved g c = (
-  stands_more (g.W.Write.contents c.args.writer.now) (g.W.Write.contents c.loop-form.writer) (g.W.Write.contents c.show.new.writer)
-      c.args.script.now c.loop-form.rest.now c.in-Some.behind.now (found_seen c.in-Some.form) c.loop-form.number
-      (values_of c.loop-form.words) (values_of c.perform-outcome.new.words) c.loop-form.core c.perform-outcome.new.core c.perform-outcome.result
-      c.loop-form.invariant.0 c.in-Some.ensures.found c.perform-outcome.ensures (sym c.in-Ok-None.field-0-is ∙ c.in-Ok-None.ensures.ending) c.in-Ok-None.ensures.ok,
-  omega (arith, c.loop-form.invariant.1, c.in-Some.ensures.shorter),
-)
-
-pub returns-clause-played : goal.returns-clause-played
-returns-clause-played g c =
-    stands_last (g.W.Write.contents c.args.writer.now) (g.W.Write.contents c.loop-form.writer) c.args.script.now c.loop-form.rest.now c.loop-form.number
-    (values_of c.loop-form.words) c.loop-form.core c.loop-form.invariant.0 c.in_default.ensures.none
+pub returns-in-Ok-run_lines-clause-fault : goal.returns-in-Ok-run_lines-clause-fault
+returns-in-Ok-run_lines-clause-fault g c =
+    stopped c.args.script.now c.run_lines.new.block.items _ c.in-Ok-run_lines.ending c.in-Err-write_out.unwritten
+    (g.W.Write.contents c.args.writer.now) (g.W.Write.contents c.run_lines.new.writer) (g.W.Write.contents c.write_out.new.writer)
+    c.in-Err-write_out.ensures.fault c.as_slice.ensures.value c.in-Ok-run_lines.ensures.played c.in-Err-write_out.ensures.front

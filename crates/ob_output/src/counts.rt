@@ -1,0 +1,16 @@
+//! What a namespace counts.
+
+/// What a namespace counts, as `stat` tells it. (this profile)
+#[derive(Clone, Copy, PartialEq, Eq, Debug)]
+pub struct Counts {
+    /// The objects that there are.
+    pub objects: usize,
+    /// The handles of all processes.
+    pub handles: usize,
+    /// The opens that the set of types accepted since the start.
+    pub opens: u64,
+    /// The closes that the set of types was told since the start.
+    pub closes: u64,
+    /// The deletes that the set of types was told since the start.
+    pub deletes: u64,
+}
