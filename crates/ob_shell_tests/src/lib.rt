@@ -1,7 +1,9 @@
-//! Tests of the run of scripts: whole scripts with what they print, and streams that fail or go on in
-//! small parts. The crate holds tests alone, since a crate with tests is proved twice.
+//! Tests of the run of scripts: whole scripts with what they print, lines of the output, and streams that
+//! fail or go on in small parts. The crate holds tests alone, since a crate with tests is proved twice.
 #![tactic(auto)]
 
+#[cfg(test)]
+mod output;
 #[cfg(test)]
 mod scripts;
 #[cfg(test)]
