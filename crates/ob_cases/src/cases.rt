@@ -12,7 +12,7 @@ struct Case {
     status: u8,
 }
 
-const CASES: [Case; 41] = [
+const CASES: [Case; 42] = [
     Case {
         shows: b"an empty script prints nothing",
         script: b"",
@@ -50,9 +50,15 @@ const CASES: [Case; 41] = [
         status: 0,
     },
     Case {
-        shows: b"a name that is there collides, and flags that aren't served are refused",
+        shows: b"a name that is there collides, and handles to any object but an exclusive one are inherited",
         script: b"p1 dir \"\\Device\" - =d\np1 dir \"\\A\" OI =a\np1 dir \"\\A\" E =a\np1 dir \"\\A\" IE =a\np1 opendir \"\\Device\" I =a\np1 openlink \"\\DosDevices\" E =a\np1 opendir \"\\Device\" PO =a\n",
-        prints: b"1: OBJECT_NAME_COLLISION\n2: INVALID_PARAMETER\n3: INVALID_PARAMETER\n4: INVALID_PARAMETER\n5: INVALID_PARAMETER\n6: INVALID_PARAMETER\n7: SUCCESS\n",
+        prints: b"1: OBJECT_NAME_COLLISION\n2: SUCCESS\n3: OBJECT_NAME_COLLISION\n4: INVALID_PARAMETER\n5: SUCCESS\n6: INVALID_PARAMETER\n7: SUCCESS\n",
+        status: 0,
+    },
+    Case {
+        shows: b"an exclusive object is opened in its process without inheritance, and no other is asked for as one",
+        script: b"p1 make Mutant \"\\M\" E \"\" =m\np1 open Mutant \"\\M\" IE =x\np1 open Mutant \"\\M\" I =x\np1 open Mutant \"\\M\" E =x\np1 open Mutant \"\\M\" - =x\np1 make Event \"\\V\" - \"\" =v\np1 open Event \"\\V\" E =x\np1 make Mutant \"\\M\" OE \"\" =m\np1 make Event \"\\V\" OE \"\" =v\np1 dir \"\\D\" E =d\np1 dir d:\"X\" I =x\np1 opendir d:\"\" I =x\nstat\n",
+        prints: b"1: SUCCESS\n2: INVALID_PARAMETER\n3: INVALID_PARAMETER\n4: SUCCESS\n5: SUCCESS\n6: SUCCESS\n7: INVALID_PARAMETER\n8: OBJECT_NAME_EXISTS\n9: INVALID_PARAMETER\n10: SUCCESS\n11: SUCCESS\n12: INVALID_PARAMETER\n13: objects 10 handles 7 opens 5 closes 0 deletes 0\n",
         status: 0,
     },
     Case {

@@ -5,7 +5,7 @@
 use Rattle.std.specs.Prelude.{◌≡◌, ℕ, Bool, ◌||◌, not, nat_lt, List, [], ◌∷◌, length, MatchOption}
 use Rattle.ob_base.specs.declared.status.Status.{Status}
 use Rattle.ob_base.specs.declared.status.Status.TheVariants.{InvalidParameter, ObjectNameInvalid, NameTooLong, ProcessGone}
-use Rattle.ob_base.specs.Attrs.{are_lawful, has_flag, inherit_flag, exclusive_flag}
+use Rattle.ob_base.specs.Attrs.{are_lawful}
 use Rattle.ob_model.specs.declared.command.Place.{Place}
 use Rattle.ob_model.specs.declared.command.Place.TheVariants.{At, Unnamed}
 use Rattle.ob_model.specs.declared.reply.Answer.{Answer}
@@ -23,10 +23,6 @@ gives status thing = Done (record { status = status; given = thing })
 abbrev pub answers : Status → Answer
 answers status = gives status Nothing
 
--- the flags that creates and opens use and that this build doesn't serve yet
-abbrev pub is_unserved : ℕ → Bool
-is_unserved attrs = has_flag inherit_flag attrs || has_flag exclusive_flag attrs
-
 -- the refusals of a name, which come before those of handles and of the lookup
 abbrev pub name_refusals : List ℕ → List (Bool × Status)
 name_refusals name = (not (is_profile_text name), ObjectNameInvalid) ∷ (nat_lt longest_name (length name), NameTooLong) ∷ []
@@ -34,14 +30,14 @@ name_refusals name = (not (is_profile_text name), ObjectNameInvalid) ∷ (nat_lt
 -- the refusals of an open, for a process that is live or isn't
 abbrev pub open_refusals : Bool → List ℕ → ℕ → List (Bool × Status)
 open_refusals live name attrs =
-    (not live, ProcessGone) ∷ (not (are_lawful attrs) || is_unserved attrs, InvalidParameter) ∷ name_refusals name
+    (not live, ProcessGone) ∷ (not (are_lawful attrs), InvalidParameter) ∷ name_refusals name
 
 -- the refusals of a create, by name and without one, whose other parameters are fit or not
 abbrev pub create_refusals : (live fit : Bool) → Place → ℕ → List (Bool × Status)
 create_refusals live fit (At root name) attrs =
-    (not live, ProcessGone) ∷ (not (are_lawful attrs) || is_unserved attrs || not fit, InvalidParameter) ∷ name_refusals name
+    (not live, ProcessGone) ∷ (not (are_lawful attrs) || not fit, InvalidParameter) ∷ name_refusals name
 create_refusals live fit Unnamed attrs =
-    (not live, ProcessGone) ∷ (not (are_lawful attrs) || is_unserved attrs || not fit, InvalidParameter) ∷ []
+    (not live, ProcessGone) ∷ (not (are_lawful attrs) || not fit, InvalidParameter) ∷ []
 
 module _ {K T F I : Type 0} where
   -- a step that is refused answers the status and changes nothing

@@ -2,26 +2,18 @@
 
 ghost use Rattle.std.specs.Prelude.{◌≡◌, Some, None, MatchResult};
 ghost use Rattle.ob_model.specs.Grants.{first_refusal};
-ghost use Rattle.ob_model.specs.Refusals.{create_refusals, open_refusals, is_unserved};
+ghost use Rattle.ob_model.specs.Refusals.{create_refusals, open_refusals};
 
 use ob_base::{Attrs, Status};
 use ob_model::Place;
 use ob_names::Name;
 
-/// Whether flags are used that aren't served yet.
-fn is_unserved(attrs: Attrs) -> bool
-    ensures { result ≡ is_unserved attrs }
-{
-    attrs.is_inherit() || attrs.is_exclusive()
-}
-
 /// The flags of a create, or its first refusal, for a process that is live or isn't, and for what is
 /// made by parameters that are fit or aren't.
 ///
 /// Refusals, in their order: `ProcessGone` for a process that isn't live, `InvalidParameter` for flags
-/// that aren't lawful, that aren't served yet (INHERIT and EXCLUSIVE), or for parameters that aren't
-/// fit, and of a name `ObjectNameInvalid` for a byte that is no text of the profile and `NameTooLong`
-/// for more than 32,767 bytes.
+/// that aren't lawful or for parameters that aren't fit, and of a name `ObjectNameInvalid` for a byte
+/// that is no text of the profile and `NameTooLong` for more than 32,767 bytes.
 ///
 /// Source: OBJECT_ATTRIBUTES structure (Windows Driver Kit); the order is this profile.
 pub fn judge_create(live: bool, fit: bool, place: &Place, attrs: u32) -> Result<Attrs, Status>
@@ -33,7 +25,7 @@ pub fn judge_create(live: bool, fit: bool, place: &Place, attrs: u32) -> Result<
         return Err(Status::ProcessGone);
     }
     let lawful = Attrs::check(attrs)?;
-    if is_unserved(lawful) || !fit {
+    if !fit {
         return Err(Status::InvalidParameter);
     }
     if let Place::At { name, .. } = place {
@@ -55,9 +47,6 @@ pub fn judge_open(live: bool, name: &[u8], attrs: u32) -> Result<Attrs, Status>
         return Err(Status::ProcessGone);
     }
     let lawful = Attrs::check(attrs)?;
-    if is_unserved(lawful) {
-        return Err(Status::InvalidParameter);
-    }
     Name::read(name)?;
     Ok(lawful)
 }
