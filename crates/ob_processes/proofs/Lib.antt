@@ -1,0 +1,6 @@
+pub mod ByOrder
+pub mod Tables
+pub mod Entries
+pub mod Changes
+pub mod Seen
+pub mod Written

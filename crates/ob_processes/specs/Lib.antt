@@ -1,0 +1,2 @@
+pub mod ByOrder
+pub mod Running
