@@ -78,7 +78,7 @@ module _ (es : Entries) (kept : ℕ) (is : IsRunning es kept) (now : Running) (s
     empty_key none = empty_from_first (handles_in (at es key)) (ap (λ hs. slice_get hs 0) (sym of_now) ∙ sym (find_first (is_of p) now.handles) ∙ none)
 
     module _ (o : Option Own) (found : at es key ≡ o) where
-      in_found : filter (is_of p) now.handles ≡ handles_in o
+      pub in_found : filter (is_of p) now.handles ≡ handles_in o
       in_found = of_now ∙ ap handles_in found
 
       pub get_seen : (value : ℕ) → find (λ h. h.value == value) (handles_in o) ≡ find (is_handle p value) now.handles

@@ -1,14 +1,15 @@
 //! One live process.
 
 ghost use Rattle.std.specs.Prelude.{◌≡◌, ◌+◌, ◌<◌, ◌≤◌, ◌==◌, if◌then◌else◌, [], ◌∷◌, ◌++◌, Err};
-ghost use Rattle.std.specs.Prelude.{◌⊎◌, length, All, IfOk, IfErr, OnOk, OnErr};
+ghost use Rattle.std.specs.Prelude.{◌⊎◌, length, filter, count_by, All, IfSome, IfOk, IfErr, OnOk, OnErr};
 ghost use Rattle.std.specs.List.{find, slice_get};
 ghost use Rattle.std.specs.Option.{is_some};
 ghost use Rattle.ob_base.specs.declared.fault.Fault.TheVariants.{Memory, Refused};
 ghost use Rattle.ob_base.specs.declared.status.Status.TheVariants.{InsufficientResources};
-ghost use Rattle.ob_model.specs.State.{most_handles};
+ghost use Rattle.ob_model.specs.State.{greatest_number, most_handles};
 ghost use Rattle.ob_handles.specs.Table.{IsUnused, without};
 
+use crate::counts::Counts;
 use ob_base::{Fault, Handle, ObjId, Proc};
 use ob_handles::HandleTable;
 use ob_model::Held;
@@ -21,17 +22,18 @@ use std::marker::Model;
 pub(crate) struct Live<H: HandleTable> {
     map: Option<ObjId>,
     table: H,
+    counts: Counts,
 }
 
 impl<H: HandleTable> Model for Live<H> {
-    ghost use Rattle.ob_handles.specs.Table.{IsTable};
     ghost use Rattle.ob_processes.specs.Running.{Own};
+    ghost use Rattle.ob_processes.specs.Counts.{IsCounted};
 
     ghost Value = { Own };
 
     ghost view = { λ live. record { map = live.map; handles = H.handles live.table } };
 
-    ghost invariant = { λ live. IsTable (H.handles live.table) };
+    ghost invariant = { λ live. IsCounted (H.handles live.table) live.counts };
 }
 
 impl<H: HandleTable> Live<H> {
@@ -42,6 +44,7 @@ impl<H: HandleTable> Live<H> {
         Live {
             map,
             table: H::new(alloc),
+            counts: Counts::new(alloc),
         }
     }
 
@@ -50,13 +53,6 @@ impl<H: HandleTable> Live<H> {
         ensures { result ≡ self.now.map }
     {
         self.map
-    }
-
-    /// Changes its device map.
-    pub(crate) fn set_map(&mut self, map: Option<ObjId>)
-        ensures { self.new ≡ record { map = map; handles = self.old.handles } }
-    {
-        self.map = map;
     }
 
     /// How many handles it has.
@@ -80,6 +76,13 @@ impl<H: HandleTable> Live<H> {
         self.table.oldest()
     }
 
+    /// How many of its handles lead to an object.
+    pub(crate) fn count_of(&self, object: ObjId) -> usize
+        ensures { result ≡ count_by (λ h. h.object == object) self.now.handles }
+    {
+        self.counts.get(object)
+    }
+
     /// Opens a handle under an unused value. The order must be above those of its handles.
     pub(crate) fn grant(
         &mut self,
@@ -100,6 +103,10 @@ impl<H: HandleTable> Live<H> {
         ensures unchanged { OnErr result (self.new ≡ self.old) }
     {
         let value = self.table.grant(process, object, inherit, order)?;
+        if let Err(want) = self.counts.add(object) {
+            self.table.take(value);
+            return Err(Fault::from(want));
+        }
         Ok(value)
     }
 
@@ -108,10 +115,16 @@ impl<H: HandleTable> Live<H> {
     pub(crate) fn put(&mut self, held: Held) -> Result<(), AllocError>
         requires unused { IsUnused self.old.handles held.value }
         requires newest { All (λ h. h.order < held.order) self.old.handles }
+        requires number { held.order ≤ greatest_number }
         ensures last { OnOk result (self.new ≡ record { map = self.old.map; handles = self.old.handles ++ held ∷ [] }) }
         ensures unchanged { OnErr result (self.new ≡ self.old) }
     {
+        let (value, object) = (held.value, held.object);
         self.table.put(held)?;
+        if let Err(want) = self.counts.add(object) {
+            self.table.take(value);
+            return Err(want);
+        }
         Ok(())
     }
 
@@ -119,8 +132,11 @@ impl<H: HandleTable> Live<H> {
     pub(crate) fn take(&mut self, value: Handle) -> Option<Held>
         ensures there { result ≡ find (λ h. h.value == value) self.old.handles }
         ensures others { self.new ≡ record { map = self.old.map; handles = without self.old.handles value } }
+        ensures one { IfSome result (λ h. filter (λ k. k.value == value) self.old.handles ≡ h ∷ []) }
         ensures fewer { length self.new.handles + (if is_some result then 1 else 0) ≡ length self.old.handles }
     {
-        self.table.take(value)
+        let taken = self.table.take(value)?;
+        self.counts.lower(taken.object);
+        Some(taken)
     }
 }

@@ -2,7 +2,7 @@
 
 ghost use Rattle.std.specs.Prelude.{◌≡◌, ◌<◌, ◌≤◌, ◌==◌, ◌&&◌, not, [], ◌∷◌, ◌++◌, None, Err, true};
 ghost use Rattle.std.specs.Prelude.{◌⊎◌, length, filter, count_by, All, IfOk, IfErr, OnOk, OnErr};
-ghost use Rattle.std.specs.List.{find};
+ghost use Rattle.std.specs.List.{find, list_any};
 ghost use Rattle.std.specs.Option.{is_some, option_and_then};
 ghost use Rattle.ob_base.specs.declared.fault.Fault.TheVariants.{Memory, Refused};
 ghost use Rattle.ob_base.specs.declared.status.Status.TheVariants.{InsufficientResources};
@@ -11,6 +11,7 @@ ghost use Rattle.ob_model.specs.Grants.{IsHandleValue};
 ghost use Rattle.ob_model.specs.Closing.{is_handle};
 ghost use Rattle.ob_processes.specs.ByOrder.{OrdersRise};
 
+use crate::counts::Counts;
 use crate::live::Live;
 use ob_base::{Fault, Handle, ObjId, Proc};
 use ob_handles::HandleTable;
@@ -30,16 +31,18 @@ pub struct Processes<H: HandleTable> {
     alloc: Global,
     live: BTreeMap<u32, Live<H>>,
     total: usize,
+    counts: Counts,
 }
 
 impl<H: HandleTable> Model for Processes<H> {
-    ghost use Rattle.ob_processes.specs.Running.{Running, seen, IsRunning};
+    ghost use Rattle.ob_processes.specs.Running.{Running, seen};
+    ghost use Rattle.ob_processes.specs.Counts.{AreCounted};
 
     ghost Value = { Running };
 
     ghost view = { λ all. seen all.live.entries };
 
-    ghost invariant = { λ all. IsRunning all.live.entries all.total };
+    ghost invariant = { λ all. AreCounted all.live.entries all.total all.counts };
 }
 
 impl<H: HandleTable> Processes<H> {
@@ -51,6 +54,7 @@ impl<H: HandleTable> Processes<H> {
             live: BTreeMap::new(alloc),
             alloc,
             total: 0,
+            counts: Counts::new(alloc),
         }
     }
 
@@ -137,6 +141,30 @@ impl<H: HandleTable> Processes<H> {
         self.live.get(&process.0)?.oldest()
     }
 
+    /// How many handles of all processes lead to an object. Takes no memory.
+    pub fn count_of(&self, object: ObjId) -> usize
+        ensures { result ≡ count_by (λ h. h.object == object) self.now.handles }
+    {
+        self.counts.get(object)
+    }
+
+    /// How many handles of one process lead to an object. Takes no memory.
+    pub fn count_in(&self, process: Proc, object: ObjId) -> usize
+        ensures { result ≡ count_by (λ h. h.process == process && h.object == object) self.now.handles }
+    {
+        match self.live.get(&process.0) {
+            Some(live) => live.count_of(object),
+            None => 0,
+        }
+    }
+
+    /// Whether a process other than this one has a handle to an object. Takes no memory.
+    pub fn has_other_holder(&self, process: Proc, object: ObjId) -> bool
+        ensures { result ≡ list_any (λ h. (h.object == object) && not (h.process == process)) self.now.handles }
+    {
+        self.count_in(process, object) < self.count_of(object)
+    }
+
     /// Opens a handle of a live process to an object, under an unused value of its table's choice, which
     /// it gives. The order must be above those of all handles.
     ///
@@ -167,6 +195,10 @@ impl<H: HandleTable> Processes<H> {
             unreachable!();
         };
         let value = live.grant(process, object, inherit, order)?;
+        if let Err(want) = self.counts.add(object) {
+            live.take(value);
+            return Err(Fault::from(want));
+        }
         self.total += 1;
         Ok(value)
     }
@@ -184,11 +216,15 @@ impl<H: HandleTable> Processes<H> {
         ensures processes { self.new.processes ≡ self.old.processes }
         ensures unchanged { OnErr result (self.new ≡ self.old) }
     {
-        let process = held.process;
+        let (process, value, object) = (held.process, held.value, held.object);
         let Some(live) = self.live.get_mut(&process.0) else {
             unreachable!();
         };
         live.put(held)?;
+        if let Err(want) = self.counts.add(object) {
+            live.take(value);
+            return Err(want);
+        }
         self.total += 1;
         Ok(())
     }
@@ -202,6 +238,7 @@ impl<H: HandleTable> Processes<H> {
     {
         let live = self.live.get_mut(&process.0)?;
         let taken = live.take(value)?;
+        self.counts.lower(taken.object);
         self.total -= 1;
         Some(taken)
     }
