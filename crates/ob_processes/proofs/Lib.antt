@@ -6,3 +6,4 @@ pub mod Changes
 pub mod Seen
 pub mod Written
 pub mod Kept
+pub mod Mapped

@@ -2,7 +2,7 @@
 --
 -- Sources: Windows Internals, Object Manager (handles and the process handle table); the orders of opening
 -- and the numbers of processes are this profile.
-use Rattle.std.specs.Prelude.{◌≡◌, ℕ, ◌==◌, true, List, [], ◌∷◌, ◌++◌, length, map, All, Option}
+use Rattle.std.specs.Prelude.{◌≡◌, ℕ, ◌==◌, true, if◌then◌else◌, List, [], ◌∷◌, ◌++◌, length, map, All, Option}
 use Rattle.std.specs.List.Sorted.{IsStrictlySortedBy}
 use Rattle.std.specs.Map.{keys_of}
 use Rattle.std.specs.Ordering.{nat_cmp}
@@ -22,6 +22,10 @@ pub record Running : Type 0 where
 pub record Own : Type 0 where
   pub map : Option ℕ
   pub handles : List Held
+
+-- a process with another map, where it is the one of this number
+abbrev pub with_map : ℕ → Option ℕ → Process → Process
+with_map number m x = if x.number == number then record x { map = m } else x
 
 -- what each process has, under its number
 abbrev pub Entries : Type 0

@@ -55,6 +55,13 @@ impl<H: HandleTable> Live<H> {
         self.map
     }
 
+    /// Changes its device map.
+    pub(crate) fn set_map(&mut self, map: Option<ObjId>)
+        ensures { self.new ≡ record { map = map; handles = self.old.handles } }
+    {
+        self.map = map;
+    }
+
     /// How many handles it has.
     pub(crate) fn len(&self) -> usize
         ensures { result ≡ length self.now.handles }

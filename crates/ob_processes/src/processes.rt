@@ -1,7 +1,7 @@
 //! The live processes.
 
 ghost use Rattle.std.specs.Prelude.{◌≡◌, ◌<◌, ◌≤◌, ◌==◌, ◌&&◌, not, [], ◌∷◌, ◌++◌, None, Err, true};
-ghost use Rattle.std.specs.Prelude.{◌⊎◌, length, filter, count_by, All, IfOk, IfErr, OnOk, OnErr};
+ghost use Rattle.std.specs.Prelude.{◌⊎◌, length, filter, map, count_by, All, IfOk, IfErr, OnOk, OnErr};
 ghost use Rattle.std.specs.List.{find, list_any};
 ghost use Rattle.std.specs.Option.{is_some, option_and_then};
 ghost use Rattle.ob_base.specs.declared.fault.Fault.TheVariants.{Memory, Refused};
@@ -10,6 +10,7 @@ ghost use Rattle.ob_model.specs.State.{greatest_number, most_handles};
 ghost use Rattle.ob_model.specs.Grants.{IsHandleValue};
 ghost use Rattle.ob_model.specs.Closing.{is_handle};
 ghost use Rattle.ob_processes.specs.ByOrder.{OrdersRise};
+ghost use Rattle.ob_processes.specs.Running.{with_map};
 
 use crate::counts::Counts;
 use crate::live::Live;
@@ -23,6 +24,10 @@ use std::marker::Model;
 /// The live processes, each with its device map and its handle table. A contract sees the processes by
 /// rising numbers, and the handles of all of them in the order in which they were opened, as the
 /// abstract state has both.
+///
+/// What is asked of handles is kept and not counted, so that no call walks over them: each takes a time
+/// that grows with the logarithm of the processes and of the handles, beside what the call of one table
+/// takes.
 ///
 /// Source: Windows Internals, Object Manager: handles and the process handle table; the numbers of
 /// processes and the orders of opening are this profile.
@@ -106,17 +111,31 @@ impl<H: HandleTable> Processes<H> {
         self.live.get(&process.0)?.map()
     }
 
+    /// Gives a process another device map, or takes its map away; where it isn't live nothing changes.
+    /// Takes no memory.
+    ///
+    /// Source: Windows Internals, session namespace.
+    pub fn set_map(&mut self, process: Proc, directory: Option<ObjId>)
+        ensures processes { self.new.processes ≡ map (with_map process directory) self.old.processes }
+        ensures handles { self.new.handles ≡ self.old.handles }
+    {
+        let Some(live) = self.live.get_mut(&process.0) else {
+            return;
+        };
+        live.set_map(directory);
+    }
+
     /// How many handles there are, of all processes. Takes no memory.
     pub fn len(&self) -> usize
         ensures count { result ≡ length self.now.handles }
 
-        // What holds of every list of handles.
+        // What holds of the handles of all processes.
         ensures rising { OrdersRise self.now.handles }
     {
         self.total
     }
 
-    /// How many handles a process has. Takes no memory.
+    /// How many handles a process has: 0 where it isn't live. Takes no memory.
     pub fn len_of(&self, process: Proc) -> usize
         ensures { result ≡ count_by (λ h. h.process == process) self.now.handles }
     {
@@ -148,7 +167,7 @@ impl<H: HandleTable> Processes<H> {
         self.counts.get(object)
     }
 
-    /// How many handles of one process lead to an object. Takes no memory.
+    /// How many handles of one process lead to an object: 0 where it isn't live. Takes no memory.
     pub fn count_in(&self, process: Proc, object: ObjId) -> usize
         ensures { result ≡ count_by (λ h. h.process == process && h.object == object) self.now.handles }
     {
@@ -166,7 +185,7 @@ impl<H: HandleTable> Processes<H> {
     }
 
     /// Opens a handle of a live process to an object, under an unused value of its table's choice, which
-    /// it gives. The order must be above those of all handles.
+    /// it gives. The order must be above those of all handles, and at most 2^64 - 2.
     ///
     /// It is refused with `InsufficientResources` exactly where the process has 65,535 handles. The only
     /// other fault is `Memory`. After either nothing has changed.
@@ -204,8 +223,8 @@ impl<H: HandleTable> Processes<H> {
     }
 
     /// Opens a handle of a live process under a value that is given, as a child does that inherits it.
-    /// The process must not use the value, and the order must be above those of all handles. Where
-    /// memory is wanted nothing has changed.
+    /// The process must not use the value, and the order must be above those of all handles, and at
+    /// most 2^64 - 2. Where memory is wanted nothing has changed.
     pub fn put(&mut self, held: Held) -> Result<(), AllocError>
         requires live { is_some (find (λ x. x.number == held.process) self.old.processes) ≡ true }
         requires value { IsHandleValue held.value }
