@@ -1,0 +1,110 @@
+-- What the calls of the map give, of the processes as they are seen.
+use Rattle.std.proofs.Common.{◌≡◌, ◌∙◌, ℕ, ◌<◌, ◌≤◌, ◌==◌, ◌&&◌, Bool, true, false, not, cond, List, [], ◌∷◌, length, filter, find, map, count_by, get_or, Option, None, Some, option_map, All, refl, ap, sym, subst, arith}
+use Rattle.std.proofs.lemmas.Bool.{false≢true}
+use Rattle.std.proofs.lemmas.List.Elements.{All-nil, All-cons, All-head, All-tail}
+use Rattle.std.proofs.lemmas.List.Sums.{length-filter}
+use Rattle.std.proofs.lemmas.Map.Steps.{set_value_same}
+use Rattle.std.specs.BTreeMap.{is_at}
+use Rattle.std.specs.List.{slice_get}
+use Rattle.std.specs.Option.{is_some, option_and_then}
+use Rattle.std.specs.Ordering.{nat_cmp}
+use Rattle.ob_model.specs.declared.state.Held.{Held}
+use Rattle.ob_model.specs.declared.state.Process.{Process}
+use Rattle.ob_model.specs.Closing.{is_handle}
+use Rattle.ob_model.proofs.Finds.{filter_all}
+use Rattle.ob_model.proofs.Ids.{Differ-from_rising}
+use Rattle.ob_processes.specs.Running.{Running, Own, Entries, processes_of, handles_of, seen, IsRunning}
+use Rattle.ob_processes.proofs.ByOrder.{fewer_than_orders}
+use Rattle.ob_processes.proofs.Entries.{at, handles_in, is_of, named, find_first, find_both, handles_at, process_at}
+use Rattle.ob_processes.proofs.Changes.{put, stays}
+
+map_some : (p : ℕ) (o : Option Own) → is_some (option_map (named p) o) ≡ is_some o
+map_some p None = refl
+map_some p (Some x) = refl
+
+map_of_named : (p : ℕ) (o : Option Own) → option_and_then (λ x. x.map) (option_map (named p) o) ≡ option_and_then (λ x. x.map) o
+map_of_named p None = refl
+map_of_named p (Some x) = refl
+
+-- where a test keeps nothing, nothing passes
+none_passes : {X : Type 0} (test : X → Bool) (xs : List X) → filter test xs ≡ [] → All (λ x. test x ≡ false) xs
+none_passes test [] none = All-nil (λ x. test x ≡ false)
+none_passes {X} test (x ∷ xs) none = go (test x) refl none (none_passes test xs)
+  where
+    go : (t : Bool) → test x ≡ t → cond t (x ∷ filter test xs) (filter test xs) ≡ [] → (filter test xs ≡ [] → All (λ y. test y ≡ false) xs) → All (λ y. test y ≡ false) (x ∷ xs)
+    go true passes some more = cc
+    go false fails none more = All-cons (λ y. test y ≡ false) x xs fails (more none)
+
+empty_from_first : (hs : List Held) → slice_get hs 0 ≡ None → hs ≡ []
+empty_from_first [] none = refl
+empty_from_first (h ∷ hs) none = cc
+
+all_before : {X Y : Type 0} (f : X → Y) (P : Y → Type 0) (xs : List X) → All P (map f xs) → All (λ x. P (f x)) xs
+all_before f P [] all = All-nil (λ x. P (f x))
+all_before f P (x ∷ xs) all = All-cons (λ y. P (f y)) x xs (All-head P (f x) (map f xs) all) (all_before f P xs (All-tail P (f x) (map f xs) all))
+
+module _ (es : Entries) (kept : ℕ) (is : IsRunning es kept) (now : Running) (same : seen es ≡ now) where
+  pub handles_now : handles_of es ≡ now.handles
+  handles_now = ap (λ r. r.handles) same
+
+  pub processes_now : processes_of es ≡ now.processes
+  processes_now = ap (λ r. r.processes) same
+
+  pub all_handles : (P : Held → Type 0) → All P now.handles → All P (handles_of es)
+  all_handles P all = subst (All P) (sym handles_now) all
+
+  -- there is a number for one handle more
+  pub few : (order : ℕ) → All (λ h. h.order < order) now.handles → kept ≤ order
+  few order newest =
+      let many : kept ≡ length (handles_of es) = is.total in
+      omega (arith, many, fewer_than_orders (handles_of es) 0 order is.rising (λ k d below. omega arith) (all_handles (λ h. h.order < order) newest) (omega arith))
+
+  module _ (key p : ℕ) (is_p : key ≡ p) where
+    -- the handles of one process
+    of_now : filter (is_of p) now.handles ≡ handles_in (at es key)
+    of_now =
+        ap (filter (is_of p)) (sym handles_now) ∙ ap (λ n. filter (is_of n) (handles_of es)) (sym is_p)
+        ∙ handles_at key es (Differ-from_rising es is.numbers) is.tables
+
+    -- a process is above all, where its number is
+    pub newest_key : All (λ x. x.number < p) now.processes → All (λ e. e.0 < key) es
+    newest_key newest = all_before (λ e. record { number = e.0; map = e.1.map }) (λ (x : Process). x.number < key) es
+        (subst (All (λ (x : Process). x.number < key)) (sym processes_now) (subst (λ n. All (λ (x : Process). x.number < n) now.processes) (sym is_p) newest))
+
+    process_now : find (λ x. x.number == p) now.processes ≡ option_map (named p) (at es key)
+    process_now = ap (find (λ x. x.number == p)) (sym processes_now) ∙ process_at p es ∙ ap (λ n. option_map (named p) (at es n)) (sym is_p)
+
+    pub empty_key : find (is_of p) now.handles ≡ None → handles_in (at es key) ≡ []
+    empty_key none = empty_from_first (handles_in (at es key)) (ap (λ hs. slice_get hs 0) (sym of_now) ∙ sym (find_first (is_of p) now.handles) ∙ none)
+
+    module _ (o : Option Own) (found : at es key ≡ o) where
+      pub in_found : filter (is_of p) now.handles ≡ handles_in o
+      in_found = of_now ∙ ap handles_in found
+
+      pub get_seen : (value : ℕ) → find (λ h. h.value == value) (handles_in o) ≡ find (is_handle p value) now.handles
+      get_seen value = sym (find_both (is_of p) (λ h. h.value == value) now.handles ∙ ap (find (λ h. h.value == value)) in_found)
+
+      pub oldest_seen : slice_get (handles_in o) 0 ≡ find (is_of p) now.handles
+      oldest_seen = sym (find_first (is_of p) now.handles ∙ ap (λ hs. slice_get hs 0) in_found)
+
+      pub size_seen : length (handles_in o) ≡ count_by (is_of p) now.handles
+      size_seen = ap length (sym in_found) ∙ length-filter (is_of p) now.handles
+
+      pub live_seen : is_some o ≡ is_some (find (λ x. x.number == p) now.processes)
+      live_seen = sym (ap is_some process_now ∙ map_some p (at es key) ∙ ap is_some found)
+
+      pub map_seen : option_and_then (λ x. x.map) o ≡ option_and_then (λ x. x.map) (find (λ x. x.number == p) now.processes)
+      map_seen = sym (ap (option_and_then (λ (x : Process). x.map)) process_now ∙ map_of_named p (at es key) ∙ ap (option_and_then (λ (x : Own). x.map)) found)
+
+    pub not_live : at es key ≡ None → is_some (find (λ x. x.number == p) now.processes) ≡ true → ⊥
+    not_live none live = false≢true (live_seen None none ∙ live)
+
+    -- where a process isn't live no handle of it is there to be taken
+    pub nothing_taken : (value : ℕ) → at es key ≡ None → handles_of es ≡ filter (stays p value) now.handles
+    nothing_taken value none =
+        handles_now ∙ sym (filter_all (stays p value) now.handles
+        (λ k d below. ap (λ t. not (t && (get_or now.handles k d).value == value)) (none_passes (is_of p) now.handles (in_found None none) k d below)))
+
+-- what was written as it was
+pub written_same : (es new : Entries) (p : ℕ) (x w : Own) → at es p ≡ Some x → new ≡ put es p w → w ≡ x → new ≡ es
+written_same es new p x w found wrote unchanged = wrote ∙ ap (put es p) unchanged ∙ set_value_same (is_at (nat_cmp p)) es x found

@@ -1,0 +1,3 @@
+pub mod ByOrder
+pub mod Running
+pub mod Counts

@@ -1,0 +1,8 @@
+//! The live processes, each with its device map and its handle table.
+#![tactic(auto)]
+
+mod counts;
+mod live;
+mod processes;
+
+pub use processes::Processes;

@@ -1,0 +1,264 @@
+//! The live processes.
+
+ghost use Rattle.std.specs.Prelude.{◌≡◌, ◌<◌, ◌≤◌, ◌==◌, ◌&&◌, not, [], ◌∷◌, ◌++◌, None, Err, true};
+ghost use Rattle.std.specs.Prelude.{◌⊎◌, length, filter, map, count_by, All, IfOk, IfErr, OnOk, OnErr};
+ghost use Rattle.std.specs.List.{find, list_any};
+ghost use Rattle.std.specs.Option.{is_some, option_and_then};
+ghost use Rattle.ob_base.specs.declared.fault.Fault.TheVariants.{Memory, Refused};
+ghost use Rattle.ob_base.specs.declared.status.Status.TheVariants.{InsufficientResources};
+ghost use Rattle.ob_model.specs.State.{greatest_number, most_handles};
+ghost use Rattle.ob_model.specs.Grants.{IsHandleValue};
+ghost use Rattle.ob_model.specs.Closing.{is_handle};
+ghost use Rattle.ob_processes.specs.ByOrder.{OrdersRise};
+ghost use Rattle.ob_processes.specs.Running.{with_map};
+
+use crate::counts::Counts;
+use crate::live::Live;
+use ob_base::{Fault, Handle, ObjId, Proc};
+use ob_handles::HandleTable;
+use ob_model::Held;
+use std::alloc::{AllocError, Global};
+use std::collections::BTreeMap;
+use std::marker::Model;
+
+/// The live processes, each with its device map and its handle table. A contract sees the processes by
+/// rising numbers, and the handles of all of them in the order in which they were opened, as the
+/// abstract state has both.
+///
+/// What is asked of handles is kept and not counted, so that no call walks over them: each takes a time
+/// that grows with the logarithm of the processes and of the handles, beside what the call of one table
+/// takes.
+///
+/// Source: Windows Internals, Object Manager: handles and the process handle table; the numbers of
+/// processes and the orders of opening are this profile.
+#[derive(Drop)]
+pub struct Processes<H: HandleTable> {
+    alloc: Global,
+    live: BTreeMap<u32, Live<H>>,
+    total: usize,
+    counts: Counts,
+}
+
+impl<H: HandleTable> Model for Processes<H> {
+    ghost use Rattle.ob_processes.specs.Running.{Running, seen};
+    ghost use Rattle.ob_processes.specs.Counts.{AreCounted};
+
+    ghost Value = { Running };
+
+    ghost view = { λ all. seen all.live.entries };
+
+    ghost invariant = { λ all. AreCounted all.live.entries all.total all.counts };
+}
+
+impl<H: HandleTable> Processes<H> {
+    /// No process. Takes no memory.
+    pub fn new(alloc: Global) -> Processes<H>
+        ensures { result ≡ record { processes = []; handles = [] } }
+    {
+        Processes {
+            live: BTreeMap::new(alloc),
+            alloc,
+            total: 0,
+            counts: Counts::new(alloc),
+        }
+    }
+
+    /// A process begins, with a device map or without one, and without a handle. Its number must be
+    /// above those of all that are live. Where memory is wanted nothing has changed.
+    pub fn start(&mut self, process: Proc, map: Option<ObjId>) -> Result<(), AllocError>
+        requires newest { All (λ x. x.number < process) self.old.processes }
+        ensures last { OnOk result (self.new.processes
+            ≡ self.old.processes ++ record { number = process; map = map } ∷ []) }
+        ensures handles { self.new.handles ≡ self.old.handles }
+        ensures unchanged { OnErr result (self.new ≡ self.old) }
+    {
+        let live = Live::new(self.alloc, map);
+        self.live.insert(process.0, live)?;
+        Ok(())
+    }
+
+    /// A process that has no handle is live no longer; where it isn't live nothing changes. Takes no
+    /// memory.
+    pub fn end(&mut self, process: Proc)
+        requires empty { find (λ h. h.process == process) self.old.handles ≡ None }
+        ensures others { self.new.processes ≡ filter (λ x. not (x.number == process)) self.old.processes }
+        ensures handles { self.new.handles ≡ self.old.handles }
+    {
+        self.live.remove(&process.0);
+    }
+
+    /// Whether a process is live. Takes no memory.
+    pub fn is_live(&self, process: Proc) -> bool
+        ensures { result ≡ is_some (find (λ x. x.number == process) self.now.processes) }
+    {
+        self.live.contains_key(&process.0)
+    }
+
+    /// How many processes are live. Takes no memory.
+    pub fn count(&self) -> usize
+        ensures { result ≡ length self.now.processes }
+    {
+        self.live.len()
+    }
+
+    /// The local directory of a process's device map; `None` where it has no map or isn't live. Takes no
+    /// memory.
+    ///
+    /// Source: Windows Internals, session namespace.
+    pub fn map_of(&self, process: Proc) -> Option<ObjId>
+        ensures { result ≡ option_and_then (λ x. x.map) (find (λ x. x.number == process) self.now.processes) }
+    {
+        self.live.get(&process.0)?.map()
+    }
+
+    /// Gives a process another device map, or takes its map away; where it isn't live nothing changes.
+    /// Takes no memory.
+    ///
+    /// Source: Windows Internals, session namespace.
+    pub fn set_map(&mut self, process: Proc, directory: Option<ObjId>)
+        ensures processes { self.new.processes ≡ map (with_map process directory) self.old.processes }
+        ensures handles { self.new.handles ≡ self.old.handles }
+    {
+        let Some(live) = self.live.get_mut(&process.0) else {
+            return;
+        };
+        live.set_map(directory);
+    }
+
+    /// How many handles there are, of all processes. Takes no memory.
+    pub fn len(&self) -> usize
+        ensures count { result ≡ length self.now.handles }
+
+        // What holds of the handles of all processes.
+        ensures rising { OrdersRise self.now.handles }
+    {
+        self.total
+    }
+
+    /// How many handles a process has: 0 where it isn't live. Takes no memory.
+    pub fn len_of(&self, process: Proc) -> usize
+        ensures { result ≡ count_by (λ h. h.process == process) self.now.handles }
+    {
+        match self.live.get(&process.0) {
+            Some(live) => live.len(),
+            None => 0,
+        }
+    }
+
+    /// The handle of a process of a value, and `None` exactly where it has none. Takes no memory.
+    pub fn get(&self, process: Proc, value: Handle) -> Option<Held>
+        ensures { result ≡ find (is_handle process value) self.now.handles }
+    {
+        self.live.get(&process.0)?.get(value)
+    }
+
+    /// Of the handles of a process the one that was opened before its others, and `None` exactly where
+    /// it has none. Takes no memory.
+    pub fn oldest(&self, process: Proc) -> Option<Held>
+        ensures { result ≡ find (λ h. h.process == process) self.now.handles }
+    {
+        self.live.get(&process.0)?.oldest()
+    }
+
+    /// How many handles of all processes lead to an object. Takes no memory.
+    pub fn count_of(&self, object: ObjId) -> usize
+        ensures { result ≡ count_by (λ h. h.object == object) self.now.handles }
+    {
+        self.counts.get(object)
+    }
+
+    /// How many handles of one process lead to an object: 0 where it isn't live. Takes no memory.
+    pub fn count_in(&self, process: Proc, object: ObjId) -> usize
+        ensures { result ≡ count_by (λ h. h.process == process && h.object == object) self.now.handles }
+    {
+        match self.live.get(&process.0) {
+            Some(live) => live.count_of(object),
+            None => 0,
+        }
+    }
+
+    /// Whether a process other than this one has a handle to an object. Takes no memory.
+    pub fn has_other_holder(&self, process: Proc, object: ObjId) -> bool
+        ensures { result ≡ list_any (λ h. (h.object == object) && not (h.process == process)) self.now.handles }
+    {
+        self.count_in(process, object) < self.count_of(object)
+    }
+
+    /// Opens a handle of a live process to an object, under an unused value of its table's choice, which
+    /// it gives. The order must be above those of all handles, and at most 2^64 - 2.
+    ///
+    /// It is refused with `InsufficientResources` exactly where the process has 65,535 handles. The only
+    /// other fault is `Memory`. After either nothing has changed.
+    pub fn grant(
+        &mut self,
+        process: Proc,
+        object: ObjId,
+        inherit: bool,
+        order: u64,
+    ) -> Result<Handle, Fault>
+        requires live { is_some (find (λ x. x.number == process) self.old.processes) ≡ true }
+        requires newest { All (λ h. h.order < order) self.old.handles }
+        requires number { order ≤ greatest_number }
+        ensures value { IfOk result IsHandleValue }
+        ensures unused { IfOk result (λ value. find (is_handle process value) self.old.handles ≡ None) }
+        ensures last { IfOk result (λ value. self.new.handles
+            ≡ self.old.handles ++ record { process = process; value = value; object = object; inherit = inherit; order = order } ∷ []) }
+        ensures processes { self.new.processes ≡ self.old.processes }
+        ensures full { most_handles ≤ count_by (λ h. h.process == process) self.old.handles
+            → result ≡ Err (Refused InsufficientResources) }
+        ensures refused { IfErr result (λ fault. (fault ≡ Memory)
+            ⊎ (most_handles ≤ count_by (λ h. h.process == process) self.old.handles)) }
+        ensures unchanged { OnErr result (self.new ≡ self.old) }
+    {
+        let Some(live) = self.live.get_mut(&process.0) else {
+            unreachable!();
+        };
+        let value = live.grant(process, object, inherit, order)?;
+        if let Err(want) = self.counts.add(object) {
+            live.take(value);
+            return Err(Fault::from(want));
+        }
+        self.total += 1;
+        Ok(value)
+    }
+
+    /// Opens a handle of a live process under a value that is given, as a child does that inherits it.
+    /// The process must not use the value, and the order must be above those of all handles, and at
+    /// most 2^64 - 2. Where memory is wanted nothing has changed.
+    pub fn put(&mut self, held: Held) -> Result<(), AllocError>
+        requires live { is_some (find (λ x. x.number == held.process) self.old.processes) ≡ true }
+        requires value { IsHandleValue held.value }
+        requires unused { find (is_handle held.process held.value) self.old.handles ≡ None }
+        requires newest { All (λ h. h.order < held.order) self.old.handles }
+        requires number { held.order ≤ greatest_number }
+        ensures last { OnOk result (self.new.handles ≡ self.old.handles ++ held ∷ []) }
+        ensures processes { self.new.processes ≡ self.old.processes }
+        ensures unchanged { OnErr result (self.new ≡ self.old) }
+    {
+        let (process, value, object) = (held.process, held.value, held.object);
+        let Some(live) = self.live.get_mut(&process.0) else {
+            unreachable!();
+        };
+        live.put(held)?;
+        if let Err(want) = self.counts.add(object) {
+            live.take(value);
+            return Err(want);
+        }
+        self.total += 1;
+        Ok(())
+    }
+
+    /// Takes the handle of a process of a value out, and gives it; `None` where it has none, and then
+    /// nothing changes. Takes no memory.
+    pub fn take(&mut self, process: Proc, value: Handle) -> Option<Held>
+        ensures there { result ≡ find (is_handle process value) self.old.handles }
+        ensures others { self.new.handles ≡ filter (λ h. not (is_handle process value h)) self.old.handles }
+        ensures processes { self.new.processes ≡ self.old.processes }
+    {
+        let live = self.live.get_mut(&process.0)?;
+        let taken = live.take(value)?;
+        self.counts.lower(taken.object);
+        self.total -= 1;
+        Some(taken)
+    }
+}
