@@ -1,5 +1,5 @@
-//! Tests of directories, of the store of objects and of the table of handles, by their public functions.
-//! The crate holds tests alone, since a crate with tests is proved twice.
+//! Tests of directories, of the store of objects, of the table of handles and of the live processes, by
+//! their public functions. The crate holds tests alone, since a crate with tests is proved twice.
 #![tactic(auto)]
 
 #[cfg(test)]
@@ -8,3 +8,5 @@ mod directories;
 mod handles;
 #[cfg(test)]
 mod objects;
+#[cfg(test)]
+mod processes;
