@@ -40,47 +40,50 @@ fn held(process: Proc, value: Handle, object: u64, inherit: bool, order: u64) ->
     }
 }
 
-#[test]
-fn processes_hold_handles_of_their_own(rt: HostRuntime) -> Result<(), Fail> {
-    let mut all = two_processes(rt.alloc())?;
+// Of an object: its handles in all, in the parent and in the child, and whether another than the parent
+// has one.
+fn counts(all: &Processes<OpenTable>, object: u64) -> (usize, usize, usize, bool) {
+    let object = ObjId(object);
+    (
+        all.count_of(object),
+        all.count_in(PARENT, object),
+        all.count_in(CHILD, object),
+        all.has_other_holder(PARENT, object),
+    )
+}
+
+// What is told of the processes: how many live, how many handles there are in all, in the parent and in
+// the child, and the parent's oldest handle.
+fn told(all: &Processes<OpenTable>) -> (usize, usize, usize, usize, Option<Held>) {
+    (
+        all.count(),
+        all.len(),
+        all.len_of(PARENT),
+        all.len_of(CHILD),
+        all.oldest(PARENT),
+    )
+}
+
+// The parent with two handles, of which the child has the first too.
+fn three_handles(alloc: Global) -> Result<Processes<OpenTable>, Fail> {
+    let mut all = two_processes(alloc)?;
     let first = all.grant(PARENT, ObjId(5), false, 1)?;
     all.put(held(CHILD, first, 5, true, 2))?;
-    let last = all.grant(PARENT, ObjId(6), false, 3)?;
-    assert_eq!(rt; (first, last), (Handle(4), Handle(8)));
-    assert_eq!(rt; (all.count(), all.len()), (2, 3));
-    assert_eq!(rt;
-        (all.map_of(PARENT), all.map_of(CHILD)),
-        (None, Some(DIRECTORY))
-    );
-    // An object, its handles in all, in the parent and in the child, and whether another than the
-    // parent has one.
-    for (object, of, parent, child, other) in [
-        (5, 2, 1, 1, true),
-        (6, 1, 1, 0, false),
-        (7, 0, 0, 0, false),
-    ] {
-        let object = ObjId(object);
-        assert_eq!(rt; all.count_of(object), of);
-        assert_eq!(rt; all.count_in(PARENT, object), parent);
-        assert_eq!(rt; all.count_in(CHILD, object), child);
-        assert_eq!(rt; all.has_other_holder(PARENT, object), other);
-    }
-    assert_eq!(rt; all.oldest(PARENT), Some(held(PARENT, first, 5, false, 1)));
-    assert_eq!(rt;
-        all.take(PARENT, first),
-        Some(held(PARENT, first, 5, false, 1))
-    );
-    assert_eq!(rt; all.take(PARENT, first), None);
-    assert_eq!(rt; all.get(PARENT, first), None);
-    assert_eq!(rt; all.get(CHILD, first), Some(held(CHILD, first, 5, true, 2)));
-    assert_eq!(rt; (all.len_of(PARENT), all.len_of(CHILD)), (1, 1));
-    assert_eq!(rt;
-        (
-            all.count_of(ObjId(5)),
-            all.has_other_holder(PARENT, ObjId(5))
-        ),
-        (1, true)
-    );
+    all.grant(PARENT, ObjId(6), false, 3)?;
+    Ok(all)
+}
+
+#[test]
+fn processes_hold_handles_of_their_own(rt: HostRuntime) -> Result<(), Fail> {
+    let mut all = three_handles(rt.alloc())?;
+    let (first, last) = (Handle(4), Handle(8));
+    let oldest = held(PARENT, first, 5, false, 1);
+    assert!(rt; told(&all) == (2, 3, 2, 1, Some(oldest)));
+    assert!(rt; counts(&all, 5) == (2, 1, 1, true) && counts(&all, 6) == (1, 1, 0, false));
+    assert!(rt; all.take(PARENT, first) == Some(oldest) && all.take(PARENT, first).is_none());
+    assert!(rt; all.get(CHILD, first).is_some() && all.get(PARENT, first).is_none());
+    assert!(rt; told(&all) == (2, 2, 1, 1, Some(held(PARENT, last, 6, false, 3))));
+    assert!(rt; counts(&all, 5) == (1, 0, 1, true) && counts(&all, 7) == (0, 0, 0, false));
     Ok(())
 }
 
@@ -88,7 +91,7 @@ fn processes_hold_handles_of_their_own(rt: HostRuntime) -> Result<(), Fail> {
 fn a_process_ends_without_handles(rt: HostRuntime) -> Result<(), Fail> {
     let mut all = two_processes(rt.alloc())?;
     all.end(PARENT);
-    assert_eq!(rt; (all.is_live(PARENT), all.is_live(CHILD)), (false, true));
-    assert_eq!(rt; all.count(), 1);
+    assert!(rt; !all.is_live(PARENT) && all.is_live(CHILD) && all.count() == 1);
+    assert!(rt; all.map_of(PARENT).is_none() && all.map_of(CHILD) == Some(DIRECTORY));
     Ok(())
 }
