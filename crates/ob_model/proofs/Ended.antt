@@ -1,6 +1,6 @@
 -- A process that begins or ends, or is given a handle, leaves a sound state; and one that has ended holds
 -- nothing and is gone.
-use Rattle.std.proofs.Common.{◌≡◌, ◌∙◌, ℕ, ◌==◌, Bool, true, false, ◌&&◌, ◌||◌, not, cond, List, [], ◌∷◌, filter, get_or, find, Option, None, Some, Result, Ok, Err, MatchOption, MatchResult, All, refl, ap, sym, subst}
+use Rattle.std.proofs.Common.{◌≡◌, ◌∙◌, ℕ, ◌==◌, Bool, true, false, ◌&&◌, ◌||◌, not, cond, List, [], ◌∷◌, filter, get_or, find, Option, None, Some, MatchOption, All, refl, ap, sym, subst}
 use Rattle.std.proofs.Common.{eq-eqb, eqb-true, suc, ◌+◌, ◌<◌, arith}
 use Rattle.std.specs.Prelude.{AllPairs}
 use Rattle.std.proofs.lemmas.Bool.{ne_eqb}
@@ -9,25 +9,23 @@ use Rattle.std.specs.List.{list_any}
 use Rattle.std.specs.Option.{option_and_then, option_or, option_map_or, is_some}
 use Rattle.std.proofs.lemmas.List.Folds.{find-append, list_any_at}
 use Rattle.std.proofs.lemmas.List.Elements.{All-head, All-tail, All-push, All-filter, All-weaker, filter_passes}
-use Rattle.ob_base.specs.declared.status.Status.{Status}
 use Rattle.ob_base.specs.declared.status.Status.TheVariants.{Success, InvalidHandle, ProcessGone}
 use Rattle.ob_base.specs.Handle.{key_of}
 use Rattle.ob_model.specs.declared.reply.Answer.{Answer}
-use Rattle.ob_model.specs.declared.reply.Given.TheVariants.{Handle}
 use Rattle.ob_model.specs.declared.state.Held.{Held}
 use Rattle.ob_model.specs.declared.state.Process.{Process}
 use Rattle.ob_model.specs.State.{State, is_live, process_of, held_of}
 use Rattle.ob_model.specs.Procedures.{Procedures, Duplicated, Inherited}
-use Rattle.ob_model.specs.Settle.{settle}
-use Rattle.ob_model.specs.Grants.{first_refusal, Grants, open_refusal, with_open, with_handle}
+use Rattle.ob_model.specs.Grants.{first_refusal, open_refusal, with_open, with_handle}
 use Rattle.ob_model.specs.Closing.{is_handle, closed_handle}
-use Rattle.ob_model.specs.Refusals.{gives, IsRefused}
+use Rattle.ob_model.specs.Refusals.{IsRefused}
+use Rattle.ob_model.specs.Opens.{GivesHandle}
 use Rattle.ob_model.specs.Processes.{handles_in, inherited_from, with_child, without_process, inherits_one, inherits, begun, closed_in_turn, ended, Duplicates}
 use Rattle.ob_model.specs.Sound.{IsSound, Stands, HasSoundMap, IsDirectory}
 use Rattle.ob_model.proofs.Finds.{find-filter, All-kept, filter_none}
 use Rattle.ob_model.proofs.Finds.{find_none}
 use Rattle.ob_model.proofs.SoundPaths.{find_of}
-use Rattle.ob_model.proofs.Soundness.{settled_sound, granted_sound, closed_sound, stands-opened}
+use Rattle.ob_model.proofs.Soundness.{granted_sound, gives_handle_sound, closed_sound, stands-opened}
 
 -- a test of what another test leaves
 pub any_filter : {X : Type 0} (kept test : X → Bool) (xs : List X) → list_any (λ x. kept x && test x) xs ≡ true → list_any test (filter kept xs) ≡ true
@@ -127,6 +125,25 @@ module _ {K T F I : Type 0} where
       go None h = tt
       go (Some x) h = h
 
+  -- an order that is drawn for no handle changes nothing else
+  order_drawn_sound : (s : State K T F I) → IsSound s → IsSound (record s { next_order = s.next_order + 1 })
+  order_drawn_sound s sound = record {
+    root = sound.root;
+    global = sound.global;
+    maps = sound.maps;
+    rows = sound.rows;
+    handles = sound.handles;
+    drawn = sound.drawn;
+    descending = sound.descending;
+    pending = sound.pending;
+    rising = sound.rising;
+    stamped = sound.stamped;
+    plain = sound.plain;
+    live = sound.live;
+    numbered = sound.numbered;
+    distinct = sound.distinct;
+  }
+
   -- the state without a process that has no handle is sound
   parted_sound : (s : State K T F I) (p : ℕ) → IsSound s → All (λ h. (h.process == p) ≡ false) s.handles → IsSound (without_process s p)
   parted_sound s p sound apart = record {
@@ -156,9 +173,9 @@ module _ {K T F I : Type 0} (g : Procedures K T F I) where
       → IsSound s → is_live s child ≡ true → held_of s child h.value ≡ None → Stands s h.object → IsSound (inherits_one g s child h)
   inherits_one_sound s child h sound live free stands = go (open_refusal g s h.object Inherited)
     where
-      go : (o : Option ℕ) → IsSound (option_map_or (λ _. s) o (with_handle (with_open g s h.object Inherited) child h.value h.object true))
+      go : (o : Option ℕ) → IsSound (option_map_or (λ _. record s { next_order = s.next_order + 1 }) o (with_handle (with_open g s h.object Inherited) child h.value h.object true))
       go None = granted_sound g s child h.value h.object Inherited true sound live free stands
-      go (Some k) = sound
+      go (Some k) = order_drawn_sound s sound
 
   -- and another value is as unused as it was
   inherits_one_free : (s : State K T F I) (child : ℕ) (h : Held) (value : ℕ)
@@ -172,7 +189,7 @@ module _ {K T F I : Type 0} (g : Procedures K T F I) where
       neither true b e = e
       neither false b e = refl
 
-      go : (o : Option ℕ) → held_of (option_map_or (λ _. s) o (with_handle (with_open g s h.object Inherited) child h.value h.object true)) child value ≡ None
+      go : (o : Option ℕ) → held_of (option_map_or (λ _. record s { next_order = s.next_order + 1 }) o (with_handle (with_open g s h.object Inherited) child h.value h.object true)) child value ≡ None
       go None =
           find-append (λ (x : Held). x.process == child && x.value == value) s.handles (new ∷ [])
           ∙ ap (λ (o : Option Held). option_or o (find (λ (x : Held). x.process == child && x.value == value) (new ∷ []))) free
@@ -182,14 +199,14 @@ module _ {K T F I : Type 0} (g : Procedures K T F I) where
   inherits_one_stands : (s : State K T F I) (child : ℕ) (h : Held) (m : ℕ) → Stands s m → Stands (inherits_one g s child h) m
   inherits_one_stands s child h m stands = go (open_refusal g s h.object Inherited)
     where
-      go : (o : Option ℕ) → Stands (option_map_or (λ _. s) o (with_handle (with_open g s h.object Inherited) child h.value h.object true)) m
+      go : (o : Option ℕ) → Stands (option_map_or (λ _. record s { next_order = s.next_order + 1 }) o (with_handle (with_open g s h.object Inherited) child h.value h.object true)) m
       go None = stands-opened g s h.object m Inherited ∙ stands
       go (Some k) = stands
 
   inherits_one_live : (s : State K T F I) (child : ℕ) (h : Held) (q : ℕ) → is_live s q ≡ true → is_live (inherits_one g s child h) q ≡ true
   inherits_one_live s child h q live = go (open_refusal g s h.object Inherited)
     where
-      go : (o : Option ℕ) → is_live (option_map_or (λ _. s) o (with_handle (with_open g s h.object Inherited) child h.value h.object true)) q ≡ true
+      go : (o : Option ℕ) → is_live (option_map_or (λ _. record s { next_order = s.next_order + 1 }) o (with_handle (with_open g s h.object Inherited) child h.value h.object true)) q ≡ true
       go None = live
       go (Some k) = live
 
@@ -230,18 +247,11 @@ module _ {K T F I : Type 0} (g : Procedures K T F I) where
   duplicates_sound s t p handle to inherit answer sound h = judged (is_live s p) (is_live s to) refl h
     where
       Does : Held → Type 0
-      Does x =
-          (result : Result ℕ Status) × (u : State K T F I) × Grants g s to x.object (record { inherit = inherit; exclusive = false }) Duplicated result u
-          × MatchResult result (λ value. (answer ≡ gives Success (Handle value)) × (t ≡ settle g u)) (λ refusal. IsRefused s refusal answer t)
+      Does x = GivesHandle g s to x.object (record { inherit = inherit; exclusive = false }) Duplicated Success answer t
 
       granted : is_live s to ≡ true → (x : Held) → Stands s x.object → Does x → IsSound t
-      granted live x stands does = go does.0 does.1 does.2 does.3
-        where
-          go : (result : Result ℕ Status) (u : State K T F I) → Grants g s to x.object (record { inherit = inherit; exclusive = false }) Duplicated result u
-              → MatchResult result (λ value. (answer ≡ gives Success (Handle value)) × (t ≡ settle g u)) (λ refusal. IsRefused s refusal answer t) → IsSound t
-          go (Ok value) u grants end =
-              subst IsSound (sym end.1) (settled_sound g u (subst IsSound (sym grants.2) (granted_sound g s to value x.object Duplicated inherit sound live grants.1.1 stands)))
-          go (Err refusal) u grants end = subst IsSound (sym end.1) sound
+      granted live x stands does =
+          gives_handle_sound g s t does.1 to x.object (record { inherit = inherit; exclusive = false }) Duplicated Success answer does.0 sound live stands does.2 does.3
 
       found : is_live s to ≡ true → (key : Option ℕ) → MatchOption (option_and_then (held_of s p) key) (IsRefused s InvalidHandle answer t) Does → IsSound t
       found live None h = subst IsSound (sym h.1) sound

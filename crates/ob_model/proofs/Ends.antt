@@ -3,32 +3,33 @@ use Rattle.std.proofs.Common.{◌≡◌, ℕ, ◌+◌, Bool, true, false, not, L
 use Rattle.std.specs.Prelude.{MatchBool}
 use Rattle.std.specs.Option.{option_and_then}
 use Rattle.ob_base.specs.declared.status.Status.{Status}
-use Rattle.ob_base.specs.declared.status.Status.TheVariants.{Success, InvalidHandle, ObjectTypeMismatch, ObjectNameExists, ObjectNameCollision, ProcessGone, TypeRefused}
+use Rattle.ob_base.specs.declared.status.Status.TheVariants.{Success, InvalidHandle, InsufficientResources, ObjectTypeMismatch, ObjectNameExists, ObjectNameCollision, ProcessGone, TypeRefused}
 use Rattle.ob_base.specs.Attrs.{has_flag, open_if_flag}
 use Rattle.ob_base.specs.Handle.{key_of}
 use Rattle.ob_model.specs.declared.command.Place.{Place}
 use Rattle.ob_model.specs.declared.command.Place.TheVariants as place
-use Rattle.ob_model.specs.declared.command.Command.TheVariants.{CreateDirectory, CreateLink, CreateObject, OpenDirectory, OpenLink, OpenObject, Close, QueryLink, QueryName}
+use Rattle.ob_model.specs.declared.command.Command.TheVariants.{CreateDirectory, CreateLink, CreateObject, OpenDirectory, OpenLink, OpenObject, Close, QueryLink, QueryName, Duplicate, NewProcess, ExitProcess}
 use Rattle.ob_model.specs.declared.reply.Answer.{Answer}
 use Rattle.ob_model.specs.declared.reply.Event.{Event}
 use Rattle.ob_model.specs.declared.reply.Event.TheVariants.{Start}
 use Rattle.ob_model.specs.declared.reply.Answer.TheVariants.{Done}
 use Rattle.ob_model.specs.declared.reply.Given.{Given}
-use Rattle.ob_model.specs.declared.reply.Given.TheVariants.{Handle, Nothing}
+use Rattle.ob_model.specs.declared.reply.Given.TheVariants.{Handle, Nothing, Process}
 use Rattle.ob_model.specs.declared.state.Held.{Held}
 use Rattle.ob_model.specs.declared.state.Wanted.{Wanted}
 use Rattle.ob_model.specs.declared.state.Wanted.TheVariants as wanted
 use Rattle.ob_model.specs.State.{State, is_live, held_of}
 use Rattle.ob_model.specs.Looks.{Look, At, Vacant, Parse, Refused, LooksUp, most_reparses}
-use Rattle.ob_model.specs.Procedures.{Procedures, Opened, Created, without_parse}
+use Rattle.ob_model.specs.Procedures.{Procedures, Reason, Opened, Created, Duplicated, without_parse}
 use Rattle.ob_model.specs.Settle.{settle}
 use Rattle.ob_model.specs.Grants.{first_refusal, Grants, IsFreeValue, Asked, open_refusal_of, with_handle, with_open}
 use Rattle.ob_model.specs.Closing.{closed_handle}
 use Rattle.ob_model.specs.Types.{is_wanted_at}
 use Rattle.ob_model.specs.Refusals.{gives, answers, IsRefused, Unless, create_refusals, open_refusals}
-use Rattle.ob_model.specs.Opens.{OpensAt, Opens, asked_by, type_wanted, open_mode}
+use Rattle.ob_model.specs.Opens.{GivesHandle, OpensAt, Opens, asked_by, type_wanted, open_mode}
 use Rattle.ob_model.specs.Creates.{Making, MakesDirectory, MakesLink, MakesObject, is_fit, create_mode, type_made, Spot, room_refusals, make_refusal, body_made, created, dropped, Makes, Creates}
 use Rattle.ob_model.specs.Naming.{TellsName, TellsTarget}
+use Rattle.ob_model.specs.Processes.{values_in, is_crowded, begun, ended}
 use Rattle.ob_model.specs.Step.{WithHandle, WithRoot, CreatesIn, CreatesAt, OpensName, Step}
 use Rattle.ob_model.specs.Run.{Entry, RunFrom}
 use Rattle.ob_model.proofs.Lookup.{looks_up_unique}
@@ -88,29 +89,27 @@ no_handle status other v answer e f = absurd (apart (sym e ∙ f))
 
 module _ {K T F I : Type 0} (g : Procedures K T F I) where
   -- what a grant answers
-  granted_end : (s t u t_granted u_granted : State K T F I) (p o : ℕ) (asked : Asked) (status : Status) (answer : Answer) (one other : Result ℕ Status)
-      → Grants g s p o asked Opened one t_granted
+  granted_end : (s t u t_granted u_granted : State K T F I) (p o : ℕ) (asked : Asked) (reason : Reason) (status : Status) (answer : Answer) (one other : Result ℕ Status)
+      → Grants g s p o asked reason one t_granted
       → MatchResult one (λ value. (answer ≡ gives status (Handle value)) × (t ≡ settle g t_granted)) (λ refusal. IsRefused s refusal answer t)
-      → Grants g s p o asked Opened other u_granted
+      → Grants g s p o asked reason other u_granted
       → MatchResult other (λ value. (answer ≡ gives status (Handle value)) × (u ≡ settle g u_granted)) (λ refusal. IsRefused s refusal answer u)
       → t ≡ u
-  granted_end s t u t_granted u_granted p o asked status answer (Ok v) (Ok w) grants h grants_too k =
-      h.1 ∙ ap (settle g) (grants.2 ∙ ap (λ value. with_handle (with_open g s o Opened) p value o asked.inherit) (one_handle status status v w answer h.0 k.0) ∙ sym grants_too.2) ∙ sym k.1
-  granted_end s t u t_granted u_granted p o asked status answer (Ok v) (Err refusal) grants h grants_too k = no_handle status refusal v answer h.0 k.0
-  granted_end s t u t_granted u_granted p o asked status answer (Err refusal) (Ok w) grants h grants_too k = no_handle status refusal w answer k.0 h.0
-  granted_end s t u t_granted u_granted p o asked status answer (Err one) (Err other) grants h grants_too k = refused_end s t u one other answer h k
+  granted_end s t u t_granted u_granted p o asked reason status answer (Ok v) (Ok w) grants h grants_too k =
+      h.1 ∙ ap (settle g) (grants.2 ∙ ap (λ value. with_handle (with_open g s o reason) p value o asked.inherit) (one_handle status status v w answer h.0 k.0) ∙ sym grants_too.2) ∙ sym k.1
+  granted_end s t u t_granted u_granted p o asked reason status answer (Ok v) (Err refusal) grants h grants_too k = no_handle status refusal v answer h.0 k.0
+  granted_end s t u t_granted u_granted p o asked reason status answer (Err refusal) (Ok w) grants h grants_too k = no_handle status refusal w answer k.0 h.0
+  granted_end s t u t_granted u_granted p o asked reason status answer (Err one) (Err other) grants h grants_too k = refused_end s t u one other answer h k
 
-  -- what an open of an object that was found does
-  abbrev GrantedAt : State K T F I → ℕ → ℕ → ℕ → Status → Answer → State K T F I → Type 0
-  GrantedAt s p attrs o status answer t =
-      (result : Result ℕ Status) × (granted : State K T F I) × Grants g s p o (asked_by attrs) Opened result granted
-      × MatchResult result (λ value. (answer ≡ gives status (Handle value)) × (t ≡ settle g granted)) (λ refusal. IsRefused s refusal answer t)
+  gives_handle_end : (s t u : State K T F I) (p o : ℕ) (asked : Asked) (reason : Reason) (status : Status) (answer : Answer)
+      → GivesHandle g s p o asked reason status answer t → GivesHandle g s p o asked reason status answer u → t ≡ u
+  gives_handle_end s t u p o asked reason status answer a b = granted_end s t u a.1 b.1 p o asked reason status answer a.0 b.0 a.2 a.3 b.2 b.3
 
   opens_at_end : (s t u : State K T F I) (p attrs : ℕ) (wanted : Wanted K) (status : Status) (o : ℕ) (answer : Answer)
       → OpensAt g s p attrs wanted status o answer t → OpensAt g s p attrs wanted status o answer u → t ≡ u
   opens_at_end s t u p attrs wanted status o answer h k =
-      unless_end ((not (is_wanted_at g s o wanted), ObjectTypeMismatch) ∷ []) s t u answer (GrantedAt s p attrs o status answer t) (GrantedAt s p attrs o status answer u)
-      (λ a b. granted_end s t u a.1 b.1 p o (asked_by attrs) status answer a.0 b.0 a.2 a.3 b.2 b.3) h k
+      unless_end ((not (is_wanted_at g s o wanted), ObjectTypeMismatch) ∷ []) s t u answer (GivesHandle g s p o (asked_by attrs) Opened status answer t) (GivesHandle g s p o (asked_by attrs) Opened status answer u)
+      (gives_handle_end s t u p o (asked_by attrs) Opened status answer) h k
 
   opens_end : (s t u : State K T F I) (p attrs : ℕ) (wanted : Wanted K) (look : Look) (answer : Answer)
       → Opens g s p attrs wanted look answer t → Opens g s p attrs wanted look answer u → t ≡ u
@@ -201,6 +200,26 @@ module _ {K T F I : Type 0} (g : Procedures K T F I) where
       with_handle_end s t u p handle answer (λ x. TellsTarget s x.object answer × (t ≡ s)) (λ x. TellsTarget s x.object answer × (u ≡ s)) (λ x a b. a.1 ∙ sym b.1) h k
   step_end s t u (Start p (QueryName handle)) answer h k =
       with_handle_end s t u p handle answer (λ x. TellsName s x.object answer × (t ≡ s)) (λ x. TellsName s x.object answer × (u ≡ s)) (λ x a b. a.1 ∙ sym b.1) h k
+  step_end s t u (Start p (Duplicate handle to inherit)) answer h k =
+      unless_end ((not (is_live s p), ProcessGone) ∷ (not (is_live s to), ProcessGone) ∷ []) s t u answer
+      (MatchOption (option_and_then (held_of s p) (key_of handle)) (IsRefused s InvalidHandle answer t) (Given t))
+      (MatchOption (option_and_then (held_of s p) (key_of handle)) (IsRefused s InvalidHandle answer u) (Given u))
+      (go (option_and_then (held_of s p) (key_of handle))) h k
+    where
+      Given : State K T F I → Held → Type 0
+      Given end x = GivesHandle g s to x.object (record { inherit = inherit; exclusive = false }) Duplicated Success answer end
+
+      go : (o : Option Held) → MatchOption o (IsRefused s InvalidHandle answer t) (Given t) → MatchOption o (IsRefused s InvalidHandle answer u) (Given u) → t ≡ u
+      go None h k = refused_end s t u InvalidHandle InvalidHandle answer h k
+      go (Some x) h k = gives_handle_end s t u to x.object (record { inherit = inherit; exclusive = false }) Duplicated Success answer h k
+  step_end s t u (Start p (NewProcess inherit)) answer h k =
+      unless_end ((not (is_live s p), ProcessGone) ∷ (is_crowded s p inherit, InsufficientResources) ∷ []) s t u answer (Child t) (Child u) (λ a b. a.1 ∙ sym b.1) h k
+    where
+      Child : State K T F I → Type 0
+      Child end = let v = begun g s p inherit in (answer ≡ gives Success (Process s.next_process (values_in v s.next_process))) × (end ≡ settle g v)
+  step_end s t u (Start p ExitProcess) answer h k =
+      unless_end ((not (is_live s p), ProcessGone) ∷ []) s t u answer ((answer ≡ answers Success) × (t ≡ settle g (ended g s p)))
+      ((answer ≡ answers Success) × (u ≡ settle g (ended g s p))) (λ a b. a.1 ∙ sym b.1) h k
 
   -- and so does a list of entries, from one state
   pub run_end : (s : State K T F I) (n : ℕ) (entries : List (Entry K)) (t u : State K T F I) → RunFrom g s n entries t → RunFrom g s n entries u → t ≡ u

@@ -3,31 +3,32 @@ use Rattle.std.proofs.Common.{◌≡◌, ℕ, Bool, true, false, not, List, [], 
 use Rattle.std.specs.Prelude.{MatchBool}
 use Rattle.std.specs.Option.{option_and_then}
 use Rattle.ob_base.specs.declared.status.Status.{Status}
-use Rattle.ob_base.specs.declared.status.Status.TheVariants.{Success, InvalidHandle, ObjectTypeMismatch, ObjectNameExists, ObjectNameCollision, ProcessGone, TypeRefused}
+use Rattle.ob_base.specs.declared.status.Status.TheVariants.{Success, InvalidHandle, InsufficientResources, ObjectTypeMismatch, ObjectNameExists, ObjectNameCollision, ProcessGone, TypeRefused}
 use Rattle.ob_base.specs.Attrs.{has_flag, open_if_flag}
 use Rattle.ob_base.specs.Handle.{key_of}
 use Rattle.ob_model.specs.declared.command.Place.{Place}
 use Rattle.ob_model.specs.declared.command.Place.TheVariants as place
-use Rattle.ob_model.specs.declared.command.Command.TheVariants.{CreateDirectory, CreateLink, CreateObject, OpenDirectory, OpenLink, OpenObject, Close, QueryLink, QueryName}
+use Rattle.ob_model.specs.declared.command.Command.TheVariants.{CreateDirectory, CreateLink, CreateObject, OpenDirectory, OpenLink, OpenObject, Close, QueryLink, QueryName, Duplicate, NewProcess, ExitProcess}
 use Rattle.ob_model.specs.declared.reply.Answer.{Answer}
 use Rattle.ob_model.specs.declared.reply.Event.{Event}
 use Rattle.ob_model.specs.declared.reply.Event.TheVariants.{Start}
-use Rattle.ob_model.specs.declared.reply.Given.TheVariants.{Handle}
+use Rattle.ob_model.specs.declared.reply.Given.TheVariants.{Handle, Process}
 use Rattle.ob_model.specs.declared.state.Held.{Held}
 use Rattle.ob_model.specs.declared.state.Body.{Body}
 use Rattle.ob_model.specs.declared.state.Wanted.{Wanted}
 use Rattle.ob_model.specs.declared.state.Wanted.TheVariants as wanted
 use Rattle.ob_model.specs.State.{State, is_live, held_of}
 use Rattle.ob_model.specs.Looks.{Look, At, Vacant, Parse, Refused, LooksUp, most_reparses}
-use Rattle.ob_model.specs.Procedures.{Procedures, Opened, Created, without_parse}
+use Rattle.ob_model.specs.Procedures.{Procedures, Opened, Created, Duplicated, without_parse}
 use Rattle.ob_model.specs.Settle.{settle}
-use Rattle.ob_model.specs.Grants.{first_refusal, Grants, IsFreeValue, open_refusal_of}
+use Rattle.ob_model.specs.Grants.{first_refusal, IsFreeValue, open_refusal_of}
 use Rattle.ob_model.specs.Closing.{closed_handle}
 use Rattle.ob_model.specs.Types.{is_wanted_at}
 use Rattle.ob_model.specs.Refusals.{gives, answers, IsRefused, Unless, create_refusals, open_refusals}
-use Rattle.ob_model.specs.Opens.{OpensAt, Opens, asked_by, type_wanted, open_mode}
+use Rattle.ob_model.specs.Opens.{GivesHandle, OpensAt, Opens, asked_by, type_wanted, open_mode}
 use Rattle.ob_model.specs.Creates.{Making, MakesDirectory, MakesLink, MakesObject, is_fit, create_mode, type_made, Spot, room_refusals, make_refusal, body_made, created, dropped, Makes, Creates}
 use Rattle.ob_model.specs.Naming.{TellsName, TellsTarget}
+use Rattle.ob_model.specs.Processes.{values_in, is_crowded, begun, ended}
 use Rattle.ob_model.specs.Step.{WithHandle, WithRoot, CreatesIn, CreatesAt, OpensName, Step}
 
 module _ {K T F I : Type 0} (g : Procedures K T F I) (s : State K T F I) (P : State K T F I → Type 0) (same : P s) (settles : (u : State K T F I) → P (settle g u))
@@ -73,8 +74,7 @@ module _ {K T F I : Type 0} (g : Procedures K T F I) (s : State K T F I) (P : St
   opens_at_leads : (t : State K T F I) (p attrs : ℕ) (wanted : Wanted K) (status : Status) (o : ℕ) (answer : Answer) → OpensAt g s p attrs wanted status o answer t → P t
   opens_at_leads t p attrs wanted status o answer h =
       unless_leads ((not (is_wanted_at g s o wanted), ObjectTypeMismatch) ∷ []) t answer
-      ((result : Result ℕ Status) × (u : State K T F I) × Grants g s p o (asked_by attrs) Opened result u
-      × MatchResult result (λ value. (answer ≡ gives status (Handle value)) × (t ≡ settle g u)) (λ refusal. IsRefused s refusal answer t))
+      (GivesHandle g s p o (asked_by attrs) Opened status answer t)
       (λ does. granted_or_refused_leads t does.1 status answer does.0 does.3) h
 
   opens_leads : (t : State K T F I) (p attrs : ℕ) (wanted : Wanted K) (look : Look) (answer : Answer) → Opens g s p attrs wanted look answer t → P t
@@ -145,3 +145,20 @@ module _ {K T F I : Type 0} (g : Procedures K T F I) (s : State K T F I) (P : St
       with_handle_leads t p handle answer (λ x. TellsTarget s x.object answer × (t ≡ s)) (λ x does. subst P (sym does.1) same) h
   step_leads t (Start p (QueryName handle)) answer h =
       with_handle_leads t p handle answer (λ x. TellsName s x.object answer × (t ≡ s)) (λ x does. subst P (sym does.1) same) h
+  step_leads t (Start p (Duplicate handle to inherit)) answer h =
+      unless_leads ((not (is_live s p), ProcessGone) ∷ (not (is_live s to), ProcessGone) ∷ []) t answer
+      (MatchOption (option_and_then (held_of s p) (key_of handle)) (IsRefused s InvalidHandle answer t) Given) (go (option_and_then (held_of s p) (key_of handle))) h
+    where
+      Given : Held → Type 0
+      Given x = GivesHandle g s to x.object (record { inherit = inherit; exclusive = false }) Duplicated Success answer t
+
+      go : (o : Option Held) → MatchOption o (IsRefused s InvalidHandle answer t) Given → P t
+      go None h = refused_leads t InvalidHandle answer h
+      go (Some x) h = granted_or_refused_leads t h.1 Success answer h.0 h.3
+  step_leads t (Start p (NewProcess inherit)) answer h =
+      unless_leads ((not (is_live s p), ProcessGone) ∷ (is_crowded s p inherit, InsufficientResources) ∷ []) t answer
+      (let u = begun g s p inherit in (answer ≡ gives Success (Process s.next_process (values_in u s.next_process))) × (t ≡ settle g u))
+      (λ does. subst P (sym does.1) (settles (begun g s p inherit))) h
+  step_leads t (Start p ExitProcess) answer h =
+      unless_leads ((not (is_live s p), ProcessGone) ∷ []) t answer ((answer ≡ answers Success) × (t ≡ settle g (ended g s p)))
+      (λ does. subst P (sym does.1) (settles (ended g s p))) h

@@ -1,6 +1,6 @@
 -- The opening state is sound, and what keeps a state so: settling, a new object, an open with its
 -- grant, and a close.
-use Rattle.std.proofs.Common.{◌≡◌, ℕ, ◌<◌, ◌≤◌, ◌+◌, ◌==◌, Bool, true, false, ◌&&◌, not, cond, if◌then◌else◌, List, [], ◌∷◌, ◌++◌, append-nil, length, get_or, map, find, All, Option, None, Some, MatchOption, option_map, is_some, refl, ap, ◌∙◌, sym, subst, arith, eq-eqb, eqb-true}
+use Rattle.std.proofs.Common.{◌≡◌, ℕ, ◌<◌, ◌≤◌, ◌+◌, ◌==◌, Bool, true, false, ◌&&◌, not, cond, if◌then◌else◌, List, [], ◌∷◌, ◌++◌, append-nil, length, get_or, map, find, All, Option, None, Some, MatchOption, Result, Ok, Err, MatchResult, option_map, is_some, refl, ap, ◌∙◌, sym, subst, arith, eq-eqb, eqb-true}
 use Rattle.std.specs.List.{list_any, AllPairs}
 use Rattle.std.specs.Option.{option_map_or, option_or}
 use Rattle.std.proofs.lemmas.Bool.{or_right}
@@ -16,11 +16,15 @@ use Rattle.ob_model.specs.declared.state.Row.{Row}
 use Rattle.ob_model.specs.declared.state.Held.{Held}
 use Rattle.ob_model.specs.declared.state.Process.{Process}
 use Rattle.ob_model.specs.declared.state.Pending.{Pending}
+use Rattle.ob_model.specs.declared.reply.Answer.{Answer}
+use Rattle.ob_model.specs.declared.reply.Given.TheVariants.{Handle}
+use Rattle.ob_base.specs.declared.status.Status.{Status}
+use Rattle.ob_model.specs.Refusals.{gives, IsRefused}
 use Rattle.ob_model.specs.State.{State, root_id, global_id, object_of, is_directory, is_directory_body, is_live, held_of}
 use Rattle.ob_model.specs.Opening.{opening}
 use Rattle.ob_model.specs.Procedures.{Procedures, Reason, Created}
 use Rattle.ob_model.specs.Settle.{is_kept, is_alive, has_name, is_mapped, deleted_one, settle}
-use Rattle.ob_model.specs.Grants.{opened_body, opened_set, opened_object, with_open, with_handle}
+use Rattle.ob_model.specs.Grants.{Asked, Grants, opened_body, opened_set, opened_object, with_open, with_handle}
 use Rattle.ob_model.specs.Closing.{is_handle, closed_body, closed_object, closed_handle}
 use Rattle.ob_model.specs.Creates.{Spot, new_rows, with_object, with_row, created, dropped}
 use Rattle.ob_model.specs.Sound.{IsSound, IsDirectory, Stands, HasSoundMap, is_barred}
@@ -416,6 +420,15 @@ module _ {K T F I : Type 0} (g : Procedures K T F I) where
       → IsSound s → is_live s p ≡ true → held_of s p value ≡ None → Stands s o → IsSound (with_handle (with_open g s o reason) p value o inherit)
   granted_sound s p value o reason inherit sound live free stands =
       handle_sound (with_open g s o reason) p value o inherit (opened_sound s o reason sound) live free (stands-opened s o o reason ∙ stands)
+
+  -- and so does what is answered of a grant
+  pub gives_handle_sound : (s t u : State K T F I) (p o : ℕ) (asked : Asked) (reason : Reason) (status : Status) (answer : Answer) (result : Result ℕ Status)
+      → IsSound s → is_live s p ≡ true → Stands s o → Grants g s p o asked reason result u
+      → MatchResult result (λ value. (answer ≡ gives status (Handle value)) × (t ≡ settle g u)) (λ refusal. IsRefused s refusal answer t) → IsSound t
+  gives_handle_sound s t u p o asked reason status answer (Ok value) sound live stands grants h =
+      subst IsSound (sym h.1)
+      (settled_sound u (subst IsSound (sym grants.2) (granted_sound s p value o reason asked.inherit sound live grants.1.1 stands)))
+  gives_handle_sound s t u p o asked reason status answer (Err refusal) sound live stands grants h = subst IsSound (sym h.1) sound
 
   -- a close leaves a sound state
   pub closed_sound : (s : State K T F I) (h : Held) → IsSound s → IsSound (closed_handle g s h)

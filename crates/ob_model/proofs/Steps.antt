@@ -1,18 +1,18 @@
 -- A step from a sound state leads to a sound one.
-use Rattle.std.proofs.Common.{◌≡◌, ℕ, Bool, true, false, not, List, [], ◌∷◌, Option, None, Some, Result, Ok, Err, MatchOption, MatchResult, refl, sym, subst}
+use Rattle.std.proofs.Common.{◌≡◌, ℕ, Bool, true, false, not, List, [], ◌∷◌, Option, None, Some, MatchOption, refl, sym, subst}
 use Rattle.std.specs.Prelude.{MatchBool}
 use Rattle.std.specs.Option.{option_and_then, option_map, option_map_or, is_some}
 use Rattle.ob_base.specs.declared.status.Status.{Status}
-use Rattle.ob_base.specs.declared.status.Status.TheVariants.{Success, InvalidHandle, ObjectTypeMismatch, ObjectNameExists, ObjectNameCollision, ProcessGone, TypeRefused}
+use Rattle.ob_base.specs.declared.status.Status.TheVariants.{Success, InvalidHandle, InsufficientResources, ObjectTypeMismatch, ObjectNameExists, ObjectNameCollision, ProcessGone, TypeRefused}
 use Rattle.ob_base.specs.Attrs.{has_flag, open_if_flag}
 use Rattle.ob_base.specs.Handle.{key_of}
 use Rattle.ob_model.specs.declared.command.Place.{Place}
 use Rattle.ob_model.specs.declared.command.Place.TheVariants as place
-use Rattle.ob_model.specs.declared.command.Command.TheVariants.{CreateDirectory, CreateLink, CreateObject, OpenDirectory, OpenLink, OpenObject, Close, QueryLink, QueryName}
+use Rattle.ob_model.specs.declared.command.Command.TheVariants.{CreateDirectory, CreateLink, CreateObject, OpenDirectory, OpenLink, OpenObject, Close, QueryLink, QueryName, Duplicate, NewProcess, ExitProcess}
 use Rattle.ob_model.specs.declared.reply.Answer.{Answer}
 use Rattle.ob_model.specs.declared.reply.Event.{Event}
 use Rattle.ob_model.specs.declared.reply.Event.TheVariants.{Start}
-use Rattle.ob_model.specs.declared.reply.Given.TheVariants.{Handle}
+use Rattle.ob_model.specs.declared.reply.Given.TheVariants.{Handle, Process}
 use Rattle.ob_model.specs.declared.state.Held.{Held}
 use Rattle.ob_model.specs.declared.state.Object.{Object}
 use Rattle.ob_model.specs.declared.state.Wanted.{Wanted}
@@ -21,17 +21,19 @@ use Rattle.ob_model.specs.State.{State, is_live, held_of, object_of}
 use Rattle.ob_model.specs.Looks.{Look, At, Vacant, Parse, Refused, LooksUp, most_reparses}
 use Rattle.ob_model.specs.Procedures.{Procedures, Opened, Created, without_parse}
 use Rattle.ob_model.specs.Settle.{settle}
-use Rattle.ob_model.specs.Grants.{first_refusal, Grants, IsFreeValue, Asked, open_refusal_of}
+use Rattle.ob_model.specs.Grants.{first_refusal, IsFreeValue, open_refusal_of}
 use Rattle.ob_model.specs.Closing.{closed_handle}
 use Rattle.ob_model.specs.Types.{is_wanted, is_wanted_at}
 use Rattle.ob_model.specs.Refusals.{gives, answers, IsRefused, Unless, create_refusals, open_refusals}
-use Rattle.ob_model.specs.Opens.{OpensAt, Opens, asked_by, type_wanted, open_mode}
+use Rattle.ob_model.specs.Opens.{GivesHandle, OpensAt, Opens, asked_by, type_wanted, open_mode}
 use Rattle.ob_model.specs.Creates.{Making, MakesDirectory, MakesLink, MakesObject, is_fit, create_mode, type_made, Spot, room_refusals, make_refusal, body_made, created, dropped, Makes, Creates}
 use Rattle.ob_model.specs.Naming.{TellsName, TellsTarget}
+use Rattle.ob_model.specs.Processes.{values_in, is_crowded, begun, ended}
 use Rattle.ob_model.specs.Step.{WithHandle, WithRoot, CreatesIn, CreatesAt, OpensName, Step}
 use Rattle.ob_model.specs.Sound.{IsSound, IsDirectory, Stands, is_barred}
 use Rattle.ob_model.proofs.Vacant.{IsUsableEnd, usable_end}
-use Rattle.ob_model.proofs.Soundness.{settled_sound, created_sound, dropped_sound, granted_sound, closed_sound}
+use Rattle.ob_model.proofs.Soundness.{settled_sound, created_sound, dropped_sound, gives_handle_sound, closed_sound}
+use Rattle.ob_model.proofs.Ended.{begun_sound, ended_sound, duplicates_sound}
 
 -- where a create or an open isn't refused at first, its process is live
 live_to_create : (live fit : Bool) (where_to : Place) (attrs : ℕ) → first_refusal (create_refusals live fit where_to attrs) ≡ None → live ≡ true
@@ -94,22 +96,12 @@ module _ {K T F I : Type 0} (g : Procedures K T F I) where
       go None h = cc
       go (Some y) h = refl
 
-  -- what a grant answers
-  granted_or_refused_sound : (s t u : State K T F I) (p o : ℕ) (asked : Asked) (status : Status) (answer : Answer) (result : Result ℕ Status)
-      → IsSound s → is_live s p ≡ true → Stands s o → Grants g s p o asked Opened result u
-      → MatchResult result (λ value. (answer ≡ gives status (Handle value)) × (t ≡ settle g u)) (λ refusal. IsRefused s refusal answer t) → IsSound t
-  granted_or_refused_sound s t u p o asked status answer (Ok value) sound live stands grants h =
-      subst IsSound (sym h.1)
-      (settled_sound g u (subst IsSound (sym grants.2) (granted_sound g s p value o Opened asked.inherit sound live grants.1.1 stands)))
-  granted_or_refused_sound s t u p o asked status answer (Err refusal) sound live stands grants h = refused_sound s t refusal answer sound h
-
   opens_at_sound : (s t : State K T F I) (p attrs : ℕ) (wanted : Wanted K) (status : Status) (o : ℕ) (answer : Answer)
       → IsSound s → is_live s p ≡ true → OpensAt g s p attrs wanted status o answer t → IsSound t
   opens_at_sound s t p attrs wanted status o answer sound live h =
       tested_sound (is_wanted_at g s o wanted) ObjectTypeMismatch s t answer
-      ((result : Result ℕ Status) × (u : State K T F I) × Grants g s p o (asked_by attrs) Opened result u
-      × MatchResult result (λ value. (answer ≡ gives status (Handle value)) × (t ≡ settle g u)) (λ refusal. IsRefused s refusal answer t)) sound
-      (λ is does. granted_or_refused_sound s t does.1 p o (asked_by attrs) status answer does.0 sound live (stands_where_wanted s o wanted is) does.2 does.3) h
+      (GivesHandle g s p o (asked_by attrs) Opened status answer t) sound
+      (λ is does. gives_handle_sound g s t does.1 p o (asked_by attrs) Opened status answer does.0 sound live (stands_where_wanted s o wanted is) does.2 does.3) h
 
   opens_sound : (s t : State K T F I) (p attrs : ℕ) (wanted : Wanted K) (look : Look) (answer : Answer)
       → IsSound s → is_live s p ≡ true → Opens g s p attrs wanted look answer t → IsSound t
@@ -189,3 +181,11 @@ module _ {K T F I : Type 0} (g : Procedures K T F I) where
       with_handle_sound s t p handle answer (λ x. TellsTarget s x.object answer × (t ≡ s)) sound (λ x does. subst IsSound (sym does.1) sound) h
   step_sound s t (Start p (QueryName handle)) answer sound h =
       with_handle_sound s t p handle answer (λ x. TellsName s x.object answer × (t ≡ s)) sound (λ x does. subst IsSound (sym does.1) sound) h
+  step_sound s t (Start p (Duplicate handle to inherit)) answer sound h = duplicates_sound g s t p handle to inherit answer sound h
+  step_sound s t (Start p (NewProcess inherit)) answer sound h =
+      unless_sound ((not (is_live s p), ProcessGone) ∷ (is_crowded s p inherit, InsufficientResources) ∷ []) s t answer
+      (let u = begun g s p inherit in (answer ≡ gives Success (Process s.next_process (values_in u s.next_process))) × (t ≡ settle g u)) sound
+      (λ e does. subst IsSound (sym does.1) (settled_sound g (begun g s p inherit) (begun_sound g s p inherit sound))) h
+  step_sound s t (Start p ExitProcess) answer sound h =
+      unless_sound ((not (is_live s p), ProcessGone) ∷ []) s t answer ((answer ≡ answers Success) × (t ≡ settle g (ended g s p))) sound
+      (λ e does. subst IsSound (sym does.1) (settled_sound g (ended g s p) (ended_sound g s p sound))) h

@@ -1,5 +1,5 @@
 -- In a sound state every event has an answer.
-use Rattle.std.proofs.Common.{◌≡◌, ◌≢◌, ℕ, zero, suc, ◌<◌, ◌==◌, nat_le, nat_lt, Bool, true, false, ◌&&◌, ◌||◌, not, cond, List, [], ◌∷◌, find, Option, None, Some, Ok, Err, MatchOption, MatchResult, Result, All, refl, subst, arith, eqb-true, eq-eqb, inl, inr, ◌⊎◌}
+use Rattle.std.proofs.Common.{◌≡◌, ◌≢◌, ℕ, zero, suc, ◌<◌, ◌==◌, nat_le, nat_lt, Bool, true, false, ◌&&◌, ◌||◌, not, cond, List, [], ◌∷◌, find, Option, None, Some, Ok, Err, MatchOption, All, refl, subst, arith, eqb-true, eq-eqb, inl, inr, ◌⊎◌}
 use Rattle.std.specs.Prelude.{MatchBool}
 use Rattle.std.specs.Option.{option_and_then, option_map, option_or, is_some}
 use Rattle.std.proofs.lemmas.List.Elements.{All-head, All-tail}
@@ -10,26 +10,27 @@ use Rattle.ob_base.specs.Attrs.{has_flag, open_if_flag}
 use Rattle.ob_base.specs.Handle.{key_of}
 use Rattle.ob_model.specs.declared.command.Place.{Place}
 use Rattle.ob_model.specs.declared.command.Place.TheVariants as place
-use Rattle.ob_model.specs.declared.command.Command.TheVariants.{CreateDirectory, CreateLink, CreateObject, OpenDirectory, OpenLink, OpenObject, Close, QueryLink, QueryName}
+use Rattle.ob_model.specs.declared.command.Command.TheVariants.{CreateDirectory, CreateLink, CreateObject, OpenDirectory, OpenLink, OpenObject, Close, QueryLink, QueryName, Duplicate, NewProcess, ExitProcess}
 use Rattle.ob_model.specs.declared.reply.Answer.{Answer}
 use Rattle.ob_model.specs.declared.reply.Event.{Event}
 use Rattle.ob_model.specs.declared.reply.Event.TheVariants.{Start}
-use Rattle.ob_model.specs.declared.reply.Given.TheVariants.{Handle, Text}
+use Rattle.ob_model.specs.declared.reply.Given.TheVariants.{Handle, Text, Process}
 use Rattle.ob_model.specs.declared.state.Held.{Held}
 use Rattle.ob_model.specs.declared.state.Row.{Row}
 use Rattle.ob_model.specs.declared.state.Wanted.{Wanted}
 use Rattle.ob_model.specs.declared.state.Wanted.TheVariants as wanted
 use Rattle.ob_model.specs.State.{State, root_id, is_live, held_of, body_of, table_size, most_handles, greatest_number}
 use Rattle.ob_model.specs.Looks.{Look, At, Vacant, Parse, Refused, LooksUp, most_reparses}
-use Rattle.ob_model.specs.Procedures.{Procedures, Opened, Created, without_parse}
+use Rattle.ob_model.specs.Procedures.{Procedures, Reason, Opened, Created, Duplicated, without_parse}
 use Rattle.ob_model.specs.Settle.{settle}
-use Rattle.ob_model.specs.Grants.{first_refusal, Grants, IsFreeValue, Asked, is_table_full, is_exclusive, has_other_holder, grant_refusal, open_refusal, open_refusal_of, with_open, with_handle}
+use Rattle.ob_model.specs.Grants.{first_refusal, IsFreeValue, Asked, is_table_full, is_exclusive, has_other_holder, grant_refusal, open_refusal, open_refusal_of, with_open, with_handle}
 use Rattle.ob_model.specs.Closing.{closed_handle}
 use Rattle.ob_model.specs.Types.{is_wanted_at}
 use Rattle.ob_model.specs.Refusals.{gives, answers, IsRefused, Unless, create_refusals, open_refusals}
-use Rattle.ob_model.specs.Opens.{OpensAt, Opens, asked_by, type_wanted, open_mode}
+use Rattle.ob_model.specs.Opens.{GivesHandle, OpensAt, Opens, asked_by, type_wanted, open_mode}
 use Rattle.ob_model.specs.Creates.{Making, MakesDirectory, MakesLink, MakesObject, is_fit, create_mode, type_made, Spot, is_store_full, is_stampless, room_refusals, make_refusal, body_made, created, dropped, Makes, MakesInRoom, Creates}
 use Rattle.ob_model.specs.Naming.{IsWayUp, row_of, path_text, path_answer, target_of, TellsName, TellsTarget}
+use Rattle.ob_model.specs.Processes.{values_in, is_crowded, begun, ended}
 use Rattle.ob_model.specs.Step.{WithHandle, WithRoot, CreatesIn, CreatesAt, OpensName, Step}
 use Rattle.ob_model.specs.Sound.{IsSound, Stands}
 use Rattle.ob_model.proofs.SoundPaths.{find_of}
@@ -164,9 +165,9 @@ module _ {K T F I : Type 0} where
 
 module _ {K T F I : Type 0} (g : Procedures K T F I) where
   -- a grant that isn't refused has room
-  room_granted : (s : State K T F I) (p o : ℕ) (asked : Asked) → grant_refusal g s p o asked Opened ≡ None → is_table_full s p ≡ false
-  room_granted s p o asked e =
-      go (asked.exclusive && not (is_exclusive s o)) (asked.inherit && is_exclusive s o) (is_exclusive s o && has_other_holder s p o) (is_table_full s p) (option_map TypeRefused (open_refusal g s o Opened)) e
+  room_granted : (s : State K T F I) (p o : ℕ) (asked : Asked) (reason : Reason) → grant_refusal g s p o asked reason ≡ None → is_table_full s p ≡ false
+  room_granted s p o asked reason e =
+      go (asked.exclusive && not (is_exclusive s o)) (asked.inherit && is_exclusive s o) (is_exclusive s o && has_other_holder s p o) (is_table_full s p) (option_map TypeRefused (open_refusal g s o reason)) e
     where
       go : (a b c full : Bool) (rest : Option Status)
           → option_or (first_refusal ((a, InvalidParameter) ∷ (b, InvalidParameter) ∷ (c, AccessDenied) ∷ (full, InsufficientResources) ∷ [])) rest ≡ None → full ≡ false
@@ -176,20 +177,21 @@ module _ {K T F I : Type 0} (g : Procedures K T F I) where
       go false false false true rest e = cc
       go false false false false rest e = refl
 
-  opens_at_total : (s : State K T F I) (p attrs : ℕ) (wanted : Wanted K) (status : Status) (o : ℕ) → Has (OpensAt g s p attrs wanted status o)
-  opens_at_total s p attrs wanted status o = unless_total ((not (is_wanted_at g s o wanted), ObjectTypeMismatch) ∷ []) s Does (λ e. granted (grant_refusal g s p o (asked_by attrs) Opened) refl)
+  -- a grant is given, or is refused
+  gives_handle_total : (s : State K T F I) (p o : ℕ) (asked : Asked) (reason : Reason) (status : Status) → Has (GivesHandle g s p o asked reason status)
+  gives_handle_total s p o asked reason status = go (grant_refusal g s p o asked reason) refl
     where
-      Does : Answer → State K T F I → Type 0
-      Does answer t =
-          (result : Result ℕ Status) × (u : State K T F I) × Grants g s p o (asked_by attrs) Opened result u
-          × MatchResult result (λ value. (answer ≡ gives status (Handle value)) × (t ≡ settle g u)) (λ refusal. IsRefused s refusal answer t)
-
-      granted : (refusal : Option Status) → grant_refusal g s p o (asked_by attrs) Opened ≡ refusal → Has Does
-      granted None e =
-          let free = free_value s p (not_full s p (room_granted s p o (asked_by attrs) e)) in
-          let u = with_handle (with_open g s o Opened) p free.0 o (asked_by attrs).inherit in
+      go : (refusal : Option Status) → grant_refusal g s p o asked reason ≡ refusal → Has (GivesHandle g s p o asked reason status)
+      go None e =
+          let free = free_value s p (not_full s p (room_granted s p o asked reason e)) in
+          let u = with_handle (with_open g s o reason) p free.0 o asked.inherit in
           (gives status (Handle free.0), settle g u, (Ok free.0, u, (e, free.1, refl), (refl, refl)))
-      granted (Some refusal) e = (answers refusal, s, (Err refusal, s, (e, refl), (refl, refl)))
+      go (Some refusal) e = (answers refusal, s, (Err refusal, s, (e, refl), (refl, refl)))
+
+  opens_at_total : (s : State K T F I) (p attrs : ℕ) (wanted : Wanted K) (status : Status) (o : ℕ) → Has (OpensAt g s p attrs wanted status o)
+  opens_at_total s p attrs wanted status o =
+      unless_total ((not (is_wanted_at g s o wanted), ObjectTypeMismatch) ∷ []) s (GivesHandle g s p o (asked_by attrs) Opened status)
+      (λ e. gives_handle_total s p o (asked_by attrs) Opened status)
 
   opens_total : (s : State K T F I) (p attrs : ℕ) (wanted : Wanted K) (look : Look) → IsUsableEnd s (open_mode wanted attrs) look → Has (Opens g s p attrs wanted look)
   opens_total s p attrs wanted (Refused status) usable = refused_total s status
@@ -270,3 +272,17 @@ module _ {K T F I : Type 0} (g : Procedures K T F I) where
       with_handle_total s p handle (λ h answer t. TellsTarget s h.object answer × (t ≡ s)) sound (λ h stands. let told = tells_target_total s h.object in (told.0, s, (told.1, refl)))
   step_total s (Start p (QueryName handle)) sound =
       with_handle_total s p handle (λ h answer t. TellsName s h.object answer × (t ≡ s)) sound (λ h stands. let told = tells_name_total s h.object sound in (told.0, s, (told.1, refl)))
+  step_total s (Start p (Duplicate handle to inherit)) sound =
+      unless_total ((not (is_live s p), ProcessGone) ∷ (not (is_live s to), ProcessGone) ∷ []) s
+      (λ answer t. MatchOption (option_and_then (held_of s p) (key_of handle)) (IsRefused s InvalidHandle answer t) (λ h. Given h answer t))
+      (λ e. held_total s p handle Given sound (λ h stands. gives_handle_total s to h.object (record { inherit = inherit; exclusive = false }) Duplicated Success))
+    where
+      Given : Held → Answer → State K T F I → Type 0
+      Given h answer t = GivesHandle g s to h.object (record { inherit = inherit; exclusive = false }) Duplicated Success answer t
+  step_total s (Start p (NewProcess inherit)) sound =
+      unless_total ((not (is_live s p), ProcessGone) ∷ (is_crowded s p inherit, InsufficientResources) ∷ []) s
+      (λ answer t. let u = begun g s p inherit in (answer ≡ gives Success (Process s.next_process (values_in u s.next_process))) × (t ≡ settle g u))
+      (λ e. let u = begun g s p inherit in (gives Success (Process s.next_process (values_in u s.next_process)), settle g u, (refl, refl)))
+  step_total s (Start p ExitProcess) sound =
+      unless_total ((not (is_live s p), ProcessGone) ∷ []) s (λ answer t. (answer ≡ answers Success) × (t ≡ settle g (ended g s p)))
+      (λ e. (answers Success, settle g (ended g s p), (refl, refl)))

@@ -5,23 +5,23 @@
 --
 -- Source: Windows Internals, Object Manager (open, close and delete methods; the close method is
 -- given the handles left in the process and in the system).
-use Rattle.std.specs.Prelude.{◌≡◌, ℕ, ◌+◌, Bool, true, false, ◌&&◌, ◌||◌, not, ◌==◌, nat_lt, if◌then◌else◌, List, [], ◌∷◌, ◌++◌, length, filter, count_by, Option, None, Some}
+use Rattle.std.specs.Prelude.{◌≡◌, ℕ, ◌+◌, Bool, true, false, ◌&&◌, ◌||◌, not, ◌==◌, nat_lt, if◌then◌else◌, List, [], ◌∷◌, ◌++◌, length, filter, map, count_by, Option, None, Some}
 use Rattle.std.specs.Option.{is_some, option_and_then, option_map_or}
 use Rattle.ob_base.specs.Handle.{key_of}
 use Rattle.ob_model.specs.declared.command.Command.{Command}
-use Rattle.ob_model.specs.declared.command.Command.TheVariants.{CreateDirectory, CreateLink, CreateObject, OpenDirectory, OpenLink, OpenObject, Close, QueryLink, QueryName}
+use Rattle.ob_model.specs.declared.command.Command.TheVariants.{CreateDirectory, CreateLink, CreateObject, OpenDirectory, OpenLink, OpenObject, Close, QueryLink, QueryName, Duplicate, NewProcess, ExitProcess}
 use Rattle.ob_model.specs.declared.reply.Answer.{Answer}
 use Rattle.ob_model.specs.declared.reply.Answer.TheVariants.{Done}
 use Rattle.ob_model.specs.declared.reply.Event.{Event}
 use Rattle.ob_model.specs.declared.reply.Event.TheVariants.{Start}
 use Rattle.ob_model.specs.declared.reply.Given.{Given}
-use Rattle.ob_model.specs.declared.reply.Given.TheVariants.{Nothing, Handle, Text}
+use Rattle.ob_model.specs.declared.reply.Given.TheVariants.{Nothing, Handle, Text, Process}
 use Rattle.ob_model.specs.declared.state.Body.{Body}
 use Rattle.ob_model.specs.declared.state.Body.TheVariants.{Directory, Link, Other}
 use Rattle.ob_model.specs.declared.state.Held.{Held}
 use Rattle.ob_model.specs.State.{State, object_of, body_of, is_live, held_of, handle_count, handle_count_in}
 use Rattle.ob_model.specs.Procedures.{Procedures, Reason}
-use Rattle.ob_model.specs.Procedures.{Created as ForCreate, Opened as ForOpen}
+use Rattle.ob_model.specs.Procedures.{Created as ForCreate, Opened as ForOpen, Duplicated as ForDuplicate, Inherited as ForChild}
 use Rattle.ob_model.specs.Step.{Step}
 use Rattle.ob_model.specs.Run.{Entry}
 
@@ -37,6 +37,7 @@ abbrev pub handle_in : Given → Option ℕ
 handle_in Nothing = None
 handle_in (Handle value) = Some value
 handle_in (Text text) = None
+handle_in (Process child values) = None
 
 abbrev pub handle_given : Answer → Option ℕ
 handle_given (Done reply) = handle_in reply.given
@@ -62,6 +63,9 @@ is_set_create (OpenObject root name attrs want) = false
 is_set_create (Close handle) = false
 is_set_create (QueryLink handle) = false
 is_set_create (QueryName handle) = false
+is_set_create (Duplicate handle to inherit) = false
+is_set_create (NewProcess inherit) = false
+is_set_create ExitProcess = false
 
 -- the closes of the handles that go, in the order in which they were opened, where `stays` tells
 -- the others: of all handles to one object, those that were passed already and stay, and the rest
@@ -87,15 +91,22 @@ module _ {K T F I : Type 0} where
   open_reason s o = if is_some (object_of s o) then ForOpen else ForCreate
 
   -- a process that is given a handle to an object had its open accepted
-  abbrev pub calls_of_grant : State K T F I → State K T F I → ℕ → Option ℕ → ℕ → List Call
-  calls_of_grant s t p given o =
-      if is_of_set t o && leads_to (option_and_then (held_of t p) given) o then Opened (open_reason s o) ∷ [] else []
+  abbrev pub calls_of_grant : Reason → State K T F I → ℕ → Option ℕ → ℕ → List Call
+  calls_of_grant reason t p given o = if is_of_set t o && leads_to (option_and_then (held_of t p) given) o then Opened reason ∷ [] else []
+
+  -- a process that is new has all its handles by inheritance
+  abbrev pub calls_of_child : State K T F I → ℕ → ℕ → List Call
+  calls_of_child t child o = if is_of_set t o then map (λ _. Opened ForChild) (filter (λ h. h.process == child) (handles_to t o)) else []
 
   -- a live process that closes a handle to an object: the handles that are left are those of the state after
   abbrev pub calls_of_close : State K T F I → State K T F I → ℕ → ℕ → ℕ → List Call
   calls_of_close s t p handle o =
       if is_live s p && is_of_set s o && leads_to (option_and_then (held_of s p) (key_of handle)) o then Closed (handle_count_in t p o) (handle_count t o) ∷ []
       else []
+
+  -- the closes of an object's handles where a process ends
+  abbrev pub closes_at_end : State K T F I → ℕ → ℕ → List Call
+  closes_at_end s p o = closes (λ h. not (h.process == p)) [] (handles_to s o)
 
   -- a number is drawn for an object of the set that the command makes
   abbrev pub is_drawn : State K T F I → State K T F I → Command K → ℕ → Bool
@@ -108,23 +119,22 @@ module _ {K T F I : Type 0} where
 
   -- what a command opens or closes
   abbrev pub calls_of_command : State K T F I → State K T F I → ℕ → Command K → Option ℕ → ℕ → List Call
-  calls_of_command s t p (CreateDirectory where_to attrs) given o = calls_of_grant s t p given o
-  calls_of_command s t p (CreateLink where_to attrs target) given o = calls_of_grant s t p given o
-  calls_of_command s t p (CreateObject where_to attrs kind args) given o = calls_of_grant s t p given o
-  calls_of_command s t p (OpenDirectory root name attrs) given o = calls_of_grant s t p given o
-  calls_of_command s t p (OpenLink root name attrs) given o = calls_of_grant s t p given o
-  calls_of_command s t p (OpenObject root name attrs want) given o = calls_of_grant s t p given o
+  calls_of_command s t p (CreateDirectory where_to attrs) given o = calls_of_grant (open_reason s o) t p given o
+  calls_of_command s t p (CreateLink where_to attrs target) given o = calls_of_grant (open_reason s o) t p given o
+  calls_of_command s t p (CreateObject where_to attrs kind args) given o = calls_of_grant (open_reason s o) t p given o
+  calls_of_command s t p (OpenDirectory root name attrs) given o = calls_of_grant (open_reason s o) t p given o
+  calls_of_command s t p (OpenLink root name attrs) given o = calls_of_grant (open_reason s o) t p given o
+  calls_of_command s t p (OpenObject root name attrs want) given o = calls_of_grant (open_reason s o) t p given o
   calls_of_command s t p (Close handle) given o = calls_of_close s t p handle o
   calls_of_command s t p (QueryLink handle) given o = []
   calls_of_command s t p (QueryName handle) given o = []
+  calls_of_command s t p (Duplicate handle to inherit) given o = calls_of_grant ForDuplicate t to given o
+  calls_of_command s t p (NewProcess inherit) given o = calls_of_child t s.next_process o
+  calls_of_command s t p ExitProcess given o = if is_live s p && is_of_set s o then closes_at_end s p o else []
 
   -- the calls of a step on an object
   abbrev pub calls_of_step : State K T F I → Event K → Answer → State K T F I → ℕ → List Call
   calls_of_step s (Start p command) answer t o = calls_of_command s t p command (handle_given answer) o ++ calls_of_end s t command o
-
-  -- the closes of an object's handles where a process ends
-  abbrev pub closes_at_end : State K T F I → ℕ → ℕ → List Call
-  closes_at_end s p o = closes (λ h. not (h.process == p)) [] (handles_to s o)
 
 -- ---- the calls of a run
 

@@ -1,4 +1,4 @@
--- What an open does past its refusals: the type test, and a grant.
+-- What an open does past its refusals: the type test, and a grant, which duplicates have too.
 --
 -- Sources: ZwOpenDirectoryObject, ZwOpenEvent, OBJECT_ATTRIBUTES structure (OBJ_CASE_INSENSITIVE,
 -- OBJ_OPENLINK; Windows Driver Kit); Windows Internals, Object Manager
@@ -13,7 +13,7 @@ use Rattle.ob_model.specs.declared.state.Wanted.{Wanted}
 use Rattle.ob_model.specs.declared.state.Wanted.TheVariants.{Anything, Directory, Link, Kind}
 use Rattle.ob_model.specs.State.{State}
 use Rattle.ob_model.specs.Looks.{Mode, Look, At, Vacant, Parse, Refused}
-use Rattle.ob_model.specs.Procedures.{Procedures, Opened}
+use Rattle.ob_model.specs.Procedures.{Procedures, Reason, Opened}
 use Rattle.ob_model.specs.Settle.{settle}
 use Rattle.ob_model.specs.Grants.{Grants, Asked}
 use Rattle.ob_model.specs.Types.{is_wanted_at}
@@ -46,13 +46,16 @@ open_mode wanted attrs = record {
 }
 
 module _ {K T F I : Type 0} (g : Procedures K T F I) where
-  -- an object that was found is opened where it is of the type that is asked for: a grant is given
-  -- with this status, or is refused
+  -- a handle to an object is granted, and given with this status, or it is refused
+  abbrev pub GivesHandle : State K T F I → ℕ → ℕ → Asked → Reason → Status → Answer → State K T F I → Type 0
+  GivesHandle s p o asked reason status answer t =
+      (result : Result ℕ Status) × (u : State K T F I) × Grants g s p o asked reason result u
+      × MatchResult result (λ value. (answer ≡ gives status (Handle value)) × (t ≡ settle g u)) (λ refusal. IsRefused s refusal answer t)
+
+  -- an object that was found is opened where it is of the type that is asked for
   abbrev pub OpensAt : State K T F I → ℕ → ℕ → Wanted K → Status → ℕ → Answer → State K T F I → Type 0
   OpensAt s p attrs wanted status o answer t =
-      Unless ((not (is_wanted_at g s o wanted), ObjectTypeMismatch) ∷ []) s answer t
-      ((result : Result ℕ Status) × (u : State K T F I) × Grants g s p o (asked_by attrs) Opened result u
-      × MatchResult result (λ value. (answer ≡ gives status (Handle value)) × (t ≡ settle g u)) (λ refusal. IsRefused s refusal answer t))
+      Unless ((not (is_wanted_at g s o wanted), ObjectTypeMismatch) ∷ []) s answer t (GivesHandle s p o (asked_by attrs) Opened status answer t)
 
   -- what the lookup of an open's name leads to: a refusal, or an object that is opened
   abbrev pub Opens : State K T F I → ℕ → ℕ → Wanted K → Look → Answer → State K T F I → Type 0

@@ -4,20 +4,20 @@
 -- and the process handle table) and Processes (inheritance of handles and of the device map; what the end
 -- of a process closes). The limit of live processes and the order of refusals and of closes are this
 -- profile.
-use Rattle.std.specs.Prelude.{◌≡◌, ℕ, ◌+◌, Bool, true, false, ◌&&◌, ◌||◌, not, ◌==◌, nat_le, nat_lt, List, [], ◌∷◌, ◌++◌, length, filter, MatchOption, Result, MatchResult}
+use Rattle.std.specs.Prelude.{◌≡◌, ℕ, ◌+◌, Bool, true, false, ◌&&◌, ◌||◌, not, ◌==◌, nat_le, nat_lt, List, [], ◌∷◌, ◌++◌, length, filter, map, MatchOption}
 use Rattle.std.specs.Option.{option_and_then, option_map_or}
-use Rattle.ob_base.specs.declared.status.Status.{Status}
-use Rattle.ob_base.specs.declared.status.Status.TheVariants.{Success, InvalidHandle, ProcessGone}
+use Rattle.ob_base.specs.declared.status.Status.TheVariants.{Success, InvalidHandle, InsufficientResources, ProcessGone}
 use Rattle.ob_base.specs.Handle.{key_of}
 use Rattle.ob_model.specs.declared.reply.Answer.{Answer}
-use Rattle.ob_model.specs.declared.reply.Given.TheVariants.{Handle}
+use Rattle.ob_model.specs.declared.reply.Given.TheVariants.{Process}
 use Rattle.ob_model.specs.declared.state.Held.{Held}
 use Rattle.ob_model.specs.State.{State, is_live, process_of, held_of, greatest_number, greatest_process}
 use Rattle.ob_model.specs.Procedures.{Procedures, Duplicated, Inherited}
 use Rattle.ob_model.specs.Settle.{settle}
-use Rattle.ob_model.specs.Grants.{Grants, open_refusal, with_open, with_handle}
+use Rattle.ob_model.specs.Grants.{open_refusal, with_open, with_handle}
 use Rattle.ob_model.specs.Closing.{closed_handle}
-use Rattle.ob_model.specs.Refusals.{gives, IsRefused, Unless}
+use Rattle.ob_model.specs.Refusals.{gives, answers, IsRefused, Unless}
+use Rattle.ob_model.specs.Opens.{GivesHandle}
 
 -- the most live processes
 abbrev pub most_processes : ℕ
@@ -27,6 +27,10 @@ module _ {K T F I : Type 0} where
   -- the handles of a process, in the order in which they were opened
   abbrev pub handles_in : State K T F I → ℕ → List Held
   handles_in s p = filter (λ h. h.process == p) s.handles
+
+  -- their values
+  abbrev pub values_in : State K T F I → ℕ → List ℕ
+  values_in s p = map (λ h. h.value) (handles_in s p)
 
   -- those of them that a child inherits, where it inherits any
   abbrev pub inherited_from : State K T F I → ℕ → Bool → List Held
@@ -51,10 +55,11 @@ module _ {K T F I : Type 0} where
 
 module _ {K T F I : Type 0} (g : Procedures K T F I) where
   -- a child inherits a handle under the same value, and can hand it on; where the set refuses to open its
-  -- object the child lacks it
+  -- object the child lacks it, and the order that was drawn for it is no handle's
   abbrev pub inherits_one : State K T F I → ℕ → Held → State K T F I
   inherits_one s child h =
-      option_map_or (λ _. s) (open_refusal g s h.object Inherited) (with_handle (with_open g s h.object Inherited) child h.value h.object true)
+      option_map_or (λ _. record s { next_order = s.next_order + 1 }) (open_refusal g s h.object Inherited)
+      (with_handle (with_open g s h.object Inherited) child h.value h.object true)
 
   abbrev pub inherits : State K T F I → ℕ → List Held → State K T F I
   inherits s child [] = s
@@ -79,6 +84,14 @@ module _ {K T F I : Type 0} (g : Procedures K T F I) where
   Duplicates s p handle to inherit answer t =
       Unless ((not (is_live s p), ProcessGone) ∷ (not (is_live s to), ProcessGone) ∷ []) s answer t
       (MatchOption (option_and_then (held_of s p) (key_of handle)) (IsRefused s InvalidHandle answer t)
-      (λ h. (result : Result ℕ Status) × (u : State K T F I)
-      × Grants g s to h.object (record { inherit = inherit; exclusive = false }) Duplicated result u
-      × MatchResult result (λ value. (answer ≡ gives Success (Handle value)) × (t ≡ settle g u)) (λ refusal. IsRefused s refusal answer t)))
+      (λ h. GivesHandle g s to h.object (record { inherit = inherit; exclusive = false }) Duplicated Success answer t))
+
+  -- a process makes a child, and is told its number and the values that it inherited
+  abbrev pub MakesChild : State K T F I → ℕ → Bool → Answer → State K T F I → Type 0
+  MakesChild s p inherit answer t =
+      Unless ((not (is_live s p), ProcessGone) ∷ (is_crowded s p inherit, InsufficientResources) ∷ []) s answer t
+      (let u = begun s p inherit in (answer ≡ gives Success (Process s.next_process (values_in u s.next_process))) × (t ≡ settle g u))
+
+  -- a process exits
+  abbrev pub Exits : State K T F I → ℕ → Answer → State K T F I → Type 0
+  Exits s p answer t = Unless ((not (is_live s p), ProcessGone) ∷ []) s answer t ((answer ≡ answers Success) × (t ≡ settle g (ended s p)))

@@ -2,8 +2,9 @@
 -- answers and what it leaves. The value of a new handle is the one free choice.
 --
 -- Sources: ZwCreateDirectoryObject, ZwOpenDirectoryObject, ZwCreateSymbolicLinkObject,
--- ZwOpenSymbolicLinkObject, ZwQuerySymbolicLinkObject, ZwCreateEvent, ZwOpenEvent, ZwClose, ObQueryNameString
--- and OBJECT_ATTRIBUTES structure (Windows Driver Kit); Windows Internals, Object Manager.
+-- ZwOpenSymbolicLinkObject, ZwQuerySymbolicLinkObject, ZwCreateEvent, ZwOpenEvent, ZwClose, ZwDuplicateObject,
+-- ObQueryNameString and OBJECT_ATTRIBUTES structure (Windows Driver Kit); Windows Internals, Object Manager and
+-- Processes.
 -- The order of refusals is this profile.
 use Rattle.std.specs.Prelude.{◌≡◌, ℕ, not, [], ◌∷◌, List, Option, None, Some, MatchOption}
 use Rattle.std.specs.Option.{option_and_then}
@@ -12,7 +13,7 @@ use Rattle.ob_base.specs.Handle.{key_of}
 use Rattle.ob_model.specs.declared.command.Place.{Place}
 use Rattle.ob_model.specs.declared.command.Place.TheVariants as place
 use Rattle.ob_model.specs.declared.command.Command.{Command}
-use Rattle.ob_model.specs.declared.command.Command.TheVariants.{CreateDirectory, CreateLink, CreateObject, OpenDirectory, OpenLink, OpenObject, Close, QueryLink, QueryName}
+use Rattle.ob_model.specs.declared.command.Command.TheVariants.{CreateDirectory, CreateLink, CreateObject, OpenDirectory, OpenLink, OpenObject, Close, QueryLink, QueryName, Duplicate, NewProcess, ExitProcess}
 use Rattle.ob_model.specs.declared.reply.Answer.{Answer}
 use Rattle.ob_model.specs.declared.reply.Event.{Event}
 use Rattle.ob_model.specs.declared.reply.Event.TheVariants.{Start}
@@ -28,6 +29,7 @@ use Rattle.ob_model.specs.Refusals.{answers, create_refusals, open_refusals, IsR
 use Rattle.ob_model.specs.Creates.{Making, MakesDirectory, MakesLink, MakesObject, is_fit, create_mode, Makes, Creates}
 use Rattle.ob_model.specs.Opens.{Opens, type_wanted, open_mode}
 use Rattle.ob_model.specs.Naming.{TellsName, TellsTarget}
+use Rattle.ob_model.specs.Processes.{Duplicates, MakesChild, Exits}
 
 module _ {K T F I : Type 0} where
   -- a step that uses a handle of the caller, its low two bits ignored: the process is gone, it has no
@@ -87,6 +89,9 @@ module _ {K T F I : Type 0} (g : Procedures K T F I) where
   Starts s p (Close handle) answer t = Closes s p handle answer t
   Starts s p (QueryLink handle) answer t = QueriesLink s p handle answer t
   Starts s p (QueryName handle) answer t = QueriesName s p handle answer t
+  Starts s p (Duplicate handle to inherit) answer t = Duplicates g s p handle to inherit answer t
+  Starts s p (NewProcess inherit) answer t = MakesChild g s p inherit answer t
+  Starts s p ExitProcess answer t = Exits g s p answer t
 
   -- From the state s the machine may answer the event so, and go on to the state t.
   abbrev pub Step : State K T F I → Event K → Answer → State K T F I → Type 0

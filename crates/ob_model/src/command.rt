@@ -1,7 +1,7 @@
 //! What a process asks of the namespace.
 
 use crate::Bytes;
-use ob_base::Handle;
+use ob_base::{Handle, Proc};
 
 /// Where a create puts what it makes.
 #[derive(Debug, Drop)]
@@ -20,8 +20,9 @@ pub enum Place {
 /// A command of a process. Flags are raw: a lookup and its refusals judge them. The commands are
 /// those of the Windows Driver Kit's `Zw` routines (`ZwCreateDirectoryObject`,
 /// `ZwCreateSymbolicLinkObject`, `ZwCreateEvent` and its like, `ZwOpenDirectoryObject`,
-/// `ZwOpenSymbolicLinkObject`, `ZwClose`, `ZwQuerySymbolicLinkObject`) and of `ObQueryNameString`,
-/// without access masks. `K` is the kind of an object of the set of types.
+/// `ZwOpenSymbolicLinkObject`, `ZwClose`, `ZwQuerySymbolicLinkObject`, `ZwDuplicateObject`) and of
+/// `ObQueryNameString`, without access masks, and the beginning and the end of a process (Windows
+/// Internals, Processes). `K` is the kind of an object of the set of types.
 #[derive(Debug, Drop)]
 pub enum Command<K> {
     /// Makes a directory at a place and opens a handle to it. Uses every flag but OPENLINK.
@@ -100,4 +101,22 @@ pub enum Command<K> {
         /// The handle.
         handle: Handle,
     },
+    /// Duplicates a handle of the caller into a process, which may be the caller itself. The low two
+    /// bits of the value are ignored.
+    Duplicate {
+        /// The handle.
+        handle: Handle,
+        /// The process that gets the new handle.
+        to: Proc,
+        /// Whether a child of that process can inherit the new handle.
+        inherit: bool,
+    },
+    /// Makes a child of the caller.
+    NewProcess {
+        /// Whether the child inherits the handles of the caller that can be inherited.
+        inherit: bool,
+    },
+    /// Ends the caller: each of its handles is closed, in the order in which they were opened, and it
+    /// is live no longer.
+    ExitProcess,
 }

@@ -8,11 +8,13 @@
 mod bytes;
 mod command;
 pub mod examples;
+mod handles;
 pub mod laws;
 mod reply;
 mod state;
 
 pub use bytes::Bytes;
 pub use command::{Command, Place};
+pub use handles::Handles;
 pub use reply::{Answer, Event, Given, Reply};
 pub use state::{Body, Held, Object, Pending, Process, Row, Wanted};

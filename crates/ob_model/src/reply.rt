@@ -1,6 +1,6 @@
 //! What the namespace answers, and the events of its history.
 
-use crate::{Bytes, Command};
+use crate::{Bytes, Command, Handles};
 use ob_base::{Handle, Proc, Status};
 
 /// What a reply gives beside its status.
@@ -12,6 +12,9 @@ pub enum Given {
     Handle(Handle),
     /// A text of at most 32,767 bytes.
     Text(Bytes),
+    /// A new process, with the values of the handles that it inherited, in the order in which they were
+    /// opened: each is the value of a handle of its parent's too.
+    Process(Proc, Handles),
 }
 
 /// The reply to a command: a status, and what is given with it. A refusal gives nothing.
