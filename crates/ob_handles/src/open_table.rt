@@ -105,4 +105,9 @@ impl HandleTable for OpenTable {
         let (_, held) = self.by_order.first_key_value()?;
         Some(*held)
     }
+
+    fn inheritable(&self, alloc: Global) -> Result<Vec<Held>, AllocError> {
+        let handles = self.by_order.values().copied();
+        handles.filter(|held| held.inherit).collect(alloc)
+    }
 }

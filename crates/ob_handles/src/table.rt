@@ -1,7 +1,7 @@
 //! What every handle table promises.
 
 ghost use Rattle.std.specs.Prelude.{◌≡◌, ◌<◌, ◌≤◌, ◌==◌, List, [], ◌∷◌, ◌++◌, Err};
-ghost use Rattle.std.specs.Prelude.{◌⊎◌, length, All, IfOk, IfErr, OnOk, OnErr};
+ghost use Rattle.std.specs.Prelude.{◌⊎◌, length, filter, All, IfOk, IfErr, OnOk, OnErr};
 ghost use Rattle.std.specs.List.{find, slice_get};
 ghost use Rattle.ob_base.specs.declared.fault.Fault.TheVariants.{Memory, Refused};
 ghost use Rattle.ob_base.specs.declared.status.Status.TheVariants.{InsufficientResources};
@@ -79,4 +79,9 @@ pub trait HandleTable: Sized + Drop + Send {
     /// memory.
     fn oldest(&self) -> Option<Held>
         ensures { result ≡ slice_get (handles self.now) 0 };
+
+    /// The handles that a child inherits, in the order in which they were opened. The only error is want
+    /// of memory.
+    fn inheritable(&self, alloc: Global) -> Result<Vec<Held>, AllocError>
+        ensures { IfOk result (λ list. list.items ≡ filter (λ h. h.inherit) (handles self.now)) };
 }

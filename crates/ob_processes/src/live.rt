@@ -83,6 +83,13 @@ impl<H: HandleTable> Live<H> {
         self.table.oldest()
     }
 
+    /// Those of its handles that a child inherits.
+    pub(crate) fn inheritable(&self, alloc: Global) -> Result<Vec<Held>, AllocError>
+        ensures { IfOk result (λ list. list.items ≡ filter (λ h. h.inherit) self.now.handles) }
+    {
+        self.table.inheritable(alloc)
+    }
+
     /// How many of its handles lead to an object.
     pub(crate) fn count_of(&self, object: ObjId) -> usize
         ensures { result ≡ count_by (λ h. h.object == object) self.now.handles }

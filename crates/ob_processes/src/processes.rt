@@ -25,9 +25,9 @@ use std::marker::Model;
 /// rising numbers, and the handles of all of them in the order in which they were opened, as the
 /// abstract state has both.
 ///
-/// What is asked of handles is kept and not counted, so that no call walks over them: each takes a time
-/// that grows with the logarithm of the processes and of the handles, beside what the call of one table
-/// takes.
+/// What is asked of handles is kept and not counted, so that no call walks over them but `inheritable`:
+/// each takes a time that grows with the logarithm of the processes and of the handles, beside what the
+/// call of one table takes.
 ///
 /// Source: Windows Internals, Object Manager: handles and the process handle table; the numbers of
 /// processes and the orders of opening are this profile.
@@ -158,6 +158,21 @@ impl<H: HandleTable> Processes<H> {
         ensures { result ≡ find (λ h. h.process == process) self.now.handles }
     {
         self.live.get(&process.0)?.oldest()
+    }
+
+    /// The handles of a process that a child inherits, in the order in which they were opened; none where
+    /// the process isn't live. The only error is want of memory. Takes a time that grows with the handles
+    /// of the process.
+    ///
+    /// Source: Windows Internals, Processes (inheritance of handles).
+    pub fn inheritable(&self, process: Proc) -> Result<Vec<Held>, AllocError>
+        ensures { IfOk result (λ list. list.items
+            ≡ filter (λ h. h.inherit) (filter (λ h. h.process == process) self.now.handles)) }
+    {
+        match self.live.get(&process.0) {
+            Some(live) => live.inheritable(self.alloc),
+            None => Ok(Vec::new(self.alloc)),
+        }
     }
 
     /// How many handles of all processes lead to an object. Takes no memory.
