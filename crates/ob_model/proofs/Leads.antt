@@ -1,10 +1,11 @@
--- What a step leads to: the state as it was, a settled one, or one whose new object was dropped.
-use Rattle.std.proofs.Common.{◌≡◌, ℕ, Bool, true, false, not, List, [], ◌∷◌, Option, None, Some, Result, Ok, Err, MatchOption, MatchResult, sym, subst}
+-- What a step leads to: the state as it was, one whose new object was dropped, or one that settled after a
+-- handle was granted, an object made, a handle closed, or a process begun or ended.
+use Rattle.std.proofs.Common.{◌≡◌, ℕ, Bool, true, false, ◌||◌, not, refl, List, [], ◌∷◌, Option, None, Some, Result, Ok, Err, MatchOption, MatchResult, sym, subst}
 use Rattle.std.specs.Prelude.{MatchBool}
 use Rattle.std.specs.Option.{option_and_then}
 use Rattle.ob_base.specs.declared.status.Status.{Status}
-use Rattle.ob_base.specs.declared.status.Status.TheVariants.{Success, InvalidHandle, InsufficientResources, ObjectTypeMismatch, ObjectNameExists, ObjectNameCollision, ProcessGone, TypeRefused}
-use Rattle.ob_base.specs.Attrs.{has_flag, open_if_flag}
+use Rattle.ob_base.specs.declared.status.Status.TheVariants.{Success, InvalidHandle, InvalidParameter, InsufficientResources, ObjectTypeMismatch, ObjectNameExists, ObjectNameCollision, ProcessGone, TypeRefused}
+use Rattle.ob_base.specs.Attrs.{has_flag, open_if_flag, are_lawful}
 use Rattle.ob_base.specs.Handle.{key_of}
 use Rattle.ob_model.specs.declared.command.Place.{Place}
 use Rattle.ob_model.specs.declared.command.Place.TheVariants as place
@@ -19,37 +20,58 @@ use Rattle.ob_model.specs.declared.state.Wanted.{Wanted}
 use Rattle.ob_model.specs.declared.state.Wanted.TheVariants as wanted
 use Rattle.ob_model.specs.State.{State, is_live, held_of}
 use Rattle.ob_model.specs.Looks.{Look, At, Vacant, Parse, Refused, LooksUp, most_reparses}
-use Rattle.ob_model.specs.Procedures.{Procedures, Opened, Created, Duplicated, without_parse}
+use Rattle.ob_model.specs.Procedures.{Procedures, Reason, Opened, Created, Duplicated, without_parse}
 use Rattle.ob_model.specs.Settle.{settle}
-use Rattle.ob_model.specs.Grants.{first_refusal, IsFreeValue, open_refusal_of}
+use Rattle.ob_model.specs.Grants.{Asked, first_refusal, Grants, grant_refusal, IsFreeValue, open_refusal_of, with_open, with_handle}
 use Rattle.ob_model.specs.Closing.{closed_handle}
 use Rattle.ob_model.specs.Types.{is_wanted_at}
-use Rattle.ob_model.specs.Refusals.{gives, answers, IsRefused, Unless, create_refusals, open_refusals}
+use Rattle.ob_model.specs.Refusals.{gives, answers, IsRefused, Unless, name_refusals, create_refusals, open_refusals}
 use Rattle.ob_model.specs.Opens.{GivesHandle, OpensAt, Opens, asked_by, type_wanted, open_mode}
 use Rattle.ob_model.specs.Creates.{Making, MakesDirectory, MakesLink, MakesObject, is_fit, create_mode, type_made, Spot, room_refusals, make_refusal, body_made, created, dropped, Makes, Creates}
 use Rattle.ob_model.specs.Naming.{TellsName, TellsTarget}
 use Rattle.ob_model.specs.Processes.{values_in, is_crowded, begun, ended}
 use Rattle.ob_model.specs.Step.{WithHandle, WithRoot, CreatesIn, CreatesAt, OpensName, Step}
 
-module _ {K T F I : Type 0} (g : Procedures K T F I) (s : State K T F I) (P : State K T F I → Type 0) (same : P s) (settles : (u : State K T F I) → P (settle g u))
-    (drops : (body : Body F I) → P (dropped g s body)) where
+-- where a create isn't refused at first, its flags are lawful
+lawful_to_create : (live fit : Bool) (where_to : Place) (attrs : ℕ) → first_refusal (create_refusals live fit where_to attrs) ≡ None → are_lawful attrs ≡ true
+lawful_to_create false fit (place.At root name) attrs e = cc
+lawful_to_create false fit place.Unnamed attrs e = cc
+lawful_to_create true fit (place.At root name) attrs e = go (are_lawful attrs) e
+  where
+    go : (lawful : Bool) → first_refusal ((false, ProcessGone) ∷ (not lawful || not fit, InvalidParameter) ∷ name_refusals name) ≡ None → lawful ≡ true
+    go true e = refl
+    go false e = cc
+lawful_to_create true fit place.Unnamed attrs e = go (are_lawful attrs) e
+  where
+    go : (lawful : Bool) → first_refusal ((false, ProcessGone) ∷ (not lawful || not fit, InvalidParameter) ∷ []) ≡ None → lawful ≡ true
+    go true e = refl
+    go false e = cc
+
+module _ {K T F I : Type 0} (g : Procedures K T F I) (s : State K T F I) (P : State K T F I → Type 0) (same : P s)
+    (drops : (body : Body F I) → P (dropped g s body))
+    (grants : (p value o : ℕ) (asked : Asked) (reason : Reason) → grant_refusal g s p o asked reason ≡ None → P (settle g (with_handle (with_open g s o reason) p value o asked.inherit)))
+    (makes : (p : ℕ) (spot : Spot) (body : Body F I) (attrs value : ℕ) → are_lawful attrs ≡ true → P (settle g (created g s p spot body attrs value)))
+    (closes : (h : Held) → P (settle g (closed_handle g s h)))
+    (begins : (p : ℕ) (inherit : Bool) → P (settle g (begun g s p inherit)))
+    (ends : (p : ℕ) → P (settle g (ended g s p))) where
   -- a step that is refused leaves the state
   refused_leads : (t : State K T F I) (status : Status) (answer : Answer) → IsRefused s status answer t → P t
   refused_leads t status answer h = subst P (sym h.1) same
 
   -- a step that is refused, or else does what leads there
-  unless_leads : (refusals : List (Bool × Status)) (t : State K T F I) (answer : Answer) (Does : Type 0) → (Does → P t) → Unless refusals s answer t Does → P t
-  unless_leads refusals t answer Does does h = go (first_refusal refusals) h
+  unless_leads : (refusals : List (Bool × Status)) (t : State K T F I) (answer : Answer) (Does : Type 0)
+      → (first_refusal refusals ≡ None → Does → P t) → Unless refusals s answer t Does → P t
+  unless_leads refusals t answer Does does h = go (first_refusal refusals) refl h
     where
-      go : (refusal : Option Status) → MatchOption refusal Does (λ status. IsRefused s status answer t) → P t
-      go None h = does h
-      go (Some status) h = refused_leads t status answer h
+      go : (refusal : Option Status) → first_refusal refusals ≡ refusal → MatchOption refusal Does (λ status. IsRefused s status answer t) → P t
+      go None e h = does e h
+      go (Some status) e h = refused_leads t status answer h
 
   -- a step that uses a handle
   with_handle_leads : (t : State K T F I) (p handle : ℕ) (answer : Answer) (Does : Held → Type 0) → ((h : Held) → Does h → P t) → WithHandle s p handle answer t Does → P t
   with_handle_leads t p handle answer Does does h =
       unless_leads ((not (is_live s p), ProcessGone) ∷ []) t answer (MatchOption (option_and_then (held_of s p) (key_of handle)) (IsRefused s InvalidHandle answer t) Does)
-      (go (option_and_then (held_of s p) (key_of handle))) h
+      (λ e. go (option_and_then (held_of s p) (key_of handle))) h
     where
       go : (o : Option Held) → MatchOption o (IsRefused s InvalidHandle answer t) Does → P t
       go None h = refused_leads t InvalidHandle answer h
@@ -66,16 +88,17 @@ module _ {K T F I : Type 0} (g : Procedures K T F I) (s : State K T F I) (P : St
       go (Some x) h = does (Some x.object) h
 
   -- what a grant answers
-  granted_or_refused_leads : (t u : State K T F I) (status : Status) (answer : Answer) (result : Result ℕ Status)
+  granted_or_refused_leads : (t u : State K T F I) (p o : ℕ) (asked : Asked) (reason : Reason) (status : Status) (answer : Answer) (result : Result ℕ Status) → Grants g s p o asked reason result u
       → MatchResult result (λ value. (answer ≡ gives status (Handle value)) × (t ≡ settle g u)) (λ refusal. IsRefused s refusal answer t) → P t
-  granted_or_refused_leads t u status answer (Ok value) h = subst P (sym h.1) (settles u)
-  granted_or_refused_leads t u status answer (Err refusal) h = refused_leads t refusal answer h
+  granted_or_refused_leads t u p o asked reason status answer (Ok value) granted h =
+      subst P (sym h.1) (subst (λ v. P (settle g v)) (sym granted.2) (grants p value o asked reason granted.0))
+  granted_or_refused_leads t u p o asked reason status answer (Err refusal) granted h = refused_leads t refusal answer h
 
   opens_at_leads : (t : State K T F I) (p attrs : ℕ) (wanted : Wanted K) (status : Status) (o : ℕ) (answer : Answer) → OpensAt g s p attrs wanted status o answer t → P t
   opens_at_leads t p attrs wanted status o answer h =
       unless_leads ((not (is_wanted_at g s o wanted), ObjectTypeMismatch) ∷ []) t answer
       (GivesHandle g s p o (asked_by attrs) Opened status answer t)
-      (λ does. granted_or_refused_leads t does.1 status answer does.0 does.3) h
+      (λ e does. granted_or_refused_leads t does.1 p o (asked_by attrs) Opened status answer does.0 does.2 does.3) h
 
   opens_leads : (t : State K T F I) (p attrs : ℕ) (wanted : Wanted K) (look : Look) (answer : Answer) → Opens g s p attrs wanted look answer t → P t
   opens_leads t p attrs wanted (Refused status) answer h = refused_leads t status answer h
@@ -83,8 +106,8 @@ module _ {K T F I : Type 0} (g : Procedures K T F I) (s : State K T F I) (P : St
   opens_leads t p attrs wanted (Parse o rest n) answer h = absurd h
   opens_leads t p attrs wanted (At o) answer h = opens_at_leads t p attrs wanted Success o answer h
 
-  makes_leads : (t : State K T F I) (p attrs : ℕ) (making : Making K) (spot : Spot) (answer : Answer) → Makes g s p attrs making spot answer t → P t
-  makes_leads t p attrs making spot answer h = unless_leads (room_refusals s p spot) t answer _ (go (make_refusal g making)) h
+  makes_leads : (t : State K T F I) (p attrs : ℕ) (making : Making K) (spot : Spot) (answer : Answer) → are_lawful attrs ≡ true → Makes g s p attrs making spot answer t → P t
+  makes_leads t p attrs making spot answer lawful h = unless_leads (room_refusals s p spot) t answer _ (λ e. go (make_refusal g making)) h
     where
       Made : Type 0
       Made = (value : ℕ) × IsFreeValue s p value × (answer ≡ gives Success (Handle value)) × (t ≡ settle g (created g s p spot (body_made g making) attrs value))
@@ -93,7 +116,7 @@ module _ {K T F I : Type 0} (g : Procedures K T F I) (s : State K T F I) (P : St
       DroppedFor k = (answer ≡ answers (TypeRefused k)) × (t ≡ dropped g s (body_made g making))
 
       opened : (refusal : Option ℕ) → MatchOption refusal Made DroppedFor → P t
-      opened None h = subst P (sym h.3) (settles (created g s p spot (body_made g making) attrs h.0))
+      opened None h = subst P (sym h.3) (makes p spot (body_made g making) attrs h.0 lawful)
       opened (Some k) h = subst P (sym h.1) (drops (body_made g making))
 
       go : (refusal : Option ℕ)
@@ -101,32 +124,32 @@ module _ {K T F I : Type 0} (g : Procedures K T F I) (s : State K T F I) (P : St
       go None h = opened (open_refusal_of g s.set (body_made g making) Created) h
       go (Some k) h = refused_leads t (TypeRefused k) answer h
 
-  creates_leads : (t : State K T F I) (p attrs : ℕ) (making : Making K) (look : Look) (answer : Answer) → Creates g s p attrs making look answer t → P t
-  creates_leads t p attrs making (Refused status) answer h = refused_leads t status answer h
-  creates_leads t p attrs making (At o) answer h = go (has_flag open_if_flag attrs) h
+  creates_leads : (t : State K T F I) (p attrs : ℕ) (making : Making K) (look : Look) (answer : Answer) → are_lawful attrs ≡ true → Creates g s p attrs making look answer t → P t
+  creates_leads t p attrs making (Refused status) answer lawful h = refused_leads t status answer h
+  creates_leads t p attrs making (At o) answer lawful h = go (has_flag open_if_flag attrs) h
     where
       go : (opens : Bool) → MatchBool opens (OpensAt g s p attrs (type_made making) ObjectNameExists o answer t) (IsRefused s ObjectNameCollision answer t) → P t
       go true h = opens_at_leads t p attrs (type_made making) ObjectNameExists o answer h
       go false h = refused_leads t ObjectNameCollision answer h
-  creates_leads t p attrs making (Parse o rest n) answer h = absurd h
-  creates_leads t p attrs making (Vacant d c) answer h = makes_leads t p attrs making (Some (d, c)) answer h
+  creates_leads t p attrs making (Parse o rest n) answer lawful h = absurd h
+  creates_leads t p attrs making (Vacant d c) answer lawful h = makes_leads t p attrs making (Some (d, c)) answer lawful h
 
-  creates_in_leads : (t : State K T F I) (p : ℕ) (where_to : Place) (attrs : ℕ) (making : Making K) (answer : Answer) → CreatesIn g s p where_to attrs making answer t → P t
-  creates_in_leads t p (place.At root name) attrs making answer h =
+  creates_in_leads : (t : State K T F I) (p : ℕ) (where_to : Place) (attrs : ℕ) (making : Making K) (answer : Answer) → are_lawful attrs ≡ true → CreatesIn g s p where_to attrs making answer t → P t
+  creates_in_leads t p (place.At root name) attrs making answer lawful h =
       with_root_leads t p root answer
       (λ at. (look : Look) × LooksUp (without_parse g) s p (create_mode attrs) most_reparses at name look × Creates g s p attrs making look answer t)
-      (λ at does. creates_leads t p attrs making does.0 answer does.2) h
-  creates_in_leads t p place.Unnamed attrs making answer h = makes_leads t p attrs making None answer h
+      (λ at does. creates_leads t p attrs making does.0 answer lawful does.2) h
+  creates_in_leads t p place.Unnamed attrs making answer lawful h = makes_leads t p attrs making None answer lawful h
 
   creates_at_leads : (t : State K T F I) (p : ℕ) (where_to : Place) (attrs : ℕ) (making : Making K) (answer : Answer) → CreatesAt g s p where_to attrs making answer t → P t
   creates_at_leads t p where_to attrs making answer h =
       unless_leads (create_refusals (is_live s p) (is_fit making) where_to attrs) t answer (CreatesIn g s p where_to attrs making answer t)
-      (creates_in_leads t p where_to attrs making answer) h
+      (λ e. creates_in_leads t p where_to attrs making answer (lawful_to_create (is_live s p) (is_fit making) where_to attrs e)) h
 
   opens_name_leads : (t : State K T F I) (p : ℕ) (root : Option ℕ) (name : List ℕ) (attrs : ℕ) (wanted : Wanted K) (answer : Answer) → OpensName g s p root name attrs wanted answer t → P t
   opens_name_leads t p root name attrs wanted answer h =
       unless_leads (open_refusals (is_live s p) name attrs) t answer (WithRoot s p root answer t Does)
-      (with_root_leads t p root answer Does (λ at does. opens_leads t p attrs wanted does.0 answer does.2)) h
+      (λ e. with_root_leads t p root answer Does (λ at does. opens_leads t p attrs wanted does.0 answer does.2)) h
     where
       Does : Option ℕ → Type 0
       Does at = (look : Look) × LooksUp (without_parse g) s p (open_mode wanted attrs) most_reparses at name look × Opens g s p attrs wanted look answer t
@@ -140,25 +163,25 @@ module _ {K T F I : Type 0} (g : Procedures K T F I) (s : State K T F I) (P : St
   step_leads t (Start p (OpenLink root name attrs)) answer h = opens_name_leads t p root name attrs wanted.Link answer h
   step_leads t (Start p (OpenObject root name attrs want)) answer h = opens_name_leads t p root name attrs (type_wanted want) answer h
   step_leads t (Start p (Close handle)) answer h =
-      with_handle_leads t p handle answer (λ x. (answer ≡ answers Success) × (t ≡ settle g (closed_handle g s x))) (λ x does. subst P (sym does.1) (settles (closed_handle g s x))) h
+      with_handle_leads t p handle answer (λ x. (answer ≡ answers Success) × (t ≡ settle g (closed_handle g s x))) (λ x does. subst P (sym does.1) (closes x)) h
   step_leads t (Start p (QueryLink handle)) answer h =
       with_handle_leads t p handle answer (λ x. TellsTarget s x.object answer × (t ≡ s)) (λ x does. subst P (sym does.1) same) h
   step_leads t (Start p (QueryName handle)) answer h =
       with_handle_leads t p handle answer (λ x. TellsName s x.object answer × (t ≡ s)) (λ x does. subst P (sym does.1) same) h
   step_leads t (Start p (Duplicate handle to inherit)) answer h =
       unless_leads ((not (is_live s p), ProcessGone) ∷ (not (is_live s to), ProcessGone) ∷ []) t answer
-      (MatchOption (option_and_then (held_of s p) (key_of handle)) (IsRefused s InvalidHandle answer t) Given) (go (option_and_then (held_of s p) (key_of handle))) h
+      (MatchOption (option_and_then (held_of s p) (key_of handle)) (IsRefused s InvalidHandle answer t) Given) (λ e. go (option_and_then (held_of s p) (key_of handle))) h
     where
       Given : Held → Type 0
       Given x = GivesHandle g s to x.object (record { inherit = inherit; exclusive = false }) Duplicated Success answer t
 
       go : (o : Option Held) → MatchOption o (IsRefused s InvalidHandle answer t) Given → P t
       go None h = refused_leads t InvalidHandle answer h
-      go (Some x) h = granted_or_refused_leads t h.1 Success answer h.0 h.3
+      go (Some x) h = granted_or_refused_leads t h.1 to x.object (record { inherit = inherit; exclusive = false }) Duplicated Success answer h.0 h.2 h.3
   step_leads t (Start p (NewProcess inherit)) answer h =
       unless_leads ((not (is_live s p), ProcessGone) ∷ (is_crowded s p inherit, InsufficientResources) ∷ []) t answer
       (let u = begun g s p inherit in (answer ≡ gives Success (Process s.next_process (values_in u s.next_process))) × (t ≡ settle g u))
-      (λ does. subst P (sym does.1) (settles (begun g s p inherit))) h
+      (λ e does. subst P (sym does.1) (begins p inherit)) h
   step_leads t (Start p ExitProcess) answer h =
       unless_leads ((not (is_live s p), ProcessGone) ∷ []) t answer ((answer ≡ answers Success) × (t ≡ settle g (ended g s p)))
-      (λ does. subst P (sym does.1) (settles (ended g s p))) h
+      (λ e does. subst P (sym does.1) (ends p)) h

@@ -21,3 +21,4 @@ pub mod Staying
 pub mod Free
 pub mod Total
 pub mod Runs
+pub mod Alone

@@ -20,6 +20,7 @@ use Rattle.ob_model.specs.Grants.{opened_object, opened_body, with_open, with_ha
 use Rattle.ob_model.specs.Closing.{is_handle, without_handle, closed_body, closed_object, closed_handle}
 use Rattle.ob_model.specs.Creates.{Spot, new_rows, created}
 use Rattle.ob_model.specs.Opening.{opening}
+use Rattle.ob_model.specs.Processes.{begun, ended}
 use Rattle.ob_model.specs.Step.{Step}
 use Rattle.ob_model.proofs.Finds.{filter_all, filter_none, list_any_weaker}
 use Rattle.ob_model.proofs.InOrder.{in_order-All, in_order-others}
@@ -180,7 +181,9 @@ module _ {K T F I : Type 0} (g : Procedures K T F I) where
   -- a step from a settled state leads to a settled one
   pub step_settled : (s t : State K T F I) (event : Event K) (answer : Answer) → IsSettled s → Step g s event answer t → IsSettled t
   step_settled s t event answer settled h =
-      step_leads g s IsSettled settled settling_settles (λ body. record { names = settled.names; objects = settled.objects }) t event answer h
+      step_leads g s IsSettled settled (λ body. record { names = settled.names; objects = settled.objects }) (λ p value o asked reason e. settling_settles (with_handle (with_open g s o reason) p value o asked.inherit))
+      (λ p spot body attrs value lawful. settling_settles (created g s p spot body attrs value)) (λ h. settling_settles (closed_handle g s h))
+      (λ p inherit. settling_settles (begun g s p inherit)) (λ p. settling_settles (ended g s p)) t event answer h
 
 -- each name of the opening state names a permanent object, and each object is the root or has such a name
 pub opening_settled : {K T F I : Type 0} (set : T) → IsSettled (opening {K = K} {F = F} {I = I} set)

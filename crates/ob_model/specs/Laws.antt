@@ -19,6 +19,7 @@ use Rattle.ob_model.specs.Closing.{is_handle, closed_handle}
 use Rattle.ob_model.specs.Grants.{with_open, with_handle}
 use Rattle.ob_model.specs.Creates.{Spot, created}
 use Rattle.ob_model.specs.Sound.{IsSound, IsDirectory, Stands}
+use Rattle.ob_model.specs.Exclusive.{AreAlone}
 use Rattle.ob_model.specs.Processes.{handles_in, begun, ended, Duplicates}
 use Rattle.ob_model.specs.Step.{Step}
 use Rattle.ob_model.specs.Run.{Entry, RunFrom, Run}
@@ -164,6 +165,10 @@ module _ (K T F I : Type 0) where
   RunIsTotal =
       (g : Procedures K T F I) (first : T) (asked : List (ℕ × Event K))
       → (entries : List (Entry K)) × (t : State K T F I) × (map (λ e. (e.seat, e.event)) entries ≡ asked) × Run g first entries t
+
+  -- in every state of a run the handles of an exclusive object are in one process, and no child inherits one
+  abbrev pub ExclusiveIsAlone : Type 0
+  ExclusiveIsAlone = (g : Procedures K T F I) (first : T) (entries : List (Entry K)) (t : State K T F I) → Run g first entries t → AreAlone t
 
   -- a process that begins or ends, and a duplicate of a handle, leave a sound state
   abbrev pub ProcessesStaySound : Type 0

@@ -18,5 +18,6 @@ pub mod Processes
 pub mod Step
 pub mod Run
 pub mod Sound
+pub mod Exclusive
 pub mod Laws
 pub mod Examples

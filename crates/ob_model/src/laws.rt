@@ -34,6 +34,7 @@ ghost use Rattle.ob_model.specs.Laws.{
   RunIsPassed,
 };
 ghost use Rattle.ob_model.specs.Laws.{
+  ExclusiveIsAlone,
   ProcessesStaySound,
   DuplicateStaysSound,
   EndedHoldsNothing,
@@ -165,6 +166,12 @@ pub fn run_is_total<K, T, F, I>()
 /// A run is made of steps that were passed one after another, so that the calls of each run are told.
 pub fn run_is_passed<K, T, F, I>()
     ensures { RunIsPassed K T F I }
+{}
+
+/// In every state of a run all handles of an exclusive object are in one process, and none of them is one
+/// that a child inherits.
+pub fn exclusive_objects_have_one_process<K, T, F, I>()
+    ensures { ExclusiveIsAlone K T F I }
 {}
 
 /// A process that begins or ends leaves a sound state, and so does a handle that is duplicated.
