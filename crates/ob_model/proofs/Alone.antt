@@ -1,5 +1,5 @@
 -- In every state of a run the handles of an exclusive object are in one process, and none is inherited.
-use Rattle.std.proofs.Common.{◌≡◌, ◌≢◌, ◌∙◌, ℕ, ◌+◌, ◌<◌, ◌==◌, Bool, true, false, ◌&&◌, ◌||◌, not, if◌then◌else◌, List, [], ◌∷◌, ◌++◌, length, get_or, find, map, filter, All, Option, None, Some, option_map, refl, ap, sym, subst, arith, eq-eqb, eqb-true}
+use Rattle.std.proofs.Common.{◌≡◌, ◌∙◌, ℕ, ◌+◌, ◌<◌, ◌==◌, Bool, true, false, ◌&&◌, not, if◌then◌else◌, List, [], ◌∷◌, ◌++◌, length, get_or, find, filter, All, Option, None, Some, option_map, refl, ap, sym, subst, arith, eq-eqb, eqb-true}
 use Rattle.std.specs.Prelude.{AllPairs}
 use Rattle.std.specs.List.{list_any}
 use Rattle.std.specs.Option.{option_map_or, option_or, is_some}
@@ -19,12 +19,12 @@ use Rattle.ob_model.specs.declared.state.Object.{Object}
 use Rattle.ob_model.specs.State.{State, object_of, handle_count, handle_count_in}
 use Rattle.ob_model.specs.Opening.{opening}
 use Rattle.ob_model.specs.Procedures.{Procedures, Reason, Created, Inherited}
-use Rattle.ob_model.specs.Settle.{has_handle, settle}
+use Rattle.ob_model.specs.Settle.{settle}
 use Rattle.ob_model.specs.Grants.{Asked, first_refusal, is_exclusive, has_other_holder, is_table_full, grant_refusal, open_refusal, opened_object, opened_body, with_open, with_handle}
 use Rattle.ob_model.specs.Closing.{is_handle, without_handle, closed_body, closed_object, closed_handle}
 use Rattle.ob_model.specs.Creates.{Spot, created}
 use Rattle.ob_model.specs.Processes.{handles_in, inherited_from, with_child, without_process, inherits_one, inherits, begun, closed_in_turn, ended}
-use Rattle.ob_model.specs.Sound.{IsSound, Stands}
+use Rattle.ob_model.specs.Sound.{IsSound}
 use Rattle.ob_model.specs.Exclusive.{AreAlone}
 use Rattle.ob_model.specs.Step.{Step}
 use Rattle.ob_model.specs.Run.{Entry, RunFrom, Run}
@@ -163,7 +163,7 @@ module _ {K T F I : Type 0} (g : Procedures K T F I) where
       → AreAlone s → grant_refusal g s p o asked reason ≡ None → AreAlone (with_handle (with_open g s o reason) p value o asked.inherit)
   granted_alone s p value o asked reason is e =
       let tests =
-          refused_for (asked.exclusive && not (is_exclusive s o)) (asked.inherit && is_exclusive s o) (is_exclusive s o && has_other_holder s p o) (is_table_full s p) _ e in
+      refused_for (asked.exclusive && not (is_exclusive s o)) (asked.inherit && is_exclusive s o) (is_exclusive s o && has_other_holder s p o) (is_table_full s p) _ e in
       one_more s (with_handle (with_open g s o reason) p value o asked.inherit) (record { process = p; value = value; object = o; inherit = asked.inherit; order = s.next_order }) refl
       (λ k d within. exclusive-opened s o (get_or s.handles k d).object reason)
       (λ exclusive. not_held s p o tests.1 (sym (exclusive-opened s o o reason) ∙ exclusive))

@@ -1,6 +1,6 @@
 -- A process that begins or ends, or is given a handle, leaves a sound state; and one that has ended holds
 -- nothing and is gone.
-use Rattle.std.proofs.Common.{◌≡◌, ◌∙◌, ℕ, ◌==◌, Bool, true, false, ◌&&◌, ◌||◌, not, cond, List, [], ◌∷◌, filter, get_or, find, Option, None, Some, MatchOption, All, refl, ap, sym, subst}
+use Rattle.std.proofs.Common.{◌≡◌, ◌∙◌, ℕ, ◌==◌, Bool, true, false, ◌&&◌, ◌||◌, not, cond, List, [], ◌∷◌, ◌++◌, filter, map, get_or, find, Option, None, Some, MatchOption, All, refl, ap, sym, subst}
 use Rattle.std.proofs.Common.{eq-eqb, eqb-true, suc, ◌+◌, ◌<◌, arith}
 use Rattle.std.specs.Prelude.{AllPairs}
 use Rattle.std.proofs.lemmas.Bool.{ne_eqb}
@@ -8,7 +8,8 @@ use Rattle.std.proofs.lemmas.List.Kept.{AllPairs-filter}
 use Rattle.std.specs.List.{list_any}
 use Rattle.std.specs.Option.{option_and_then, option_or, option_map_or, is_some}
 use Rattle.std.proofs.lemmas.List.Folds.{find-append, list_any_at}
-use Rattle.std.proofs.lemmas.List.Elements.{All-head, All-tail, All-push, All-filter, All-weaker, filter_passes}
+use Rattle.std.proofs.lemmas.List.{append-nil, append_assoc, map-append}
+use Rattle.std.proofs.lemmas.List.Elements.{filter-append, All-head, All-tail, All-push, All-filter, All-weaker, filter_passes}
 use Rattle.ob_base.specs.declared.status.Status.TheVariants.{Success, InvalidHandle, ProcessGone}
 use Rattle.ob_base.specs.Handle.{key_of}
 use Rattle.ob_model.specs.declared.reply.Answer.{Answer}
@@ -20,7 +21,8 @@ use Rattle.ob_model.specs.Grants.{first_refusal, open_refusal, with_open, with_h
 use Rattle.ob_model.specs.Closing.{is_handle, closed_handle}
 use Rattle.ob_model.specs.Refusals.{IsRefused}
 use Rattle.ob_model.specs.Opens.{GivesHandle}
-use Rattle.ob_model.specs.Processes.{handles_in, inherited_from, with_child, without_process, inherits_one, inherits, begun, closed_in_turn, ended, Duplicates}
+use Rattle.ob_model.specs.Processes.{handles_in, inherited_from, with_child, without_process, inherits_one, inherits, accepted, begun, closed_in_turn, ended, Duplicates}
+use Rattle.ob_model.specs.Laws.{without_order, handed_on}
 use Rattle.ob_model.specs.Sound.{IsSound, Stands, HasSoundMap, IsDirectory}
 use Rattle.ob_model.proofs.Finds.{find-filter, All-kept, filter_none}
 use Rattle.ob_model.proofs.Finds.{find_none}
@@ -315,3 +317,37 @@ module _ {K T F I : Type 0} (g : Procedures K T F I) where
       neither : (b : Bool) → (b && false) ≡ false
       neither true = refl
       neither false = refl
+
+  -- ---- a child has the handles that it inherits and no others
+
+  inherits_holds : (s : State K T F I) (child : ℕ) (hs : List Held)
+      → map without_order (handles_in (inherits g s child hs) child) ≡ map without_order (handles_in s child) ++ map handed_on (accepted g s child hs)
+  inherits_holds s child [] = sym (append-nil (map without_order (handles_in s child)))
+  inherits_holds s child (h ∷ hs) = inherits_holds (inherits_one g s child h) child hs ∙ go (open_refusal g s h.object Inherited) (accepted g (inherits_one g s child h) child hs)
+    where
+      new : Held
+      new = record { process = child; value = h.value; object = h.object; inherit = true; order = s.next_order }
+
+      mine : filter (λ (x : Held). x.process == child) (new ∷ []) ≡ new ∷ []
+      mine = ap (λ (b : Bool). cond b (new ∷ []) []) (eq-eqb child child refl)
+
+      one_more : map without_order (handles_in (with_handle (with_open g s h.object Inherited) child h.value h.object true) child) ≡ map without_order (handles_in s child) ++ handed_on h ∷ []
+      one_more =
+          ap (map without_order) (filter-append (λ (x : Held). x.process == child) s.handles (new ∷ []) ∙ ap (λ (xs : List Held). handles_in s child ++ xs) mine)
+          ∙ map-append without_order (handles_in s child) (new ∷ [])
+
+      go : (o : Option ℕ) (later : List Held)
+          → map without_order (handles_in (option_map_or (λ _. record s { next_order = s.next_order + 1 }) o (with_handle (with_open g s h.object Inherited) child h.value h.object true)) child) ++ map handed_on later
+          ≡ map without_order (handles_in s child) ++ map handed_on (option_map_or (λ _. later) o (h ∷ later))
+      go None later = ap (λ xs. xs ++ map handed_on later) one_more ∙ append_assoc (map without_order (handles_in s child)) (handed_on h ∷ []) (map handed_on later)
+      go (Some k) later = refl
+
+  pub begun_holds : (s : State K T F I) (p : ℕ) (inherit : Bool) → IsSound s
+      → map without_order (handles_in (begun g s p inherit) s.next_process) ≡ map handed_on (accepted g (with_child s p) s.next_process (inherited_from s p inherit))
+  begun_holds s p inherit sound =
+      inherits_holds (with_child s p) s.next_process (inherited_from s p inherit)
+      ∙ ap (λ hs. map without_order hs ++ map handed_on (accepted g (with_child s p) s.next_process (inherited_from s p inherit)))
+      (filter_none (λ h. h.process == s.next_process) s.handles
+      (λ k d within.
+      let less = live_numbered s.processes s.next_process (get_or s.handles k d).process sound.numbered (sound.live k d within) in
+      ne_eqb (get_or s.handles k d).process s.next_process (λ same. omega (arith, less, same))))

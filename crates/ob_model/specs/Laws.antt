@@ -20,7 +20,7 @@ use Rattle.ob_model.specs.Grants.{with_open, with_handle}
 use Rattle.ob_model.specs.Creates.{Spot, created}
 use Rattle.ob_model.specs.Sound.{IsSound, IsDirectory, Stands}
 use Rattle.ob_model.specs.Exclusive.{AreAlone}
-use Rattle.ob_model.specs.Processes.{handles_in, begun, ended, Duplicates}
+use Rattle.ob_model.specs.Processes.{handles_in, inherited_from, with_child, accepted, begun, ended, Duplicates}
 use Rattle.ob_model.specs.Step.{Step}
 use Rattle.ob_model.specs.Run.{Entry, RunFrom, Run}
 use Rattle.ob_model.specs.Calls.{Passed, Passes, left_by}
@@ -77,6 +77,14 @@ module _ (F I : Type 0) where
 
   abbrev pub OneObjectMore : Type 0
   OneObjectMore = (x : Object F I) (objects : List (Object F I)) → length (insert_object x objects) ≡ length objects + 1
+
+-- a handle without its process and its order: its value, its object and whether it can be inherited; and what a
+-- child gets of it
+abbrev pub without_order : Held → ℕ × ℕ × Bool
+without_order h = (h.value, h.object, h.inherit)
+
+abbrev pub handed_on : Held → ℕ × ℕ × Bool
+handed_on h = (h.value, h.object, true)
 
 module _ (K T F I : Type 0) where
   -- found is the row of least stamp among those whose names are equal, and none where there is none
@@ -187,6 +195,14 @@ module _ (K T F I : Type 0) where
 
   abbrev pub EndedIsGone : Type 0
   EndedIsGone = (g : Procedures K T F I) (s : State K T F I) (p : ℕ) → is_live (ended g s p) p ≡ false
+
+  -- one that begins has the handles of its parent that are inherited and whose opens the set accepts, in
+  -- their order, each under its value, to its object, and to be inherited again
+  abbrev pub ChildHoldsTheAccepted : Type 0
+  ChildHoldsTheAccepted =
+      (g : Procedures K T F I) (s : State K T F I) (p : ℕ) (inherit : Bool) → IsSound s
+      → map without_order (handles_in (begun g s p inherit) s.next_process)
+      ≡ map handed_on (accepted g (with_child s p) s.next_process (inherited_from s p inherit))
 
   -- one that inherits nothing begins without a handle: the handles are as they were
   abbrev pub BeginsWithoutHandles : Type 0

@@ -65,6 +65,13 @@ module _ {K T F I : Type 0} (g : Procedures K T F I) where
   inherits s child [] = s
   inherits s child (h ∷ hs) = inherits (inherits_one s child h) child hs
 
+  -- those of these handles that it inherits: the set opens their objects, as the opens before it left them
+  abbrev pub accepted : State K T F I → ℕ → List Held → List Held
+  accepted s child [] = []
+  accepted s child (h ∷ hs) =
+      let later = accepted (inherits_one s child h) child hs in
+      option_map_or (λ _. later) (open_refusal g s h.object Inherited) (h ∷ later)
+
   -- the state in which a child of a process has begun, before it settles
   abbrev pub begun : State K T F I → ℕ → Bool → State K T F I
   begun s p inherit = inherits (with_child s p) s.next_process (inherited_from s p inherit)

@@ -36,6 +36,7 @@ ghost use Rattle.ob_model.specs.Laws.{
 ghost use Rattle.ob_model.specs.Laws.{
   ExclusiveIsAlone,
   ProcessesStaySound,
+  ChildHoldsTheAccepted,
   DuplicateStaysSound,
   EndedHoldsNothing,
   EndedIsGone,
@@ -184,6 +185,12 @@ pub fn processes_stay_sound<K, T, F, I>()
 pub fn ended_process_is_gone<K, T, F, I>()
     ensures handles { EndedHoldsNothing K T F I }
     ensures gone { EndedIsGone K T F I }
+{}
+
+/// A child has the handles of its parent that are inherited and whose opens the set accepts, in the order in
+/// which its parent opened them, each under the same value and to the same object, and can hand them on.
+pub fn child_holds_what_is_accepted<K, T, F, I>()
+    ensures { ChildHoldsTheAccepted K T F I }
 {}
 
 /// A child that inherits nothing begins without a handle: the handles are as they were.
