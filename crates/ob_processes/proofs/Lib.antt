@@ -4,6 +4,7 @@ pub mod Entries
 pub mod Counting
 pub mod Changes
 pub mod Seen
+pub mod Handing
 pub mod Written
 pub mod Kept
 pub mod Mapped

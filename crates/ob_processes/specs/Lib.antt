@@ -1,3 +1,4 @@
 pub mod ByOrder
 pub mod Running
 pub mod Counts
+pub mod Handed

@@ -1,12 +1,13 @@
 //! One live process.
 
-ghost use Rattle.std.specs.Prelude.{◌≡◌, ◌+◌, ◌<◌, ◌≤◌, ◌==◌, if◌then◌else◌, [], ◌∷◌, ◌++◌, Err};
-ghost use Rattle.std.specs.Prelude.{◌⊎◌, length, filter, count_by, All, IfSome, IfOk, IfErr, OnOk, OnErr};
+ghost use Rattle.std.specs.Prelude.{◌≡◌, ◌≢◌, ◌+◌, ◌<◌, ◌≤◌, ◌==◌, if◌then◌else◌, [], ◌∷◌, ◌++◌, Err};
+ghost use Rattle.std.specs.Prelude.{◌⊎◌, length, filter, count_by, All, AllPairs, IfSome, IfOk, IfErr, OnOk, OnErr};
 ghost use Rattle.std.specs.List.{find, slice_get};
 ghost use Rattle.std.specs.Option.{is_some};
 ghost use Rattle.ob_base.specs.declared.fault.Fault.TheVariants.{Memory, Refused};
 ghost use Rattle.ob_base.specs.declared.status.Status.TheVariants.{InsufficientResources};
 ghost use Rattle.ob_model.specs.State.{greatest_number, most_handles};
+ghost use Rattle.ob_model.specs.Grants.{IsHandleValue};
 ghost use Rattle.ob_handles.specs.Table.{IsUnused, without};
 
 use crate::counts::Counts;
@@ -85,7 +86,9 @@ impl<H: HandleTable> Live<H> {
 
     /// Those of its handles that a child inherits.
     pub(crate) fn inheritable(&self, alloc: Global) -> Result<Vec<Held>, AllocError>
-        ensures { IfOk result (λ list. list.items ≡ filter (λ h. h.inherit) self.now.handles) }
+        ensures list { IfOk result (λ list. list.items ≡ filter (λ h. h.inherit) self.now.handles) }
+        ensures values { IfOk result (λ list. All (λ h. IsHandleValue h.value) list.items) }
+        ensures apart { IfOk result (λ list. AllPairs (λ a b. a.value ≢ b.value) list.items) }
     {
         self.table.inheritable(alloc)
     }

@@ -1,7 +1,7 @@
 //! The live processes.
 
-ghost use Rattle.std.specs.Prelude.{◌≡◌, ◌<◌, ◌≤◌, ◌==◌, ◌&&◌, not, [], ◌∷◌, ◌++◌, None, Err, true};
-ghost use Rattle.std.specs.Prelude.{◌⊎◌, length, filter, map, count_by, All, IfOk, IfErr, OnOk, OnErr};
+ghost use Rattle.std.specs.Prelude.{◌≡◌, ◌≢◌, ◌<◌, ◌≤◌, ◌==◌, ◌&&◌, not, [], ◌∷◌, ◌++◌, None, Err, true};
+ghost use Rattle.std.specs.Prelude.{◌⊎◌, length, filter, map, count_by, All, AllPairs, IfOk, IfErr, OnOk, OnErr};
 ghost use Rattle.std.specs.List.{find, list_any};
 ghost use Rattle.std.specs.Option.{is_some, option_and_then};
 ghost use Rattle.ob_base.specs.declared.fault.Fault.TheVariants.{Memory, Refused};
@@ -160,14 +160,16 @@ impl<H: HandleTable> Processes<H> {
         self.live.get(&process.0)?.oldest()
     }
 
-    /// The handles of a process that a child inherits, in the order in which they were opened; none where
-    /// the process isn't live. The only error is want of memory. Takes a time that grows with the handles
+    /// The handles of a process that a child inherits, in the order in which they were opened, with values
+    /// that differ; none where the process isn't live. The only error is want of memory. Takes a time that grows with the handles
     /// of the process.
     ///
     /// Source: Windows Internals, Processes (inheritance of handles).
     pub fn inheritable(&self, process: Proc) -> Result<Vec<Held>, AllocError>
-        ensures { IfOk result (λ list. list.items
+        ensures list { IfOk result (λ list. list.items
             ≡ filter (λ h. h.inherit) (filter (λ h. h.process == process) self.now.handles)) }
+        ensures values { IfOk result (λ list. All (λ h. IsHandleValue h.value) list.items) }
+        ensures apart { IfOk result (λ list. AllPairs (λ a b. a.value ≢ b.value) list.items) }
     {
         match self.live.get(&process.0) {
             Some(live) => live.inheritable(self.alloc),
