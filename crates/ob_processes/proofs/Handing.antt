@@ -52,7 +52,7 @@ none_there {X} test (x ∷ xs) none = go (test x) (All-head (λ y. test y ≡ fa
     go true e rest = cc
     go false e rest = rest
 
-other_values : (p n : ℕ) (hs : List Held) (value : ℕ) → All (λ h. h.value ≢ value) hs → All (λ h. is_handle p value h ≡ false) (handed_on p n hs)
+pub other_values : (p n : ℕ) (hs : List Held) (value : ℕ) → All (λ h. h.value ≢ value) hs → All (λ h. is_handle p value h ≡ false) (handed_on p n hs)
 other_values p n [] value others = All-nil (λ h. is_handle p value h ≡ false)
 other_values p n (h ∷ hs) value others =
     All-cons (λ k. is_handle p value k ≡ false) _ (handed_on p (n + 1) hs)

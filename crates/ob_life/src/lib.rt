@@ -1,0 +1,2 @@
+//! How processes begin and end.
+#![tactic(auto)]
