@@ -1,7 +1,8 @@
 pub mod Backward
+pub mod Closed
 pub mod Granted
+pub mod Handles
 pub mod Looked
-pub mod Marks
 pub mod Opened
 pub mod Orders
 pub mod Placed

@@ -1,16 +1,14 @@
 -- What keeps a state orderly: settling, an open with its grant, a new object, a close, and an object
 -- that is dropped.
-use Rattle.std.proofs.Common.{◌≡◌, ◌≢◌, ℕ, zero, suc, ◌+◌, ◌<◌, ◌==◌, Bool, true, false, ◌&&◌, ◌||◌, not, cond, List, [], ◌∷◌, ◌++◌, length, get_or, map, filter, find, All, None, Some, option_map, refl, ap, ◌∙◌, sym, subst, arith, eqb-true, eq-eqb}
+use Rattle.std.proofs.Common.{◌≡◌, ℕ, zero, suc, ◌+◌, ◌<◌, ◌≤◌, ◌==◌, Bool, true, false, ◌&&◌, ◌||◌, not, cond, List, [], ◌∷◌, ◌++◌, length, get_or, map, filter, find, All, None, Some, option_map, refl, ap, ◌∙◌, sym, subst, arith, eqb-true, eq-eqb}
 use Rattle.std.specs.Prelude.{count_by, MatchOption}
 use Rattle.std.specs.List.{AllPairs, list_any}
 use Rattle.std.specs.Option.{option_map_or, is_some}
 use Rattle.std.proofs.lemmas.Bool.{ne_eqb}
-use Rattle.std.proofs.lemmas.List.{length-append}
 use Rattle.std.proofs.lemmas.List.Elements.{All-nil, All-append, All-push, All-map, All-filter, All-weaker}
 use Rattle.std.proofs.lemmas.List.Folds.{list_any-append}
 use Rattle.std.proofs.lemmas.List.Kept.{AllPairs-filter, AllPairs-cons}
-use Rattle.std.proofs.lemmas.List.Quantifiers.{all_pairs_push}
-use Rattle.std.proofs.lemmas.List.Sums.{length-filter, count_by-le-length}
+use Rattle.std.proofs.lemmas.List.Sums.{length-filter}
 use Rattle.ob_model.specs.declared.state.Body.{Body}
 use Rattle.ob_model.specs.declared.state.Body.TheVariants.{Directory, Link, Other}
 use Rattle.ob_model.specs.declared.state.Object.{Object}
@@ -19,12 +17,13 @@ use Rattle.ob_model.specs.declared.state.Row.{Row}
 use Rattle.ob_model.specs.State.{State, root_id, is_directory, is_directory_body, most_handles, table_size, handle_count, handle_count_in}
 use Rattle.ob_model.specs.Procedures.{Procedures, Reason}
 use Rattle.ob_model.specs.Settle.{settle, is_alive, is_kept, is_permanent, has_handle, has_name}
-use Rattle.ob_model.specs.Grants.{with_open, with_handle, opened_object, opened_body, IsFreeValue}
+use Rattle.ob_model.specs.Grants.{with_open, with_handle, opened_object, opened_body}
 use Rattle.ob_model.specs.Closing.{is_handle, without_handle, closed_handle, closed_object, closed_body}
 use Rattle.ob_model.specs.Creates.{Spot, new_rows, with_object, with_row}
 use Rattle.ob_model.proofs.InOrder.{newest_is_free, in_order-All, in_order-rising}
 use Rattle.ob_model.proofs.Soundness.{root_stands, opened_root, closed_root, opened_object-id, closed_object-id, is_directory-with_object}
-use Rattle.ob_model.proofs.Finds.{filter_all, filter_none}
+use Rattle.ob_model.proofs.Finds.{filter_none}
+use Rattle.ob_space.proofs.Handles.{count-append, count_left}
 use Rattle.ob_space.specs.Orderly.{IsIdleBody, is_held, IsIdleUnheld, IsNamedPermanent, IsOrderly}
 
 -- pairs of a list whose elements change, and stay as they were to one another
@@ -43,12 +42,9 @@ none_pass test (x ∷ xs) h = go (test x) refl h (none_pass test xs)
     go true e h rest = cc
     go false e h rest = All-append (λ y. test y ≡ false) (x ∷ []) xs (All-push (λ y. test y ≡ false) [] x (All-nil (λ y. test y ≡ false)) e) (rest h)
 
--- counts of what none does, and of what all do
+-- a count of what none does
 count_none : {X : Type 0} (test : X → Bool) (xs : List X) → list_any test xs ≡ false → count_by test xs ≡ 0
 count_none test xs h = sym (length-filter test xs) ∙ ap length (filter_none test xs (none_pass test xs h))
-
-count_all : {X : Type 0} (test : X → Bool) (xs : List X) → All (λ x. test x ≡ true) xs → count_by test xs ≡ length xs
-count_all test xs h = sym (length-filter test xs) ∙ ap length (filter_all test xs h)
 
 -- of a list that a filter went over, where it keeps each element that a test finds
 any_stays : {X : Type 0} (test keeps : X → Bool) (xs : List X) → All (λ x. test x ≡ true → keeps x ≡ true) xs → list_any test (filter keeps xs) ≡ list_any test xs
@@ -71,18 +67,6 @@ unheld_before handles h o e =
     let parts = or_false (is_held handles o) (is_held (h ∷ []) o) (sym (list_any-append (λ x. x.object == o) handles (h ∷ [])) ∙ e) in
     (parts.0, (or_false (h.object == o) false parts.1).0)
 
--- no handle is one that a search for it doesn't find
-not_among : (p value : ℕ) (hs : List Held) → find (is_handle p value) hs ≡ None → (k : ℕ) (d : Held) → k < length hs → is_handle p value (get_or hs k d) ≡ false
-not_among p value [] e k d below = absurd (omega (arith, below))
-not_among p value (h ∷ hs) e k d below = go (is_handle p value h) refl e k below (not_among p value hs)
-  where
-    go : (b : Bool) → is_handle p value h ≡ b → cond b (Some h) (find (is_handle p value) hs) ≡ None → (k : ℕ) → k < length (h ∷ hs)
-        → (find (is_handle p value) hs ≡ None → (k : ℕ) (d : Held) → k < length hs → is_handle p value (get_or hs k d) ≡ false)
-        → is_handle p value (get_or (h ∷ hs) k d) ≡ false
-    go true f e k below rest = cc
-    go false f e zero below rest = f
-    go false f e (suc k) below rest = rest e k d (omega (arith, below))
-
 -- what a search finds at the first place where its test passes
 find_at : {X : Type 0} (test : X → Bool) (xs : List X) (i : ℕ) (d : X) → i < length xs → test (get_or xs i d) ≡ true
     → ((k : ℕ) → k < i → test (get_or xs k d) ≡ false) → find test xs ≡ Some (get_or xs i d)
@@ -102,21 +86,26 @@ finds_itself objects rising k d below =
 pub permanent_itself : {K T F I : Type 0} (s : State K T F I) → AllPairs (λ a b. a.id < b.id) s.objects → All (λ x. is_permanent s x.id ≡ x.permanent) s.objects
 permanent_itself s rising k d below = ap (λ (o : _). option_map_or (λ x. x.permanent) o false) (finds_itself s.objects rising k d below)
 
--- the handles of one process are all handles
-module _ {K T F I : Type 0} {idle : I → Type 0} (s : State K T F I) (orderly : IsOrderly idle s) (p : ℕ) (first : p ≡ 1) where
-  all_own : All (λ h. (h.process == p) ≡ true) s.handles
-  all_own = All-weaker (λ h. h.process ≡ 1) (λ h. (h.process == p) ≡ true) (λ h e. eq-eqb h.process p (e ∙ sym first)) s.handles orderly.own
+-- a handle more, with the next order
+one_more_opened : {K T F I : Type 0} (s : State K T F I) (h : Held) → h.order ≡ s.next_order → All (λ k. k.order < s.next_order) s.handles → All (λ k. k.order < s.next_order + 1) (s.handles ++ h ∷ [])
+one_more_opened s h is opened =
+    All-push (λ k. k.order < s.next_order + 1) s.handles h
+    (All-weaker (λ k. k.order < s.next_order) (λ k. k.order < s.next_order + 1) (λ k less. omega (arith, less)) s.handles opened) (omega (arith, is))
 
-  pub own_size : table_size s p ≡ length s.handles
-  own_size = count_all (λ h. h.process == p) s.handles all_own
-
-  -- a free value differs from those of all handles
-  pub value_differs : (value : ℕ) → IsFreeValue s p value → (k : ℕ) (d : Held) → k < length s.handles → (get_or s.handles k d).value ≢ value
-  value_differs value free k d below same =
-      let missed : is_handle p value (get_or s.handles k d) ≡ false = not_among p value s.handles free.1 k d below in
-      let mine : ((get_or s.handles k d).process == p) ≡ true = all_own k d below in
-      let valued : ((get_or s.handles k d).value == value) ≡ true = eq-eqb (get_or s.handles k d).value value same in
-      cc
+-- a handle more in a table that isn't full leaves no table too large
+module _ {K T F I : Type 0} (s : State K T F I) (h : Held) where
+  pub still_few : table_size s h.process < most_handles → ((p : ℕ) → table_size s p ≤ most_handles) → (p : ℕ) → count_by (λ k. k.process == p) (s.handles ++ h ∷ []) ≤ most_handles
+  still_few room few p = go (h.process == p) refl (count-append (λ k. k.process == p) s.handles (h ∷ []))
+    where
+      go : (b : Bool) → (h.process == p) ≡ b → count_by (λ k. k.process == p) (s.handles ++ h ∷ []) ≡ table_size s p + count_by (λ k. k.process == p) (h ∷ []) → count_by (λ k. k.process == p) (s.handles ++ h ∷ []) ≤ most_handles
+      go true e counted =
+          let own : table_size s p < 65535 = subst (λ (n : ℕ). table_size s n < 65535) (eqb-true h.process p e) room in
+          let one : count_by (λ k. k.process == p) (h ∷ []) ≡ 1 = ap (λ (b : Bool). 0 + cond b 1 0) e in
+          omega (arith, counted, own, one)
+      go false e counted =
+          let most : table_size s p ≤ 65535 = few p in
+          let none : count_by (λ k. k.process == p) (h ∷ []) ≡ 0 = ap (λ (b : Bool). 0 + cond b 1 0) e in
+          omega (arith, counted, most, none)
 
 module _ {K T F I : Type 0} (g : Procedures K T F I) (idle : I → Type 0) where
   -- settling leaves an orderly state
@@ -129,9 +118,11 @@ module _ {K T F I : Type 0} (g : Procedures K T F I) (idle : I → Type 0) where
     stamped = All-filter (is_kept s) (λ r. r.stamp < s.next_stamp) s.rows h.stamped;
     named = All-filter (λ x. is_alive s x.id) (IsNamedPermanent (settle g s)) s.objects (λ k d below. named_settled (get_or s.objects k d) (permanent_itself s h.rising k d below) (h.named k d below));
     unheld = All-filter (λ x. is_alive s x.id) (IsIdleUnheld idle s.handles) s.objects h.unheld;
-    own = h.own;
-    distinct = h.distinct;
-    few = h.few;
+    opened = h.opened;
+    numbered = h.numbered;
+    few_handles = h.few_handles;
+    few_processes = h.few_processes;
+    unmapped = h.unmapped;
   }
     where
       -- the names of a permanent object stay
@@ -144,10 +135,10 @@ module _ {K T F I : Type 0} (g : Procedures K T F I) (idle : I → Type 0) where
           kept : (r : Row) → r.object ≡ x.id → is_kept s r ≡ true
           kept r at = ap (λ (b : Bool). b || has_handle s r.object) (ap (is_permanent s) at ∙ itself ∙ permanent)
 
-  -- an open and a grant to process 1, which has room for it, leave an orderly state
+  -- an open and a grant to a process, whose table has room for it, leave an orderly state
   pub granted_orderly : (s : State K T F I) (p value o : ℕ) (reason : Reason) (inherit : Bool)
-      → IsOrderly idle s → p ≡ 1 → table_size s p < most_handles → IsFreeValue s p value → IsOrderly idle (with_handle (with_open g s o reason) p value o inherit)
-  granted_orderly s p value o reason inherit h first room free =
+      → IsOrderly idle s → table_size s p < most_handles → IsOrderly idle (with_handle (with_open g s o reason) p value o inherit)
+  granted_orderly s p value o reason inherit h room =
       let f = opened_object g s.set o reason in
       let new : Held = record { process = p; value = value; object = o; inherit = inherit; order = s.next_order } in
       record {
@@ -161,9 +152,11 @@ module _ {K T F I : Type 0} (g : Procedures K T F I) (idle : I → Type 0) where
         named = All-map (IsNamedPermanent s) f s.objects (All-weaker (IsNamedPermanent s) (λ x. IsNamedPermanent s (f x)) opened_named s.objects h.named);
         unheld = All-map (IsIdleUnheld idle (s.handles ++ new ∷ [])) f s.objects
             (All-weaker (IsIdleUnheld idle s.handles) (λ x. IsIdleUnheld idle (s.handles ++ new ∷ []) (f x)) (opened_unheld new refl) s.objects h.unheld);
-        own = All-push (λ x. x.process ≡ 1) s.handles new h.own first;
-        distinct = all_pairs_push (λ a b. a.value ≢ b.value) s.handles new h.distinct (value_differs s h p first value free);
-        few = omega (arith, length-append s.handles (new ∷ []), room, own_size s h p first);
+        opened = one_more_opened s new refl h.opened;
+        numbered = h.numbered;
+        few_handles = still_few s new room h.few_handles;
+        few_processes = h.few_processes;
+        unmapped = h.unmapped;
       }
     where
       opened_named : (x : Object F I) → IsNamedPermanent s x → IsNamedPermanent s (opened_object g s.set o reason x)
@@ -193,35 +186,16 @@ module _ {K T F I : Type 0} (g : Procedures K T F I) (idle : I → Type 0) where
     stamped = h.stamped;
     named = h.named;
     unheld = h.unheld;
-    own = h.own;
-    distinct = h.distinct;
-    few = h.few;
+    opened = h.opened;
+    numbered = h.numbered;
+    few_handles = h.few_handles;
+    few_processes = h.few_processes;
+    unmapped = h.unmapped;
   }
 
 not_false : (b : Bool) → (b ≡ true → ⊥) → not b ≡ true
 not_false true h = absurd (h refl)
 not_false false h = refl
-
--- of handles whose values differ, all that a search for one could find lead to its object
-pub only_handle : (p value : ℕ) (hs : List Held) (h : Held) → AllPairs (λ a b. a.value ≢ b.value) hs → find (is_handle p value) hs ≡ Some h
-    → All (λ k. is_handle p value k ≡ true → k.object ≡ h.object) hs
-only_handle p value [] h differ e = All-nil (λ k. is_handle p value k ≡ true → k.object ≡ h.object)
-only_handle p value (x ∷ hs) h differ e = go (is_handle p value x) refl e (only_handle p value hs h (λ i j d less below. differ (suc i) (suc j) d (omega (arith, less)) (omega (arith, below))))
-  where
-    valued : (k : Held) → is_handle p value k ≡ true → k.value ≡ value
-    valued k f = eqb-true k.value value (and_right (k.process == p) (k.value == value) f)
-      where
-        and_right : (a b : Bool) → (a && b) ≡ true → b ≡ true
-        and_right true b h = h
-        and_right false b h = cc
-
-    go : (b : Bool) → is_handle p value x ≡ b → cond b (Some x) (find (is_handle p value) hs) ≡ Some h
-        → (find (is_handle p value) hs ≡ Some h → All (λ k. is_handle p value k ≡ true → k.object ≡ h.object) hs)
-        → All (λ k. is_handle p value k ≡ true → k.object ≡ h.object) (x ∷ hs)
-    go true f e rest zero d below = λ _. let same : x ≡ h = cc in ap (λ (k : Held). k.object) same
-    go true f e rest (suc k) d below = λ other. absurd (differ 0 (suc k) d (omega arith) below (valued x f ∙ sym (valued (get_or hs k d) other)))
-    go false f e rest zero d below = λ is. cc
-    go false f e rest (suc k) d below = rest e k d (omega (arith, below))
 
 module _ {K T F I : Type 0} (g : Procedures K T F I) (idle : I → Type 0) (closed_idle : (set : T) (inner : I) (process_left : ℕ) → idle ((g.closed set inner process_left 0).1)) where
   -- a body as its last close left it is idle
@@ -248,9 +222,14 @@ module _ {K T F I : Type 0} (g : Procedures K T F I) (idle : I → Type 0) (clos
         named = All-map (IsNamedPermanent s) f s.objects (All-weaker (IsNamedPermanent s) (λ x. IsNamedPermanent s (f x)) (closed_named left total) s.objects orderly.named);
         unheld = All-map (IsIdleUnheld idle kept) f s.objects
             (All-weaker (IsIdleUnheld idle s.handles) (λ x. IsIdleUnheld idle kept (f x)) (closed_unheld left total refl) s.objects orderly.unheld);
-        own = All-filter (λ k. not (is_handle h.process h.value k)) (λ k. k.process ≡ 1) s.handles orderly.own;
-        distinct = AllPairs-filter (λ a b. a.value ≢ b.value) (λ k. not (is_handle h.process h.value k)) s.handles orderly.distinct;
-        few = omega (arith, orderly.few, length-filter (λ k. not (is_handle h.process h.value k)) s.handles, count_by-le-length (λ k. not (is_handle h.process h.value k)) s.handles);
+        opened = All-filter (λ k. not (is_handle h.process h.value k)) (λ k. k.order < s.next_order) s.handles orderly.opened;
+        numbered = orderly.numbered;
+        few_handles = λ p.
+            let most : table_size s p ≤ 65535 = orderly.few_handles p in
+            let left : count_by (λ k. k.process == p) (filter (λ k. not (is_handle h.process h.value k)) s.handles) ≤ table_size s p = count_left (λ k. k.process == p) (λ k. not (is_handle h.process h.value k)) s.handles in
+            omega (arith, most, left);
+        few_processes = orderly.few_processes;
+        unmapped = orderly.unmapped;
       }
     where
       closed_named : (left total : ℕ) (x : Object F I) → IsNamedPermanent s x → IsNamedPermanent s (closed_object g s.set h.object left total x)
@@ -292,13 +271,13 @@ module _ {K T F I : Type 0} (idle : I → Type 0) (s : State K T F I) (orderly :
   pub directory_drawn : (d : ℕ) → is_directory s d ≡ true → d < s.next_id
   directory_drawn d h = find_drawn s.objects d orderly.drawn h
 
-  -- a new object of process 1, with its row in a directory that is there and a handle to it, leaves an
-  -- orderly state
+  -- a new object, with its row in a directory that is there and a handle to it of a process whose table
+  -- has room, leaves an orderly state
   pub object_orderly : (set : T) (body : Body F I) (permanent exclusive : Bool) (spot : Spot) (p value : ℕ) (inherit : Bool)
-      → p ≡ 1 → table_size s p < most_handles → IsFreeValue s p value → MatchOption spot (Unit {0}) (λ at. is_directory s at.0 ≡ true)
+      → table_size s p < most_handles → MatchOption spot (Unit {0}) (λ at. is_directory s at.0 ≡ true)
       → (permanent ≡ true → is_some spot ≡ true)
       → IsOrderly idle (with_handle (with_row (with_object (record s { set = set }) body permanent exclusive) spot s.next_id) p value s.next_id inherit)
-  object_orderly set body permanent exclusive spot p value inherit first room free inside placed =
+  object_orderly set body permanent exclusive spot p value inherit room inside placed =
       let new : Object F I = record { id = s.next_id; body = body; permanent = permanent; exclusive = exclusive } in
       let handle : Held = record { process = p; value = value; object = s.next_id; inherit = inherit; order = s.next_order } in
       let t : State K T F I = record s { rows = s.rows ++ new_rows spot s.next_stamp s.next_id } in
@@ -313,9 +292,11 @@ module _ {K T F I : Type 0} (idle : I → Type 0) (s : State K T F I) (orderly :
         named = in_order-All (λ x. x.id) (IsNamedPermanent t) new s.objects (λ permanent. new_named spot (placed permanent)) (All-weaker (IsNamedPermanent s) (IsNamedPermanent t) still_named s.objects orderly.named);
         unheld = in_order-All (λ x. x.id) (IsIdleUnheld idle (s.handles ++ handle ∷ [])) new s.objects (λ unheld. held_itself handle refl unheld)
             (All-weaker (IsIdleUnheld idle s.handles) (IsIdleUnheld idle (s.handles ++ handle ∷ [])) (λ x before unheld. before (unheld_before s.handles handle x.id unheld).0) s.objects orderly.unheld);
-        own = All-push (λ h. h.process ≡ 1) s.handles handle orderly.own first;
-        distinct = all_pairs_push (λ a b. a.value ≢ b.value) s.handles handle orderly.distinct (value_differs s orderly p first value free);
-        few = omega (arith, length-append s.handles (handle ∷ []), room, own_size s orderly p first);
+        opened = one_more_opened s handle refl orderly.opened;
+        numbered = orderly.numbered;
+        few_handles = still_few s handle room orderly.few_handles;
+        few_processes = orderly.few_processes;
+        unmapped = orderly.unmapped;
       }
     where
       row_stamped : (spot : Spot) → All (λ r. r.stamp < s.next_stamp + length (new_rows spot s.next_stamp s.next_id)) (new_rows spot s.next_stamp s.next_id)

@@ -1,11 +1,15 @@
 -- An object stays exactly where it is fixed, is permanent, has a handle, or a name that stays lies in
 -- it: where each permanent object has a name.
 use Rattle.std.proofs.Common.{◌≡◌, ℕ, suc, ◌<◌, Bool, true, false, not, ◌||◌, ◌&&◌, ◌==◌, cond, List, [], ◌∷◌, length, get_or, refl, ap, ◌∙◌, sym, subst, arith, filter, All}
+use Rattle.std.specs.Prelude.{Option, None}
 use Rattle.std.specs.List.{AllPairs, list_any}
+use Rattle.std.specs.Option.{option_map_or}
+use Rattle.std.proofs.lemmas.List.Folds.{list_any_none}
 use Rattle.std.proofs.lemmas.List.Sums.{length-filter, count_by-le-length}
 use Rattle.ob_model.specs.declared.state.Row.{Row}
 use Rattle.ob_model.specs.declared.state.Held.{Held}
 use Rattle.ob_model.specs.declared.state.Object.{Object}
+use Rattle.ob_model.specs.declared.state.Process.{Process}
 use Rattle.ob_model.specs.Procedures.{Procedures}
 use Rattle.ob_model.specs.State.{State, root_id, global_id}
 use Rattle.ob_model.specs.Settle.{is_kept, is_alive, is_permanent, has_handle, has_name, holds_kept, deleted_all, settle}
@@ -14,6 +18,7 @@ use Rattle.ob_objects.specs.Store.{Entries, NameEntry, objects_of, rows_of}
 use Rattle.ob_objects.specs.Changes.{without_name}
 use Rattle.ob_objects.specs.Named.{stands_at}
 use Rattle.ob_objects.proofs.Shown.{row_goes_with_name, names_change_no_object}
+use Rattle.ob_processes.specs.Running.{Running}
 use Rattle.ob_space.specs.declared.space.Namespace.{Namespace}
 use Rattle.ob_space.specs.Namespace.{state_of, listed, handles_alone}
 use Rattle.ob_space.specs.Orderly.{IsOrderly, IsNamedPermanent, IsIdleUnheld}
@@ -43,6 +48,11 @@ same_tests false false true false holds true named = refl
 same_tests false false true false holds false named = let h : false ≡ true = named refl in cc
 same_tests false false false true holds name named = refl
 same_tests false false false false holds name named = refl
+
+-- where no process has a map, no directory is one
+none_mapped : (ps : List Process) (o : ℕ) → All (λ p. p.map ≡ None) ps → list_any (λ p. option_map_or (λ d. d == o) p.map false) ps ≡ false
+none_mapped ps o unmapped =
+    list_any_none (λ p. option_map_or (λ d. d == o) p.map false) ps (λ k d below. ap (λ (m : Option ℕ). option_map_or (λ n. n == o) m false) (unmapped k d below))
 
 -- one filter for two tests that agree on the elements
 pub filter_agrees : {X : Type 0} (p q : X → Bool) (xs : List X) → All (λ x. p x ≡ q x) xs → filter p xs ≡ filter q xs
@@ -112,7 +122,7 @@ module _ {F I : Type 0} (old store : Entries F I) (handles : List Held) (objects
     pub fewer_rows : list_any (stands_at directory stamp) (rows_of store) ≡ true → length (rows_of forgotten) < length (rows_of store)
     fewer_rows some = subst (λ (n : ℕ). n < length (rows_of store)) (sym (ap length rows_then)) (fewer (stands_at directory stamp) (rows_of store) some)
 
-module _ (K : Type 0) {T F I : Type 0} (g : Procedures K T F I) (idle : I → Type 0) (a : Namespace T (Entries F I)) (orderly : IsOrderly idle (state_of K a)) where
+module _ (K : Type 0) {T F I : Type 0} (g : Procedures K T F I) (idle : I → Type 0) (a : Namespace T (Entries F I) Running) (orderly : IsOrderly idle (state_of K a)) where
   abbrev s : State K T F I
   s = state_of K a
 
@@ -132,8 +142,9 @@ module _ (K : Type 0) {T F I : Type 0} (g : Procedures K T F I) (idle : I → Ty
       go x itself named =
           ap (λ b. (x.id == root_id) || (x.id == global_id) || is_permanent s x.id || has_handle s x.id || b) (any_kept (is_kept s) (λ r. r.directory == x.id) s.rows)
           ∙ same_tests (x.id == root_id) (x.id == global_id) (is_permanent s x.id) (has_handle s x.id) (holds_kept s x.id) (has_name s x.id) (λ permanent. named (sym itself ∙ permanent))
+          ∙ ap (λ b. (x.id == root_id) || has_handle s x.id || false || ((x.id == global_id) || b) || (is_permanent s x.id && has_name s x.id) || holds_kept s x.id) (sym (none_mapped s.processes x.id orderly.unmapped))
 
-  module _ (store : Entries F I) (handles : List Held) (same_handles : handles ≡ a.handles.items) (objects_are : objects_of store ≡ objects_of a.store)
+  module _ (store : Entries F I) (handles : List Held) (same_handles : handles ≡ a.processes.handles) (objects_are : objects_of store ≡ objects_of a.store)
       (rows_are : rows_of store ≡ filter (is_kept (listed (objects_of a.store) [] handles)) (rows_of a.store)) where
     -- the state whose rows are those that stay, with the objects judged by these rows, is settled
     pub is_settled : record (state_of K (record a { store = store })) {
@@ -159,5 +170,5 @@ module _ (K : Type 0) {T F I : Type 0} (g : Procedures K T F I) (idle : I → Ty
     pub still_rising : AllPairs (λ x y. x.id < y.id) (objects_of store)
     still_rising = subst (λ (xs : List (Object F I)). AllPairs (λ x y. x.id < y.id) xs) (sym objects_are) orderly.rising
 
-    pub still_unheld : All (IsIdleUnheld idle a.handles.items) (objects_of store)
-    still_unheld = subst (λ (xs : List (Object F I)). All (IsIdleUnheld idle a.handles.items) xs) (sym objects_are) orderly.unheld
+    pub still_unheld : All (IsIdleUnheld idle a.processes.handles) (objects_of store)
+    still_unheld = subst (λ (xs : List (Object F I)). All (IsIdleUnheld idle a.processes.handles) xs) (sym objects_are) orderly.unheld

@@ -5,4 +5,4 @@ pub mod Roots
 pub mod Opening
 pub mod Placing
 pub mod Looking
-pub mod Values
+pub mod Asking

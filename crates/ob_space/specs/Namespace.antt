@@ -1,25 +1,26 @@
 -- The abstract state of a namespace, put together of its parts.
-use Rattle.std.specs.Prelude.{List, [], ◌∷◌, None}
+use Rattle.std.specs.Prelude.{List, []}
 use Rattle.ob_model.specs.declared.state.Object.{Object}
 use Rattle.ob_model.specs.declared.state.Row.{Row}
 use Rattle.ob_model.specs.declared.state.Held.{Held}
 use Rattle.ob_model.specs.State.{State}
 use Rattle.ob_objects.specs.Store.{Entries, objects_of, rows_of}
+use Rattle.ob_processes.specs.Running.{Running}
 use Rattle.ob_space.specs.declared.space.Namespace.{Namespace}
 
--- the state of these parts: the objects and the rows are those of the store; process 1 alone is live,
--- and nothing is pending
-abbrev pub state_of : (K : Type 0) {T F I : Type 0} → Namespace T (Entries F I) → State K T F I
+-- the state of these parts: the objects and the rows are those of the store, the processes and their
+-- handles those that run; nothing is pending
+abbrev pub state_of : (K : Type 0) {T F I : Type 0} → Namespace T (Entries F I) Running → State K T F I
 state_of K a = record {
   objects = objects_of a.store;
   rows = rows_of a.store;
-  handles = a.handles.items;
-  processes = record { number = 1; map = None } ∷ [];
+  handles = a.processes.handles;
+  processes = a.processes.processes;
   pending = [];
   set = a.set;
   next_id = a.next_id;
   next_stamp = a.next_stamp;
-  next_process = 2;
+  next_process = a.next_process;
   next_order = a.next_order;
 }
 
@@ -29,12 +30,12 @@ holding set objects rows handles = record {
   objects = objects;
   rows = rows;
   handles = handles;
-  processes = record { number = 1; map = None } ∷ [];
+  processes = [];
   pending = [];
   set = set;
   next_id = 0;
   next_stamp = 0;
-  next_process = 2;
+  next_process = 0;
   next_order = 0;
 }
 

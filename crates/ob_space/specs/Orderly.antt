@@ -1,11 +1,12 @@
 -- What every change of a namespace keeps true of its state.
-use Rattle.std.specs.Prelude.{◌≡◌, ◌≢◌, ℕ, ◌<◌, ◌≤◌, ◌==◌, ◌||◌, Bool, true, false, List, All, length}
+use Rattle.std.specs.Prelude.{◌≡◌, ℕ, ◌<◌, ◌≤◌, ◌==◌, ◌||◌, Bool, true, false, List, None, All, length}
 use Rattle.std.specs.List.{AllPairs, list_any}
 use Rattle.ob_model.specs.declared.state.Body.{Body}
 use Rattle.ob_model.specs.declared.state.Body.TheVariants.{Directory, Link, Other}
 use Rattle.ob_model.specs.declared.state.Object.{Object}
 use Rattle.ob_model.specs.declared.state.Held.{Held}
-use Rattle.ob_model.specs.State.{State, root_id, is_directory, most_handles}
+use Rattle.ob_model.specs.State.{State, root_id, is_directory, table_size, most_handles}
+use Rattle.ob_model.specs.Processes.{most_processes}
 use Rattle.ob_model.specs.Settle.{has_name}
 
 -- a body has no inner value, or one that stands for no open handle
@@ -28,8 +29,9 @@ IsNamedPermanent s x = x.permanent ≡ true → ((x.id == root_id) || has_name s
 
 -- The root is a directory. The numbers of objects rise, and are all less than the next one, and so do
 -- the stamps of rows; a row's directory was made before its object. A permanent object has a name. An
--- object without handles is idle. All handles are those of process 1, with values that differ, and no
--- more than a process may have.
+-- object without handles is idle. The order of each handle, and the number of each process, are less
+-- than the next one. No more processes live, and no process has more handles, than may be. No process
+-- has a device map, since no command gives one yet.
 pub record IsOrderly {K T F I : Type 0} (idle : I → Type 0) (s : State K T F I) : Type 0 where
   pub root : is_directory s root_id ≡ true
   pub rising : AllPairs (λ a b. a.id < b.id) s.objects
@@ -38,6 +40,8 @@ pub record IsOrderly {K T F I : Type 0} (idle : I → Type 0) (s : State K T F I
   pub stamped : All (λ r. r.stamp < s.next_stamp) s.rows
   pub named : All (IsNamedPermanent s) s.objects
   pub unheld : All (IsIdleUnheld idle s.handles) s.objects
-  pub own : All (λ h. h.process ≡ 1) s.handles
-  pub distinct : AllPairs (λ a b. a.value ≢ b.value) s.handles
-  pub few : length s.handles ≤ most_handles
+  pub opened : All (λ h. h.order < s.next_order) s.handles
+  pub numbered : All (λ x. x.number < s.next_process) s.processes
+  pub few_handles : (p : ℕ) → table_size s p ≤ most_handles
+  pub few_processes : length s.processes ≤ most_processes
+  pub unmapped : All (λ x. x.map ≡ None) s.processes

@@ -3,10 +3,11 @@ use Rattle.std.specs.Prelude.{◌≡◌, ◌≢◌, ℕ, ◌<◌, Bool, true, Li
 use Rattle.ob_model.specs.State.{State, insert_object, is_directory}
 use Rattle.ob_model.specs.Paths.{found}
 use Rattle.ob_model.specs.Creates as machine
-use Rattle.ob_model.specs.Grants.{opened_body, opened_set}
+use Rattle.ob_model.specs.Settle.{deleted_one}
+use Rattle.ob_model.specs.Grants.{open_refusal_of, opened_body, opened_set, with_handle}
 use Rattle.ob_model.specs.Procedures.{Procedures, Created}
 use Rattle.ob_objects.specs.declared.object.StoredObject.{StoredObject}
-use Rattle.ob_objects.specs.Store.{Entries, directory_at, entries_at, body_of_stored}
+use Rattle.ob_objects.specs.Store.{Entries, directory_at, entries_at, body_of_stored, objects_of, rows_of}
 use Rattle.ob_objects.specs.Changes.{with_entry, with_name, without_name}
 use Rattle.ob_space.specs.declared.placing.Spot.{Spot}
 
@@ -43,14 +44,27 @@ abbrev pub without_name_in : {F I : Type 0} → Entries F I → Option ℕ → �
 without_name_in store None stamp = store
 without_name_in store (Some directory) stamp = without_name store directory stamp
 
--- the state with an object more, under the next id and as the set opened it, and with its row; the
--- numbers are not drawn yet
-abbrev pub placed : {K T F I : Type 0} → Procedures K T F I → State K T F I → machine.Spot → StoredObject F I → State K T F I
-placed g s spot x =
+-- What a store and the set's value are after an object was put in under an id, at a spot or nowhere, and
+-- the set opened it: the object is as the open left it, and its row is the last.
+pub record IsOpened {K T F I : Type 0} (g : Procedures K T F I) (first : T) (old : Entries F I) (id stamp : ℕ) (spot : Option Spot) (x : StoredObject F I) (after : T) (left : Entries F I) : Type 0 where
+  pub accepted : open_refusal_of g first (body_of_stored x.body) Created ≡ None
+  pub objects : objects_of left
+      ≡ insert_object (record { id = id; body = opened_body g first (body_of_stored x.body) Created; permanent = x.permanent; exclusive = x.exclusive }) (objects_of old)
+  pub rows : rows_of left ≡ rows_of old ++ machine.new_rows (spot_of spot) stamp id
+  pub set : after ≡ opened_set g first (body_of_stored x.body) Created
+
+-- What they are where the set refused to open it, with this number: the store is as it was, and the object
+-- is deleted.
+pub record IsTakenBack {K T F I : Type 0} (g : Procedures K T F I) (first : T) (old : Entries F I) (x : StoredObject F I) (code : ℕ) (after : T) (left : Entries F I) : Type 0 where
+  pub refused : open_refusal_of g first (body_of_stored x.body) Created ≡ Some code
+  pub store : left ≡ old
+  pub set : after ≡ deleted_one g (body_of_stored x.body) first
+
+-- the state with an object more, under the next id and as the set opened it, with its row and a handle of
+-- a process to it
+abbrev pub placed : {K T F I : Type 0} → Procedures K T F I → State K T F I → ℕ → machine.Spot → StoredObject F I → ℕ → Bool → State K T F I
+placed g s p spot x value inherit =
     let body = body_of_stored x.body in
-    record s {
-      objects =
-          insert_object (record { id = s.next_id; body = opened_body g s.set body Created; permanent = x.permanent; exclusive = x.exclusive }) s.objects;
-      rows = s.rows ++ machine.new_rows spot s.next_stamp s.next_id;
-      set = opened_set g s.set body Created;
-    }
+    let opened = record s { set = opened_set g s.set body Created } in
+    let there = machine.with_object opened (opened_body g s.set body Created) x.permanent x.exclusive in
+    with_handle (machine.with_row there spot s.next_id) p value s.next_id inherit

@@ -11,9 +11,11 @@ ghost use Rattle.ob_space.specs.Namespace.{state_of};
 
 use crate::space::Namespace;
 use ob_base::{Fault, ObjId, Proc};
+use ob_handles::HandleTable;
 use ob_lookup::{Look, Mode, look, sound_is_closed};
 use ob_names::Name;
 use ob_objects::{Store, laws};
+use ob_processes::Processes;
 use ob_types::TypeSet;
 
 /// The most reparses of one lookup (this profile).
@@ -27,8 +29,8 @@ const MOST_REPARSES: u32 = 32;
 /// changed. The only fault is want of memory.
 ///
 /// Source: Windows Internals, Object Manager (object names, symbolic links); the limit is this profile.
-pub fn look_up<T: TypeSet>(
-    space: &Namespace<T, Store<T>>,
+pub fn look_up<T: TypeSet, H: HandleTable>(
+    space: &Namespace<T, Store<T>, Processes<H>>,
     process: Proc,
     root: Option<ObjId>,
     name: Name<'_>,

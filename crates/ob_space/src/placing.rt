@@ -1,24 +1,27 @@
-//! Placing a new object: put into the store, named, and opened by the set, or taken back.
+//! Placing a new object: its creator gets a handle, and it is put into the store, named, and opened by
+//! the set, or taken back.
 
-ghost use Rattle.std.specs.Prelude.{◌≡◌, ◌≢◌, ◌<◌, ◌≤◌, ◌++◌, ◌∷◌, [], None, Some, All, MatchOption};
+ghost use Rattle.std.specs.Prelude.{◌≡◌, ◌<◌, ◌||◌, [], None, Some, true, false, All};
 ghost use Rattle.std.specs.Prelude.{IfOk, IfErr, OnErr};
-ghost use Rattle.std.specs.Option.{option_map};
+ghost use Rattle.std.specs.Option.{option_map, is_some};
 ghost use Rattle.ob_base.specs.declared.Fault.TheVariants.{Memory};
 ghost use Rattle.ob_model.specs.Procedures as model;
-ghost use Rattle.ob_model.specs.State.{greatest_number};
-ghost use Rattle.ob_model.specs.Creates.{dropped};
-ghost use Rattle.ob_model.specs.Grants.{open_refusal_of};
-ghost use Rattle.ob_objects.specs.Store.{entries_in, body_of_stored, stored_at};
+ghost use Rattle.ob_model.specs.State.{is_live};
+ghost use Rattle.ob_model.specs.Creates.{is_store_full, is_stampless, dropped};
+ghost use Rattle.ob_model.specs.Grants.{is_table_full, IsFreeValue, open_refusal_of};
+ghost use Rattle.ob_objects.specs.Store.{IsStore, rows_of, entries_in, body_of_stored, stored_at};
 ghost use Rattle.ob_objects.specs.Changes.{without_object};
-ghost use Rattle.ob_space.specs.Placing.{spot_of, IsVacantSpot, IsFreeSpot, with_placed, without_name_in, placed};
+ghost use Rattle.ob_space.specs.Placing.{spot_of, IsVacantSpot, IsFreeSpot, with_placed, without_name_in, IsOpened, IsTakenBack, placed};
 ghost use Rattle.ob_space.specs.Namespace.{state_of};
 ghost use Rattle.ob_space.specs.Orderly.{IsOrderly, IsIdleBody};
 
 use crate::settle::delete_body;
 use crate::space::Namespace;
-use ob_base::{Fault, ObjId};
+use ob_base::{Fault, Handle, ObjId, Proc};
+use ob_handles::HandleTable;
 use ob_names::NameBuf;
 use ob_objects::{Store, StoredObject};
+use ob_processes::Processes;
 use ob_types::{Reason, TypeSet};
 
 /// Where a new object is to stand: at a name in a directory.
@@ -30,49 +33,103 @@ pub struct Spot {
     pub name: NameBuf,
 }
 
-/// Puts a new object into the store under the next id, and its name, where a spot is given, into the
-/// spot's directory under the next stamp; then the set opens it. The numbers are not drawn yet:
-/// `add_handle` does so. It asks that an id is left, that the spot is vacant, that the object, if it is
-/// a directory, is empty, and that its inner value stands for no open handle.
+/// Makes a new object part of the namespace: its creator gets a handle to it, it is put into the store
+/// under the next id, and its name, where a spot is given, into the spot's directory under the next
+/// stamp; then the set opens it. It gives the handle.
 ///
-/// Where the set refuses, with its number, the object is taken back and deleted, and its id stays
-/// drawn; handles and names are as they were. The only fault is want of memory, and then nothing has
-/// changed.
+/// It asks that the process is live and has room, that an id and, where a spot is given, a stamp are
+/// left, that the spot is vacant, that an object without a spot isn't permanent, that the object, if it
+/// is a directory, is empty, and that its inner value stands for no open handle.
+///
+/// Where the set refuses, with its number, handle, name and object are taken back, the object is
+/// deleted, and its id stays drawn; all else is as it was. The only fault is want of memory, and then
+/// nothing has changed and the set wasn't asked.
 ///
 /// Source: Windows Internals, Object Manager (open methods); the numbers are this profile.
-pub fn place_new<T: TypeSet>(
-    space: &mut Namespace<T, Store<T>>,
+pub fn place_new<T: TypeSet, H: HandleTable>(
+    space: &mut Namespace<T, Store<T>, Processes<H>>,
+    process: Proc,
     spot: Option<Spot>,
     object: StoredObject<T::Face, T::Inner>,
-) -> Result<Result<(), u16>, Fault>
+    inherit: bool,
+) -> Result<Result<Handle, u16>, Fault>
     requires orderly { IsOrderly T.idle (state_of T.Kind space.old) }
-    requires id { space.old.next_id ≤ greatest_number }
+    requires live { is_live (state_of T.Kind space.old) process ≡ true }
+    requires room { (is_table_full (state_of T.Kind space.old) process || is_store_full (state_of T.Kind space.old)) ≡ false }
+    requires stamp { is_some spot ≡ true → is_stampless (state_of T.Kind space.old) ≡ false }
     requires vacant { IsVacantSpot (state_of T.Kind space.old) spot }
+    requires named { object.permanent ≡ true → is_some spot ≡ true }
     requires empty { entries_in object.body ≡ [] }
     requires idle { IsIdleBody T.idle (body_of_stored object.body) }
-    ensures accepted { IfOk result (λ told. IfOk told (λ _.
+    ensures orderly { IsOrderly T.idle (state_of T.Kind space.new) }
+    ensures accepted { IfOk result (λ told. IfOk told (λ value.
         (open_refusal_of T.procedures space.old.set (body_of_stored object.body) model.Created ≡ None)
-        × (state_of T.Kind space.new ≡ placed T.procedures (state_of T.Kind space.old) (spot_of spot) object))) }
+        × IsFreeValue (state_of T.Kind space.old) process value
+        × (state_of T.Kind space.new ≡ placed T.procedures (state_of T.Kind space.old) process (spot_of spot) object value inherit))) }
     ensures refused { IfOk result (λ told. IfErr told (λ code.
         (open_refusal_of T.procedures space.old.set (body_of_stored object.body) model.Created ≡ Some code)
         × (state_of T.Kind space.new ≡ dropped T.procedures (state_of T.Kind space.old) (body_of_stored object.body)))) }
-    ensures handles { space.new.handles ≡ space.old.handles }
     ensures err { OnErr result (state_of T.Kind space.new ≡ state_of T.Kind space.old) }
     ensures memory { IfErr result (λ fault. fault ≡ Memory) }
 {
-    let (id, stamp) = (ObjId(space.next_id), space.next_stamp);
-    let directory = directory_of(&spot);
+    let (id, stamp, order) = (ObjId(space.next_id), space.next_stamp, space.next_order);
+    let named = spot.is_some();
     // The length tells what holds of every store.
     let _ = space.store.len();
-    put_in(&mut space.store, id, stamp, spot, object)?;
-    let Err(code) = space.store.open(id, &mut space.set, Reason::Created) else {
+    let value = space.processes.grant(process, id, inherit, order)?;
+    match put_and_open(&mut space.store, &mut space.set, id, stamp, spot, object) {
+        Ok(Ok(())) => {
+            space.next_id += 1;
+            space.next_stamp += named as u64;
+            space.next_order += 1;
+            Ok(Ok(value))
+        }
+        Ok(Err(code)) => {
+            space.processes.take(process, value);
+            space.next_id += 1;
+            Ok(Err(code))
+        }
+        Err(fault) => {
+            space.processes.take(process, value);
+            Err(fault)
+        }
+    }
+}
+
+/// Puts an object into a store, and its name, where a spot is given, into the spot's directory; then
+/// the set opens it. Where the set refuses, name and object are taken back, and the object is deleted.
+/// The only fault is want of memory, and then nothing has changed.
+fn put_and_open<T: TypeSet>(
+    store: &mut Store<T>,
+    set: &mut T,
+    id: ObjId,
+    stamp: u64,
+    spot: Option<Spot>,
+    object: StoredObject<T::Face, T::Inner>,
+) -> Result<Result<(), u16>, Fault>
+    requires store { IsStore store.old }
+    requires id { stored_at store.old id ≡ None }
+    requires free { IsFreeSpot store.old stamp spot }
+    requires newest { All (λ row. row.stamp < stamp) (rows_of store.old) }
+    requires empty { entries_in object.body ≡ [] }
+    requires idle { IsIdleBody T.idle (body_of_stored object.body) }
+    ensures opened { IfOk result (λ told. IfOk told (λ _.
+        IsOpened T.procedures set.old store.old id stamp spot object set.new store.new)) }
+    ensures refused { IfOk result (λ told. IfErr told (λ code.
+        IsTakenBack T.procedures set.old store.old object code set.new store.new)) }
+    ensures err { OnErr result (store.new ≡ store.old) }
+    ensures set { OnErr result (set.new ≡ set.old) }
+    ensures memory { IfErr result (λ fault. fault ≡ Memory) }
+{
+    let directory = directory_of(&spot);
+    put_in(store, id, stamp, spot, object)?;
+    let Err(code) = store.open(id, set, Reason::Created) else {
         return Ok(Ok(()));
     };
-    let Some(stored) = take_back(&mut space.store, id, stamp, directory) else {
+    let Some(stored) = take_back(store, id, stamp, directory) else {
         unreachable!();
     };
-    delete_body(&mut space.set, stored.body);
-    space.next_id += 1;
+    delete_body(set, stored.body);
     Ok(Err(code))
 }
 

@@ -2,30 +2,33 @@
 
 ghost use Rattle.std.specs.Prelude.{◌≡◌, Some, None, MatchResult};
 ghost use Rattle.ob_base.specs.declared.Status.TheVariants.{InvalidHandle};
-ghost use Rattle.ob_space.specs.Namespace.{handles_alone};
+ghost use Rattle.ob_space.specs.Namespace.{state_of};
 ghost use Rattle.ob_space.specs.Roots.{root_of};
 
-use crate::handles::held_of;
+use crate::space::{Namespace, held_of};
 use ob_base::{Handle, ObjId, Proc, Status};
-use ob_model::Held;
+use ob_handles::HandleTable;
+use ob_objects::Store;
+use ob_processes::Processes;
+use ob_types::TypeSet;
 
 /// The object that a name is relative to: that of the root handle, whose low two bits are ignored, and
 /// none where no handle is given. The error is `InvalidHandle`, where the process has no such handle.
 ///
 /// Source: OBJECT_ATTRIBUTES structure (Windows Driver Kit).
-pub fn root_object(
-    handles: &[Held],
+pub fn root_object<T: TypeSet, H: HandleTable>(
+    space: &Namespace<T, Store<T>, Processes<H>>,
     process: Proc,
     root: Option<Handle>,
 ) -> Result<Option<ObjId>, Status>
     ensures { MatchResult result
-        (λ object. root_of (handles_alone handles.now) process root ≡ Some object)
-        (λ status. (status ≡ InvalidHandle) × (root_of (handles_alone handles.now) process root ≡ None)) }
+        (λ object. root_of (state_of T.Kind space.now) process root ≡ Some object)
+        (λ status. (status ≡ InvalidHandle) × (root_of (state_of T.Kind space.now) process root ≡ None)) }
 {
     let Some(handle) = root else {
         return Ok(None);
     };
-    match held_of(handles, process, handle) {
+    match held_of(space, process, handle) {
         Some(held) => Ok(Some(held.object)),
         None => Err(Status::InvalidHandle),
     }

@@ -1,15 +1,18 @@
 //! The parts of a namespace, and what can be read off them.
 
-ghost use Rattle.std.specs.Prelude.{◌≡◌, ◌&&◌, ◌||◌};
-ghost use Rattle.ob_model.specs.State.{is_live};
+ghost use Rattle.std.specs.Prelude.{◌≡◌, ◌||◌};
+ghost use Rattle.std.specs.Option.{option_and_then};
+ghost use Rattle.ob_base.specs.Handle.{key_of};
+ghost use Rattle.ob_model.specs.State.{is_live, held_of};
 ghost use Rattle.ob_model.specs.Grants.{is_table_full};
 ghost use Rattle.ob_model.specs.Creates.{is_store_full, is_stampless};
 ghost use Rattle.ob_space.specs.Namespace.{state_of};
 
-use crate::values::table_size;
-use ob_base::{ObjId, Proc};
+use ob_base::{Handle, ObjId, Proc};
+use ob_handles::{HandleTable, MOST_HANDLES};
 use ob_model::Held;
 use ob_objects::Store;
+use ob_processes::Processes;
 use ob_types::TypeSet;
 use std::alloc::Global;
 
@@ -19,60 +22,81 @@ pub const ROOT: ObjId = ObjId(1);
 /// The id of the directory `\GLOBAL??`.
 pub(crate) const GLOBAL: ObjId = ObjId(2);
 
-/// The process that is live.
-const FIRST_PROCESS: Proc = Proc(1);
-
-/// The most handles of a process.
-const MOST_HANDLES: usize = 65_535;
-
 /// The most objects.
 const MOST_OBJECTS: usize = 1_048_576;
 
 /// The greatest id, stamp and order of opening.
 const GREATEST_NUMBER: u64 = u64::MAX - 1;
 
-/// The parts of a namespace of one process, process 1: the value of its set of types, the store of its
-/// objects and of their names, its handles, and the numbers that the next ones get. `T` is the set, and
-/// `S` the store of its objects.
+/// The parts of a namespace: the value of its set of types, the store of its objects and of their
+/// names, its live processes with their handles, and the numbers that the next ones get. `T` is the
+/// set, `S` the store of its objects, and `P` the processes.
 ///
 /// The state of the abstract machine that these parts stand for is `state_of`. Nothing is kept true of
 /// them by the struct itself: a change says by `IsOrderly` what it asks and what it leaves.
 #[derive(Drop)]
-pub struct Namespace<T, S> {
+pub struct Namespace<T, S, P> {
     /// Where memory is taken from.
     pub alloc: Global,
     /// The value of the set of types, as the calls of its procedures have left it.
     pub set: T,
     /// The objects by their ids, and the entries of their directories.
     pub store: S,
-    /// The open handles, in the order of opening: of each process at most 65,535, with values that
-    /// differ.
-    pub handles: Vec<Held>,
+    /// The live processes by their numbers, each with its handles: at most 1,024 processes, and 65,535
+    /// handles of each.
+    pub processes: P,
     /// The id that the next object gets: above every id that was drawn, and at most 2^64 - 1, with
     /// which none is left.
     pub next_id: u64,
     /// The stamp that the next name gets, in the same way.
     pub next_stamp: u64,
-    /// The order of opening that the next handle gets, in the same way.
+    /// The number that the next process gets: above every number that was drawn, and at most 2^32 - 1,
+    /// with which none is left.
+    pub next_process: u32,
+    /// The order of opening that the next handle gets: above every order that was drawn, and at most
+    /// 2^64 - 1, with which none is left.
     pub next_order: u64,
 }
 
-/// Whether a process is live: process 1 is, and no other.
-pub fn is_live<T: TypeSet>(space: &Namespace<T, Store<T>>, process: Proc) -> bool
+/// Whether a process is live.
+pub fn is_live<T: TypeSet, H: HandleTable>(
+    space: &Namespace<T, Store<T>, Processes<H>>,
+    process: Proc,
+) -> bool
     ensures { result ≡ is_live (state_of T.Kind space.now) process }
 {
-    process == FIRST_PROCESS
+    space.processes.is_live(process)
+}
+
+/// The handle that a process names by a value, whose low two bits are ignored; none where the process
+/// has no such handle, or the value is 0 to 3. Takes no memory.
+///
+/// Source: Windows Internals on handles.
+pub fn held_of<T: TypeSet, H: HandleTable>(
+    space: &Namespace<T, Store<T>, Processes<H>>,
+    process: Proc,
+    handle: Handle,
+) -> Option<Held>
+    ensures { result ≡ option_and_then (held_of (state_of T.Kind space.now) process) (key_of handle) }
+{
+    match handle.key() {
+        Some(key) => space.processes.get(process, Handle(key)),
+        None => None,
+    }
 }
 
 /// Whether no handle more fits into a process's table, or no order of opening is left.
-pub(crate) fn is_table_full<T: TypeSet>(space: &Namespace<T, Store<T>>, process: Proc) -> bool
+pub(crate) fn is_table_full<T: TypeSet, H: HandleTable>(
+    space: &Namespace<T, Store<T>, Processes<H>>,
+    process: Proc,
+) -> bool
     ensures { result ≡ is_table_full (state_of T.Kind space.now) process }
 {
-    table_size(&space.handles, process) >= MOST_HANDLES || space.next_order > GREATEST_NUMBER
+    space.processes.len_of(process) >= MOST_HANDLES || space.next_order > GREATEST_NUMBER
 }
 
 /// Whether no object more fits, or no id is left.
-fn is_store_full<T: TypeSet>(space: &Namespace<T, Store<T>>) -> bool
+fn is_store_full<T: TypeSet, H: HandleTable>(space: &Namespace<T, Store<T>, Processes<H>>) -> bool
     ensures { result ≡ is_store_full (state_of T.Kind space.now) }
 {
     space.store.len() >= MOST_OBJECTS || space.next_id > GREATEST_NUMBER
@@ -80,14 +104,19 @@ fn is_store_full<T: TypeSet>(space: &Namespace<T, Store<T>>) -> bool
 
 /// Whether a process can be given no handle to a new object: its table is full, with 65,535 handles,
 /// there are 1,048,576 objects, or no id or order of opening is left.
-pub fn is_full<T: TypeSet>(space: &Namespace<T, Store<T>>, process: Proc) -> bool
+pub fn is_full<T: TypeSet, H: HandleTable>(
+    space: &Namespace<T, Store<T>, Processes<H>>,
+    process: Proc,
+) -> bool
     ensures { result ≡ (is_table_full (state_of T.Kind space.now) process || is_store_full (state_of T.Kind space.now)) }
 {
     is_table_full(space, process) || is_store_full(space)
 }
 
 /// Whether no stamp is left for a new name.
-pub fn is_stampless<T: TypeSet>(space: &Namespace<T, Store<T>>) -> bool
+pub fn is_stampless<T: TypeSet, H: HandleTable>(
+    space: &Namespace<T, Store<T>, Processes<H>>,
+) -> bool
     ensures { result ≡ is_stampless (state_of T.Kind space.now) }
 {
     space.next_stamp > GREATEST_NUMBER

@@ -7,8 +7,10 @@ ghost use Rattle.ob_space.specs.Namespace.{state_of};
 
 use crate::space::Namespace;
 use ob_base::ObjId;
+use ob_handles::HandleTable;
 use ob_model::Wanted;
 use ob_objects::{Store, StoredBody, laws};
+use ob_processes::Processes;
 use ob_types::{TypeSet, is_one_kind};
 
 /// Whether a body is that of the type that is asked for.
@@ -28,8 +30,8 @@ fn is_wanted<T: TypeSet>(body: &StoredBody<T::Face, T::Inner>, wanted: Wanted<T:
 
 /// Whether an object is there and is of the type that is asked for: a directory, a link, an object of
 /// a kind of the set, or anything.
-pub fn is_wanted_at<T: TypeSet>(
-    space: &Namespace<T, Store<T>>,
+pub fn is_wanted_at<T: TypeSet, H: HandleTable>(
+    space: &Namespace<T, Store<T>, Processes<H>>,
     id: ObjId,
     wanted: Wanted<T::Kind>,
 ) -> bool

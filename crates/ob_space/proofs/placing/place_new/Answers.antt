@@ -1,44 +1,46 @@
--- The object is placed and opened, or taken back and deleted.
-use Rattle.std.proofs.Common.{◌∙◌, ap, sym, subst}
-use Rattle.std.proofs.lemmas.Bool.{false≢true}
-use Rattle.std.specs.Option.{is_some}
-use Rattle.ob_objects.specs.declared.object.StoredObject.{StoredObject}
-use Rattle.ob_space.specs.Orderly.{IsIdleBody}
-use Rattle.ob_objects.specs.Store.{body_of_stored}
-use Rattle.ob_space.proofs.Placed.{next_is_free, vacant_is_free, is_placed, is_dropped, object_there, object_is}
+-- The object is there with its handle, or both are taken back.
+use Rattle.std.proofs.Common.{rules, subst, sym}
+use Rattle.ob_space.specs.Orderly.{IsOrderly}
+use Rattle.ob_space.proofs.Placed.{next_is_free, vacant_is_free, placed_is_orderly, is_back, is_dropped, dropped_is_orderly}
+use Rattle.ob_space.proofs.Results.{of_ok, of_err}
 use Rattle.ob_space.proofs.placing.place_new.Goals as goal
 
-pub put_in-requires-clause-id : goal.put_in-requires-clause-id
-put_in-requires-clause-id g c κs within = next_is_free g.row.T-Kind.Denot g.T.TypeSet.procedures g.T.TypeSet.idle c.args.space.now c.requires.orderly
+pub put_and_open-requires-clause-id : goal.put_and_open-requires-clause-id
+put_and_open-requires-clause-id g c κs within = next_is_free g.row.T-Kind.Denot g.T.TypeSet.procedures g.T.TypeSet.idle c.args.space.now c.requires.orderly
 
-pub put_in-requires-clause-free : goal.put_in-requires-clause-free
-put_in-requires-clause-free g c κs within =
+pub put_and_open-requires-clause-free : goal.put_and_open-requires-clause-free
+put_and_open-requires-clause-free g c κs within =
     vacant_is_free g.row.T-Kind.Denot g.T.TypeSet.procedures g.T.TypeSet.idle c.args.space.now c.requires.orderly c.len.ensures.store c.args.spot c.requires.vacant
 
-pub returns-in_default-clause-accepted : goal.returns-in_default-clause-accepted
-returns-in_default-clause-accepted g c =
-    is_placed g.row.T-Kind.Denot g.T.TypeSet.procedures g.T.TypeSet.idle c.args.space.now c.requires.orderly c.len.ensures.store c.args.spot c.requires.vacant
-    c.args.object c.requires.empty c.put_in.new.store c.in_ok-put_in.ensures.put c.open.new.self c.open.new.set
-    c.in_default.ensures.accepted c.in_default.ensures.opened c.in_default.ensures.set
+pub returns-in-Ok-Ok-clause-orderly : goal.returns-in-Ok-Ok-clause-orderly
+returns-in-Ok-Ok-clause-orderly g c =
+    placed_is_orderly g.row.T-Kind.Denot g.T.TypeSet.procedures g.T.TypeSet.idle c.args.space.now c.requires.orderly c.args.process c.requires.room c.args.spot c.requires.vacant c.args.object c.requires.named
+    c.in_ok-value.value c.args.inherit c.grant.new.self c.in_ok-value.ensures.unused c.in_ok-value.ensures.last c.in_ok-value.ensures.processes
+    c.put_and_open.new.set c.put_and_open.new.store (of_ok _ _ c.in-Ok-Ok.field-0-0 c.in-Ok-Ok.field-0-is c.in-Ok-Ok.ensures.opened) _ (search rules)
 
-pub unreachable-requires : goal.unreachable-requires
-unreachable-requires g c =
-    let there =
-    object_there g.row.T-Kind.Denot g.T.TypeSet.procedures g.T.TypeSet.idle c.args.space.now c.requires.orderly c.len.ensures.store c.args.spot c.requires.vacant
-    c.args.object c.requires.empty c.put_in.new.store c.in_ok-put_in.ensures.put c.open.new.self c.in-Err.ensures.unchanged c.directory_of-directory.result c.directory_of-directory.ensures in
-    let none = c.in_default-take_back.ensures.there in
-    absurd (false≢true (ap is_some (none ∙ there)))
+pub returns-in-Ok-Err-clause-orderly : goal.returns-in-Ok-Err-clause-orderly
+returns-in-Ok-Err-clause-orderly g c =
+    dropped_is_orderly g.row.T-Kind.Denot g.T.TypeSet.procedures g.T.TypeSet.idle c.args.space.now c.requires.orderly c.args.process c.requires.room c.args.spot c.requires.vacant c.args.object c.requires.named
+    c.in_ok-value.value c.args.inherit c.grant.new.self c.in_ok-value.ensures.unused c.in_ok-value.ensures.last c.in_ok-value.ensures.processes
+    c.take.new.self c.take.ensures.others c.take.ensures.processes c.put_and_open.new.set c.put_and_open.new.store c.in-Ok-Err.code (of_err _ _ c.in-Ok-Err.code c.in-Ok-Err.field-0-is c.in-Ok-Err.ensures.refused)
 
-pub delete_body-requires-after_bounds : goal.delete_body-requires-after_bounds
-delete_body-requires-after_bounds g c κs within =
-    subst (λ (x : StoredObject _ _). IsIdleBody g.T.TypeSet.idle (body_of_stored x.body))
-    (sym (object_is g.row.T-Kind.Denot g.T.TypeSet.procedures g.T.TypeSet.idle c.args.space.now c.requires.orderly c.len.ensures.store c.args.spot c.requires.vacant
-    c.args.object c.requires.empty c.put_in.new.store c.in_ok-put_in.ensures.put c.open.new.self c.in-Err.ensures.unchanged c.directory_of-directory.result c.directory_of-directory.ensures
-    c.in-Some.stored c.in-Some.ensures.there)) c.requires.idle
+pub returns-in-Ok-Err-clause-refused : goal.returns-in-Ok-Err-clause-refused
+returns-in-Ok-Err-clause-refused g c =
+    let back = of_err _ _ c.in-Ok-Err.code c.in-Ok-Err.field-0-is c.in-Ok-Err.ensures.refused in
+    (back.refused,
+    is_dropped g.row.T-Kind.Denot g.T.TypeSet.procedures g.T.TypeSet.idle c.args.space.now c.requires.orderly c.args.process c.requires.room c.args.spot c.requires.vacant c.args.object c.requires.named
+    c.in_ok-value.value c.args.inherit c.grant.new.self c.in_ok-value.ensures.unused c.in_ok-value.ensures.last c.in_ok-value.ensures.processes
+    c.take.new.self c.take.ensures.others c.take.ensures.processes c.put_and_open.new.set c.put_and_open.new.store c.in-Ok-Err.code back)
 
-pub returns-clause-refused : goal.returns-clause-refused
-returns-clause-refused g c =
-    is_dropped g.row.T-Kind.Denot g.T.TypeSet.procedures g.T.TypeSet.idle c.args.space.now c.requires.orderly c.len.ensures.store c.args.spot c.requires.vacant
-    c.args.object c.requires.empty c.put_in.new.store c.in_ok-put_in.ensures.put c.open.new.self c.in-Err.ensures.unchanged c.directory_of-directory.result c.directory_of-directory.ensures
-    c.take_back.new.store c.open.new.set c.delete_body.new.set c.in-Some.stored c.in-Err.code c.in-Err.ensures.refused
-    c.in-Some.ensures.others c.in-Err.ensures.set_unchanged c.in-Some.ensures.there c.delete_body.ensures
+pub returns-in-Err-clause-orderly : goal.returns-in-Err-clause-orderly
+returns-in-Err-clause-orderly g c =
+    subst (λ t. IsOrderly g.T.TypeSet.idle t) (sym
+    (is_back g.row.T-Kind.Denot g.T.TypeSet.procedures g.T.TypeSet.idle c.args.space.now c.requires.orderly c.args.process c.requires.room c.args.spot c.requires.vacant c.args.object c.requires.named
+    c.in_ok-value.value c.args.inherit c.grant.new.self c.in_ok-value.ensures.unused c.in_ok-value.ensures.last c.in_ok-value.ensures.processes
+    c.take-in-Err.new.self c.take-in-Err.ensures.others c.take-in-Err.ensures.processes c.put_and_open.new.set c.put_and_open.new.store c.in-Err.ensures.err c.in-Err.ensures.set)) c.requires.orderly
+
+pub returns-in-Err-clause-err : goal.returns-in-Err-clause-err
+returns-in-Err-clause-err g c =
+    is_back g.row.T-Kind.Denot g.T.TypeSet.procedures g.T.TypeSet.idle c.args.space.now c.requires.orderly c.args.process c.requires.room c.args.spot c.requires.vacant c.args.object c.requires.named
+    c.in_ok-value.value c.args.inherit c.grant.new.self c.in_ok-value.ensures.unused c.in_ok-value.ensures.last c.in_ok-value.ensures.processes
+    c.take-in-Err.new.self c.take-in-Err.ensures.others c.take-in-Err.ensures.processes c.put_and_open.new.set c.put_and_open.new.store c.in-Err.ensures.err c.in-Err.ensures.set

@@ -9,7 +9,7 @@ abbrev pub invariant-loop-directory : goal.invariant-loop-directory
 invariant-loop-directory g l =
     record {
       objects : objects_of l.store ≡ objects_of l.fn.store;
-      rows : filter (is_kept (listed (objects_of l.fn.store) [] l.fn.handles)) (rows_of l.store) ≡ filter (is_kept (listed (objects_of l.fn.store) [] l.fn.handles)) (rows_of l.fn.store);
+      rows : filter (is_kept (listed (objects_of l.fn.store) [] l.fn.processes.handles)) (rows_of l.store) ≡ filter (is_kept (listed (objects_of l.fn.store) [] l.fn.processes.handles)) (rows_of l.fn.store);
     }
 
 abbrev pub decreases-loop-directory : goal.decreases-loop-directory
