@@ -4,11 +4,13 @@ use Rattle.std.specs.Prelude.{AllPairs}
 use Rattle.std.proofs.lemmas.List.Elements.{All-head, All-tail, All-weaker, filter_passes}
 use Rattle.std.proofs.lemmas.List.Kept.{AllPairs-filter}
 use Rattle.ob_model.specs.declared.state.Held.{Held}
+use Rattle.ob_model.specs.declared.state.Process.{Process}
 use Rattle.ob_model.specs.State.{State}
 use Rattle.ob_model.specs.Procedures.{Procedures}
 use Rattle.ob_model.specs.Closing.{is_handle, closed_handle}
-use Rattle.ob_model.specs.Processes.{handles_in, closed_in_turn}
+use Rattle.ob_model.specs.Processes.{handles_in, closed_in_turn, without_process}
 use Rattle.ob_model.specs.Sound.{IsSound}
+use Rattle.ob_model.proofs.Soundness.{closed_sound}
 use Rattle.ob_model.proofs.Finds.{filter_all}
 
 -- two tests in either order leave the same
@@ -86,7 +88,7 @@ module _ {K T F I : Type 0} (g : Procedures K T F I) (s : State K T F I) (p : �
   one_less = subst (λ n. n < length (handles_in s p)) (sym (ap length left)) (subst (λ n. length later < n) (sym (ap length in_turn)) (omega arith))
 
 -- a handle that a process holds is found under its value
-held_itself : (p : ℕ) (hs : List Held) (h : Held) → AllPairs (λ a b. is_handle a.process a.value b ≡ false) hs → find (λ k. k.process == p) hs ≡ Some h
+pub held_itself : (p : ℕ) (hs : List Held) (h : Held) → AllPairs (λ a b. is_handle a.process a.value b ≡ false) hs → find (λ k. k.process == p) hs ≡ Some h
     → find (is_handle h.process h.value) hs ≡ Some h
 held_itself p [] h distinct found = cc
 held_itself p (k ∷ hs) h distinct found = go (k.process == p) refl found (held_itself p hs h (λ i j d less within. distinct (suc i) (suc j) d (omega (arith, less)) (omega (arith, within))))
@@ -106,3 +108,22 @@ held_itself p (k ∷ hs) h distinct found = go (k.process == p) refl found (held
         ap (λ t. cond t (Some k) (find (is_handle h.process h.value) hs))
         (ap (λ b. b && (k.value == h.value)) (ap (λ n. k.process == n) own ∙ e))
         ∙ more found
+
+-- what a close leaves, as the state is called that it left
+module _ {K T F I : Type 0} (g : Procedures K T F I) (s : State K T F I) (p : ℕ) (sound : IsSound s) (h : Held) (found : find (λ k. k.process == p) s.handles ≡ Some h) (t : State K T F I) (closed : t ≡ closed_handle g s h) where
+  pub next_sound : IsSound t
+  next_sound = subst IsSound (sym closed) (closed_sound g s h sound)
+
+  pub next_closed : closed_in_turn g t (handles_in t p) ≡ closed_in_turn g s (handles_in s p)
+  next_closed = ap (λ u. closed_in_turn g u (handles_in u p)) closed ∙ closed_first g s p sound h found
+
+  pub next_fewer : length (handles_in t p) < length (handles_in s p)
+  next_fewer = subst (λ (u : State K T F I). length (handles_in u p) < length (handles_in s p)) (sym closed) (one_less g s p sound h found)
+
+-- where no handle is left nothing is closed
+pub all_closed : {K T F I : Type 0} (g : Procedures K T F I) (s : State K T F I) (p : ℕ) → find (λ h. h.process == p) s.handles ≡ None → s ≡ closed_in_turn g s (handles_in s p)
+all_closed g s p none = sym (ap (closed_in_turn g s) (none_found (λ h. h.process == p) s.handles none))
+
+pub parted : {K T F I : Type 0} (s : State K T F I) (p : ℕ) (processes : List Process) (handles : List Held)
+    → processes ≡ filter (λ x. not (x.number == p)) s.processes → handles ≡ s.handles → record s { processes = processes; handles = handles } ≡ without_process s p
+parted s p processes handles same_processes same_handles = λ i. record s { processes = same_processes i; handles = same_handles i }

@@ -1,2 +1,12 @@
-//! How processes begin and end.
+//! How processes begin and end, as changes of a namespace.
+//!
+//! A child begins with what it inherits of its parent: [`begin_child`]. A process that ends closes its
+//! handles, and lives no longer: [`end_process`]. Each is told by the state of the abstract machine
+//! that the namespace stands for. Nothing settles here: a command does so behind the change.
 #![tactic(auto)]
+
+mod beginning;
+mod ending;
+
+pub use beginning::begin_child;
+pub use ending::end_process;

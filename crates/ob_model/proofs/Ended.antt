@@ -53,7 +53,7 @@ nothing_found {X} test (x ∷ xs) = go (test x) refl (nothing_found test xs)
     go false other more = ap (λ t. cond t (Some x) (find test (filter (λ y. not (test y)) xs))) other ∙ more
 
 -- who is live was numbered
-live_numbered : (xs : List Process) (n q : ℕ) → All (λ x. x.number < n) xs → is_some (find (λ x. x.number == q) xs) ≡ true → q < n
+pub live_numbered : (xs : List Process) (n q : ℕ) → All (λ x. x.number < n) xs → is_some (find (λ x. x.number == q) xs) ≡ true → q < n
 live_numbered [] n q all h = cc
 live_numbered (x ∷ xs) n q all h = go (x.number == q) refl h (live_numbered xs n q (All-tail (λ y. y.number < n) x xs all))
   where

@@ -15,7 +15,7 @@ ghost use Rattle.ob_space.specs.Placing.{spot_of, IsVacantSpot, IsFreeSpot, with
 ghost use Rattle.ob_space.specs.Namespace.{state_of};
 ghost use Rattle.ob_space.specs.Orderly.{IsOrderly, IsIdleBody};
 
-use crate::settle::delete_body;
+use crate::settling::delete_body;
 use crate::space::Namespace;
 use ob_base::{Fault, Handle, ObjId, Proc};
 use ob_handles::HandleTable;

@@ -3,7 +3,7 @@ use Rattle.std.proofs.Common.{◌∙◌, refl, sym, ap, rules}
 use Rattle.ob_processes.specs.Running.{Running}
 use Rattle.ob_space.specs.Namespace.{state_of}
 use Rattle.ob_space.proofs.Backward.{all_left, stay_left, set_left, is_stored, is_idle, rows_taken, is_taken, fewer_left}
-use Rattle.ob_space.proofs.settle.delete_objects.Goals as goal
+use Rattle.ob_space.proofs.settling.delete_objects.Goals as goal
 
 pub loop-id-init : goal.loop-id-init
 loop-id-init g c = record {

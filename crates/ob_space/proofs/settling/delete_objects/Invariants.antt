@@ -2,7 +2,7 @@
 use Rattle.std.proofs.Common.{◌≡◌, length}
 use Rattle.ob_objects.specs.Store.{objects_of, rows_of}
 use Rattle.ob_space.proofs.Backward.{Left}
-use Rattle.ob_space.proofs.settle.delete_objects.Given as goal
+use Rattle.ob_space.proofs.settling.delete_objects.Given as goal
 
 abbrev pub invariant-loop-id : goal.invariant-loop-id
 invariant-loop-id g l =

@@ -16,8 +16,12 @@ use ob_processes::Processes;
 use ob_types::TypeSet;
 
 /// Takes away the names and the objects that don't stay, both judged as they were before, and
-/// deletes those objects from the highest number down. No memory is taken.
-fn settle<T: TypeSet, H: HandleTable>(space: &mut Namespace<T, Store<T>, Processes<H>>)
+/// deletes those objects from the highest number down: the set is told of each object of its own. It
+/// asks that the state is orderly, and leaves it so. No memory is taken.
+///
+/// Source: Windows Internals, Object Manager (object retention); that it is judged once, at the end of
+/// a step, and the order of the deletes are this profile.
+pub fn settle<T: TypeSet, H: HandleTable>(space: &mut Namespace<T, Store<T>, Processes<H>>)
     requires { IsOrderly T.idle (state_of T.Kind space.old) }
     ensures orderly { IsOrderly T.idle (state_of T.Kind space.new) }
     ensures settled { state_of T.Kind space.new ≡ settle T.procedures (state_of T.Kind space.old) }

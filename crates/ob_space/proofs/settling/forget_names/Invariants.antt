@@ -3,7 +3,7 @@ use Rattle.std.proofs.Common.{◌≡◌, [], filter, length}
 use Rattle.ob_model.specs.Settle.{is_kept}
 use Rattle.ob_objects.specs.Store.{objects_of, rows_of}
 use Rattle.ob_space.specs.Namespace.{listed}
-use Rattle.ob_space.proofs.settle.forget_names.Given as goal
+use Rattle.ob_space.proofs.settling.forget_names.Given as goal
 
 abbrev pub invariant-loop-directory : goal.invariant-loop-directory
 invariant-loop-directory g l =

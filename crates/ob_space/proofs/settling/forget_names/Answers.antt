@@ -1,7 +1,7 @@
 -- Each name that is forgotten is one whose object doesn't stay.
 use Rattle.std.proofs.Common.{rules}
 use Rattle.ob_space.proofs.Staying.{all_kept, one_forgotten, objects_stay, fewer_rows}
-use Rattle.ob_space.proofs.settle.forget_names.Goals as goal
+use Rattle.ob_space.proofs.settling.forget_names.Goals as goal
 
 pub loop-directory-smaller : goal.loop-directory-smaller
 loop-directory-smaller g c =

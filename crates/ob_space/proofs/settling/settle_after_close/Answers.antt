@@ -2,7 +2,7 @@
 use Rattle.std.proofs.Common.{◌∙◌, sym}
 use Rattle.ob_model.proofs.Staying.{settled_itself}
 use Rattle.ob_space.specs.Namespace.{state_of}
-use Rattle.ob_space.proofs.settle.settle_after_close.Goals as goal
+use Rattle.ob_space.proofs.settling.settle_after_close.Goals as goal
 
 pub returns-else-not-is_kept-clause-settled : goal.returns-else-not-is_kept-clause-settled
 returns-else-not-is_kept-clause-settled g c =

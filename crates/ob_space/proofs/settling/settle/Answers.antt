@@ -1,7 +1,7 @@
 -- The objects are judged by the names that stay, which tells the same.
 use Rattle.std.proofs.Common.{◌∙◌, refl}
 use Rattle.ob_space.proofs.Staying.{is_settled, settled_is_orderly, still_rising, still_unheld}
-use Rattle.ob_space.proofs.settle.settle.Goals as goal
+use Rattle.ob_space.proofs.settling.settle.Goals as goal
 
 pub delete_objects-requires-clause-rising : goal.delete_objects-requires-clause-rising
 delete_objects-requires-clause-rising g c κs within =
