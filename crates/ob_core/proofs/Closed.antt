@@ -1,8 +1,7 @@
 -- A close, put together of what its parts ensure.
-use Rattle.std.proofs.Common.{◌≡◌, ℕ, ◌==◌, true, false, ◌&&◌, ◌||◌, Bool, eqb-true, refl, ap, ◌∙◌, sym, subst, find}
+use Rattle.std.proofs.Common.{◌≡◌, ℕ, ◌==◌, true, false, ◌&&◌, ◌||◌, Bool, eqb-true, refl, ◌∙◌, sym, subst}
 use Rattle.std.specs.Prelude.{Option, Some, None, MatchOption, All}
 use Rattle.std.specs.Option.{option_and_then, option_map_or}
-use Rattle.ob_base.specs.Handle.{key_of}
 use Rattle.ob_model.specs.declared.state.Held.{Held}
 use Rattle.ob_model.specs.declared.state.Object.{Object}
 use Rattle.ob_model.specs.State.{State, root_id, held_of, object_of}

@@ -1,17 +1,15 @@
 -- Steps that are done.
-use Rattle.std.proofs.Common.{◌≡◌, ◌≢◌, ℕ, ◌==◌, Bool, true, false, ◌&&◌, not, cond, List, [], ◌∷◌, refl, ap, ◌∙◌, sym, subst, map, filter, find, eqb-true}
-use Rattle.std.specs.Prelude.{Option, None, Some, MatchOption, All, count_by, Ok, Err}
-use Rattle.std.specs.List.{AllPairs}
-use Rattle.std.specs.Option.{option_and_then, option_map_or}
+use Rattle.std.proofs.Common.{◌≡◌, ℕ, Bool, true, not, List, [], ◌∷◌, ap, ◌∙◌, sym, subst}
+use Rattle.std.specs.Prelude.{Option, None, Some, MatchOption, Ok, Err}
+use Rattle.std.specs.Option.{option_and_then}
 use Rattle.ob_base.specs.declared.status.Status.{Status}
 use Rattle.ob_base.specs.declared.status.Status.TheVariants.{Success, ProcessGone, InvalidHandle, ObjectTypeMismatch}
 use Rattle.ob_base.specs.Handle.{key_of}
 use Rattle.ob_model.specs.declared.reply.Answer.{Answer}
 use Rattle.ob_model.specs.declared.reply.Given.TheVariants.{Handle}
-use Rattle.ob_model.specs.declared.state.Object.{Object}
 use Rattle.ob_model.specs.declared.state.Held.{Held}
 use Rattle.ob_model.specs.declared.state.Wanted.{Wanted}
-use Rattle.ob_model.specs.State.{State, is_live, held_of, body_of}
+use Rattle.ob_model.specs.State.{State, is_live, held_of}
 use Rattle.ob_model.specs.Procedures.{Procedures, Opened}
 use Rattle.ob_model.specs.Settle.{IsSettled, settle}
 use Rattle.ob_model.specs.Grants.{Asked, first_refusal, Grants}

@@ -1,5 +1,5 @@
 -- A create's name is looked up, and then the create is refused or done.
-use Rattle.std.proofs.Common.{ap, sym, ◌∙◌, subst, refl}
+use Rattle.std.proofs.Common.{ap, subst, refl}
 use Rattle.ob_model.specs.declared.reply.Answer.TheVariants.{Done}
 use Rattle.ob_model.specs.Procedures.{without_parse}
 use Rattle.ob_model.specs.Looks.{At, Vacant, Refused, LooksUp, most_reparses}
