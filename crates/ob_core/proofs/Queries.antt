@@ -14,7 +14,7 @@ use Rattle.ob_model.specs.State.{State, is_live, held_of, body_of}
 use Rattle.ob_model.specs.Naming.{IsWayUp, path_text, path_answer, TellsName, target_of, TellsTarget}
 use Rattle.ob_model.specs.Refusals.{answers, gives, IsRefused, Unless}
 use Rattle.ob_model.specs.Step.{QueriesName, QueriesLink}
-use Rattle.ob_space.specs.Namespace.{rows_alone, handles_alone}
+use Rattle.ob_space.specs.Namespace.{rows_alone}
 
 -- what is told of an option, where it is none and where it has a value
 pub at_none : {X : Type 0} (o : Option X) (P : Type 0) (Q : X → Type 0) → o ≡ None → MatchOption o P Q → P
@@ -54,24 +54,22 @@ module _ {K T F I : Type 0} (s : State K T F I) where
       inr (λ names way. none names (subst (λ (rs : List Row). IsWayUp (rows_alone rs) o names) (sym same) (IsWayUp-rows s o names way)), told)
 
   -- a live process asks for the path of the object of a handle that it has
-  pub queries : (p handle : ℕ) (answer : Answer) (held : Held) (handles : List Held) → is_live s p ≡ true → handles ≡ s.handles
-      → Some held ≡ option_and_then (held_of (handles_alone handles) p) (key_of handle) → TellsName s held.object answer → QueriesName s p handle answer s
-  queries p handle answer held handles live same found told =
+  pub queries : (p handle : ℕ) (answer : Answer) (held : Held) → is_live s p ≡ true
+      → Some held ≡ option_and_then (held_of s p) (key_of handle) → TellsName s held.object answer → QueriesName s p handle answer s
+  queries p handle answer held live found told =
       let Does = λ (h : Held). TellsName s h.object answer × (s ≡ s) in
       let Taken = MatchOption (option_and_then (held_of s p) (key_of handle)) (IsRefused s InvalidHandle answer s) Does in
-      let taken : Some held ≡ option_and_then (held_of s p) (key_of handle) = found ∙ ap (λ (hs : List Held). option_and_then (held_of (handles_alone hs) p) (key_of handle)) same in
       subst (λ (b : Bool). Unless ((not b, ProcessGone) ∷ []) s answer s Taken) (sym live)
-      (subst (λ (o : Option Held). MatchOption o (IsRefused s InvalidHandle answer s) Does) taken (told, refl))
+      (subst (λ (o : Option Held). MatchOption o (IsRefused s InvalidHandle answer s) Does) found (told, refl))
 
   -- a live process asks for the target of the object of a handle that it has
-  pub queries_link : (p handle : ℕ) (answer : Answer) (held : Held) (handles : List Held) → is_live s p ≡ true → handles ≡ s.handles
-      → Some held ≡ option_and_then (held_of (handles_alone handles) p) (key_of handle) → TellsTarget s held.object answer → QueriesLink s p handle answer s
-  queries_link p handle answer held handles live same found told =
+  pub queries_link : (p handle : ℕ) (answer : Answer) (held : Held) → is_live s p ≡ true
+      → Some held ≡ option_and_then (held_of s p) (key_of handle) → TellsTarget s held.object answer → QueriesLink s p handle answer s
+  queries_link p handle answer held live found told =
       let Does = λ (h : Held). TellsTarget s h.object answer × (s ≡ s) in
       let Taken = MatchOption (option_and_then (held_of s p) (key_of handle)) (IsRefused s InvalidHandle answer s) Does in
-      let taken : Some held ≡ option_and_then (held_of s p) (key_of handle) = found ∙ ap (λ (hs : List Held). option_and_then (held_of (handles_alone hs) p) (key_of handle)) same in
       subst (λ (b : Bool). Unless ((not b, ProcessGone) ∷ []) s answer s Taken) (sym live)
-      (subst (λ (o : Option Held). MatchOption o (IsRefused s InvalidHandle answer s) Does) taken (told, refl))
+      (subst (λ (o : Option Held). MatchOption o (IsRefused s InvalidHandle answer s) Does) found (told, refl))
 
   -- the target of a link that has one is told, and else the type is another
   pub tells_target : (o : ℕ) (answer : Answer) (target : Option (List ℕ)) → option_and_then target_of (body_of s o) ≡ target

@@ -8,7 +8,7 @@ use Rattle.ob_model.specs.Names.{separator}
 use Rattle.ob_model.specs.State.{State, root_id}
 use Rattle.ob_model.specs.Naming.{row_of, IsWayUp, names_joined, path_text}
 use Rattle.ob_model.proofs.SoundPaths.{find_of, of_some}
-use Rattle.ob_core.proofs.Stepping.{find_passes}
+use Rattle.ob_space.proofs.Handles.{found_passes}
 
 -- what a test of two numbers that differ says
 pub differ : (a b : ℕ) → true ≡ not (a == b) → a ≢ b
@@ -22,7 +22,7 @@ module _ {K T F I : Type 0} (s : State K T F I) where
   pub falls : (o : ℕ) (r : Row) → All (λ x. x.directory < x.object) s.rows → row_of s o ≡ Some r → r.directory < o
   falls o r below e =
       let less : r.directory < r.object = of_some (λ x. x.directory < x.object) (row_of s o) r e (find_of (λ x. x.directory < x.object) (λ x. x.object == o) s.rows below) in
-      let same : r.object ≡ o = eqb-true r.object o (find_passes (λ x. x.object == o) s.rows r e) in
+      let same : r.object ≡ o = eqb-true r.object o (found_passes (λ x. x.object == o) s.rows r e) in
       omega (arith, less, same)
 
   -- an object other than the root without a row has no way up

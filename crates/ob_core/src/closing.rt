@@ -3,43 +3,40 @@
 ghost use Rattle.std.specs.Prelude.{◌≡◌};
 ghost use Rattle.ob_model.specs.declared.reply.Answer.TheVariants.{Done};
 ghost use Rattle.ob_model.specs.Settle.{IsSettled};
+ghost use Rattle.ob_model.specs.Sound.{IsSound};
 ghost use Rattle.ob_model.specs.Step.{Closes};
 ghost use Rattle.ob_space.specs.Namespace.{state_of};
 ghost use Rattle.ob_space.specs.Orderly.{IsOrderly};
 
 use crate::replies::status_alone;
 use ob_base::{Handle, Proc, Status};
+use ob_handles::HandleTable;
 use ob_model::Reply;
 use ob_objects::Store;
-use ob_space::{
-    Namespace, handle_count, handle_count_in, held_of, is_live, settle_after_close, take,
-};
+use ob_processes::Processes;
+use ob_space::{Namespace, close_handle, held_of, is_live, settle_after_close};
 use ob_types::TypeSet;
 
 /// Closes a handle of the caller. No memory is taken.
-pub(crate) fn close<T: TypeSet>(
-    space: &mut Namespace<T, Store<T>>,
+pub(crate) fn close<T: TypeSet, H: HandleTable>(
+    space: &mut Namespace<T, Store<T>, Processes<H>>,
     process: Proc,
     handle: Handle,
 ) -> Reply
     requires orderly { IsOrderly T.idle (state_of T.Kind space.old) }
     requires settled { IsSettled (state_of T.Kind space.old) }
+    requires sound { IsSound (state_of T.Kind space.old) }
     ensures orderly { IsOrderly T.idle (state_of T.Kind space.new) }
     ensures step { Closes T.procedures (state_of T.Kind space.old) process handle (Done result) (state_of T.Kind space.new) }
 {
     if !is_live(space, process) {
         return status_alone(Status::ProcessGone);
     }
-    let Some(held) = held_of(&space.handles, process, handle) else {
+    let Some(held) = held_of(space, process, handle) else {
         return status_alone(Status::InvalidHandle);
     };
     let object = held.object;
-    take(&mut space.handles, held);
-    let process_left = handle_count_in(&space.handles, process, object) as u32;
-    let system_left = handle_count(&space.handles, object) as u32;
-    ob_types::laws::closed_idle::<T>();
-    let (set, store) = (&mut space.set, &mut space.store);
-    store.close(object, set, process_left, system_left);
+    close_handle(space, held);
     settle_after_close(space, object);
     status_alone(Status::Success)
 }

@@ -4,6 +4,7 @@ ghost use Rattle.std.specs.Prelude.{◌≡◌, length, true, IsOk, IfOk, IfErr, 
 ghost use Rattle.ob_base.specs.declared.Fault.TheVariants.{Memory};
 ghost use Rattle.ob_model.specs.declared.reply.Answer.TheVariants.{Done};
 ghost use Rattle.ob_model.specs.declared.reply.Event.TheVariants.{Start};
+ghost use Rattle.ob_model.specs.State.{table_size};
 ghost use Rattle.ob_model.specs.Opening.{opening};
 ghost use Rattle.ob_model.specs.Settle.{IsSettled};
 ghost use Rattle.ob_model.specs.Sound.{IsSound};
@@ -19,24 +20,27 @@ use crate::making::{Making, link_to, object_of};
 use crate::naming::{query_link, query_name};
 use crate::opens::{open_name, type_wanted};
 use ob_base::{Fault, Proc};
+use ob_handles::HandleTable;
 use ob_model::{Command, Reply, Wanted};
 use ob_objects::Store;
+use ob_processes::Processes;
 use ob_space::{Namespace, opening_store};
 use ob_types::TypeSet;
 use std::alloc::Global;
 use std::marker::Model;
 
-/// The namespace of one process, process 1: its objects, their names and its handles, with a set of
-/// types for the objects that are neither directories nor links.
+/// The namespace of processes: its objects, their names, the live processes and their handles. `T` is a
+/// set of types for the objects that are neither directories nor links, and `H` the handle table that
+/// each process has; a core knows of both only what their traits say.
 ///
-/// Contracts see the state of the abstract machine: the value of the set, all objects, rows and
-/// handles, and the numbers that the next ones get. Nothing else is visible.
+/// Contracts see the state of the abstract machine: the value of the set, all objects, rows, processes
+/// and handles, and the numbers that the next ones get. Nothing else is visible, the table neither.
 #[derive(Drop)]
-pub struct Core<T: TypeSet> {
-    space: Namespace<T, Store<T>>,
+pub struct Core<T: TypeSet, H: HandleTable> {
+    space: Namespace<T, Store<T>, Processes<H>>,
 }
 
-impl<T: TypeSet> Model for Core<T> {
+impl<T: TypeSet, H: HandleTable> Model for Core<T, H> {
     ghost use Rattle.ob_model.specs.State.{State};
     ghost use Rattle.ob_space.specs.Namespace.{state_of};
     ghost use Rattle.ob_core.specs.Kept.{IsCore};
@@ -55,22 +59,25 @@ pub enum Started {
     Done(Reply),
 }
 
-impl<T: TypeSet> Core<T> {
+impl<T: TypeSet, H: HandleTable> Core<T, H> {
     /// The opening state, with a set of types: the root directory, `\GLOBAL??`, `\DosDevices` (a link
     /// to `\??`), `\Device`, `\BaseNamedObjects` and `\Sessions`, all permanent, and process 1 without a
     /// handle. The only fault is want of memory, and then the set is let go.
-    pub fn new(alloc: Global, types: T) -> Result<Core<T>, Fault>
+    pub fn new(alloc: Global, types: T) -> Result<Core<T, H>, Fault>
         ensures opening { IfOk result (λ core. core ≡ opening types) }
         ensures memory { IfErr result (λ fault. fault ≡ Memory) }
     {
+        let mut processes = Processes::new(alloc);
+        processes.start(Proc(1), None)?;
         Ok(Core {
             space: Namespace {
                 alloc,
                 set: types,
                 store: opening_store(alloc)?,
-                handles: Vec::new(alloc),
+                processes,
                 next_id: 7,
                 next_stamp: 6,
+                next_process: 2,
                 next_order: 1,
             },
         })
@@ -101,11 +108,21 @@ impl<T: TypeSet> Core<T> {
         self.space.store.len()
     }
 
-    /// How many handles there are: at most 65,535.
+    /// How many handles there are, of all processes: at most 65,535 of each.
     pub fn handles(&self) -> usize
         ensures { result ≡ length self.now.handles }
     {
-        self.space.handles.len()
+        self.space.processes.len()
+    }
+
+    /// How many handles a process has: at most 65,535, and 0 where it isn't live.
+    ///
+    /// Source: Windows Internals, Object Manager (handles and the process handle table); the limit is
+    /// this profile.
+    pub fn handles_of(&self, process: Proc) -> usize
+        ensures { result ≡ table_size self.now process }
+    {
+        self.space.processes.len_of(process)
     }
 
     /// The set of types, as the calls of its procedures have left it.
@@ -117,8 +134,8 @@ impl<T: TypeSet> Core<T> {
 }
 
 /// Makes the step of a command, and gives its reply.
-fn reply_to<T: TypeSet>(
-    space: &mut Namespace<T, Store<T>>,
+fn reply_to<T: TypeSet, H: HandleTable>(
+    space: &mut Namespace<T, Store<T>, Processes<H>>,
     process: Proc,
     command: &Command<T::Kind>,
 ) -> Result<Reply, Fault>

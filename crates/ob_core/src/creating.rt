@@ -7,6 +7,7 @@ ghost use Rattle.ob_model.specs.declared.reply.Answer.TheVariants.{Done};
 ghost use Rattle.ob_model.specs.Creates as machine;
 ghost use Rattle.ob_model.specs.Creates.{create_mode};
 ghost use Rattle.ob_model.specs.Looks as looks;
+ghost use Rattle.ob_model.specs.State.{is_live};
 ghost use Rattle.ob_model.specs.Settle.{IsSettled};
 ghost use Rattle.ob_model.specs.Sound.{IsSound};
 ghost use Rattle.ob_model.specs.Step.{CreatesAt, CreatesIn};
@@ -20,16 +21,18 @@ use crate::making::{Making, is_fit, make_named, make_unnamed, type_made};
 use crate::opens::open_at;
 use crate::replies::status_alone;
 use ob_base::{Attrs, Fault, Handle, ObjId, Proc, Status};
+use ob_handles::HandleTable;
 use ob_lookup::{Look, Mode};
 use ob_model::{Place, Reply};
 use ob_names::Name;
 use ob_objects::Store;
+use ob_processes::Processes;
 use ob_space::{Namespace, Spot, is_live, judge_create, look_up, root_object};
 use ob_types::TypeSet;
 
 /// Makes an object at a place; with OPENIF it opens what is there already.
-pub(crate) fn create<T: TypeSet>(
-    space: &mut Namespace<T, Store<T>>,
+pub(crate) fn create<T: TypeSet, H: HandleTable>(
+    space: &mut Namespace<T, Store<T>, Processes<H>>,
     process: Proc,
     place: &Place,
     attrs: u32,
@@ -60,8 +63,8 @@ pub(crate) fn create<T: TypeSet>(
 }
 
 /// Makes an object at a name, or opens what is there already.
-fn create_at_name<T: TypeSet>(
-    space: &mut Namespace<T, Store<T>>,
+fn create_at_name<T: TypeSet, H: HandleTable>(
+    space: &mut Namespace<T, Store<T>, Processes<H>>,
     process: Proc,
     root: Option<Handle>,
     name: Name<'_>,
@@ -71,7 +74,7 @@ fn create_at_name<T: TypeSet>(
     requires orderly { IsOrderly T.idle (state_of T.Kind space.old) }
     requires settled { IsSettled (state_of T.Kind space.old) }
     requires sound { IsSound (state_of T.Kind space.old) }
-    requires first { process ≡ 1 }
+    requires live { is_live (state_of T.Kind space.old) process ≡ true }
     requires fit { machine.is_fit (making_of making) ≡ true }
     ensures orderly { IsOrderly T.idle (state_of T.Kind space.new) }
     ensures step { IfOk result (λ reply.
@@ -81,7 +84,7 @@ fn create_at_name<T: TypeSet>(
     ensures err { OnErr result (state_of T.Kind space.new ≡ state_of T.Kind space.old) }
     ensures memory { IfErr result (λ fault. fault ≡ Memory) }
 {
-    let root = match root_object(&space.handles, process, root) {
+    let root = match root_object(space, process, root) {
         Ok(root) => root,
         Err(status) => return Ok(status_alone(status)),
     };
@@ -113,8 +116,8 @@ fn create_mode(attrs: Attrs) -> Mode
 }
 
 /// What a create does at an object that is there already: with OPENIF it opens it.
-fn open_there<T: TypeSet>(
-    space: &mut Namespace<T, Store<T>>,
+fn open_there<T: TypeSet, H: HandleTable>(
+    space: &mut Namespace<T, Store<T>, Processes<H>>,
     process: Proc,
     object: ObjId,
     attrs: Attrs,
@@ -122,7 +125,7 @@ fn open_there<T: TypeSet>(
 ) -> Result<Reply, Fault>
     requires orderly { IsOrderly T.idle (state_of T.Kind space.old) }
     requires settled { IsSettled (state_of T.Kind space.old) }
-    requires first { process ≡ 1 }
+    requires live { is_live (state_of T.Kind space.old) process ≡ true }
     ensures orderly { IsOrderly T.idle (state_of T.Kind space.new) }
     ensures step { IfOk result (λ reply.
         machine.Creates T.procedures (state_of T.Kind space.old) process attrs (making_of making.entry) (looks.At object) (Done reply)

@@ -1,11 +1,12 @@
 //! The namespace itself: commands in, replies out, one step of the abstract machine each.
 //!
-//! A [`Core`] is generic in its set of types, of which it knows nothing but that it is lawful. Its
-//! state lies in the parts of `ob_space`, and each file below has the commands of one kind over them.
+//! A [`Core`] is generic in its set of types, of which it knows nothing but that it is lawful, and in the
+//! handle table of its processes. Its state lies in the parts of `ob_space`, and each file below has the
+//! commands of one kind over them.
 //!
 //! What a command and its reply are made of is handed on: [`Command`], [`Place`] and [`Wanted`],
-//! [`Reply`] and [`Given`], and the [`Bytes`] in them. So a caller names this crate and a set of types
-//! and nothing else for them.
+//! [`Reply`] and [`Given`], and the [`Bytes`] in them; and so are handle tables, [`HandleTable`] and
+//! [`OpenTable`]. So a caller names this crate and a set of types and nothing else for them.
 #![tactic(auto)]
 
 mod closing;
@@ -17,4 +18,5 @@ mod opens;
 mod replies;
 
 pub use commands::{Core, Started};
+pub use ob_handles::{HandleTable, OpenTable};
 pub use ob_model::{Bytes, Command, Given, Place, Reply, Wanted};

@@ -7,6 +7,7 @@ ghost use Rattle.ob_base.specs.Attrs.{has_flag, permanent_flag, exclusive_flag};
 ghost use Rattle.ob_types.specs.Told.{IsTold};
 ghost use Rattle.ob_model.specs.declared.reply.Answer.TheVariants.{Done};
 ghost use Rattle.ob_model.specs.Grants.{is_table_full};
+ghost use Rattle.ob_model.specs.State.{is_live};
 ghost use Rattle.ob_model.specs.Settle.{IsSettled};
 ghost use Rattle.ob_model.specs.Creates as machine;
 ghost use Rattle.ob_model.specs.Creates.{is_store_full, is_stampless};
@@ -18,10 +19,12 @@ ghost use Rattle.ob_space.specs.Orderly.{IsOrderly, IsIdleBody};
 
 use crate::replies::{status_alone, with_handle};
 use ob_base::{Attrs, Fault, Proc, Status};
+use ob_handles::HandleTable;
 use ob_model::{Bytes, Reply, Wanted};
 use ob_names::{Name, NameBuf};
 use ob_objects::{Store, StoredBody, StoredObject};
-use ob_space::{Namespace, Spot, add_handle, free_value, is_full, is_stampless, place_new};
+use ob_processes::Processes;
+use ob_space::{Namespace, Spot, is_full, is_stampless, place_new};
 use ob_types::{Refusal, TypeSet, laws};
 use std::alloc::Global;
 use std::sync::Arc;
@@ -76,8 +79,8 @@ pub(crate) fn is_fit<K>(making: &Making<'_, K>) -> bool
 }
 
 /// Makes an object at a name that is free in a directory, and opens a handle to it.
-pub(crate) fn make_named<T: TypeSet>(
-    space: &mut Namespace<T, Store<T>>,
+pub(crate) fn make_named<T: TypeSet, H: HandleTable>(
+    space: &mut Namespace<T, Store<T>, Processes<H>>,
     process: Proc,
     spot: Spot,
     attrs: Attrs,
@@ -85,7 +88,7 @@ pub(crate) fn make_named<T: TypeSet>(
 ) -> Result<Reply, Fault>
     requires orderly { IsOrderly T.idle (state_of T.Kind space.old) }
     requires settled { IsSettled (state_of T.Kind space.old) }
-    requires first { process ≡ 1 }
+    requires live { is_live (state_of T.Kind space.old) process ≡ true }
     requires fit { machine.is_fit (making_of making) ≡ true }
     requires vacant { IsVacant (state_of T.Kind space.old) spot.directory spot.name }
     ensures orderly { IsOrderly T.idle (state_of T.Kind space.new) }
@@ -102,15 +105,15 @@ pub(crate) fn make_named<T: TypeSet>(
 }
 
 /// Makes an object without a name, and opens a handle to it.
-pub(crate) fn make_unnamed<T: TypeSet>(
-    space: &mut Namespace<T, Store<T>>,
+pub(crate) fn make_unnamed<T: TypeSet, H: HandleTable>(
+    space: &mut Namespace<T, Store<T>, Processes<H>>,
     process: Proc,
     attrs: Attrs,
     making: Making<'_, T::Kind>,
 ) -> Result<Reply, Fault>
     requires orderly { IsOrderly T.idle (state_of T.Kind space.old) }
     requires settled { IsSettled (state_of T.Kind space.old) }
-    requires first { process ≡ 1 }
+    requires live { is_live (state_of T.Kind space.old) process ≡ true }
     requires fit { machine.is_fit (making_of making) ≡ true }
     ensures orderly { IsOrderly T.idle (state_of T.Kind space.new) }
     ensures step { IfOk result (λ reply.
@@ -127,8 +130,8 @@ pub(crate) fn make_unnamed<T: TypeSet>(
 /// Makes an object for which there is room, at a spot, where one is given, and opens a handle to it.
 /// All growths come before the first procedure of the set that changes it. What is there stays: an
 /// object more, with its handle, lets nothing go.
-fn make_in_room<T: TypeSet>(
-    space: &mut Namespace<T, Store<T>>,
+fn make_in_room<T: TypeSet, H: HandleTable>(
+    space: &mut Namespace<T, Store<T>, Processes<H>>,
     process: Proc,
     spot: Option<Spot>,
     attrs: Attrs,
@@ -136,7 +139,7 @@ fn make_in_room<T: TypeSet>(
 ) -> Result<Reply, Fault>
     requires orderly { IsOrderly T.idle (state_of T.Kind space.old) }
     requires settled { IsSettled (state_of T.Kind space.old) }
-    requires first { process ≡ 1 }
+    requires live { is_live (state_of T.Kind space.old) process ≡ true }
     requires fit { machine.is_fit (making_of making) ≡ true }
     requires room { (is_table_full (state_of T.Kind space.old) process || is_store_full (state_of T.Kind space.old)) ≡ false }
     requires stamp { is_some spot ≡ true → is_stampless (state_of T.Kind space.old) ≡ false }
@@ -148,20 +151,16 @@ fn make_in_room<T: TypeSet>(
     ensures err { OnErr result (state_of T.Kind space.new ≡ state_of T.Kind space.old) }
     ensures memory { IfErr result (λ fault. fault ≡ Memory) }
 {
-    let value = free_value(space.alloc, &space.handles, process)?;
-    space.handles.reserve(1)?;
     let body = match make_body::<T>(space.alloc, making) {
         Ok(body) => body,
         Err(Refusal::Code(code)) => return Ok(status_alone(Status::TypeRefused(code))),
         Err(Refusal::Memory) => return Err(Fault::Memory),
     };
-    let named = spot.is_some();
-    let object = object_made(body, attrs, named);
-    if let Err(code) = place_new(space, spot, object)? {
-        return Ok(status_alone(Status::TypeRefused(code)));
+    let object = object_made(body, attrs, spot.is_some());
+    match place_new(space, process, spot, object, attrs.is_inherit())? {
+        Ok(value) => Ok(with_handle(Status::Success, value)),
+        Err(code) => Ok(status_alone(Status::TypeRefused(code))),
     }
-    add_handle(space, process, value, attrs, named);
-    Ok(with_handle(Status::Success, value))
 }
 
 /// The body of what is made.

@@ -12,9 +12,11 @@ ghost use Rattle.ob_core.specs.Early.{is_use_refused};
 
 use crate::replies::{status_alone, with_text};
 use ob_base::{Handle, ObjId, Proc, Status};
+use ob_handles::HandleTable;
 use ob_model::{Bytes, Reply};
 use ob_names::LONGEST_NAME;
 use ob_objects::{Store, StoredBody, laws};
+use ob_processes::Processes;
 use ob_space::{Namespace, ROOT, held_of, is_live};
 use ob_types::TypeSet;
 use std::alloc::{AllocError, Global};
@@ -28,8 +30,8 @@ use std::alloc::{AllocError, Global};
 /// fault is want of memory.
 ///
 /// Source: ObQueryNameString (Windows Driver Kit); the empty text and the limit are this profile.
-pub(crate) fn query_name<T: TypeSet>(
-    space: &Namespace<T, Store<T>>,
+pub(crate) fn query_name<T: TypeSet, H: HandleTable>(
+    space: &Namespace<T, Store<T>, Processes<H>>,
     process: Proc,
     handle: Handle,
 ) -> Result<Reply, AllocError>
@@ -41,7 +43,7 @@ pub(crate) fn query_name<T: TypeSet>(
     if !is_live(space, process) {
         return Ok(status_alone(Status::ProcessGone));
     }
-    let Some(held) = held_of(&space.handles, process, handle) else {
+    let Some(held) = held_of(space, process, handle) else {
         return Ok(status_alone(Status::InvalidHandle));
     };
     let Some(way) = way_up(space.alloc, &space.store, held.object)? else {
@@ -101,8 +103,8 @@ fn path_text(alloc: Global, way: &[&[u8]]) -> Result<Vec<u8>, AllocError>
 /// want of memory.
 ///
 /// Source: ZwQuerySymbolicLinkObject (Windows Driver Kit).
-pub(crate) fn query_link<T: TypeSet>(
-    space: &Namespace<T, Store<T>>,
+pub(crate) fn query_link<T: TypeSet, H: HandleTable>(
+    space: &Namespace<T, Store<T>, Processes<H>>,
     process: Proc,
     handle: Handle,
 ) -> Result<Reply, AllocError>
@@ -113,7 +115,7 @@ pub(crate) fn query_link<T: TypeSet>(
     if !is_live(space, process) {
         return Ok(status_alone(Status::ProcessGone));
     }
-    let Some(held) = held_of(&space.handles, process, handle) else {
+    let Some(held) = held_of(space, process, handle) else {
         return Ok(status_alone(Status::InvalidHandle));
     };
     laws::stored_is_the_object::<T::Kind, T, T::Face, T::Inner>();

@@ -7,6 +7,7 @@ ghost use Rattle.ob_model.specs.Opens.{OpensAt, Opens, open_mode, type_wanted};
 ghost use Rattle.ob_model.specs.Step.{OpensName};
 ghost use Rattle.ob_model.specs.Settle.{IsSettled};
 ghost use Rattle.ob_model.specs.Sound.{IsSound};
+ghost use Rattle.ob_model.specs.State.{is_live};
 ghost use Rattle.ob_model.specs.Looks as machine;
 ghost use Rattle.ob_model.specs.Procedures.{without_parse};
 ghost use Rattle.ob_lookup.specs.Look.{mode_of, look_of};
@@ -16,12 +17,14 @@ ghost use Rattle.ob_core.specs.Early.{is_open_refused};
 
 use crate::replies::{status_alone, with_handle};
 use ob_base::{Attrs, Fault, Handle, ObjId, Proc, Status};
+use ob_handles::HandleTable;
 use ob_lookup::{Look, Mode};
 use ob_model::{Reply, Wanted};
 use ob_names::Name;
 use ob_objects::Store;
-use ob_space::{Namespace, grant, is_live, is_wanted_at, judge_open, look_up, root_object};
-use ob_types::TypeSet;
+use ob_processes::Processes;
+use ob_space::{Asked, Namespace, grant, is_live, is_wanted_at, judge_open, look_up, root_object};
+use ob_types::{Reason, TypeSet};
 
 /// The type that an open of an object asks for.
 pub(crate) fn type_wanted<K: Copy>(want: Option<K>) -> Wanted<K>
@@ -34,8 +37,8 @@ pub(crate) fn type_wanted<K: Copy>(want: Option<K>) -> Wanted<K>
 }
 
 /// Opens an object by name, of the type that is asked for.
-pub(crate) fn open_name<T: TypeSet>(
-    space: &mut Namespace<T, Store<T>>,
+pub(crate) fn open_name<T: TypeSet, H: HandleTable>(
+    space: &mut Namespace<T, Store<T>, Processes<H>>,
     process: Proc,
     root: Option<Handle>,
     name: &[u8],
@@ -56,7 +59,7 @@ pub(crate) fn open_name<T: TypeSet>(
         Ok(attrs) => attrs,
         Err(status) => return Ok(status_alone(status)),
     };
-    let root = match root_object(&space.handles, process, root) {
+    let root = match root_object(space, process, root) {
         Ok(root) => root,
         Err(status) => return Ok(status_alone(status)),
     };
@@ -81,8 +84,8 @@ fn open_mode<K: Copy>(wanted: Wanted<K>, attrs: Attrs) -> Mode
 
 /// Opens an object that was found, where it is of the type that is asked for. The handle is given
 /// with this status. What is there stays: a handle more lets nothing go.
-pub(crate) fn open_at<T: TypeSet>(
-    space: &mut Namespace<T, Store<T>>,
+pub(crate) fn open_at<T: TypeSet, H: HandleTable>(
+    space: &mut Namespace<T, Store<T>, Processes<H>>,
     process: Proc,
     object: ObjId,
     attrs: Attrs,
@@ -91,7 +94,7 @@ pub(crate) fn open_at<T: TypeSet>(
 ) -> Result<Reply, Fault>
     requires orderly { IsOrderly T.idle (state_of T.Kind space.old) }
     requires settled { IsSettled (state_of T.Kind space.old) }
-    requires first { process ≡ 1 }
+    requires live { is_live (state_of T.Kind space.old) process ≡ true }
     ensures orderly { IsOrderly T.idle (state_of T.Kind space.new) }
     ensures step { IfOk result (λ reply.
         OpensAt T.procedures (state_of T.Kind space.old) process attrs wanted status object (Done reply) (state_of T.Kind space.new)) }
@@ -101,7 +104,7 @@ pub(crate) fn open_at<T: TypeSet>(
     if !is_wanted_at(space, object, wanted) {
         return Ok(status_alone(Status::ObjectTypeMismatch));
     }
-    match grant(space, process, object, attrs)? {
+    match grant(space, process, object, Asked::by(attrs), Reason::Opened)? {
         Ok(value) => Ok(with_handle(status, value)),
         Err(refusal) => Ok(status_alone(refusal)),
     }

@@ -1,14 +1,14 @@
 //! The use of a namespace from code that the README shows, whole.
 
 use ob_base::{Fault, Handle, Proc, Status};
-use ob_core::{Bytes, Command, Core, Given, Place, Reply, Started};
+use ob_core::{Bytes, Command, Core, Given, OpenTable, Place, Reply, Started};
 use ob_plain::{Counting, Plain};
 use std::alloc::Global;
 use std::test::Fail;
 
 // Makes the directory `\A`, and closes its handle.
 fn make_and_close(alloc: Global) -> Result<(Reply, Reply), Fault> {
-    let mut core = Core::new(alloc, Counting::new(Plain))?;
+    let mut core: Core<_, OpenTable> = Core::new(alloc, Counting::new(Plain))?;
     let name = Bytes::from_slice(alloc, b"\\A")?;
     let place = Place::At { root: None, name };
     let create = Command::CreateDirectory { place, attrs: 0 };

@@ -5,7 +5,7 @@ mod doors;
 
 use doors::Doors;
 use ob_base::{Fault, Handle, Proc, Status};
-use ob_core::{Bytes, Command, Core, Given, Place, Reply, Started};
+use ob_core::{Bytes, Command, Core, Given, OpenTable, Place, Reply, Started};
 use std::alloc::{AllocError, Global};
 use std::test::Fail;
 
@@ -92,7 +92,7 @@ fn given_to(given: &[Handle], step: usize) -> Handle {
     given.get(step).copied().unwrap_or(Handle(0))
 }
 
-fn reply(core: &mut Core<Doors>, command: &Command<bool>) -> Result<Reply, Fault> {
+fn reply(core: &mut Core<Doors, OpenTable>, command: &Command<bool>) -> Result<Reply, Fault> {
     let Started::Done(reply) = core.start(Proc(1), command)?;
     Ok(reply)
 }
@@ -106,7 +106,7 @@ fn handle_of(reply: &Reply) -> Handle {
 
 // What the steps leave of a new namespace, if each is answered with its status.
 fn play(alloc: Global, steps: &[(Ask, Status)]) -> Result<Option<Left>, Fail> {
-    let mut core = Core::new(alloc, Doors { last: 0 })?;
+    let mut core: Core<Doors, OpenTable> = Core::new(alloc, Doors { last: 0 })?;
     let mut given = Vec::new(alloc);
     for (ask, status) in steps {
         let command = command(alloc, *ask, given.as_slice())?;
@@ -178,7 +178,7 @@ fn a_set_is_called_as_its_objects_live(rt: HostRuntime) -> Result<(), Fail> {
 }
 
 // Opens the root so often, and says whether each open succeeded.
-fn opens(alloc: Global, core: &mut Core<Doors>, count: u32) -> Result<bool, Fail> {
+fn opens(alloc: Global, core: &mut Core<Doors, OpenTable>, count: u32) -> Result<bool, Fail> {
     let root = open_directory(alloc, b"\\")?;
     for _ in 0..count {
         let opened = reply(core, &root)?;
@@ -192,7 +192,7 @@ fn opens(alloc: Global, core: &mut Core<Doors>, count: u32) -> Result<bool, Fail
 #[test]
 fn the_table_ends_at_65535_handles(rt: HostRuntime) -> Result<(), Fail> {
     let alloc = rt.alloc();
-    let mut core = Core::new(alloc, Doors { last: 0 })?;
+    let mut core: Core<Doors, OpenTable> = Core::new(alloc, Doors { last: 0 })?;
     assert!(rt; opens(alloc, &mut core, 65_535)?);
     let root = open_directory(alloc, b"\\")?;
     let refused = reply(&mut core, &root)?;
@@ -202,6 +202,11 @@ fn the_table_ends_at_65535_handles(rt: HostRuntime) -> Result<(), Fail> {
     assert_eq!(rt; closed.status, Status::Success);
     let opened = reply(&mut core, &root)?;
     assert_eq!(rt; handle_of(&opened), Handle(262_140));
-    assert_eq!(rt; core.handles(), 65_535);
+    let counted = (
+        core.handles(),
+        core.handles_of(Proc(1)),
+        core.handles_of(Proc(2)),
+    );
+    assert_eq!(rt; counted, (65_535, 65_535, 0));
     Ok(())
 }

@@ -3,12 +3,12 @@
 ghost use Rattle.std.specs.Prelude.{◌≡◌};
 ghost use Rattle.ob_shell.specs.Machine.{counts_of};
 
-use ob_core::Core;
+use ob_core::{Core, OpenTable};
 use ob_output::Counts;
 use ob_plain::Standard;
 
 // What a namespace counts now.
-pub fn counts_of(core: &Core<Standard>) -> Counts
+pub fn counts_of(core: &Core<Standard, OpenTable>) -> Counts
     ensures { result ≡ counts_of core.now }
 {
     let set = core.set();

@@ -15,7 +15,7 @@ use crate::asked::{Asker, command_of};
 use crate::counts::counts_of;
 use crate::words::{Table, process_of, set_at, slot_of, value_at};
 use ob_base::{Fault, Handle, Proc, Status};
-use ob_core::{Core, Started};
+use ob_core::{Core, OpenTable, Started};
 use ob_lines::{Form, Request, word_of};
 use ob_model::{Command, Given, Reply};
 use ob_output::Counts;
@@ -41,7 +41,7 @@ pub enum Outcome {
 // table of its words.
 pub fn perform(
     alloc: Global,
-    core: &mut Core<Standard>,
+    core: &mut Core<Standard, OpenTable>,
     words: &mut [Table],
     form: Option<Form<&[u8]>>,
 ) -> Outcome
@@ -72,7 +72,7 @@ pub fn perform(
 // Runs the request of a process, with its words. All that can want memory comes before the step.
 fn ask(
     alloc: Global,
-    core: &mut Core<Standard>,
+    core: &mut Core<Standard, OpenTable>,
     table: &mut Table,
     process: Proc,
     request: Request<&[u8]>,
@@ -96,7 +96,7 @@ fn ask(
 
 // Starts a command, and gives its reply.
 fn start(
-    core: &mut Core<Standard>,
+    core: &mut Core<Standard, OpenTable>,
     process: Proc,
     command: &Command<PlainKind>,
 ) -> Result<Reply, Fault>

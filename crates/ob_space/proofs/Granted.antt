@@ -1,12 +1,11 @@
 -- A grant, put together of what its parts ensure.
-use Rattle.std.proofs.Common.{◌≡◌, ℕ, ◌+◌, ◌-◌, ◌^◌, ◌<◌, ◌≤◌, ◌⊎◌, inl, inr, refl, Bool, true, false, ◌&&◌, ◌||◌, not, List, [], ◌∷◌, ◌++◌, ap, ◌∙◌, sym, subst, arith, filter, find}
+use Rattle.std.proofs.Common.{◌≡◌, ℕ, ◌+◌, ◌-◌, ◌^◌, ◌<◌, refl, Bool, true, false, ◌&&◌, ◌||◌, not, [], ◌∷◌, ◌++◌, ap, ◌∙◌, sym, subst, arith, filter, find}
 use Rattle.std.specs.Prelude.{Option, None, Some, nat_le, nat_lt, Ok, Err}
 use Rattle.std.specs.Option.{option_map, option_or}
 use Rattle.std.proofs.lemmas.Bool.Decides.{nat_tests}
 use Rattle.ob_base.specs.declared.status.Status.{Status}
 use Rattle.ob_base.specs.declared.status.Status.TheVariants.{InvalidParameter, AccessDenied, InsufficientResources, TypeRefused}
-use Rattle.ob_model.specs.declared.state.Held.{Held}
-use Rattle.ob_model.specs.State.{State, table_size, most_handles, greatest_number}
+use Rattle.ob_model.specs.State.{State, table_size, most_handles}
 use Rattle.ob_model.specs.Procedures.{Procedures, Reason}
 use Rattle.ob_model.specs.Closing.{is_handle}
 use Rattle.ob_model.specs.Grants.{Asked, IsHandleValue, first_refusal, is_exclusive, has_other_holder, is_table_full, with_open, with_handle, Grants}
@@ -21,25 +20,13 @@ use Rattle.ob_space.specs.Orderly.{IsOrderly}
 use Rattle.ob_space.proofs.Handles.{is_itself, taken_back}
 use Rattle.ob_space.proofs.Orders.{granted_orderly}
 
--- a table that isn't full has room, and an order is left
+-- a table that isn't full has room
 pub has_room : {K T F I : Type 0} (s : State K T F I) (p : ℕ) → is_table_full s p ≡ false → table_size s p < most_handles
 has_room s p h = go (nat_le most_handles (table_size s p)) refl h
   where
     go : (b : Bool) → nat_le most_handles (table_size s p) ≡ b → (b || nat_lt (2 ^ 64 - 2) s.next_order) ≡ false → table_size s p < most_handles
     go true e h = cc
     go false e h = grind (arith, nat_tests)
-
-pub has_order : {K T F I : Type 0} (s : State K T F I) (p : ℕ) → is_table_full s p ≡ false → s.next_order ≤ greatest_number
-has_order s p h = go (nat_le most_handles (table_size s p)) h
-  where
-    go : (b : Bool) → (b || nat_lt (2 ^ 64 - 2) s.next_order) ≡ false → s.next_order ≤ greatest_number
-    go true h = cc
-    go false h = grind (arith, nat_tests)
-
--- what is refused by a table with room is memory
-pub is_memory : {X : Type 0} (a b : X) (size : ℕ) → size < most_handles → ((a ≡ b) ⊎ (most_handles ≤ size)) → a ≡ b
-is_memory a b size room (inl e) = e
-is_memory a b size room (inr full) = absurd (omega (arith, room, full))
 
 last_test : (a b c d : Bool) (x y z w : Status) → first_refusal ((a, x) ∷ (b, y) ∷ (c, z) ∷ (d, w) ∷ []) ≡ None → d ≡ false
 last_test true b c d x y z w h = cc
@@ -68,14 +55,11 @@ module _ (K : Type 0) {T F I : Type 0} (g : Procedures K T F I) (idle : I → Ty
         ∷ (is_table_full s p, InsufficientResources) ∷ []) ≡ None
     none = sym early_is ∙ early
 
-    pub not_full : is_table_full s p ≡ false
+    not_full : is_table_full s p ≡ false
     not_full = last_test (asked.exclusive && not (is_exclusive s o)) (asked.inherit && is_exclusive s o) (is_exclusive s o && has_other_holder s p o) (is_table_full s p) InvalidParameter InvalidParameter AccessDenied InsufficientResources none
 
-    pub room : table_size s p < most_handles
+    room : table_size s p < most_handles
     room = has_room s p not_full
-
-    pub order : s.next_order ≤ greatest_number
-    order = has_order s p not_full
 
     module _ (value : ℕ) (running : Running) (valid : IsHandleValue value) (unused : find (is_handle p value) a.processes.handles ≡ None)
         (last : running.handles ≡ a.processes.handles ++ record { process = p; value = value; object = o; inherit = asked.inherit; order = a.next_order } ∷ [])

@@ -1,6 +1,6 @@
 -- What keeps a state orderly: settling, an open with its grant, a new object, a close, and an object
 -- that is dropped.
-use Rattle.std.proofs.Common.{◌≡◌, ℕ, zero, suc, ◌+◌, ◌<◌, ◌≤◌, ◌==◌, Bool, true, false, ◌&&◌, ◌||◌, not, cond, List, [], ◌∷◌, ◌++◌, length, get_or, map, filter, find, All, None, Some, option_map, refl, ap, ◌∙◌, sym, subst, arith, eqb-true, eq-eqb}
+use Rattle.std.proofs.Common.{◌≡◌, ℕ, zero, suc, ◌+◌, ◌<◌, ◌≤◌, ◌==◌, Bool, true, false, ◌||◌, not, cond, List, [], ◌∷◌, ◌++◌, length, get_or, map, filter, find, All, None, Some, option_map, refl, ap, ◌∙◌, sym, subst, arith, eqb-true, eq-eqb}
 use Rattle.std.specs.Prelude.{count_by, MatchOption}
 use Rattle.std.specs.List.{AllPairs, list_any}
 use Rattle.std.specs.Option.{option_map_or, is_some}

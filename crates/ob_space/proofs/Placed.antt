@@ -1,12 +1,10 @@
 -- A new object among those of a store, with its name: what the store has of its directories then, and
 -- what the state is; and what it is when the object is taken back.
-use Rattle.std.proofs.Common.{◌≡◌, ◌≢◌, ◌∙◌, ℕ, ◌+◌, ◌-◌, ◌^◌, ◌<◌, ◌≤◌, Bool, true, false, ◌||◌, not, cond, List, [], ◌∷◌, ◌++◌, length, map, filter, find, Option, None, Some, option_map, All, IsSome, refl, ap, sym, subst, append-nil, arith}
-use Rattle.std.specs.Prelude.{MatchOption, nat_lt}
+use Rattle.std.proofs.Common.{◌≡◌, ◌≢◌, ◌∙◌, ℕ, ◌+◌, ◌<◌, Bool, true, false, ◌||◌, not, cond, List, [], ◌∷◌, ◌++◌, length, map, filter, find, Option, None, Some, option_map, All, IsSome, refl, ap, sym, subst, append-nil}
+use Rattle.std.specs.Prelude.{MatchOption}
 use Rattle.std.specs.Option.{unwrap_or, is_some}
-use Rattle.std.proofs.lemmas.Bool.Decides.{nat_tests}
 use Rattle.ob_model.specs.declared.state.Object.{Object}
-use Rattle.ob_model.specs.declared.state.Held.{Held}
-use Rattle.ob_model.specs.State.{State, insert_object, is_directory, table_size, most_handles, greatest_number}
+use Rattle.ob_model.specs.State.{State, is_directory, table_size, most_handles}
 use Rattle.ob_model.specs.Closing.{is_handle}
 use Rattle.ob_model.specs.Procedures.{Procedures, Created}
 use Rattle.ob_model.specs.Settle.{deleted_one}
@@ -25,7 +23,7 @@ use Rattle.ob_space.specs.declared.space.Namespace.{Namespace}
 use Rattle.ob_space.specs.Namespace.{state_of, holding}
 use Rattle.ob_space.specs.Placing.{spot_of, IsVacantSpot, IsFreeSpot, with_placed, without_name_in, IsOpened, IsTakenBack, placed}
 use Rattle.ob_space.specs.Orderly.{IsOrderly}
-use Rattle.ob_space.proofs.Granted.{has_room, has_order}
+use Rattle.ob_space.proofs.Granted.{has_room}
 use Rattle.ob_space.proofs.Handles.{is_itself, taken_back}
 use Rattle.ob_space.proofs.Orders.{object_orderly, drawn_orderly}
 
@@ -137,19 +135,12 @@ module _ {K T F I : Type 0} (g : Procedures K T F I) (set : T) (store : Entries 
       set = after_is ∙ (λ i. deleted_one g (body_of_stored (object_is stored stored_is i).body) (set_is i));
     }
 
--- what the tests of room say
-not_stampless : (n : ℕ) → nat_lt (2 ^ 64 - 2) n ≡ false → n ≤ greatest_number
-not_stampless n h = grind (arith, nat_tests)
-
-not_full : (a b : Bool) (n : ℕ) → (a || (b || nat_lt (2 ^ 64 - 2) n)) ≡ false → n ≤ greatest_number
-not_full true b n h = cc
-not_full false true n h = cc
-not_full false false n h = not_stampless n h
-
+-- what a test of two says
 first_false : (a b : Bool) → (a || b) ≡ false → a ≡ false
 first_false true b h = h
 first_false false b h = refl
 
+-- a spot is given, or none is
 spot_given : (spot : Option Spot) → is_some spot ≡ is_some (spot_of spot)
 spot_given None = refl
 spot_given (Some at) = refl
@@ -172,14 +163,8 @@ module _ (K : Type 0) {T F I : Type 0} (g : Procedures K T F I) (idle : I → Ty
     table_room : is_table_full s p ≡ false
     table_room = first_false (is_table_full s p) (is_store_full s) room
 
-    pub room_in_table : table_size s p < most_handles
+    room_in_table : table_size s p < most_handles
     room_in_table = has_room s p table_room
-
-    pub order_left : s.next_order ≤ greatest_number
-    order_left = has_order s p table_room
-
-    pub id_left : s.next_id ≤ greatest_number
-    id_left = not_full (is_table_full s p) _ s.next_id room
 
     module _ (spot : Option Spot) (vacant : IsVacantSpot s spot) (x : StoredObject F I) (named : x.permanent ≡ true → is_some spot ≡ true) (value : ℕ) (inherit : Bool) (running : Running)
         (unused : find (is_handle p value) a.processes.handles ≡ None)

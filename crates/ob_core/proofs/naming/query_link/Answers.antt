@@ -17,7 +17,7 @@ pub returns-in_default-get-clause-step : goal.returns-in_default-get-clause-step
 returns-in_default-get-clause-step g c =
     let s = state_of g.row.T-Kind.Denot c.args.space.now in
     let answer = Done c.status_alone-in_default-get.result in
-    queries_link s c.args.process c.args.handle answer c.in-Some.held c.deref.result.now (sym c.is_live.ensures ∙ c.if-not-is_live.false) c.deref.ensures.value c.in-Some.ensures
+    queries_link s c.args.process c.args.handle answer c.in-Some.held (sym c.is_live.ensures ∙ c.if-not-is_live.false) c.in-Some.ensures
     (tells_target s c.in-Some.held.object answer None
     (target_is s c.args.space.now.store (record { objects = refl; rows = refl }) c.in-Some.held.object None (sym (ap option_copied c.in_default-get.is) ∙ c.get.ensures.stored)) (ap Done c.status_alone-in_default-get.ensures))
 
@@ -26,7 +26,7 @@ returns-in_default-body-clause-step g c =
     let s = state_of g.row.T-Kind.Denot c.args.space.now in
     let answer = Done c.status_alone-in_default-body.result in
     let stored = c.in-Some-get.stored.now in
-    queries_link s c.args.process c.args.handle answer c.in-Some.held c.deref.result.now (sym c.is_live.ensures ∙ c.if-not-is_live.false) c.deref.ensures.value c.in-Some.ensures
+    queries_link s c.args.process c.args.handle answer c.in-Some.held (sym c.is_live.ensures ∙ c.if-not-is_live.false) c.in-Some.ensures
     (tells_target s c.in-Some.held.object answer None
     (target_is s c.args.space.now.store (record { objects = refl; rows = refl }) c.in-Some.held.object (Some stored) (sym (ap option_copied c.in-Some-get.is) ∙ c.get.ensures.stored)
     ∙ no_target stored.body c.in_default-body.not-Link) (ap Done c.status_alone-in_default-body.ensures))
@@ -36,7 +36,7 @@ returns-clause-step g c =
     let s = state_of g.row.T-Kind.Denot c.args.space.now in
     let answer = Done c.with_text.result in
     let stored = c.in-Some-get.stored.now in
-    queries_link s c.args.process c.args.handle answer c.in-Some.held c.deref.result.now (sym c.is_live.ensures ∙ c.if-not-is_live.false) c.deref.ensures.value c.in-Some.ensures
+    queries_link s c.args.process c.args.handle answer c.in-Some.held (sym c.is_live.ensures ∙ c.if-not-is_live.false) c.in-Some.ensures
     (tells_target s c.in-Some.held.object answer (Some c.in-Link.target)
     (target_is s c.args.space.now.store (record { objects = refl; rows = refl }) c.in-Some.held.object (Some stored) (sym (ap option_copied c.in-Some-get.is) ∙ c.get.ensures.stored)
     ∙ ap (λ body. target_of (body_of_stored body)) c.in-Link.is)

@@ -18,7 +18,7 @@ returns-in_default-2-clause-step g c =
     let none = at_none c.in_ok-way.field-0 ((names : List (List ℕ)) → IsWayUp (rows_alone rows) held.object names → ⊥)
     (λ way. IsWayUp (rows_alone rows) held.object (map (λ name. name.now) way.items)) c.in_default-2.is c.in_ok-way.ensures in
     let told = ap Done c.with_text.ensures ∙ ap (λ (text : List ℕ). gives Success (Text text)) (c.new-in_default-2.ensures ∙ c.new.ensures.items) in
-    queries s c.args.process c.args.handle (Done c.with_text.result) held c.deref.result.now (sym c.is_live.ensures ∙ c.if-not-is_live.false) c.deref.ensures.value c.in-Some.ensures
+    queries s c.args.process c.args.handle (Done c.with_text.result) held (sym c.is_live.ensures ∙ c.if-not-is_live.false) c.in-Some.ensures
     (tells_none s rows held.object (Done c.with_text.result) refl none told)
 
 pub returns-then-len-gt-LONGEST_NAME-clause-step : goal.returns-then-len-gt-LONGEST_NAME-clause-step
@@ -30,9 +30,9 @@ returns-then-len-gt-LONGEST_NAME-clause-step g c =
     let text = c.in_ok-text.text.items in
     let way = at_some c.in_ok-way.field-0 ((names : List (List ℕ)) → IsWayUp (rows_alone rows) held.object names → ⊥)
     (λ way. IsWayUp (rows_alone rows) held.object (map (λ name. name.now) way.items)) c.in-Some-2.way c.in-Some-2.is c.in_ok-way.ensures in
-    let says = c.in_ok-text.ensures ∙ ap (λ (passed : List _). path_text (map (λ name. name.now) passed)) c.deref-2.ensures.value in
+    let says = c.in_ok-text.ensures ∙ ap (λ (passed : List _). path_text (map (λ name. name.now) passed)) c.deref.ensures.value in
     let told = ap Done c.status_alone-then-len-gt-LONGEST_NAME.ensures ∙ sym (answer_long text (omega (arith, c.in_ok-text.text.ok))) in
-    queries s c.args.process c.args.handle answer held c.deref.result.now (sym c.is_live.ensures ∙ c.if-not-is_live.false) c.deref.ensures.value c.in-Some.ensures
+    queries s c.args.process c.args.handle answer held (sym c.is_live.ensures ∙ c.if-not-is_live.false) c.in-Some.ensures
     (tells_path s rows held.object _ text answer refl way says told)
 
 pub returns-clause-step : goal.returns-clause-step
@@ -44,7 +44,7 @@ returns-clause-step g c =
     let text = c.in_ok-text.text.items in
     let way = at_some c.in_ok-way.field-0 ((names : List (List ℕ)) → IsWayUp (rows_alone rows) held.object names → ⊥)
     (λ way. IsWayUp (rows_alone rows) held.object (map (λ name. name.now) way.items)) c.in-Some-2.way c.in-Some-2.is c.in_ok-way.ensures in
-    let says = c.in_ok-text.ensures ∙ ap (λ (passed : List _). path_text (map (λ name. name.now) passed)) c.deref-2.ensures.value in
+    let says = c.in_ok-text.ensures ∙ ap (λ (passed : List _). path_text (map (λ name. name.now) passed)) c.deref.ensures.value in
     let told = ap Done c.with_text-2.ensures ∙ ap (λ (bytes : List ℕ). gives Success (Text bytes)) c.new-2.ensures ∙ sym (answer_short text (omega (arith, c.in_ok-text.text.ok))) in
-    queries s c.args.process c.args.handle answer held c.deref.result.now (sym c.is_live.ensures ∙ c.if-not-is_live.false) c.deref.ensures.value c.in-Some.ensures
+    queries s c.args.process c.args.handle answer held (sym c.is_live.ensures ∙ c.if-not-is_live.false) c.in-Some.ensures
     (tells_path s rows held.object _ text answer refl way says told)

@@ -4,18 +4,19 @@ use Rattle.ob_model.specs.declared.reply.Answer.TheVariants.{Done}
 use Rattle.ob_model.specs.Procedures.{without_parse}
 use Rattle.ob_model.specs.Looks.{At, Refused, LooksUp, most_reparses}
 use Rattle.ob_lookup.specs.Look.{mode_of, look_of}
-use Rattle.ob_space.specs.Namespace.{state_of, handles_alone}
-use Rattle.ob_space.specs.Roots.{root_of}
+use Rattle.ob_space.specs.Namespace.{state_of}
 use Rattle.ob_space.proofs.Results.{IfOk-map}
-use Rattle.ob_core.proofs.Judged.{opens_served, opens_looked}
+use Rattle.ob_core.proofs.Judged.{judged_live, opens_served, opens_looked}
 use Rattle.ob_space.proofs.Looked.{root_stands}
 use Rattle.ob_core.proofs.opens.open_name.Goals as goal
 
 pub look_up-requires-clause-root : goal.look_up-requires-clause-root
 look_up-requires-clause-root g c κs within =
     let s = state_of g.row.T-Kind.Denot c.args.space.now in
-    root_stands s c.requires.sound c.args.process c.args.root c.in-Ok-root_object.root
-    (ap (λ handles. root_of (handles_alone handles) c.args.process c.args.root) (sym c.deref.ensures.value) ∙ c.in-Ok-root_object.ensures)
+    root_stands s c.requires.sound c.args.process c.args.root c.in-Ok-root_object.root c.in-Ok-root_object.ensures
+
+pub open_at-requires-clause-live : goal.open_at-requires-clause-live
+open_at-requires-clause-live g c κs within = sym c.is_live.ensures ∙ judged_live c.is_live.result c.args.name.now c.args.attrs c.in-Ok.ensures.1
 
 pub returns-in-Refused-clause-step : goal.returns-in-Refused-clause-step
 returns-in-Refused-clause-step g c =
@@ -24,7 +25,7 @@ returns-in-Refused-clause-step g c =
     let root = c.in-Ok-root_object.root in
     let mode = mode_of c.open_mode-mode.result in
     opens_served g.T.TypeSet.procedures s s c.args.process c.args.attrs c.in-Ok.attrs (Done c.status_alone-in-Refused.result) c.is_live.result c.is_live.ensures c.args.root name c.args.wanted c.in-Ok.ensures.0 c.in-Ok.ensures.1
-    (opens_looked g.T.TypeSet.procedures s s c.args.process c.in-Ok.attrs (Done c.status_alone-in-Refused.result) c.deref.result.now c.deref.ensures.value c.args.root root c.in-Ok-root_object.ensures name mode (Refused c.in-Refused.status)
+    (opens_looked g.T.TypeSet.procedures s s c.args.process c.in-Ok.attrs (Done c.status_alone-in-Refused.result) c.args.root root c.in-Ok-root_object.ensures name mode (Refused c.in-Refused.status)
     (subst (λ (bytes : List ℕ). LooksUp (without_parse g.T.TypeSet.procedures) s c.args.process mode most_reparses root bytes (Refused c.in-Refused.status)) c.new.ensures
     (subst (λ look. LooksUp (without_parse g.T.TypeSet.procedures) s c.args.process mode most_reparses root c.new.result (look_of look)) c.in-Refused.is c.in_ok-status.ensures.end))
     c.args.wanted c.open_mode-mode.ensures (ap Done c.status_alone-in-Refused.ensures, refl))
@@ -38,7 +39,7 @@ returns-in-At-clause-step g c =
     let mode = mode_of c.open_mode-mode.result in
     IfOk-map _ _ c.open_at.result (λ reply done.
     opens_served g.T.TypeSet.procedures s t c.args.process c.args.attrs c.in-Ok.attrs (Done reply) c.is_live.result c.is_live.ensures c.args.root name c.args.wanted c.in-Ok.ensures.0 c.in-Ok.ensures.1
-    (opens_looked g.T.TypeSet.procedures s t c.args.process c.in-Ok.attrs (Done reply) c.deref.result.now c.deref.ensures.value c.args.root root c.in-Ok-root_object.ensures name mode (At c.in-At.object)
+    (opens_looked g.T.TypeSet.procedures s t c.args.process c.in-Ok.attrs (Done reply) c.args.root root c.in-Ok-root_object.ensures name mode (At c.in-At.object)
     (subst (λ (bytes : List ℕ). LooksUp (without_parse g.T.TypeSet.procedures) s c.args.process mode most_reparses root bytes (At c.in-At.object)) c.new.ensures
     (subst (λ look. LooksUp (without_parse g.T.TypeSet.procedures) s c.args.process mode most_reparses root c.new.result (look_of look)) c.in-At.is c.in_ok-status.ensures.end))
     c.args.wanted c.open_mode-mode.ensures done)) c.open_at.ensures.step

@@ -1,5 +1,4 @@
 -- The handle comes last of all, and the object is as its open left it; or the handle is taken back.
-use Rattle.std.proofs.Common.{◌∙◌}
 use Rattle.ob_types.specs.Told.{reason_of}
 use Rattle.ob_space.specs.Asking.{asked_of}
 use Rattle.ob_space.proofs.Granted.{refused_by_set, refused_is_orderly, granted, granted_is_orderly}

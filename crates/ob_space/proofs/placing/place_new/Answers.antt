@@ -26,11 +26,12 @@ returns-in-Ok-Err-clause-orderly g c =
 
 pub returns-in-Ok-Err-clause-refused : goal.returns-in-Ok-Err-clause-refused
 returns-in-Ok-Err-clause-refused g c =
-    let back = of_err _ _ c.in-Ok-Err.code c.in-Ok-Err.field-0-is c.in-Ok-Err.ensures.refused in
-    (back.refused,
-    is_dropped g.row.T-Kind.Denot g.T.TypeSet.procedures g.T.TypeSet.idle c.args.space.now c.requires.orderly c.args.process c.requires.room c.args.spot c.requires.vacant c.args.object c.requires.named
-    c.in_ok-value.value c.args.inherit c.grant.new.self c.in_ok-value.ensures.unused c.in_ok-value.ensures.last c.in_ok-value.ensures.processes
-    c.take.new.self c.take.ensures.others c.take.ensures.processes c.put_and_open.new.set c.put_and_open.new.store c.in-Ok-Err.code back)
+    let back = of_err _ _ c.in-Ok-Err.code c.in-Ok-Err.field-0-is c.in-Ok-Err.ensures.refused in (
+      back.refused,
+      is_dropped g.row.T-Kind.Denot g.T.TypeSet.procedures g.T.TypeSet.idle c.args.space.now c.requires.orderly c.args.process c.requires.room c.args.spot c.requires.vacant c.args.object c.requires.named
+          c.in_ok-value.value c.args.inherit c.grant.new.self c.in_ok-value.ensures.unused c.in_ok-value.ensures.last c.in_ok-value.ensures.processes
+          c.take.new.self c.take.ensures.others c.take.ensures.processes c.put_and_open.new.set c.put_and_open.new.store c.in-Ok-Err.code back,
+    )
 
 pub returns-in-Err-clause-orderly : goal.returns-in-Err-clause-orderly
 returns-in-Err-clause-orderly g c =
