@@ -1,28 +1,33 @@
--- The commands that are answered without memory: a close, and what is refused before its lookup.
-use Rattle.std.specs.Prelude.{ℕ, Bool, false, ◌||◌, not, List, Option, is_some}
+-- The commands that are answered without memory: those that close handles, and what is refused before its
+-- lookup.
+use Rattle.std.specs.Prelude.{ℕ, Bool, false, ◌||◌, not, nat_le, nat_lt, List, length, Option, is_some}
 use Rattle.std.specs.Option.{option_and_then}
 use Rattle.ob_base.specs.Handle.{key_of}
 use Rattle.ob_model.specs.declared.command.Command.{Command}
-use Rattle.ob_model.specs.declared.command.Command.TheVariants.{CreateDirectory, CreateLink, CreateObject, OpenDirectory, OpenLink, OpenObject, Close, QueryLink, QueryName}
+use Rattle.ob_model.specs.declared.command.Command.TheVariants.{CreateDirectory, CreateLink, CreateObject, OpenDirectory, OpenLink, OpenObject, Close, QueryLink, QueryName, Duplicate, NewProcess, ExitProcess}
 use Rattle.ob_model.specs.declared.command.Place.{Place}
 use Rattle.ob_model.specs.declared.command.Place.TheVariants.{At, Unnamed}
 use Rattle.ob_model.specs.Creates.{Making, MakesDirectory, MakesLink, MakesObject, is_fit}
 use Rattle.ob_model.specs.Grants.{first_refusal}
 use Rattle.ob_model.specs.Refusals.{create_refusals, open_refusals}
-use Rattle.ob_model.specs.State.{State, is_live, held_of}
+use Rattle.ob_model.specs.State.{State, is_live, held_of, greatest_process}
+use Rattle.ob_model.specs.Processes.{most_processes}
 use Rattle.ob_space.specs.Roots.{root_of}
 
--- a command is a close
-abbrev pub IsClose : {K : Type 0} → Command K → Type 0
-IsClose (CreateDirectory where_to attrs) = ⊥
-IsClose (CreateLink where_to attrs target) = ⊥
-IsClose (CreateObject where_to attrs kind args) = ⊥
-IsClose (OpenDirectory root name attrs) = ⊥
-IsClose (OpenLink root name attrs) = ⊥
-IsClose (OpenObject root name attrs want) = ⊥
-IsClose (Close handle) = Unit {0}
-IsClose (QueryLink handle) = ⊥
-IsClose (QueryName handle) = ⊥
+-- a command closes handles: a close, and the end of a process
+abbrev pub ClosesHandles : {K : Type 0} → Command K → Type 0
+ClosesHandles (CreateDirectory where_to attrs) = ⊥
+ClosesHandles (CreateLink where_to attrs target) = ⊥
+ClosesHandles (CreateObject where_to attrs kind args) = ⊥
+ClosesHandles (OpenDirectory root name attrs) = ⊥
+ClosesHandles (OpenLink root name attrs) = ⊥
+ClosesHandles (OpenObject root name attrs want) = ⊥
+ClosesHandles (Close handle) = Unit {0}
+ClosesHandles (QueryLink handle) = ⊥
+ClosesHandles (QueryName handle) = ⊥
+ClosesHandles (Duplicate handle to inherit) = ⊥
+ClosesHandles (NewProcess inherit) = ⊥
+ClosesHandles ExitProcess = Unit {0}
 
 module _ {K T F I : Type 0} where
   -- the process has no handle of this value, whose low two bits are ignored
@@ -52,6 +57,14 @@ module _ {K T F I : Type 0} where
   abbrev pub is_use_refused : State K T F I → ℕ → ℕ → Bool
   is_use_refused s p handle = not (is_live s p) || lacks_handle s p handle
 
+  -- so is a duplicate, whose process or the one that is to get the handle may be gone
+  abbrev pub is_duplicate_refused : State K T F I → ℕ → ℕ → ℕ → Bool
+  is_duplicate_refused s p handle to = not (is_live s p) || not (is_live s to) || lacks_handle s p handle
+
+  -- and a new process, where no process more may live, or no number is left for one
+  abbrev pub is_child_refused : State K T F I → ℕ → Bool
+  is_child_refused s p = not (is_live s p) || (nat_le most_processes (length s.processes) || nat_lt greatest_process s.next_process)
+
   -- a command is refused before anything is looked up, made or told
   abbrev pub is_refused_early : State K T F I → ℕ → Command K → Bool
   is_refused_early s p (CreateDirectory where_to attrs) = is_create_refused s p where_to attrs MakesDirectory
@@ -63,3 +76,6 @@ module _ {K T F I : Type 0} where
   is_refused_early s p (Close handle) = is_use_refused s p handle
   is_refused_early s p (QueryLink handle) = is_use_refused s p handle
   is_refused_early s p (QueryName handle) = is_use_refused s p handle
+  is_refused_early s p (Duplicate handle to inherit) = is_duplicate_refused s p handle to
+  is_refused_early s p (NewProcess inherit) = is_child_refused s p
+  is_refused_early s p ExitProcess = not (is_live s p)

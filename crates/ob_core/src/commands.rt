@@ -11,11 +11,13 @@ ghost use Rattle.ob_model.specs.Sound.{IsSound};
 ghost use Rattle.ob_model.specs.Step.{Step};
 ghost use Rattle.ob_space.specs.Namespace.{state_of};
 ghost use Rattle.ob_space.specs.Orderly.{IsOrderly};
-ghost use Rattle.ob_core.specs.Early.{IsClose, is_refused_early};
+ghost use Rattle.ob_core.specs.Early.{ClosesHandles, is_refused_early};
 ghost use Rattle.ob_core.specs.Starting.{answer_of};
 
 use crate::closing::close;
 use crate::creating::create;
+use crate::duplicating::duplicate;
+use crate::lives::{exit_process, new_process};
 use crate::making::{Making, link_to, object_of};
 use crate::naming::{query_link, query_name};
 use crate::opens::{open_name, type_wanted};
@@ -86,14 +88,14 @@ impl<T: TypeSet, H: HandleTable> Core<T, H> {
     /// Starts a command of a process: makes one step of the machine, and answers what it answers.
     ///
     /// Every refusal is a reply; docs/namespace.md has their order. The only fault is want of memory,
-    /// which is told only where a growth was refused, and then nothing has changed. A close takes no
-    /// memory, nor does a command that is refused before its lookup, so these never fail: where the
-    /// process is gone, the flags, the other parameters or the bytes or the length of the name are
-    /// refused, or the process lacks the handle that it names.
+    /// which is told only where a growth was refused, and then nothing has changed. A close and the end
+    /// of a process take no memory, nor does a command that is refused before its lookup, so these never
+    /// fail: where the process is gone, the flags, the other parameters or the bytes or the length of
+    /// the name are refused, the process lacks the handle that it names, or no process more may live.
     pub fn start(&mut self, process: Proc, command: &Command<T::Kind>) -> Result<Started, Fault>
         ensures step { IfOk result (λ started.
             Step T.procedures self.old (Start process command.now) (answer_of started) self.new) }
-        ensures close { IsClose command.now → IsOk result }
+        ensures closes { ClosesHandles command.now → IsOk result }
         ensures early { is_refused_early self.old process command.now ≡ true → IsOk result }
         ensures err { OnErr result (self.new ≡ self.old) }
         ensures memory { IfErr result (λ fault. fault ≡ Memory) }
@@ -145,7 +147,7 @@ fn reply_to<T: TypeSet, H: HandleTable>(
     ensures orderly { IsOrderly T.idle (state_of T.Kind space.new) }
     ensures step { IfOk result (λ reply.
         Step T.procedures (state_of T.Kind space.old) (Start process command.now) (Done reply) (state_of T.Kind space.new)) }
-    ensures close { IsClose command.now → IsOk result }
+    ensures closes { ClosesHandles command.now → IsOk result }
     ensures early { is_refused_early (state_of T.Kind space.old) process command.now ≡ true → IsOk result }
     ensures err { OnErr result (state_of T.Kind space.new ≡ state_of T.Kind space.old) }
     ensures memory { IfErr result (λ fault. fault ≡ Memory) }
@@ -185,5 +187,12 @@ fn reply_to<T: TypeSet, H: HandleTable>(
         Command::Close { handle } => Ok(close(space, process, *handle)),
         Command::QueryLink { handle } => Ok(query_link(space, process, *handle)?),
         Command::QueryName { handle } => Ok(query_name(space, process, *handle)?),
+        Command::Duplicate {
+            handle,
+            to,
+            inherit,
+        } => duplicate(space, process, *handle, *to, *inherit),
+        Command::NewProcess { inherit } => Ok(new_process(space, process, *inherit)?),
+        Command::ExitProcess => Ok(exit_process(space, process)),
     }
 }

@@ -5,13 +5,15 @@
 //! commands of one kind over them.
 //!
 //! What a command and its reply are made of is handed on: [`Command`], [`Place`] and [`Wanted`],
-//! [`Reply`] and [`Given`], and the [`Bytes`] in them; and so are handle tables, [`HandleTable`] and
+//! [`Reply`] and [`Given`], and the [`Bytes`] and [`Handles`] in them; and so are handle tables, [`HandleTable`] and
 //! [`OpenTable`]. So a caller names this crate and a set of types and nothing else for them.
 #![tactic(auto)]
 
 mod closing;
 mod commands;
 mod creating;
+mod duplicating;
+mod lives;
 mod making;
 mod naming;
 mod opens;
@@ -19,4 +21,4 @@ mod replies;
 
 pub use commands::{Core, Started};
 pub use ob_handles::{HandleTable, OpenTable};
-pub use ob_model::{Bytes, Command, Given, Place, Reply, Wanted};
+pub use ob_model::{Bytes, Command, Given, Handles, Place, Reply, Wanted};

@@ -1,9 +1,11 @@
-//! Opens, by name and of an object that was found.
+//! Opens, by name and of an object that was found, and the handle that is given for one.
 
 ghost use Rattle.std.specs.Prelude.{◌≡◌, Some, None, true, IsTrue, IsOk, IfOk, IfErr, OnErr};
 ghost use Rattle.ob_base.specs.declared.Fault.TheVariants.{Memory};
 ghost use Rattle.ob_model.specs.declared.reply.Answer.TheVariants.{Done};
-ghost use Rattle.ob_model.specs.Opens.{OpensAt, Opens, open_mode, type_wanted};
+ghost use Rattle.ob_types.specs.Told.{reason_of};
+ghost use Rattle.ob_space.specs.Asking.{asked_of};
+ghost use Rattle.ob_model.specs.Opens.{GivesHandle, OpensAt, Opens, open_mode, type_wanted};
 ghost use Rattle.ob_model.specs.Step.{OpensName};
 ghost use Rattle.ob_model.specs.Settle.{IsSettled};
 ghost use Rattle.ob_model.specs.Sound.{IsSound};
@@ -104,7 +106,31 @@ pub(crate) fn open_at<T: TypeSet, H: HandleTable>(
     if !is_wanted_at(space, object, wanted) {
         return Ok(status_alone(Status::ObjectTypeMismatch));
     }
-    match grant(space, process, object, Asked::by(attrs), Reason::Opened)? {
+    let asked = Asked::by(attrs);
+    give_handle(space, process, object, asked, Reason::Opened, status)
+}
+
+/// Grants a live process a handle to an object that is there, and gives it with this status, or
+/// replies why it is refused. What is there stays: a handle more lets nothing go.
+pub(crate) fn give_handle<T: TypeSet, H: HandleTable>(
+    space: &mut Namespace<T, Store<T>, Processes<H>>,
+    process: Proc,
+    object: ObjId,
+    asked: Asked,
+    reason: Reason,
+    status: Status,
+) -> Result<Reply, Fault>
+    requires orderly { IsOrderly T.idle (state_of T.Kind space.old) }
+    requires settled { IsSettled (state_of T.Kind space.old) }
+    requires live { is_live (state_of T.Kind space.old) process ≡ true }
+    ensures orderly { IsOrderly T.idle (state_of T.Kind space.new) }
+    ensures step { IfOk result (λ reply.
+        GivesHandle T.procedures (state_of T.Kind space.old) process object (asked_of asked) (reason_of reason) status (Done reply)
+        (state_of T.Kind space.new)) }
+    ensures err { OnErr result (state_of T.Kind space.new ≡ state_of T.Kind space.old) }
+    ensures memory { IfErr result (λ fault. fault ≡ Memory) }
+{
+    match grant(space, process, object, asked, reason)? {
         Ok(value) => Ok(with_handle(status, value)),
         Err(refusal) => Ok(status_alone(refusal)),
     }

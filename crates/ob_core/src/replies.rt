@@ -4,6 +4,7 @@ ghost use Rattle.std.specs.Prelude.{◌≡◌};
 ghost use Rattle.ob_model.specs.declared.reply.Given.TheVariants as given;
 
 use ob_base::{Handle, Status};
+use ob_life::Child;
 use ob_model::{Bytes, Given, Reply};
 
 /// A reply that is a status alone.
@@ -33,5 +34,16 @@ pub(crate) fn with_text(text: Bytes) -> Reply
     Reply {
         status: Status::Success,
         given: Given::Text(text),
+    }
+}
+
+/// The reply of a success that gives a new process, with the values that it inherited.
+pub(crate) fn with_process(child: Child) -> Reply
+    ensures { result ≡ record { status = Status.Success; given = given.Process child.process child.values } }
+{
+    let Child { process, values } = child;
+    Reply {
+        status: Status::Success,
+        given: Given::Process(process, values),
     }
 }

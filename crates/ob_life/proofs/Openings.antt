@@ -1,5 +1,5 @@
 -- What an open for a child, and a handle that is taken from it again, make of the state.
-use Rattle.std.proofs.Common.{◌≡◌, ◌∙◌, ℕ, true, false, not, filter, Option, None, Some, MatchOption, refl, ap, sym, subst}
+use Rattle.std.proofs.Common.{◌≡◌, ◌∙◌, ℕ, true, false, not, filter, None, Some, MatchOption, refl, ap, sym, subst}
 use Rattle.ob_model.specs.declared.state.Held.{Held}
 use Rattle.ob_model.specs.State.{State}
 use Rattle.ob_model.specs.Procedures.{Procedures, Inherited}

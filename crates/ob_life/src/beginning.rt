@@ -1,7 +1,7 @@
 //! The beginning of a process: a child, with what it inherits.
 
 ghost use Rattle.std.specs.Prelude.{◌≡◌, ◌≢◌, ◌+◌, ◌<◌, ◌≤◌, ◌++◌, ◌∷◌, [], true, false, not, ◌||◌};
-ghost use Rattle.std.specs.Prelude.{length, filter, nat_le, nat_lt, All, AllPairs, IfOk, OnErr, MatchOption};
+ghost use Rattle.std.specs.Prelude.{length, filter, nat_le, nat_lt, All, AllPairs, IsOk, IfOk, OnErr, MatchOption};
 ghost use Rattle.std.specs.Prelude.{vec_len, vec_capacity};
 ghost use Rattle.ob_model.specs.State.{greatest_number, greatest_process};
 ghost use Rattle.ob_model.specs.Procedures as model;
@@ -27,6 +27,15 @@ const MOST_PROCESSES: usize = 1024;
 /// The greatest number of a process. (this profile)
 const GREATEST_PROCESS: u32 = u32::MAX - 1;
 
+/// A process that has begun as a child of another one.
+#[derive(Debug, Drop)]
+pub struct Child {
+    /// Its number.
+    pub process: Proc,
+    /// The values of the handles that it inherited, in the order in which its parent opened them.
+    pub values: Handles,
+}
+
 /// A child of a process begins, with the next number and its parent's device map, and gives its number
 /// and the values that it inherited, in the order in which its parent opened them. Where it is to
 /// inherit handles it gets those of its parent that can be inherited, each under the same value, and
@@ -35,7 +44,8 @@ const GREATEST_PROCESS: u32 = u32::MAX - 1;
 ///
 /// None where 1,024 processes live, or no number is left for one more, or too few orders of opening
 /// for what it inherits: then nothing has changed. The only error is want of memory, and then nothing
-/// has changed either: all memory is taken before the set is called.
+/// has changed either: all memory is taken before the set is called. None is taken where no process more
+/// may live.
 ///
 /// It asks that the state is orderly and sound, and leaves an orderly state.
 ///
@@ -45,14 +55,16 @@ pub fn begin_child<T: TypeSet, H: HandleTable>(
     space: &mut Namespace<T, Store<T>, Processes<H>>,
     parent: Proc,
     inherit: bool,
-) -> Result<Option<(Proc, Handles)>, AllocError>
+) -> Result<Option<Child>, AllocError>
     requires orderly { IsOrderly T.idle (state_of T.Kind space.old) }
     requires sound { IsSound (state_of T.Kind space.old) }
     ensures orderly { IsOrderly T.idle (state_of T.Kind space.new) }
     ensures begun { let s = state_of T.Kind space.old in let t = state_of T.Kind space.new in
         let after = begun T.procedures s parent inherit in
         IfOk result (λ answer. MatchOption answer ((is_crowded s parent inherit ≡ true) × (t ≡ s))
-        (λ child. (is_crowded s parent inherit ≡ false) × (child.0 ≡ s.next_process) × (child.1 ≡ values_in after s.next_process) × (t ≡ after))) }
+        (λ child. (is_crowded s parent inherit ≡ false) × (child ≡ record { process = s.next_process; values = values_in after s.next_process }) × (t ≡ after))) }
+    ensures full { let s = state_of T.Kind space.old in
+        (nat_le most_processes (length s.processes) || nat_lt greatest_process s.next_process) ≡ true → IsOk result }
     ensures err { OnErr result (state_of T.Kind space.new ≡ state_of T.Kind space.old) }
 {
     if is_full(space) {
@@ -62,9 +74,9 @@ pub fn begin_child<T: TypeSet, H: HandleTable>(
     if inherited.len() as u64 > u64::MAX - space.next_order {
         return Ok(None);
     }
-    let child = Proc(space.next_process);
-    let values = begin_with(space, parent, &inherited)?;
-    Ok(Some((child, Handles::new(values))))
+    let process = Proc(space.next_process);
+    let values = Handles::new(begin_with(space, parent, &inherited)?);
+    Ok(Some(Child { process, values }))
 }
 
 /// Whether no process more may live, or no number is left for one.
@@ -136,7 +148,10 @@ fn inherit_one<T: TypeSet, H: HandleTable>(
         ((result ≡ true) × (t ≡ with_open T.procedures s held.object model.Inherited))
         (λ _. (result ≡ false) × (t ≡ record s { handles = filter (λ h. not (is_handle child held.value h)) s.handles })) }
 {
-    match space.store.open(held.object, &mut space.set, Reason::Inherited) {
+    match space
+        .store
+        .open(held.object, &mut space.set, Reason::Inherited)
+    {
         Ok(()) => true,
         Err(_) => {
             space.processes.take(child, held.value);

@@ -8,5 +8,5 @@
 mod beginning;
 mod ending;
 
-pub use beginning::begin_child;
+pub use beginning::{Child, begin_child};
 pub use ending::end_process;

@@ -1,7 +1,7 @@
 -- What is settled stays so when a handle or an object with one comes, and after each step.
-use Rattle.std.proofs.Common.{◌≡◌, ◌∙◌, ℕ, ◌==◌, Bool, true, false, ◌&&◌, ◌||◌, not, if◌then◌else◌, List, [], ◌∷◌, ◌++◌, All, Option, None, Some, option_map, refl, ap, sym, subst, eq-eqb, eqb-true, get_or}
+use Rattle.std.proofs.Common.{◌≡◌, ◌∙◌, ℕ, ◌+◌, ◌==◌, Bool, true, false, ◌&&◌, ◌||◌, not, if◌then◌else◌, List, [], ◌∷◌, ◌++◌, All, Option, None, Some, option_map, refl, ap, sym, subst, eq-eqb, eqb-true, get_or}
 use Rattle.std.specs.List.{list_any}
-use Rattle.std.specs.Option.{option_map_or, is_some}
+use Rattle.std.specs.Option.{option_map_or, option_and_then, is_some}
 use Rattle.std.proofs.lemmas.Bool.{and_from, false≢true}
 use Rattle.std.proofs.lemmas.List.Elements.{All-nil, All-append, All-push, All-map, All-weaker, All-from_recursion}
 use Rattle.std.proofs.lemmas.List.{append-nil}
@@ -12,15 +12,16 @@ use Rattle.ob_model.specs.declared.reply.Event.{Event}
 use Rattle.ob_model.specs.declared.state.Body.{Body}
 use Rattle.ob_model.specs.declared.state.Held.{Held}
 use Rattle.ob_model.specs.declared.state.Object.{Object}
+use Rattle.ob_model.specs.declared.state.Process.{Process}
 use Rattle.ob_model.specs.declared.state.Row.{Row}
-use Rattle.ob_model.specs.State.{State, root_id, object_of, handle_count, handle_count_in}
-use Rattle.ob_model.specs.Procedures.{Procedures, Reason, Created}
+use Rattle.ob_model.specs.State.{State, root_id, global_id, process_of, object_of, handle_count, handle_count_in}
+use Rattle.ob_model.specs.Procedures.{Procedures, Reason, Created, Inherited}
 use Rattle.ob_model.specs.Settle.{is_permanent, has_handle, is_kept, has_name, is_pinned, is_mapped, holds_kept, is_alive, IsSettled, deleted_all, settle}
-use Rattle.ob_model.specs.Grants.{opened_object, opened_body, with_open, with_handle}
+use Rattle.ob_model.specs.Grants.{open_refusal, opened_object, opened_body, with_open, with_handle}
 use Rattle.ob_model.specs.Closing.{is_handle, without_handle, closed_body, closed_object, closed_handle}
 use Rattle.ob_model.specs.Creates.{Spot, new_rows, created}
 use Rattle.ob_model.specs.Opening.{opening}
-use Rattle.ob_model.specs.Processes.{begun, ended}
+use Rattle.ob_model.specs.Processes.{inherited_from, with_child, inherits_one, inherits, begun, ended}
 use Rattle.ob_model.specs.Step.{Step}
 use Rattle.ob_model.proofs.Finds.{filter_all, filter_none, list_any_weaker}
 use Rattle.ob_model.proofs.InOrder.{in_order-All, in_order-others}
@@ -157,6 +158,36 @@ module _ {K T F I : Type 0} (g : Procedures K T F I) where
       new None = All-nil (λ r. is_kept u r ≡ true)
       new (Some at) =
           All-push (λ r. is_kept u r ≡ true) [] _ (All-nil (λ r. is_kept u r ≡ true)) (or_right' (is_permanent u s.next_id) (has_handle u s.next_id) mine)
+
+  -- a child that begins with what it inherits leaves a settled state
+  child_settled : (s : State K T F I) (p : ℕ) → IsSettled s → IsSettled (with_child s p)
+  child_settled s p settled =
+      let u = with_child s p in
+      let permanent = λ (m : ℕ) (h : is_permanent s m ≡ true). or_left (is_permanent u m) (has_handle u m) h in
+      record {
+        names = settled.names;
+        objects = All-weaker (λ x. is_alive s x.id ≡ true) (λ x. is_alive u x.id ≡ true)
+            (λ x h. alive_grows s u permanent (λ m h. h) (λ m h. h) mapped [] (sym (append-nil s.rows)) x.id h) s.objects settled.objects;
+      }
+    where
+      child : Process
+      child = record { number = s.next_process; map = option_and_then (λ x. x.map) (process_of s p) }
+
+      mapped : (o : ℕ) → is_mapped s o ≡ true → is_mapped (with_child s p) o ≡ true
+      mapped o =
+          or_grows (o == global_id) (list_any (λ x. option_map_or (λ d. d == o) x.map false) s.processes) (o == global_id) (list_any (λ x. option_map_or (λ d. d == o) x.map false) (s.processes ++ child ∷ [])) (λ h. h)
+          (λ some. list_any-append (λ x. option_map_or (λ d. d == o) x.map false) s.processes (child ∷ []) ∙ or_left (list_any (λ x. option_map_or (λ d. d == o) x.map false) s.processes) _ some)
+
+  inherits_settled : (s : State K T F I) (child : ℕ) (hs : List Held) → IsSettled s → IsSettled (inherits g s child hs)
+  inherits_settled s child [] settled = settled
+  inherits_settled s child (h ∷ hs) settled = inherits_settled (inherits_one g s child h) child hs (go (open_refusal g s h.object Inherited))
+    where
+      go : (o : Option ℕ) → IsSettled (option_map_or (λ _. record s { next_order = s.next_order + 1 }) o (with_handle (with_open g s h.object Inherited) child h.value h.object true))
+      go None = granted_settled s child h.value h.object Inherited true settled
+      go (Some k) = record { names = settled.names; objects = settled.objects }
+
+  pub begun_settled : (s : State K T F I) (p : ℕ) (inherit : Bool) → IsSettled s → IsSettled (begun g s p inherit)
+  begun_settled s p inherit settled = inherits_settled (with_child s p) s.next_process (inherited_from s p inherit) (child_settled s p settled)
 
   -- settling leaves what is settled as it is
   pub settled_itself : (s : State K T F I) → IsSettled s → settle g s ≡ s

@@ -230,6 +230,10 @@ module _ (K T F I : Type 0) where
       (g : Procedures K T F I) (s : State K T F I) (p value o : ℕ) (reason : Reason) (inherit : Bool)
       → IsSettled s → IsSettled (with_handle (with_open g s o reason) p value o inherit)
 
+  -- and so does a child that begins with handles
+  abbrev pub ChildStaysSettled : Type 0
+  ChildStaysSettled = (g : Procedures K T F I) (s : State K T F I) (p : ℕ) (inherit : Bool) → IsSettled s → IsSettled (begun g s p inherit)
+
   abbrev pub CreateStaysSettled : Type 0
   CreateStaysSettled =
       (g : Procedures K T F I) (s : State K T F I) (p : ℕ) (spot : Spot) (body : Body F I) (attrs value : ℕ)

@@ -47,6 +47,7 @@ ghost use Rattle.ob_model.specs.Laws.{
   StepStaysSettled,
   GrantStaysSettled,
   CreateStaysSettled,
+  ChildStaysSettled,
   CloseStaysSettled,
 };
 
@@ -210,11 +211,13 @@ pub fn step_stays_settled<K, T, F, I>()
     ensures step { StepStaysSettled K T F I }
 {}
 
-/// A handle that is granted leaves a settled state, and so does an object that comes with a handle: at
-/// the end of an open or a create there is nothing that doesn't stay.
+/// A handle that is granted leaves a settled state, and so does an object that comes with a handle, and a
+/// child with what it inherits: at the end of an open, a create or a new process there is nothing that
+/// doesn't stay.
 pub fn what_comes_stays<K, T, F, I>()
     ensures grant { GrantStaysSettled K T F I }
     ensures create { CreateStaysSettled K T F I }
+    ensures child { ChildStaysSettled K T F I }
 {}
 
 /// Nor does a close let anything go where its object's names stay: it is permanent, or another handle

@@ -10,6 +10,6 @@ pub returns-clause-orderly : goal.returns-clause-orderly
 returns-clause-orderly g c =
     let s = state_of g.row.T-Kind.Denot c.args.space.now in
     subst (IsOrderly g.T.TypeSet.idle)
-    (sym (c.in_ok-values.ensures.begun ∙ ap (inherits g.T.TypeSet.procedures (with_child s c.args.parent) s.next_process) (c.deref.ensures.value ∙ c.in_ok-inherited.ensures.list)))
+    (sym (c.in_ok-begin_with.ensures.begun ∙ ap (inherits g.T.TypeSet.procedures (with_child s c.args.parent) s.next_process) (c.deref.ensures.value ∙ c.in_ok-inherited.ensures.list)))
     (begun_orderly g.T.TypeSet.procedures g.T.TypeSet.idle s c.args.parent c.args.inherit c.requires.sound c.requires.orderly
     (fewer_processes s (sym c.is_full.ensures ∙ c.if-is_full.false)))

@@ -1,5 +1,5 @@
 -- All that comes is in the child's table; each is opened by the set, or goes again.
-use Rattle.std.proofs.Common.{◌≡◌, ◌∙◌, ◌+◌, ◌≤◌, ◌++◌, ◌∷◌, [], ℕ, Bool, List, cond, append-nil, length, vec_len, vec_capacity, ap, sym, subst, arith, rules}
+use Rattle.std.proofs.Common.{◌∙◌, ◌+◌, ◌≤◌, ◌++◌, ◌∷◌, [], ℕ, Bool, List, cond, append-nil, length, vec_len, vec_capacity, ap, sym, subst, arith, rules}
 use Rattle.ob_space.specs.Namespace.{state_of}
 use Rattle.ob_model.specs.Processes.{values_in}
 use Rattle.ob_life.proofs.Beginnings.{after, no_child, started, one_turn, no_values}
@@ -31,11 +31,11 @@ loop-held-preserved g c =
     let x = c.held-item.result in
     let before = c.loop-held.invariant in
     let step =
-        one_turn g.T.TypeSet.procedures s c.args.parent c.requires.sound all c.requires.apart k x c.loop-held-test.true c.held-item.is
-        (state_of g.row.T-Kind.Denot c.loop-held.space) (state_of g.row.T-Kind.Denot c.inherit_one.new.space) c.inherit_one.result before.state c.inherit_one.ensures in
+    one_turn g.T.TypeSet.procedures s c.args.parent c.requires.sound all c.requires.apart k x c.loop-held-test.true c.held-item.is
+    (state_of g.row.T-Kind.Denot c.loop-held.space) (state_of g.row.T-Kind.Denot c.inherit_one.new.space) c.inherit_one.result before.state c.inherit_one.ensures in
     let was = values_in (after g.T.TypeSet.procedures s c.args.parent all k) s.next_process in
     elim c.if-inherit_one.branch [
-      then-inherit_one w ↦ record {
+      | then-inherit_one w ↦ record {
         state = step.0;
         values =
             ap (λ v. v.items) w.values-is ∙ w.append.ensures.items ∙ ap (λ (xs : List ℕ). xs ++ x.value ∷ []) before.values
@@ -44,7 +44,7 @@ loop-held-preserved g c =
         few = subst (λ v. vec_len v ≤ k + 1) (sym w.values-is) (let one = w.append.ensures.len in let few = before.few in omega (arith, one, few));
         room = subst (λ v. length all ≤ vec_capacity v) (sym w.values-is) (let more = w.append.ensures.room in let room = before.room in omega (arith, more, room));
       }
-    | else-inherit_one w ↦ record {
+      | else-inherit_one w ↦ record {
         state = step.0;
         values = ap (λ v. v.items) w.values-is ∙ before.values ∙ sym (step.1 ∙ ap (λ (b : Bool). was ++ cond b (x.value ∷ []) []) w.if-inherit_one.false ∙ append-nil was);
         child = search rules;

@@ -1,5 +1,5 @@
 -- The child has inherited those that were passed, and the others are still to come.
-use Rattle.std.proofs.Common.{◌≡◌, ◌≤◌, length, take, drop, vec_len, vec_capacity}
+use Rattle.std.proofs.Common.{◌≡◌, ◌≤◌, length, drop, vec_len, vec_capacity}
 use Rattle.ob_model.specs.Processes.{values_in}
 use Rattle.ob_space.specs.Namespace.{state_of}
 use Rattle.ob_life.specs.Coming.{with_coming}

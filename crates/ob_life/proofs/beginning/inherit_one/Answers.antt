@@ -1,5 +1,4 @@
 -- The object is as its open left it, or the handle goes again.
-use Rattle.std.proofs.Common.{◌∙◌}
 use Rattle.ob_life.proofs.Openings.{one_opened, one_refused}
 use Rattle.ob_life.proofs.beginning.inherit_one.Goals as goal
 

@@ -1,8 +1,7 @@
 -- The oldest is closed, and then the next, until none is left.
-use Rattle.std.proofs.Common.{◌≡◌, ◌∙◌, ◌==◌, not, filter, ap, sym, subst, refl}
+use Rattle.std.proofs.Common.{◌∙◌, ap, sym, subst}
 use Rattle.ob_model.specs.State.{State}
-use Rattle.ob_model.specs.Processes.{closed_in_turn, handles_in, without_process, ended}
-use Rattle.ob_model.proofs.Soundness.{closed_sound}
+use Rattle.ob_model.specs.Processes.{without_process}
 use Rattle.ob_space.specs.Namespace.{state_of}
 use Rattle.ob_space.specs.Orderly.{IsOrderly}
 use Rattle.ob_life.proofs.Beginnings.{parted_orderly}
