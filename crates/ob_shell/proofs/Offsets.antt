@@ -4,7 +4,7 @@ use Rattle.std.specs.Prelude.{MatchBool, nat_lt, length}
 use Rattle.std.specs.Str.{bytes_eq}
 use Rattle.std.specs.Option.{option_and_then}
 use Rattle.ob_base.specs.declared.status.Status.{Status}
-use Rattle.ob_base.specs.declared.status.Status.TheVariants.{Success, InvalidHandle, NameTooLong, ObjectTypeMismatch, ObjectNameExists, ObjectNameCollision, ProcessGone, TypeRefused}
+use Rattle.ob_base.specs.declared.status.Status.TheVariants.{Success, InvalidHandle, InsufficientResources, NameTooLong, ObjectTypeMismatch, ObjectNameExists, ObjectNameCollision, ProcessGone, TypeRefused}
 use Rattle.ob_base.specs.Attrs.{has_flag, open_if_flag}
 use Rattle.ob_base.specs.Handle.{key_of}
 use Rattle.ob_model.specs.declared.command.Command.TheVariants as command
@@ -14,7 +14,7 @@ use Rattle.ob_model.specs.declared.reply.Answer.{Answer}
 use Rattle.ob_model.specs.declared.reply.Answer.TheVariants.{Done}
 use Rattle.ob_model.specs.declared.reply.Event.{Event}
 use Rattle.ob_model.specs.declared.reply.Event.TheVariants.{Start}
-use Rattle.ob_model.specs.declared.reply.Given.TheVariants.{Handle, Text}
+use Rattle.ob_model.specs.declared.reply.Given.TheVariants.{Handle, Text, Process}
 use Rattle.ob_model.specs.declared.reply.Reply.{Reply}
 use Rattle.ob_model.specs.declared.state.Held.{Held}
 use Rattle.ob_model.specs.declared.state.Wanted.{Wanted}
@@ -22,14 +22,15 @@ use Rattle.ob_model.specs.declared.state.Wanted.TheVariants as wanted
 use Rattle.ob_model.specs.State.{State, is_live, held_of, body_of}
 use Rattle.ob_model.specs.Names.{longest_name}
 use Rattle.ob_model.specs.Looks.{Look, At, Vacant, Parse, Refused, LooksUp, most_reparses}
-use Rattle.ob_model.specs.Procedures.{Procedures, Opened, Created, without_parse}
+use Rattle.ob_model.specs.Procedures.{Procedures, Reason, Opened, Created, Duplicated, without_parse}
 use Rattle.ob_model.specs.Settle.{settle}
 use Rattle.ob_model.specs.Grants.{first_refusal, Grants, IsFreeValue, Asked, open_refusal_of, greatest_handle}
 use Rattle.ob_model.specs.Closing.{closed_handle}
 use Rattle.ob_model.specs.Types.{is_wanted_at}
 use Rattle.ob_model.specs.Refusals.{gives, answers, IsRefused, Unless, create_refusals, open_refusals}
-use Rattle.ob_model.specs.Opens.{OpensAt, Opens, asked_by, type_wanted, open_mode}
+use Rattle.ob_model.specs.Opens.{GivesHandle as GivesHandleAt, OpensAt, Opens, asked_by, type_wanted, open_mode}
 use Rattle.ob_model.specs.Creates.{Making, MakesDirectory, MakesLink, MakesObject, is_fit, create_mode, type_made, Spot, room_refusals, make_refusal, body_made, created, dropped, Makes, Creates}
+use Rattle.ob_model.specs.Processes.{values_in, is_crowded, begun, ended}
 use Rattle.ob_model.specs.Naming.{TellsName, TellsTarget, target_of, path_text}
 use Rattle.ob_model.specs.Step.{WithHandle, WithRoot, CreatesIn, CreatesAt, OpensName, Step}
 use Rattle.ob_lines.specs.declared.handle.Offset.{Offset}
@@ -98,19 +99,20 @@ module _ {K T F I : Type 0} where
       go false e = subst GivesHandle (sym e) (omega arith)
 
 module _ {K T F I : Type 0} (g : Procedures K T F I) where
-  granted_gives : (s t u : State K T F I) (p o : ℕ) (asked : Asked) (status : Status) (answer : Answer) (result : Result ℕ Status)
-      → Grants g s p o asked Opened result u
-      → MatchResult result (λ value. (answer ≡ gives status (Handle value)) × (t ≡ settle g u)) (λ refusal. IsRefused s refusal answer t) → GivesHandle answer
-  granted_gives s t u p o asked status answer (Ok value) grants h = value_gives s p value status answer grants.1 h.0
-  granted_gives s t u p o asked status answer (Err refusal) grants h = refused_gives s t refusal answer h
+  gives_handle_gives : (s t : State K T F I) (p o : ℕ) (asked : Asked) (reason : Reason) (status : Status) (answer : Answer)
+      → GivesHandleAt g s p o asked reason status answer t → GivesHandle answer
+  gives_handle_gives s t p o asked reason status answer h = go h.0 h.2 h.3
+    where
+      go : (result : Result ℕ Status) → Grants g s p o asked reason result h.1
+          → MatchResult result (λ value. (answer ≡ gives status (Handle value)) × (t ≡ settle g h.1)) (λ refusal. IsRefused s refusal answer t) → GivesHandle answer
+      go (Ok value) grants told = value_gives s p value status answer grants.1 told.0
+      go (Err refusal) grants told = refused_gives s t refusal answer told
 
   opens_at_gives : (s t : State K T F I) (p attrs : ℕ) (wanted : Wanted K) (status : Status) (o : ℕ) (answer : Answer)
       → OpensAt g s p attrs wanted status o answer t → GivesHandle answer
   opens_at_gives s t p attrs wanted status o answer h =
-      unless_gives ((not (is_wanted_at g s o wanted), ObjectTypeMismatch) ∷ []) s t answer
-      ((result : Result ℕ Status) × (u : State K T F I) × Grants g s p o (asked_by attrs) Opened result u
-      × MatchResult result (λ value. (answer ≡ gives status (Handle value)) × (t ≡ settle g u)) (λ refusal. IsRefused s refusal answer t))
-      (λ does. granted_gives s t does.1 p o (asked_by attrs) status answer does.0 does.2 does.3) h
+      unless_gives ((not (is_wanted_at g s o wanted), ObjectTypeMismatch) ∷ []) s t answer (GivesHandleAt g s p o (asked_by attrs) Opened status answer t)
+      (gives_handle_gives s t p o (asked_by attrs) Opened status answer) h
 
   opens_gives : (s t : State K T F I) (p attrs : ℕ) (wanted : Wanted K) (look : Look) (answer : Answer)
       → Opens g s p attrs wanted look answer t → GivesHandle answer
@@ -188,6 +190,22 @@ module _ {K T F I : Type 0} (g : Procedures K T F I) where
       with_handle_gives s t p handle answer (λ x. TellsTarget s x.object answer × (t ≡ s)) (λ x does. target_gives s x.object answer does.0) h
   step_gives s t (Start p (command.QueryName handle)) answer h =
       with_handle_gives s t p handle answer (λ x. TellsName s x.object answer × (t ≡ s)) (λ x does. name_gives s x.object answer does.0) h
+  step_gives s t (Start p (command.Duplicate handle to inherit)) answer h =
+      unless_gives ((not (is_live s p), ProcessGone) ∷ (not (is_live s to), ProcessGone) ∷ []) s t answer
+      (MatchOption (option_and_then (held_of s p) (key_of handle)) (IsRefused s InvalidHandle answer t) Given) (go (option_and_then (held_of s p) (key_of handle))) h
+    where
+      Given : Held → Type 0
+      Given x = GivesHandleAt g s to x.object (record { inherit = inherit; exclusive = false }) Duplicated Success answer t
+
+      go : (o : Option Held) → MatchOption o (IsRefused s InvalidHandle answer t) Given → GivesHandle answer
+      go None h = refused_gives s t InvalidHandle answer h
+      go (Some x) h = gives_handle_gives s t to x.object (record { inherit = inherit; exclusive = false }) Duplicated Success answer h
+  step_gives s t (Start p (command.NewProcess inherit)) answer h =
+      unless_gives ((not (is_live s p), ProcessGone) ∷ (is_crowded s p inherit, InsufficientResources) ∷ []) s t answer
+      (let u = begun g s p inherit in (answer ≡ gives Success (Process s.next_process (values_in u s.next_process))) × (t ≡ settle g u))
+      (λ does. subst GivesHandle (sym does.0) (omega arith)) h
+  step_gives s t (Start p command.ExitProcess) answer h =
+      unless_gives ((not (is_live s p), ProcessGone) ∷ []) s t answer ((answer ≡ answers Success) × (t ≡ settle g (ended g s p))) (λ does. subst GivesHandle (sym does.0) (omega arith)) h
 
 -- the value of a request's word stays a handle
 value_kept : (request : Request (List ℕ)) (reply : Reply) (before : ℕ) → given_handle reply.given ≤ greatest_handle → before ≤ greatest_handle

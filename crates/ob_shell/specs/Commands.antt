@@ -92,6 +92,7 @@ abbrev pub given_handle : Given → ℕ
 given_handle given.Nothing = 0
 given_handle (given.Handle handle) = handle
 given_handle (given.Text text) = 0
+given_handle (given.Process process values) = 0
 
 -- the value of that word after the reply, where it had this one before: a create or an open sets it to
 -- the handle that was given, a close that succeeds gives it up, whatever was added to its value, and any

@@ -137,5 +137,6 @@ fn given_handle(given: &Given) -> Handle
         Given::Handle(handle) => *handle,
         Given::Nothing => Handle(0),
         Given::Text(_) => Handle(0),
+        Given::Process(..) => Handle(0),
     }
 }
