@@ -4,13 +4,16 @@
 Each edit there turns the body of one function. It must be refused by the contract of that very
 function. One check of a crate tells the functions apart, so edits of different functions are tried
 together: a batch holds one edit of each function, in a copy of the repository, and `rt check` prints a
-verdict for every function. What counts as a refusal is a goal of the function itself, or of a closure in
-it, that isn't proved. Not a refusal, and reported with the edit's name:
+verdict for every function. The crates are proved in a copy of their own first, lowest first, and each batch
+goes over that work; the batches of a crate begin as soon as it is proved, while others still are.
+
+What counts as a refusal is a goal of the function itself, or of a closure in it, that isn't proved. Not a
+refusal, and reported with the edit's name:
 
 - the function is proved: the body is right, or the contract is too weak;
 - it is not proved only because it calls another function of the batch, tried again, or of none;
 - its proof file cites a name that the edit takes away: then nothing is said of the body's meaning;
-- there is no verdict, since the edit does not compile, or does not apply.
+- there is no verdict, since the edit does not compile, or does not apply, or the crate itself isn't proved.
 
     gate/wrong_bodies.py [--jobs N] [--fresh] [--list] [CRATE..]
 
@@ -18,7 +21,6 @@ The last line is 'N passed, M failed'. The exit status is 0 where none failed, e
 """
 
 import argparse
-import concurrent.futures
 import os
 import re
 import shutil
@@ -26,6 +28,7 @@ import subprocess
 import sys
 import tempfile
 import time
+from concurrent.futures import FIRST_COMPLETED, ThreadPoolExecutor, wait
 from dataclasses import dataclass, field
 from pathlib import Path
 
@@ -60,6 +63,7 @@ class Edit:
     file: str
     function: Function
     pairs: list
+    fits: bool  # whether each old text stands once in the function's own text too
 
     @property
     def label(self):
@@ -192,6 +196,15 @@ def replaced(text, pairs):
     return text
 
 
+def fits(text, pairs):
+    """Whether the pairs can be applied to this text alone."""
+    try:
+        replaced(text, pairs)
+    except Unfit:
+        return False
+    return True
+
+
 def read_edit(crate, path):
     """An edit, with the one function that it turns."""
     file, pairs = read_pairs(path)
@@ -209,7 +222,7 @@ def read_edit(crate, path):
     named = path.stem.split("-")[0]
     if named != function.path.split("::")[-1]:
         raise Unfit(f"it is named for {named} and turns {function.path}")
-    return Edit(crate, path.stem, file, function, pairs)
+    return Edit(crate, path.stem, file, function, pairs, fits(text[function.start : function.end], pairs))
 
 
 def with_edits(text, edits):
@@ -220,16 +233,6 @@ def with_edits(text, edits):
         start, end = edit.function.start, edit.function.end
         text = text[:start] + replaced(text[start:end], edit.pairs) + text[end:]
     return text
-
-
-def fits_its_body(edit):
-    """Whether each old text stands once in the function's own text too."""
-    text = (ROOT / "crates" / edit.crate / edit.file).read_text()
-    try:
-        replaced(text[edit.function.start : edit.function.end], edit.pairs)
-    except Unfit:
-        return False
-    return True
 
 
 def verdicts(output):
@@ -264,62 +267,63 @@ def verdicts(output):
     return found
 
 
-# what a copy of a crate goes without; a crate that is only stood on goes without the kept work of its checks
-# too, and a fresh copy without all that checks made
+# what a copy of a crate goes without, and where its checks keep their work
 NOT_COPIED = ("must-fail", "wrong", "definitions", "*.o")
 KEPT_WORK = "incremental"
 MADE = "out"
 
 
-def copied(crates, folder, source, fresh=False):
-    """A repository of these crates and those that they stand on, copied from another one."""
-    needed = set().union(*(with_dependencies(crate) for crate in crates))
-    folder.mkdir(parents=True)
-    shutil.copy(source / "HANDLES", folder / "HANDLES")
+def listed_alone(crates, folder):
+    """Begins a repository of these crates alone."""
+    (folder / "crates").mkdir(parents=True)
+    shutil.copy(ROOT / "HANDLES", folder / "HANDLES")
     lines = (ROOT / "crates.txt").read_text().splitlines()
-    kept = [line for line in lines if re.split(r"[\s:]", line)[0] in needed]
+    kept = [line for line in lines if re.split(r"[\s:]", line)[0] in crates]
     (folder / "crates.txt").write_text("\n".join(kept) + "\n")
-    for name in needed:
-        left_out = [*([] if name in crates else [KEPT_WORK]), *([MADE] if fresh else [])]
-        skipped = shutil.ignore_patterns(*NOT_COPIED, *left_out)
-        shutil.copytree(source / "crates" / name, folder / "crates" / name, ignore=skipped, symlinks=True)
-    subprocess.run(["git", "init", "-q", str(folder)], check=True)
 
 
-def proved(crates, folder, jobs, fresh):
-    """Proves these crates once in a copy, so that each check of a batch goes over that work."""
+def copied(crates, folder, fresh):
+    """Copies these crates, with or without what earlier checks of them made."""
+    listed_alone(crates, folder)
+    skipped = shutil.ignore_patterns(*NOT_COPIED, *([MADE] if fresh else []))
+    for name in crates:
+        shutil.copytree(ROOT / "crates" / name, folder / "crates" / name, ignore=skipped, symlinks=True)
+
+
+def prove(crate, folder):
+    """Proves a crate in a copy, so that each batch goes over that work; gives what was printed where it fails."""
     started = time.monotonic()
-    copied(crates, folder, ROOT, fresh)
-    command = ["rt", "all", "check", "--jobs", str(jobs)]
-    run = subprocess.run(command, cwd=folder, capture_output=True, text=True, check=False)
-    print(f"wrong bodies: the crates are checked in {time.monotonic() - started:.0f} s", flush=True)
-    if run.returncode != 0:
-        print(run.stdout[-4000:] + run.stderr[-4000:])
-    return run.returncode == 0
+    verb = "check" if (folder / "crates" / crate / "src" / "main.rt").is_file() else "lib"
+    run = subprocess.run(
+        ["rt", verb, "--jobs", "1"], cwd=folder / "crates" / crate, capture_output=True, text=True, check=False
+    )
+    if run.returncode == 0:
+        print(f"wrong bodies: {crate}: proved in {time.monotonic() - started:.0f} s", flush=True)
+        return None
+    return run.stdout[-4000:] + run.stderr[-4000:]
 
 
-class Workshop:
-    """A copy of the proved crates in which the wrong bodies of one crate are tried."""
+def check(crate, edits, base, folder):
+    """The verdicts of one check of a crate with these edits applied, and what it printed.
 
-    def __init__(self, crate, folder, base, jobs):
-        self.crate, self.folder, self.jobs = crate, folder, jobs
-        copied([crate], folder, base)
-
-    def check(self, edits):
-        """The verdicts of one check with these edits applied, and what it printed."""
-        home = self.folder / "crates" / self.crate
-        files = {edit.file for edit in edits}
-        for file in files:
-            text = (ROOT / "crates" / self.crate / file).read_text()
-            own = [edit for edit in edits if edit.file == file]
-            (home / file).write_text(with_edits(text, own))
-        run = subprocess.run(
-            ["rt", "check", "--jobs", str(self.jobs)], cwd=home, capture_output=True, text=True, check=False
-        )
-        for file in files:
-            shutil.copy(ROOT / "crates" / self.crate / file, home / file)
-        output = run.stdout + run.stderr
-        return verdicts(output), output
+    It is done in a folder of its own, over the work that is kept in `base`, so that no batch proves again what
+    the edits of another one turned. The files there are links: a check puts new ones in their place, and writes
+    into none that a proof is read from.
+    """
+    needed = with_dependencies(crate)
+    listed_alone(needed, folder)
+    for name in needed:
+        skipped = shutil.ignore_patterns(*([] if name == crate else [KEPT_WORK]))
+        shutil.copytree(base / "crates" / name, folder / "crates" / name, ignore=skipped, copy_function=os.link)
+    home = folder / "crates" / crate
+    for file in {edit.file for edit in edits}:
+        text = (home / file).read_text()
+        (home / file).unlink()
+        (home / file).write_text(with_edits(text, [edit for edit in edits if edit.file == file]))
+    run = subprocess.run(["rt", "check", "--jobs", "1"], cwd=home, capture_output=True, text=True, check=False)
+    shutil.rmtree(folder)
+    output = run.stdout + run.stderr
+    return verdicts(output), output
 
 
 def crates_listed():
@@ -359,36 +363,10 @@ def judge(edit, said):
     return f"{edit.function.path} is proved with it"
 
 
-def try_batch(shop, batch, tell):
-    """Tries edits of different functions together; gives back those to be tried again."""
-    started = time.monotonic()
-    said, output = shop.check(batch)
-    if not said:
-        if len(batch) == 1:
-            error = next((line for line in output.splitlines() if "error" in line), "no verdict at all")
-            tell(batch[0], f"it can't be checked: {error}")
-            return []
-        half = len(batch) // 2
-        return try_batch(shop, batch[:half], tell) + try_batch(shop, batch[half:], tell)
-    again = []
-    for edit in batch:
-        fault = judge(edit, said)
-        if fault == "again":
-            if len(batch) == 1:
-                tell(edit, f"{edit.function.path} is not proved for what it calls alone")
-            else:
-                again.append(edit)
-        else:
-            tell(edit, fault)
-    seconds = time.monotonic() - started
-    print(f"wrong bodies: {shop.crate}: a batch of {len(batch)} in {seconds:.0f} s", flush=True)
-    return again
-
-
 def batches(edits):
     """Edits in batches of at most one a function; edits that don't fit a body's text stand alone."""
-    alone = [edit for edit in edits if not fits_its_body(edit)]
-    left = [edit for edit in edits if fits_its_body(edit)]
+    alone = [edit for edit in edits if not edit.fits]
+    left = [edit for edit in edits if edit.fits]
     while left:
         batch, seen, rest = [], set(), []
         for edit in left:
@@ -403,21 +381,84 @@ def batches(edits):
         yield [edit]
 
 
-def try_crate(crate, edits, folder, base, jobs):
-    """Tries all edits of a crate; gives the faults found, by label."""
-    faults = {}
+class Trial:
+    """All that is to be done, crates proved and batches tried, and the faults found, by label."""
 
-    def tell(edit, fault):
-        if fault is not None:
-            faults[edit.label] = fault
+    def __init__(self, edits, folder):
+        self.edits, self.folder, self.base = edits, folder, folder / "proved"
+        self.needed = set().union(*(with_dependencies(crate) for crate in edits))
+        self.to_prove = sorted(self.needed, key=self.behind, reverse=True)
+        self.proved, self.to_try, self.faults, self.begun = set(), [], {}, 0
 
-    shop = Workshop(crate, folder / crate, base, jobs)
-    for batch in batches(edits):
-        again = try_batch(shop, batch, tell)
-        for edit in again:
-            try_batch(shop, [edit], tell)
-    shutil.rmtree(shop.folder)
-    return faults
+    def behind(self, crate):
+        """How many crates stand on a crate: the one with the most is proved first."""
+        return sum(crate in with_dependencies(other) for other in self.needed)
+
+    def next(self):
+        """What can be begun, as a function to call and what takes its result; none where all waits or is done."""
+        for crate in self.to_prove:
+            if with_dependencies(crate) - {crate} <= self.proved:
+                self.to_prove.remove(crate)
+                return (lambda: prove(crate, self.base)), (lambda said: self.after_proof(crate, said))
+        if not self.to_try:
+            return None
+        batch = max(self.to_try, key=len)
+        self.to_try.remove(batch)
+        self.begun += 1
+        place = self.folder / f"batch-{self.begun}"
+        return (lambda: self.timed(batch, place)), (lambda said: self.after_batch(batch, *said))
+
+    def timed(self, batch, place):
+        started = time.monotonic()
+        said, output = check(batch[0].crate, batch, self.base, place)
+        seconds = time.monotonic() - started
+        print(f"wrong bodies: {batch[0].crate}: a batch of {len(batch)} in {seconds:.0f} s", flush=True)
+        return said, output
+
+    def after_proof(self, crate, said):
+        if said is None:
+            self.proved.add(crate)
+            self.to_try += batches(self.edits.get(crate, []))
+            return
+        print(f"wrong bodies: {crate} itself is not proved\n{said}", flush=True)
+        lost = {name for name in self.needed if crate in with_dependencies(name)}
+        self.to_prove = [name for name in self.to_prove if name not in lost]
+        for edit in (edit for name in lost for edit in self.edits.get(name, [])):
+            self.faults[edit.label] = f"{crate} itself is not proved"
+
+    def after_batch(self, batch, said, output):
+        """Judges a batch by the verdicts of its check, and has tried again what they leave open."""
+        if not said and len(batch) > 1:
+            half = len(batch) // 2
+            self.to_try += [batch[:half], batch[half:]]
+            return
+        again = []
+        for edit in batch:
+            fault = judge(edit, said)
+            if not said:
+                lines = output.splitlines() or ["it printed nothing"]
+                fault = f"it can't be checked: {next((line for line in lines if 'error' in line), lines[-1])}"
+            if fault == "again" and len(batch) > 1:
+                again.append([edit])
+            elif fault == "again":
+                self.faults[edit.label] = f"{edit.function.path} is not proved for what it calls alone"
+            elif fault is not None:
+                self.faults[edit.label] = fault
+        self.to_try += again
+
+
+def run_all(trial, jobs):
+    """Does all of a trial, up to `jobs` checks side by side."""
+    running = {}
+    with ThreadPoolExecutor(jobs) as pool:
+        while True:
+            while len(running) < jobs and (task := trial.next()) is not None:
+                work, after = task
+                running[pool.submit(work)] = after
+            if not running:
+                return
+            for ended in wait(running, return_when=FIRST_COMPLETED).done:
+                running.pop(ended)(ended.result())
 
 
 def gather(crates):
@@ -453,17 +494,10 @@ def main():
                 print(f"{edit.label}: {edit.function.path}")
     else:
         with tempfile.TemporaryDirectory(prefix="wrong-bodies-") as name:
-            folder = Path(name)
-            base = folder / "proved"
-            if edits and not proved(list(edits), base, asked.jobs, asked.fresh):
-                print("wrong bodies: the crates themselves are not proved")
-                print(f"0 passed, {max(count, 1)} failed")
-                return 1
-            with concurrent.futures.ThreadPoolExecutor(max(1, asked.jobs)) as pool:
-                by_size = sorted(edits, key=lambda crate: -len(edits[crate]))
-                tries = [pool.submit(try_crate, crate, edits[crate], folder, base, 1) for crate in by_size]
-                for done in tries:
-                    faults.update(done.result())
+            trial = Trial(edits, Path(name))
+            copied(trial.needed, trial.base, asked.fresh)
+            run_all(trial, max(1, asked.jobs))
+            faults.update(trial.faults)
     for label, fault in sorted(faults.items()):
         print(f"wrong bodies: {label}: not refused: {fault}")
     print(f"{count - len(faults)} passed, {len(faults)} failed")

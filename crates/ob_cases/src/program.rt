@@ -1,6 +1,6 @@
 //! The program's answers, with streams over memory.
 
-use crate::runs::{run, serve_words};
+use crate::runs::{Left, serve_words};
 use clap::error::ErrorKind;
 use ob_shell::{Ending, ShellFault};
 use ob_tasks::{End, complain, perform, perform_opened, refuse, serve, starve};
@@ -53,56 +53,67 @@ fn no_file(_path: &str) -> io::Result<&'static [u8]> {
 }
 
 #[test]
-fn no_words_name_the_script(rt: HostRuntime) -> Result<(), Fail> {
-    let task = plan(rt.alloc(), ["ntns"].as_slice())?;
-    assert_eq!(rt; task, Task::Script);
+fn words_name_their_task(rt: HostRuntime) -> Result<(), Fail> {
     let none: [&str; 0] = [];
-    let task = plan(rt.alloc(), none.as_slice())?;
-    assert_eq!(rt; task, Task::Script);
-    Ok(())
-}
-
-#[test]
-fn run_names_its_file(rt: HostRuntime) -> Result<(), Fail> {
-    let task = plan(rt.alloc(), ["ntns", "run", "a.ntns"].as_slice())?;
-    assert_eq!(rt; task, Task::Run("a.ntns"));
-    let task = plan(rt.alloc(), ["ntns", "run", "--", "-a b%20"].as_slice())?;
-    assert_eq!(rt; task, Task::Run("-a b%20"));
-    let task = plan(rt.alloc(), ["ntns", "run", "run", "--"].as_slice())?;
-    assert_eq!(rt; task, Task::Run("run"));
-    for file in ["", "-", "./a", "/", "help", "c:\\a"] {
-        let words = ["ntns", "run", file];
-        let task = plan(rt.alloc(), words.as_slice())?;
-        assert_eq!(rt; task, Task::Run(file));
+    let table = [
+        (none.as_slice(), Task::Script),
+        (["ntns"].as_slice(), Task::Script),
+        (["ntns", "run", "a.ntns"].as_slice(), Task::Run("a.ntns")),
+        (
+            ["ntns", "run", "--", "-a b%20"].as_slice(),
+            Task::Run("-a b%20"),
+        ),
+        (["ntns", "run", "run", "--"].as_slice(), Task::Run("run")),
+        (["ntns", "run", ""].as_slice(), Task::Run("")),
+        (["ntns", "run", "-"].as_slice(), Task::Run("-")),
+        (["ntns", "run", "./a"].as_slice(), Task::Run("./a")),
+        (["ntns", "run", "/"].as_slice(), Task::Run("/")),
+        (["ntns", "run", "help"].as_slice(), Task::Run("help")),
+        (["ntns", "run", "c:\\a"].as_slice(), Task::Run("c:\\a")),
+    ];
+    for (words, task) in table {
+        assert!(rt; plan(rt.alloc(), words)? == task, "at {words:?}");
     }
     Ok(())
 }
 
 #[test]
 fn other_words_are_mistakes(rt: HostRuntime) {
-    for (word, kind) in [
-        ("other", ErrorKind::InvalidSubcommand),
-        ("ntns", ErrorKind::InvalidSubcommand),
-        ("-x", ErrorKind::UnknownArgument),
-        ("--other", ErrorKind::UnknownArgument),
-        ("--run", ErrorKind::UnknownArgument),
-    ] {
-        let words = ["ntns", word];
-        let outcome = plan(rt.alloc(), words.as_slice());
-        let Err(fault) = outcome else {
-            assert!(rt; false, "at {word:?}");
-            return;
+    let table = [
+        (
+            ["ntns", "other"].as_slice(),
+            Some(ErrorKind::InvalidSubcommand),
+        ),
+        (
+            ["ntns", "ntns"].as_slice(),
+            Some(ErrorKind::InvalidSubcommand),
+        ),
+        (["ntns", "-x"].as_slice(), Some(ErrorKind::UnknownArgument)),
+        (
+            ["ntns", "--other"].as_slice(),
+            Some(ErrorKind::UnknownArgument),
+        ),
+        (
+            ["ntns", "--run"].as_slice(),
+            Some(ErrorKind::UnknownArgument),
+        ),
+        (["ntns", "-"].as_slice(), None),
+        (["ntns", ""].as_slice(), None),
+        (["ntns", "RUN"].as_slice(), None),
+        (["ntns", "runs"].as_slice(), None),
+        (["ntns", "--", "run", "a"].as_slice(), None),
+        (["ntns", "run", "-x"].as_slice(), None),
+    ];
+    for (words, wanted) in table {
+        let is_refused = match plan(rt.alloc(), words) {
+            Ok(_) => false,
+            Err(fault) => match wanted {
+                Some(kind) => fault.kind() == kind,
+                None => true,
+            },
         };
-        assert_eq!(rt; fault.kind(), kind, "at {word:?}");
+        assert!(rt; is_refused, "at {words:?}");
     }
-    for word in ["-", "", "RUN", "runs"] {
-        assert!(rt;
-            plan(rt.alloc(), ["ntns", word].as_slice()).is_err(),
-            "at {word:?}"
-        );
-    }
-    assert!(rt; plan(rt.alloc(), ["ntns", "--", "run", "a"].as_slice()).is_err());
-    assert!(rt; plan(rt.alloc(), ["ntns", "run", "-x"].as_slice()).is_err());
 }
 
 #[test]
@@ -170,9 +181,8 @@ fn a_file_that_cannot_be_read_is_told(rt: HostRuntime) {
         &mut output,
         &mut errors,
     );
-    assert_eq!(rt; End::Task(outcome).status(), 1);
-    assert_eq!(rt; output.len(), 0);
-    assert_eq!(rt; errors.as_slice(), b"ntns: cannot read\n".as_slice());
+    let left = Left::new(End::Task(outcome).status(), output, errors);
+    assert!(rt; left.is(1, b"", b"ntns: cannot read\n"));
 }
 
 #[test]
@@ -190,13 +200,8 @@ fn what_the_system_does_not_open_or_read_is_told(rt: HostRuntime) {
             &mut output,
             &mut errors,
         );
-        assert_eq!(rt; end.status(), 1, "at {path:?}");
-        assert_eq!(rt; output.len(), 0, "at {path:?}");
-        assert_eq!(rt;
-            errors.as_slice(),
-            b"ntns: cannot read\n".as_slice(),
-            "at {path:?}"
-        );
+        let left = Left::new(end.status(), output, errors);
+        assert!(rt; left.is(1, b"", b"ntns: cannot read\n"), "at {path:?}");
     }
 }
 
@@ -239,9 +244,8 @@ fn words_that_are_no_text_end_with_2(rt: HostRuntime) {
     let mut errors = Vec::new(rt.alloc());
     let fault = unreadable(rt.alloc());
     let end = refuse(rt.alloc(), &fault, &mut output, &mut errors);
-    assert_eq!(rt; end.status(), 2);
-    assert_eq!(rt; output.len(), 0);
-    assert_eq!(rt; errors.as_slice(), NO_TEXT.as_bytes());
+    let left = Left::new(end.status(), output, errors);
+    assert!(rt; left.is(2, b"", NO_TEXT.as_bytes()));
 }
 
 #[test]
@@ -250,9 +254,8 @@ fn want_of_memory_ends_with_1(rt: HostRuntime) {
     let mut errors = Vec::new(rt.alloc());
     let want = clap::Error::from(std::alloc::AllocError);
     let end = refuse(rt.alloc(), &want, &mut output, &mut errors);
-    assert_eq!(rt; end.status(), 1);
-    assert_eq!(rt; output.len(), 0);
-    assert_eq!(rt; errors.as_slice(), b"ntns: want of memory\n".as_slice());
+    let left = Left::new(end.status(), output, errors);
+    assert!(rt; left.is(1, b"", b"ntns: want of memory\n"));
 }
 
 #[test]
@@ -268,9 +271,8 @@ fn an_empty_script_ends_with_0(rt: HostRuntime) {
         &mut errors,
     );
     assert_eq!(rt; outcome, Ok(Ending::Done));
-    assert_eq!(rt; End::Task(outcome).status(), 0);
-    assert_eq!(rt; output.len(), 0);
-    assert_eq!(rt; errors.len(), 0);
+    let left = Left::new(End::Task(outcome).status(), output, errors);
+    assert!(rt; left.is(0, b"", b""));
 }
 
 #[test]
@@ -285,12 +287,9 @@ fn the_input_of_a_run_is_its_script(rt: HostRuntime) {
         &mut output,
         &mut errors,
     );
-    assert_eq!(rt; End::Task(outcome).status(), 1);
-    assert_eq!(rt;
-        output.as_slice(),
-        b"1: SUCCESS\n2: SUCCESS \"\\A\"\n3: not a script line\n".as_slice()
-    );
-    assert_eq!(rt; errors.len(), 0);
+    let left = Left::new(End::Task(outcome).status(), output, errors);
+    let prints = b"1: SUCCESS\n2: SUCCESS \"\\A\"\n3: not a script line\n";
+    assert!(rt; left.is(1, prints, b""));
 }
 
 #[test]

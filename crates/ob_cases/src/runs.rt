@@ -14,6 +14,15 @@ pub struct Left {
 }
 
 impl Left {
+    // A run that left this.
+    pub fn new(status: u8, output: Vec<u8>, errors: Vec<u8>) -> Left {
+        Left {
+            status,
+            output,
+            errors,
+        }
+    }
+
     // Whether it is this.
     pub fn is(&self, status: u8, output: &[u8], errors: &[u8]) -> bool {
         self.status == status
@@ -28,11 +37,7 @@ pub fn run(alloc: Global, script: &[u8]) -> Left {
     let mut output = Vec::new(alloc);
     let mut errors = Vec::new(alloc);
     let outcome = perform(alloc, Task::Script, &mut reader, &mut output, &mut errors);
-    Left {
-        status: End::Task(outcome).status(),
-        output,
-        errors,
-    }
+    Left::new(End::Task(outcome).status(), output, errors)
 }
 
 // The files of the tests: one script, one that wants memory, and no other.
@@ -57,9 +62,5 @@ pub fn serve_words<'a>(alloc: Global, words: &'a [&'a str]) -> Left {
         &mut output,
         &mut errors,
     );
-    Left {
-        status: end.status(),
-        output,
-        errors,
-    }
+    Left::new(end.status(), output, errors)
 }

@@ -97,6 +97,19 @@ fn small(alloc: Global) -> Result<Space, Fail> {
     Ok(space)
 }
 
+// Whether a name ends so, where at most so many reparses are made.
+fn ends_within(
+    alloc: Global,
+    space: &Space,
+    mode: Mode,
+    budget: u32,
+    name: &[u8],
+    end: End<'_>,
+) -> Result<bool, Fail> {
+    let found = look(alloc, space.store(), None, Name::read(name)?, mode, budget)?;
+    Ok(is_end(&found, end))
+}
+
 fn ends_so(
     alloc: Global,
     space: &Space,
@@ -104,8 +117,7 @@ fn ends_so(
     name: &[u8],
     end: End<'_>,
 ) -> Result<bool, Fail> {
-    let found = look(alloc, space.store(), None, Name::read(name)?, mode, 32)?;
-    Ok(is_end(&found, end))
+    ends_within(alloc, space, mode, 32, name, end)
 }
 
 #[test]
@@ -165,19 +177,28 @@ fn relative_names(rt: HostRuntime) -> Result<(), Fail> {
         (4, b"Disk", End::Refused(Status::ObjectTypeMismatch)),
     ];
     for (root, name, end) in ends {
-        let found = look_from(rt.alloc(), &space, ObjId(root), name)?;
-        assert!(rt; is_end(&found, end), "at {root} {name:?}");
+        assert!(rt;
+            ends_from(rt.alloc(), &space, ObjId(root), name, end)?,
+            "at {root} {name:?}"
+        );
     }
     Ok(())
 }
 
-// Looks a name up relative to an object.
-fn look_from(alloc: Global, space: &Space, root: ObjId, name: &[u8]) -> Result<Look, Fail> {
+// Whether a name ends so, relative to an object.
+fn ends_from(
+    alloc: Global,
+    space: &Space,
+    root: ObjId,
+    name: &[u8],
+    end: End<'_>,
+) -> Result<bool, Fail> {
     let store = space.store();
     let Some(_) = store.get(root) else {
         return Err(Fail::from("no root object"));
     };
-    Ok(look(alloc, store, Some(root), Name::read(name)?, OPEN, 32)?)
+    let found = look(alloc, store, Some(root), Name::read(name)?, OPEN, 32)?;
+    Ok(is_end(&found, end))
 }
 
 #[test]
@@ -206,38 +227,59 @@ fn links(rt: HostRuntime) -> Result<(), Fail> {
     Ok(())
 }
 
-#[test]
-fn chains_of_links(rt: HostRuntime) -> Result<(), Fail> {
-    let alloc = rt.alloc();
+// A chain of links, `\0` to `\P`, each to the one before it, the first of which leads to `\Device`, which is 2.
+fn chain(alloc: Global) -> Result<Space, Fail> {
     let mut space = Space::new(alloc)?;
     space.add(alloc, ROOT, b"Device", directory(alloc))?;
     space.add(alloc, ROOT, b"0", link(alloc, b"\\Device")?)?;
     for k in b'1'..=b'P' {
         space.add(alloc, ROOT, &[k], link(alloc, &[b'\\', k - 1])?)?;
     }
-    assert!(rt; ends_so(alloc, &space, OPEN, b"\\O", End::At(2))?);
-    let limit = End::Refused(Status::ReparseLimit);
-    assert!(rt; ends_so(alloc, &space, OPEN, b"\\P", limit)?);
-    Ok(())
+    Ok(space)
 }
 
 #[test]
-fn the_limit_is_told_before_the_length(rt: HostRuntime) -> Result<(), Fail> {
-    let alloc = rt.alloc();
+fn chains_of_links(rt: HostRuntime) -> Result<(), Fail> {
+    let space = chain(rt.alloc())?;
+    let ends: [(&[u8], End<'_>); 2] = [
+        (b"\\O", End::At(2)),
+        (b"\\P", End::Refused(Status::ReparseLimit)),
+    ];
+    for (name, end) in ends {
+        assert!(rt;
+            ends_so(rt.alloc(), &space, OPEN, name, end)?,
+            "at {name:?}"
+        );
+    }
+    Ok(())
+}
+
+// A link `\L` to a name of 32,760 bytes that leads nowhere.
+fn long_link(alloc: Global) -> Result<Space, Fail> {
     let mut space = Space::new(alloc)?;
     let mut target = vec![in alloc; b'a'; 32_760]?;
     if let Some(byte) = target.first_mut() {
         *byte = b'\\';
     }
     space.add(alloc, ROOT, b"L", link(alloc, target.as_slice())?)?;
-    let name = b"\\L\\234567".as_slice();
-    let fits = End::Refused(Status::ObjectPathNotFound);
-    assert!(rt; ends_so(alloc, &space, OPEN, name, fits)?);
-    let name = b"\\L\\2345678".as_slice();
-    let long = End::Refused(Status::NameTooLong);
-    assert!(rt; ends_so(alloc, &space, OPEN, name, long)?);
-    let found = look(alloc, space.store(), None, Name::read(name)?, OPEN, 0)?;
-    assert!(rt; is_end(&found, End::Refused(Status::ReparseLimit)));
+    Ok(space)
+}
+
+#[test]
+fn the_limit_is_told_before_the_length(rt: HostRuntime) -> Result<(), Fail> {
+    let alloc = rt.alloc();
+    let space = long_link(alloc)?;
+    let ends: [(&[u8], u32, End<'_>); 3] = [
+        (b"\\L\\234567", 32, End::Refused(Status::ObjectPathNotFound)),
+        (b"\\L\\2345678", 32, End::Refused(Status::NameTooLong)),
+        (b"\\L\\2345678", 0, End::Refused(Status::ReparseLimit)),
+    ];
+    for (name, budget, end) in ends {
+        assert!(rt;
+            ends_within(alloc, &space, OPEN, budget, name, end)?,
+            "at {name:?} within {budget}"
+        );
+    }
     Ok(())
 }
 

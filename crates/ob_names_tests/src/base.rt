@@ -3,37 +3,37 @@
 use ob_base::{Attrs, Fault, Handle, Status, codes_tell_statuses, texts_tell_statuses};
 use std::alloc::{AllocError, Global};
 
+// What a set says of its flags: inherit, permanent, exclusive, without case, open-if and open-link.
+fn told(attrs: Attrs) -> [bool; 6] {
+    [
+        attrs.is_inherit(),
+        attrs.is_permanent(),
+        attrs.is_exclusive(),
+        attrs.is_case_insensitive(),
+        attrs.is_open_if(),
+        attrs.is_open_link(),
+    ]
+}
+
 #[test]
 fn lawful_sets_are_accepted(rt: HostRuntime) {
-    for bits in [0x0, 0x2, 0x10, 0x20, 0x40, 0x80, 0x100, 0x1D2, 0x1F0] {
-        let attrs = Attrs::check(bits).expect(&rt, "a lawful set");
-        assert_eq!(rt; attrs.bits(), bits);
-        assert_eq!(rt;
-            attrs.is_inherit(),
-            bits == 0x2 || bits == 0x1D2,
-            "at {bits}"
-        );
-        assert_eq!(rt;
-            attrs.is_permanent(),
-            bits == 0x10 || bits > 0x100,
-            "at {bits}"
-        );
-        assert_eq!(rt;
-            attrs.is_exclusive(),
-            bits == 0x20 || bits == 0x1F0,
-            "at {bits}"
-        );
-        assert_eq!(rt;
-            attrs.is_case_insensitive(),
-            bits == 0x40 || bits > 0x100,
-            "at {bits}"
-        );
-        assert_eq!(rt;
-            attrs.is_open_if(),
-            bits == 0x80 || bits > 0x100,
-            "at {bits}"
-        );
-        assert_eq!(rt; attrs.is_open_link(), bits >= 0x100, "at {bits}");
+    let table = [
+        (0x0, [false, false, false, false, false, false]),
+        (0x2, [true, false, false, false, false, false]),
+        (0x10, [false, true, false, false, false, false]),
+        (0x20, [false, false, true, false, false, false]),
+        (0x40, [false, false, false, true, false, false]),
+        (0x80, [false, false, false, false, true, false]),
+        (0x100, [false, false, false, false, false, true]),
+        (0x1D2, [true, true, false, true, true, true]),
+        (0x1F0, [false, true, true, true, true, true]),
+    ];
+    for (bits, flags) in table {
+        let says = match Attrs::check(bits) {
+            Ok(attrs) => attrs.bits() == bits && told(attrs) == flags,
+            Err(_) => false,
+        };
+        assert!(rt; says, "at {bits}");
     }
 }
 
@@ -151,8 +151,8 @@ const TABLE: [(Status, &[u8], u32); 23] = [
 #[test]
 fn statuses_have_their_words_and_numbers(rt: HostRuntime) {
     for (status, text, code) in TABLE {
-        assert_eq!(rt; status.text().as_bytes(), text, "at {code}");
-        assert_eq!(rt; status.code(), code);
+        let has_both = status.text().as_bytes() == text && status.code() == code;
+        assert!(rt; has_both, "at {code}");
     }
 }
 

@@ -103,8 +103,8 @@ fn compares_names(rt: HostRuntime) {
         (b"Foo", b"Fop", false, false),
     ];
     for (a, b, exactly, folded) in pairs {
-        assert_eq!(rt; same(a, b, false), exactly, "{a:?} and {b:?}");
-        assert_eq!(rt; same(b, a, true), folded, "{a:?} and {b:?}, folded");
+        let are_so = same(a, b, false) == exactly && same(b, a, true) == folded;
+        assert!(rt; are_so, "{a:?} and {b:?}");
     }
 }
 

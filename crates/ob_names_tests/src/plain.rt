@@ -8,31 +8,41 @@ use ob_types::{Reason, Refusal, TypeSet, close_last, is_one_kind, laws, open_or_
 
 #[test]
 fn limits(rt: HostRuntime) {
-    assert_eq!(rt; limit_of(b"1"), Some(1));
-    assert_eq!(rt; limit_of(b"10"), Some(10));
-    assert_eq!(rt; limit_of(b"65535"), Some(65535));
-    assert_eq!(rt; limit_of(b""), None);
-    assert_eq!(rt; limit_of(b"0"), None);
-    assert_eq!(rt; limit_of(b"01"), None);
-    assert_eq!(rt; limit_of(b"65536"), None);
-    assert_eq!(rt; limit_of(b"655350"), None);
-    assert_eq!(rt; limit_of(b"+1"), None);
-    assert_eq!(rt; limit_of(b"1 "), None);
-    assert_eq!(rt; limit_of(b"1:"), None);
-    assert_eq!(rt; limit_of(b"1/"), None);
+    let table: [(&[u8], Option<u16>); 12] = [
+        (b"1", Some(1)),
+        (b"10", Some(10)),
+        (b"65535", Some(65535)),
+        (b"", None),
+        (b"0", None),
+        (b"01", None),
+        (b"65536", None),
+        (b"655350", None),
+        (b"+1", None),
+        (b"1 ", None),
+        (b"1:", None),
+        (b"1/", None),
+    ];
+    for (args, limit) in table {
+        assert!(rt; limit_of(args) == limit, "at {args:?}");
+    }
 }
 
 #[test]
 fn names_of_kinds(rt: HostRuntime) {
-    assert_eq!(rt; Plain::type_name(PlainKind::Event), "Event");
-    assert_eq!(rt; Plain::type_name(PlainKind::Mutant), "Mutant");
-    assert_eq!(rt; Standard::type_name(PlainKind::Section), "Section");
-    let face = PlainFace {
-        kind: PlainKind::Mutant,
-    };
-    assert_eq!(rt; Plain::kind_of(&face), PlainKind::Mutant);
-    assert!(rt; is_one_kind::<Plain>(Standard::kind_of(&face), PlainKind::Mutant));
-    assert!(rt; !is_one_kind::<Standard>(PlainKind::Event, PlainKind::Section));
+    let table = [
+        (PlainKind::Event, "Event"),
+        (PlainKind::Mutant, "Mutant"),
+        (PlainKind::Section, "Section"),
+    ];
+    for (kind, name) in table {
+        let named = Plain::type_name(kind) == name && Standard::type_name(kind) == name;
+        assert!(rt; named, "at {name}");
+        let face = PlainFace { kind };
+        assert!(rt; Plain::kind_of(&face) == kind && Standard::kind_of(&face) == kind);
+        let is_event = is_one_kind::<Plain>(kind, PlainKind::Event);
+        assert!(rt; is_event == is_one_kind::<Standard>(PlainKind::Event, kind));
+        assert!(rt; is_event == (name == "Event"));
+    }
 }
 
 #[test]
@@ -53,17 +63,12 @@ fn a_life_is_counted(rt: HostRuntime) {
         assert!(rt; false);
         return;
     };
-    assert_eq!(rt; set.on_open(&mut inner, Reason::Created), Ok(()));
-    assert_eq!(rt; set.on_open(&mut inner, Reason::Opened), Err(2));
-    assert_eq!(rt;
-        open_or_leave(&mut set, &mut inner, Reason::Duplicated),
-        Err(2)
-    );
-    assert_eq!(rt; inner.handles, 1);
+    let made = set.on_open(&mut inner, Reason::Created);
+    let opened = set.on_open(&mut inner, Reason::Opened);
+    let left = open_or_leave(&mut set, &mut inner, Reason::Duplicated);
+    assert!(rt; made == Ok(()) && opened == Err(2) && left == Err(2) && inner.handles == 1);
     close_last(&mut set, inner);
-    assert_eq!(rt; set.opens(), 1);
-    assert_eq!(rt; set.closes(), 1);
-    assert_eq!(rt; set.deletes(), 1);
+    assert!(rt; set.opens() == 1 && set.closes() == 1 && set.deletes() == 1);
 }
 
 #[test]
@@ -72,10 +77,10 @@ fn handles_stop_at_the_greatest(rt: HostRuntime) {
         handles: u32::MAX,
         limit: None,
     };
-    assert_eq!(rt; Plain.on_open(&mut inner, Reason::Inherited), Ok(()));
-    assert_eq!(rt; inner.handles, u32::MAX);
+    let opened = Plain.on_open(&mut inner, Reason::Inherited);
+    assert!(rt; opened == Ok(()) && inner.handles == u32::MAX);
     Plain.on_close(&mut inner, 0, 3);
-    assert_eq!(rt; inner.handles, 3);
+    assert!(rt; inner.handles == 3);
 }
 
 #[test]

@@ -56,38 +56,37 @@ fn three(alloc: Global) -> Result<Store<Standard>, Fail>
 #[test]
 fn a_new_store_is_empty(rt: HostRuntime) {
     let store: Store<Standard> = Store::new(rt.alloc());
-    assert!(rt; store.is_empty());
-    assert_eq!(rt; store.len(), 0);
-    assert!(rt; store.get(ObjId(1)).is_none());
+    assert!(rt; store.is_empty() && store.len() == 0 && store.get(ObjId(1)).is_none());
 }
 
 #[test]
 fn a_new_directory_holds_no_name(rt: HostRuntime) -> Result<(), Fail> {
     let mut store: Store<Standard> = Store::new(rt.alloc());
     store.insert(ObjId(1), temporary(StoredBody::directory(rt.alloc())))?;
-    assert!(rt; store.is_directory(ObjId(1)));
-    assert!(rt; !store.holds_names(ObjId(1)));
+    assert!(rt; store.is_directory(ObjId(1)) && !store.holds_names(ObjId(1)));
     Ok(())
+}
+
+// Whether an object is there and is a link.
+fn is_link(store: &Store<Standard>, id: ObjId) -> bool {
+    matches!(
+        store.get(id),
+        Some(StoredObject {
+            body: StoredBody::Link(_),
+            ..
+        })
+    )
 }
 
 #[test]
 fn objects_come_and_go(rt: HostRuntime) -> Result<(), Fail> {
     let mut store = three(rt.alloc())?;
-    assert_eq!(rt; store.len(), 3);
-    assert!(rt;
-        matches!(
-            store.get(ObjId(2)),
-            Some(StoredObject {
-                body: StoredBody::Link(_),
-                ..
-            })
-        )
+    assert!(rt; store.len() == 3 && is_link(&store, ObjId(2)) && store.get(ObjId(3)).is_none());
+    let (first, again) = (
+        store.remove(ObjId(2)).is_some(),
+        store.remove(ObjId(2)).is_some(),
     );
-    assert!(rt; store.get(ObjId(3)).is_none());
-    assert!(rt; store.remove(ObjId(2)).is_some());
-    assert!(rt; store.remove(ObjId(2)).is_none());
-    assert!(rt; store.get(ObjId(2)).is_none());
-    assert_eq!(rt; store.len(), 2);
+    assert!(rt; first && !again && store.get(ObjId(2)).is_none() && store.len() == 2);
     Ok(())
 }
 
@@ -104,19 +103,26 @@ fn found(store: &Store<Standard>, directory: ObjId, component: &[u8]) -> Option<
     }
 }
 
-#[test]
-fn names_come_and_go(rt: HostRuntime) -> Result<(), Fail> {
-    let alloc = rt.alloc();
+// The store of three with the name `Event` of stamp 7 for the event, in its directory.
+fn three_and_a_name(alloc: Global) -> Result<Store<Standard>, Fail> {
     let mut store = three(alloc)?;
     let name = NameBuf::from_name(alloc, Name::read(b"Event")?)?;
     store.insert_name(ObjId(1), 7, name, ObjId(5))?;
-    assert_eq!(rt; found(&store, ObjId(1), b"Event"), Some((7, ObjId(5))));
-    assert_eq!(rt; found(&store, ObjId(5), b"Event"), None);
-    assert!(rt; !store.remove_name(ObjId(1), 8));
-    assert!(rt; !store.remove_name(ObjId(2), 7));
-    assert!(rt; !store.remove_name(ObjId(9), 7));
-    assert!(rt; store.remove_name(ObjId(1), 7));
-    assert_eq!(rt; found(&store, ObjId(1), b"Event"), None);
+    Ok(store)
+}
+
+#[test]
+fn names_come_and_go(rt: HostRuntime) -> Result<(), Fail> {
+    let mut store = three_and_a_name(rt.alloc())?;
+    let there = found(&store, ObjId(1), b"Event");
+    assert!(rt; there == Some((7, ObjId(5))) && found(&store, ObjId(5), b"Event").is_none());
+    for (directory, stamp, goes) in [(1, 8, false), (2, 7, false), (9, 7, false), (1, 7, true)] {
+        assert!(rt;
+            store.remove_name(ObjId(directory), stamp) == goes,
+            "at {directory} {stamp}"
+        );
+    }
+    assert!(rt; found(&store, ObjId(1), b"Event").is_none());
     Ok(())
 }
 
@@ -133,16 +139,19 @@ fn named(alloc: Global) -> Result<Store<Standard>, Fail> {
     Ok(store)
 }
 
+// Whether the name of an object stands in this directory and is this.
+fn is_named(store: &Store<Standard>, id: ObjId, directory: ObjId, name: &[u8]) -> bool {
+    match store.name_of(id) {
+        Some(named) => named.directory == directory && named.name() == name,
+        None => false,
+    }
+}
+
 #[test]
 fn the_first_name_is_told(rt: HostRuntime) -> Result<(), Fail> {
     let store = named(rt.alloc())?;
-    let Some(named) = store.name_of(ObjId(5)) else {
-        return Err(Fail::from("no name"));
-    };
-    assert_eq!(rt; named.directory, ObjId(4));
-    assert_eq!(rt; named.name(), b"Old".as_slice());
-    assert!(rt; store.name_of(ObjId(4)).is_none());
-    assert!(rt; store.name_of(ObjId(9)).is_none());
+    assert!(rt; is_named(&store, ObjId(5), ObjId(4), b"Old"));
+    assert!(rt; store.name_of(ObjId(4)).is_none() && store.name_of(ObjId(9)).is_none());
     Ok(())
 }
 
@@ -151,11 +160,9 @@ fn names_are_sought_by_their_objects(rt: HostRuntime) -> Result<(), Fail> {
     let store = named(rt.alloc())?;
     let some = store.name_where(|id| id == ObjId(5));
     let none = store.name_where(|id| id != ObjId(5));
-    assert!(rt; some == Some((ObjId(1), 7)) || some == Some((ObjId(4), 3)));
-    assert_eq!(rt; none, None);
-    assert!(rt; store.holds_names(ObjId(1)));
-    assert!(rt; store.holds_names(ObjId(4)));
-    assert!(rt; !store.holds_names(ObjId(5)));
+    let is_one = some == Some((ObjId(1), 7)) || some == Some((ObjId(4), 3));
+    let [first, second, event] = [1, 4, 5].map(|id| store.holds_names(ObjId(id)));
+    assert!(rt; is_one && none.is_none() && first && second && !event);
     Ok(())
 }
 
@@ -165,10 +172,8 @@ fn the_last_object_is_sought(rt: HostRuntime) -> Result<(), Fail> {
     let last = store.last_where(|_| true);
     let before = store.last_where(|id| id != ObjId(5));
     let none = store.last_where(|id| id == ObjId(3));
-    assert_eq!(rt; last, Some(ObjId(5)));
-    assert_eq!(rt; before, Some(ObjId(2)));
-    assert_eq!(rt; none, None);
-    assert!(rt; !store.holds_names(ObjId(1)));
+    let are_so = last == Some(ObjId(5)) && before == Some(ObjId(2)) && none.is_none();
+    assert!(rt; are_so && !store.holds_names(ObjId(1)));
     Ok(())
 }
 
@@ -178,19 +183,23 @@ fn a_lower_id_stands_in_order(rt: HostRuntime) -> Result<(), Fail> {
     let alloc = rt.alloc();
     let mut store = three(alloc)?;
     store.insert(ObjId(3), temporary(StoredBody::directory(alloc)))?;
-    assert_eq!(rt; store.len(), 4);
-    assert!(rt; store.is_directory(ObjId(3)));
-    assert!(rt; !store.is_directory(ObjId(5)));
+    assert!(rt; store.len() == 4 && store.is_directory(ObjId(3)) && !store.is_directory(ObjId(5)));
     let last = store.last_where(|_| true);
     let before = store.last_where(|id| id != ObjId(5));
     let first = store.last_where(|id| id != ObjId(5) && id != ObjId(3));
-    assert_eq!(rt; last, Some(ObjId(5)));
-    assert_eq!(rt; before, Some(ObjId(3)));
-    assert_eq!(rt; first, Some(ObjId(2)));
+    assert!(rt; [last, before, first] == [Some(ObjId(5)), Some(ObjId(3)), Some(ObjId(2))]);
     assert!(rt; store.remove(ObjId(3)).is_some());
-    assert!(rt; store.get(ObjId(3)).is_none());
-    assert_eq!(rt; store.len(), 3);
+    assert!(rt; store.get(ObjId(3)).is_none() && store.len() == 3);
     Ok(())
+}
+
+// Whether an object is a directory, permanent and exclusive.
+fn told(store: &Store<Standard>, id: ObjId) -> (bool, bool, bool) {
+    (
+        store.is_directory(id),
+        store.is_permanent(id),
+        store.is_exclusive(id),
+    )
 }
 
 #[test]
@@ -201,17 +210,15 @@ fn an_object_tells_what_it_is(rt: HostRuntime) -> Result<(), Fail> {
     object.exclusive = true;
     store.insert(ObjId(6), object)?;
     store.set_permanent(ObjId(2), true);
-    let told = |id| {
-        (
-            store.is_directory(id),
-            store.is_permanent(id),
-            store.is_exclusive(id),
-        )
-    };
-    assert_eq!(rt; told(ObjId(1)), (true, false, false));
-    assert_eq!(rt; told(ObjId(2)), (false, true, false));
-    assert_eq!(rt; told(ObjId(3)), (false, false, false));
-    assert_eq!(rt; told(ObjId(6)), (false, false, true));
+    let table = [
+        (1, (true, false, false)),
+        (2, (false, true, false)),
+        (3, (false, false, false)),
+        (6, (false, false, true)),
+    ];
+    for (id, wanted) in table {
+        assert!(rt; told(&store, ObjId(id)) == wanted, "at {id}");
+    }
     Ok(())
 }
 
@@ -221,9 +228,7 @@ fn permanence_is_set(rt: HostRuntime) -> Result<(), Fail> {
     store.set_permanent(ObjId(2), true);
     store.set_permanent(ObjId(3), true);
     let permanent = |id| store.get(id).is_some_and(|object| object.permanent);
-    assert!(rt; !permanent(ObjId(1)));
-    assert!(rt; permanent(ObjId(2)));
-    assert!(rt; !permanent(ObjId(3)));
+    assert!(rt; !permanent(ObjId(1)) && permanent(ObjId(2)) && !permanent(ObjId(3)));
     Ok(())
 }
 
@@ -231,15 +236,23 @@ fn permanence_is_set(rt: HostRuntime) -> Result<(), Fail> {
 fn an_object_is_opened_and_closed(rt: HostRuntime) -> Result<(), Fail> {
     let mut store = three(rt.alloc())?;
     let mut set = Counting::new(Plain);
-    assert_eq!(rt; store.open(ObjId(5), &mut set, Reason::Created), Ok(()));
-    assert_eq!(rt; store.open(ObjId(5), &mut set, Reason::Opened), Err(2));
-    assert_eq!(rt; store.open(ObjId(1), &mut set, Reason::Opened), Ok(()));
-    assert_eq!(rt; store.open(ObjId(9), &mut set, Reason::Opened), Ok(()));
-    assert_eq!(rt; set.opens(), 1);
-    store.close(ObjId(5), &mut set, 0, 0);
-    store.close(ObjId(2), &mut set, 0, 0);
-    assert_eq!(rt; set.closes(), 1);
-    assert_eq!(rt; store.open(ObjId(5), &mut set, Reason::Opened), Ok(()));
+    let opens = [
+        (5, Reason::Created, Ok(())),
+        (5, Reason::Opened, Err(2)),
+        (1, Reason::Opened, Ok(())),
+        (9, Reason::Opened, Ok(())),
+    ];
+    for (id, reason, wanted) in opens {
+        assert!(rt;
+            store.open(ObjId(id), &mut set, reason) == wanted,
+            "at {id}"
+        );
+    }
+    for id in [5, 2] {
+        store.close(ObjId(id), &mut set, 0, 0);
+    }
+    assert!(rt; set.opens() == 1 && set.closes() == 1);
+    assert!(rt; store.open(ObjId(5), &mut set, Reason::Opened) == Ok(()));
     Ok(())
 }
 
