@@ -6,3 +6,5 @@
 mod example;
 #[cfg(test)]
 mod namespace;
+#[cfg(test)]
+mod processes;
