@@ -18,18 +18,17 @@ import sys
 import tempfile
 from pathlib import Path
 
-from wrong_bodies import ROOT, Unfit, Workshop, crates_listed, proved, read_pairs, replaced
+from wrong_bodies import ROOT, Unfit, copied, crates_listed, linked, prove, read_pairs, replaced, rewrite, with_dependencies
 
 
 def fault_of(crate, path, folder, base):
     """Why an edit is not refused; nothing where it is."""
     file, pairs = read_pairs(path)
     text = replaced((ROOT / "crates" / crate / file).read_text(), pairs)
-    shop = Workshop(crate, folder / f"{crate}-{path.stem}", base, 1)
-    home = shop.folder / "crates" / crate
-    (home / file).write_text(text)
+    home = linked(crate, base, folder / f"{crate}-{path.stem}")
+    rewrite(home / file, text)
     run = subprocess.run(["rt", "check", "--jobs", "1"], cwd=home, capture_output=True, text=True, check=False)
-    shutil.rmtree(shop.folder)
+    shutil.rmtree(folder / f"{crate}-{path.stem}")
     last = [line for line in run.stdout.splitlines() if line.startswith("logic=")][-1:]
     if run.returncode == 0:
         return "the crate is proved with it"
@@ -50,8 +49,11 @@ def main():
     with tempfile.TemporaryDirectory(prefix="definitions-") as name:
         folder = Path(name)
         base = folder / "proved"
-        if tried and not proved([crate for crate, _ in tried], base, os.cpu_count() or 1):
-            sys.exit("definitions: the crates themselves are not proved")
+        needed = set().union(*(with_dependencies(crate) for crate, _ in tried))
+        copied(needed, base, False)
+        for crate in crates_listed():
+            if crate in needed and prove(crate, base) is not None:
+                sys.exit(f"definitions: {crate} itself is not proved")
         with concurrent.futures.ThreadPoolExecutor(os.cpu_count() or 1) as pool:
             runs = [(crate, path, pool.submit(fault_of, crate, path, folder, base)) for crate, path in tried]
             for crate, path, run in runs:

@@ -303,23 +303,32 @@ def prove(crate, folder):
     return run.stdout[-4000:] + run.stderr[-4000:]
 
 
-def check(crate, edits, base, folder):
-    """The verdicts of one check of a crate with these edits applied, and what it printed.
+def linked(crate, base, folder):
+    """Begins a folder in which a crate is checked over the work that is kept in `base`; gives its home there.
 
-    It is done in a folder of its own, over the work that is kept in `base`, so that no batch proves again what
-    the edits of another one turned. The files there are links: a check puts new ones in their place, and writes
-    into none that a proof is read from.
+    The files there are links: a check puts new ones in their place, and writes into none that a proof is read
+    from. So no check proves again what the edits of another one turned.
     """
     needed = with_dependencies(crate)
     listed_alone(needed, folder)
     for name in needed:
         skipped = shutil.ignore_patterns(*([] if name == crate else [KEPT_WORK]))
         shutil.copytree(base / "crates" / name, folder / "crates" / name, ignore=skipped, copy_function=os.link)
-    home = folder / "crates" / crate
+    return folder / "crates" / crate
+
+
+def rewrite(path, text):
+    """Puts a file of its own in the place of a link."""
+    path.unlink()
+    path.write_text(text)
+
+
+def check(crate, edits, base, folder):
+    """The verdicts of one check of a crate with these edits applied, in a folder of its own, and what it printed."""
+    home = linked(crate, base, folder)
     for file in {edit.file for edit in edits}:
         text = (home / file).read_text()
-        (home / file).unlink()
-        (home / file).write_text(with_edits(text, [edit for edit in edits if edit.file == file]))
+        rewrite(home / file, with_edits(text, [edit for edit in edits if edit.file == file]))
     run = subprocess.run(["rt", "check", "--jobs", "1"], cwd=home, capture_output=True, text=True, check=False)
     shutil.rmtree(folder)
     output = run.stdout + run.stderr
