@@ -8,3 +8,5 @@ mod example;
 mod namespace;
 #[cfg(test)]
 mod processes;
+#[cfg(test)]
+mod random;
