@@ -18,14 +18,14 @@ import sys
 import tempfile
 from pathlib import Path
 
-from wrong_bodies import ROOT, Unfit, copied, crates_listed, linked, prove, read_pairs, replaced, rewrite, with_dependencies
+from wrong_bodies import ROOT, Unfit, copied, crates_listed, prove, read_pairs, replaced, rewrite, with_dependencies, workshop
 
 
 def fault_of(crate, path, folder, base):
     """Why an edit is not refused; nothing where it is."""
     file, pairs = read_pairs(path)
     text = replaced((ROOT / "crates" / crate / file).read_text(), pairs)
-    home = linked(crate, base, folder / f"{crate}-{path.stem}")
+    home = workshop(crate, base, folder / f"{crate}-{path.stem}")
     rewrite(home / file, text)
     run = subprocess.run(["rt", "check", "--jobs", "1"], cwd=home, capture_output=True, text=True, check=False)
     shutil.rmtree(folder / f"{crate}-{path.stem}")
@@ -52,7 +52,7 @@ def main():
         needed = set().union(*(with_dependencies(crate) for crate, _ in tried))
         copied(needed, base, False)
         for crate in crates_listed():
-            if crate in needed and prove(crate, base) is not None:
+            if crate in needed and prove(crate, base, folder / crate) is not None:
                 sys.exit(f"definitions: {crate} itself is not proved")
         with concurrent.futures.ThreadPoolExecutor(os.cpu_count() or 1) as pool:
             runs = [(crate, path, pool.submit(fault_of, crate, path, folder, base)) for crate, path in tried]

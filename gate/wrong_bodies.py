@@ -290,24 +290,11 @@ def copied(crates, folder, fresh):
         shutil.copytree(ROOT / "crates" / name, folder / "crates" / name, ignore=skipped, symlinks=True)
 
 
-def prove(crate, folder):
-    """Proves a crate in a copy, so that each batch goes over that work; gives what was printed where it fails."""
-    started = time.monotonic()
-    verb = "check" if (folder / "crates" / crate / "src" / "main.rt").is_file() else "lib"
-    run = subprocess.run(
-        ["rt", verb, "--jobs", "1"], cwd=folder / "crates" / crate, capture_output=True, text=True, check=False
-    )
-    if run.returncode == 0:
-        print(f"wrong bodies: {crate}: proved in {time.monotonic() - started:.0f} s", flush=True)
-        return None
-    return run.stdout[-4000:] + run.stderr[-4000:]
+def workshop(crate, base, folder):
+    """Begins a folder in which one check of a crate is done, over what is made and kept in `base`; gives its home.
 
-
-def linked(crate, base, folder):
-    """Begins a folder in which a crate is checked over the work that is kept in `base`; gives its home there.
-
-    The files there are links: a check puts new ones in their place, and writes into none that a proof is read
-    from. So no check proves again what the edits of another one turned.
+    Checks can be done side by side so, and no batch proves again what the edits of another one turned. The files
+    are links: a check puts new ones in their place, and writes into none that a proof is read from.
     """
     needed = with_dependencies(crate)
     listed_alone(needed, folder)
@@ -323,9 +310,23 @@ def rewrite(path, text):
     path.write_text(text)
 
 
+def prove(crate, base, folder):
+    """Proves a crate and keeps that work in `base`; gives what was printed where it fails."""
+    started = time.monotonic()
+    home = workshop(crate, base, folder)
+    verb = "check" if (home / "src" / "main.rt").is_file() else "lib"
+    run = subprocess.run(["rt", verb, "--jobs", "1"], cwd=home, capture_output=True, text=True, check=False)
+    if run.returncode == 0:
+        print(f"wrong bodies: {crate}: proved in {time.monotonic() - started:.0f} s", flush=True)
+        shutil.rmtree(base / "crates" / crate / MADE, ignore_errors=True)
+        (home / MADE).rename(base / "crates" / crate / MADE)
+    shutil.rmtree(folder)
+    return None if run.returncode == 0 else run.stdout[-4000:] + run.stderr[-4000:]
+
+
 def check(crate, edits, base, folder):
-    """The verdicts of one check of a crate with these edits applied, in a folder of its own, and what it printed."""
-    home = linked(crate, base, folder)
+    """The verdicts of one check of a crate with these edits applied, and what it printed."""
+    home = workshop(crate, base, folder)
     for file in {edit.file for edit in edits}:
         text = (home / file).read_text()
         rewrite(home / file, with_edits(text, [edit for edit in edits if edit.file == file]))
@@ -397,7 +398,8 @@ class Trial:
         self.edits, self.folder, self.base = edits, folder, folder / "proved"
         self.needed = set().union(*(with_dependencies(crate) for crate in edits))
         self.to_prove = sorted(self.needed, key=self.behind, reverse=True)
-        self.proved, self.to_try, self.faults, self.begun = set(), [], {}, 0
+        self.proved, self.to_try, self.begun = set(), [], 0
+        self.faults = {edit.label: "it was not tried" for own in edits.values() for edit in own}
 
     def behind(self, crate):
         """How many crates stand on a crate: the one with the most is proved first."""
@@ -405,16 +407,16 @@ class Trial:
 
     def next(self):
         """What can be begun, as a function to call and what takes its result; none where all waits or is done."""
+        place = self.folder / f"check-{self.begun}"
+        self.begun += 1
         for crate in self.to_prove:
             if with_dependencies(crate) - {crate} <= self.proved:
                 self.to_prove.remove(crate)
-                return (lambda: prove(crate, self.base)), (lambda said: self.after_proof(crate, said))
+                return (lambda: prove(crate, self.base, place)), (lambda said: self.after_proof(crate, said))
         if not self.to_try:
             return None
         batch = max(self.to_try, key=len)
         self.to_try.remove(batch)
-        self.begun += 1
-        place = self.folder / f"batch-{self.begun}"
         return (lambda: self.timed(batch, place)), (lambda said: self.after_batch(batch, *said))
 
     def timed(self, batch, place):
@@ -453,6 +455,8 @@ class Trial:
                 self.faults[edit.label] = f"{edit.function.path} is not proved for what it calls alone"
             elif fault is not None:
                 self.faults[edit.label] = fault
+            else:
+                del self.faults[edit.label]
         self.to_try += again
 
 
