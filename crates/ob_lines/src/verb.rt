@@ -5,7 +5,7 @@ ghost use Rattle.ob_lines.specs.declared.verb.Verb.{Verb};
 ghost use Rattle.ob_lines.specs.Grammar.{verb_text};
 
 // What a process asks for.
-#[derive(Clone, Copy, PartialEq, Eq, Debug)]
+#[derive(Clone, Copy)]
 pub enum Verb {
     // `dir`: a new directory.
     Dir,
