@@ -1,5 +1,6 @@
 -- The parts of a line: texts, handles, names, places, kinds, flags, process words, inheritance and the word that
--- is set. All but the last stand at the front of bytes that go on behind them and a space.
+-- is set. Handles stand alone, or with all others but the last at the front of bytes that go on behind them and
+-- a space.
 --
 -- Handles, names and places are generic in how they hold bytes: in the code as slices of the line, here as lists.
 -- Source: this profile.

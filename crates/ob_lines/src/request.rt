@@ -156,11 +156,11 @@ pub fn request_of(bytes: &[u8]) -> Option<Request<&[u8]>>
     if bytes == b"exit".as_slice() {
         return Some(Request::ExitProcess);
     }
-    spelled_of(bytes)
+    verb_and_operands_of(bytes)
 }
 
 // What is asked for by a verb, a space and its operands.
-fn spelled_of(bytes: &[u8]) -> Option<Request<&[u8]>>
+fn verb_and_operands_of(bytes: &[u8]) -> Option<Request<&[u8]>>
     requires { length bytes.now ≤ 262144 }
     ensures found { IfSome result (λ request. IsVerbAndOperands bytes.now (request_seen request)) }
     ensures none { IfNone result ((request : Request (List ℕ)) → ¬ IsVerbAndOperands bytes.now request) }

@@ -21,15 +21,6 @@ returns-in-OpenLink-clause-none c = IfNone-map c.open_link_of.result _ _ (no_req
 pub returns-in-Open-clause-none : goal.returns-in-Open-clause-none
 returns-in-Open-clause-none c = IfNone-map c.open_object_of.result _ _ (no_request _ _ _ c.in-Open.is) c.open_object_of.ensures.none
 
-pub returns-in-Close-clause-none : goal.returns-in-Close-clause-none
-returns-in-Close-clause-none c = IfNone-map c.close_of.result _ _ (no_request _ _ _ c.in-Close.is) c.close_of.ensures.none
-
-pub returns-in-Target-clause-none : goal.returns-in-Target-clause-none
-returns-in-Target-clause-none c = IfNone-map c.link_query_of.result _ _ (no_request _ _ _ c.in-Target.is) c.link_query_of.ensures.none
-
-pub returns-in-Name-clause-none : goal.returns-in-Name-clause-none
-returns-in-Name-clause-none c = IfNone-map c.name_query_of.result _ _ (no_request _ _ _ c.in-Name.is) c.name_query_of.ensures.none
-
 pub returns-in-Dup-clause-none : goal.returns-in-Dup-clause-none
 returns-in-Dup-clause-none c = IfNone-map c.duplicate_of.result _ _ (no_request _ _ _ c.in-Dup.is) c.duplicate_of.ensures.none
 

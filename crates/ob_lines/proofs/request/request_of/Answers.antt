@@ -5,4 +5,4 @@ use Rattle.ob_lines.proofs.request.request_of.Goals as goal
 
 pub returns-clause-none : goal.returns-clause-none
 returns-clause-none c =
-    IfNone-map c.spelled_of.result _ _ (no_exit _ (told_apart _ _ _ _ c.if-eq.false c.eq.ensures c.as_slice.ensures)) c.spelled_of.ensures.none
+    IfNone-map c.verb_and_operands_of.result _ _ (no_exit _ (told_apart _ _ _ _ c.if-eq.false c.eq.ensures c.as_slice.ensures)) c.verb_and_operands_of.ensures.none

@@ -4,7 +4,7 @@ use Rattle.ob_lines.specs.Grammar.{verb_of, request_seen}
 use Rattle.ob_lines.proofs.Cuts.{IfNone-map, IfSome-join}
 use Rattle.ob_lines.proofs.Formed.{request_parts, request_joined}
 use Rattle.ob_lines.proofs.Verbs.{verb_same}
-use Rattle.ob_lines.proofs.request.spelled_of.Goals as goal
+use Rattle.ob_lines.proofs.request.verb_and_operands_of.Goals as goal
 
 pub returns-in_err-verb-clause-none : goal.returns-in_err-verb-clause-none
 returns-in_err-verb-clause-none c =
