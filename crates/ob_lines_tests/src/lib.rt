@@ -4,3 +4,5 @@
 
 #[cfg(test)]
 mod lines;
+#[cfg(test)]
+mod processes;
