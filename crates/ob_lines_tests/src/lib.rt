@@ -4,5 +4,3 @@
 
 #[cfg(test)]
 mod lines;
-#[cfg(test)]
-mod processes;
