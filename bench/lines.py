@@ -4,8 +4,7 @@
     bench/lines.py PROGRAM
 
 Each time is that of a script with many lines of a kind less that of the script without them, each the median
-of nine runs, divided by the lines. What is opened is held, and the entries beside it are permanent, so that
-no close lets anything go. Nothing here fails; a line that should succeed and doesn't ends it.
+of five runs, divided by the lines. Nothing here fails; a line that should succeed and doesn't ends it.
 """
 
 import statistics
@@ -15,7 +14,7 @@ import tempfile
 import time
 from pathlib import Path
 
-RUNS = 9
+RUNS = 5
 HELD = 'p1 dir "\\Device\\Bench" - =held\n'
 OPEN = 'p1 opendir "{}" - =opened\np1 close opened\n'
 
@@ -52,6 +51,32 @@ def entries(count):
     return HELD + 'p1 dir "\\Device\\Bench\\In" - =in\n' + events
 
 
+def spread(count):
+    """So many permanent events, a thousand to a directory."""
+    lines = [HELD]
+    for n in range(count):
+        if n % 1_000 == 0:
+            lines.append(f'p1 dir "\\Device\\Bench\\S{n // 1_000}" P =s\n')
+        lines.append(f'p1 make Event s:"E{n}" P "" =e\np1 close e\n')
+    return "".join(lines)
+
+
+def held(count, flags="-"):
+    """So many handles that are held, of which a word names the last."""
+    return HELD + f'p1 opendir "\\Device\\Bench" {flags} =h\n' * count
+
+
+def temporaries(count):
+    """So many temporary events without names, each held under a word of its own."""
+    return HELD + "".join(f'p1 make Event none - "" =e{n}\n' for n in range(count))
+
+
+def deep(count):
+    """The event `D` three directories deep, beside so many permanent ones."""
+    path = '\\Device\\Bench\\In\\D'
+    return spread(count) + 'p1 dir "\\Device\\Bench\\In" - =in\n' + f'p1 make Event "{path}" - "" =deep\n'
+
+
 def links(count):
     """So many links, each to the next one, and the last to a directory."""
     chain = "".join(f'p1 link "\\L{n}" - "\\L{n + 1}" =l{n}\n' for n in range(1, count))
@@ -72,6 +97,28 @@ def main():
     for count in (10, 1_000, 20_000):
         line = OPEN.format("\\Device\\Bench\\In")
         a_line(program, f"an open and its close, {count:,} entries beside it", entries(count), line, 20_000)
+    for count in (10, 1_000, 60_000):
+        a_line(program, f"an open and its close, {count:,} handles held", held(count), opened, 20_000)
+    duplicate = "p1 dup held p1 plain =d\np1 close d\n"
+    for count in (10, 60_000):
+        a_line(program, f"a duplicate and its close, {count:,} handles held", held(count), duplicate, 20_000)
+    child = "p1 new inherit =q\nq exit\n"
+    for count in (0, 10, 1_000):
+        a_line(program, f"a child of {count:,} inherited handles, and its exit", held(count, "I"), child, 200)
+    for count in (10, 10_000):
+        a_line(program, f"a child without handles, and its exit, {count:,} objects there", spread(count), child, 200)
+    made = 'p1 make Event "\\T" - "" =t\np1 close t\n'
+    for count in (10, 1_000, 100_000):
+        a_line(program, f"a temporary event made and closed, {count:,} permanent ones there", spread(count), made, 20_000)
+    for count in (10, 1_000, 20_000):
+        a_line(program, f"a temporary event made and closed, {count:,} temporary ones held", temporaries(count), made, 20_000)
+    for count in (10, 1_000, 100_000):
+        told = f"the path of an event, three names deep, {count:,} events beside"
+        a_line(program, told, deep(count), "p1 name deep\n", 20_000, b'SUCCESS "\\Device\\Bench\\In\\D"')
+    for count in (1_000, 20_000):
+        script = temporaries(count) + "".join(f"p1 close e{n}\n" for n in range(count))
+        took, _ = seconds(program, script)
+        print(f"{count:,} temporary events made, held and closed: {took / (2 * count) * 1e6:.2f} us a line")
     for count in (1, 32):
         title = f"an open and its close, through a chain of {count} links"
         a_line(program, title, links(count), OPEN.format("\\L1"), 20_000)

@@ -34,6 +34,12 @@ NO_TEXT = (
     b"For more information, try '--help'.\n"
 )
 
+# a table that is filled: 65,535 handles to one event, and one more
+OPENED = b'p1 open Event "\\E" - =o\n'
+FULL = b'p1 make Event "\\E" - "" =e\np1 name e+3\n' + OPENED * 65_535 + b"p1 close e+1\np1 close e\n" + OPENED
+FILLED = b"1: SUCCESS\n2: SUCCESS \"\\E\"\n" + b"".join(b"%d: SUCCESS\n" % n for n in range(3, 65_537))
+NO_MORE = b"65537: INSUFFICIENT_RESOURCES\n65538: SUCCESS\n65539: INVALID_HANDLE\n65540: SUCCESS\n"
+
 
 @dataclass(frozen=True)
 class Case:
@@ -61,6 +67,7 @@ CASES = [
     Case("a mistake in the words ends with 2", ("other",), 2, errors=UNKNOWN, script=SCRIPT),
     Case("words that are no text end with 2", (b"\xff",), 2, errors=NO_TEXT),
     Case("help that is asked for ends with 0", ("--help",), 0, HELP),
+    Case("a process has 65,535 handles and no more", (), 0, FILLED + NO_MORE, script=FULL),
 ]
 
 

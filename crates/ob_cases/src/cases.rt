@@ -1,16 +1,8 @@
 //! Worked cases: scripts, what they print and how they end.
 
-use crate::runs::run;
+use crate::runs::{Case, run};
 use std::alloc::{AllocError, Global};
 use std::test::Fail;
-
-// A script, what it prints, and the program's status.
-struct Case {
-    shows: &'static [u8],
-    script: &'static [u8],
-    prints: &'static [u8],
-    status: u8,
-}
 
 const CASES: [Case; 42] = [
     Case {

@@ -5,6 +5,14 @@ use ob_words::Task;
 use std::alloc::Global;
 use std::io;
 
+// A script, what it prints, and the program's status.
+pub struct Case {
+    pub shows: &'static [u8],
+    pub script: &'static [u8],
+    pub prints: &'static [u8],
+    pub status: u8,
+}
+
 // What a run of the program left: its status, and what it wrote.
 #[derive(Drop)]
 pub struct Left {

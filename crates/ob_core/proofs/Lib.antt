@@ -3,4 +3,5 @@ pub mod Judged
 pub mod Made
 pub mod Queries
 pub mod Stepping
+pub mod Turned
 pub mod WaysUp

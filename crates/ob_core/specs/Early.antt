@@ -1,10 +1,10 @@
--- The commands that are answered without memory: those that close handles, and what is refused before its
+-- The commands that are answered without memory: those that take none, and what is refused before its
 -- lookup.
 use Rattle.std.specs.Prelude.{ℕ, Bool, false, ◌||◌, not, nat_le, nat_lt, List, length, Option, is_some}
 use Rattle.std.specs.Option.{option_and_then}
 use Rattle.ob_base.specs.Handle.{key_of}
 use Rattle.ob_model.specs.declared.command.Command.{Command}
-use Rattle.ob_model.specs.declared.command.Command.TheVariants.{CreateDirectory, CreateLink, CreateObject, OpenDirectory, OpenLink, OpenObject, Close, QueryLink, QueryName, Duplicate, NewProcess, ExitProcess}
+use Rattle.ob_model.specs.declared.command.Command.TheVariants.{CreateDirectory, CreateLink, CreateObject, OpenDirectory, OpenLink, OpenObject, Close, QueryLink, QueryName, Duplicate, MakeTemporary, MakePermanent, NewProcess, ExitProcess}
 use Rattle.ob_model.specs.declared.command.Place.{Place}
 use Rattle.ob_model.specs.declared.command.Place.TheVariants.{At, Unnamed}
 use Rattle.ob_model.specs.Creates.{Making, MakesDirectory, MakesLink, MakesObject, is_fit}
@@ -14,20 +14,22 @@ use Rattle.ob_model.specs.State.{State, is_live, held_of, greatest_process}
 use Rattle.ob_model.specs.Processes.{most_processes}
 use Rattle.ob_space.specs.Roots.{root_of}
 
--- a command closes handles: a close, and the end of a process
-abbrev pub ClosesHandles : {K : Type 0} → Command K → Type 0
-ClosesHandles (CreateDirectory where_to attrs) = ⊥
-ClosesHandles (CreateLink where_to attrs target) = ⊥
-ClosesHandles (CreateObject where_to attrs kind args) = ⊥
-ClosesHandles (OpenDirectory root name attrs) = ⊥
-ClosesHandles (OpenLink root name attrs) = ⊥
-ClosesHandles (OpenObject root name attrs want) = ⊥
-ClosesHandles (Close handle) = Unit {0}
-ClosesHandles (QueryLink handle) = ⊥
-ClosesHandles (QueryName handle) = ⊥
-ClosesHandles (Duplicate handle to inherit) = ⊥
-ClosesHandles (NewProcess inherit) = ⊥
-ClosesHandles ExitProcess = Unit {0}
+-- a command takes no memory: a close, the end of a process, and making an object permanent or temporary
+abbrev pub TakesNoMemory : {K : Type 0} → Command K → Type 0
+TakesNoMemory (CreateDirectory where_to attrs) = ⊥
+TakesNoMemory (CreateLink where_to attrs target) = ⊥
+TakesNoMemory (CreateObject where_to attrs kind args) = ⊥
+TakesNoMemory (OpenDirectory root name attrs) = ⊥
+TakesNoMemory (OpenLink root name attrs) = ⊥
+TakesNoMemory (OpenObject root name attrs want) = ⊥
+TakesNoMemory (Close handle) = Unit {0}
+TakesNoMemory (QueryLink handle) = ⊥
+TakesNoMemory (QueryName handle) = ⊥
+TakesNoMemory (Duplicate handle to inherit) = ⊥
+TakesNoMemory (MakeTemporary handle) = Unit {0}
+TakesNoMemory (MakePermanent handle) = Unit {0}
+TakesNoMemory (NewProcess inherit) = ⊥
+TakesNoMemory ExitProcess = Unit {0}
 
 module _ {K T F I : Type 0} where
   -- the process has no handle of this value, whose low two bits are ignored
@@ -77,5 +79,7 @@ module _ {K T F I : Type 0} where
   is_refused_early s p (QueryLink handle) = is_use_refused s p handle
   is_refused_early s p (QueryName handle) = is_use_refused s p handle
   is_refused_early s p (Duplicate handle to inherit) = is_duplicate_refused s p handle to
+  is_refused_early s p (MakeTemporary handle) = is_use_refused s p handle
+  is_refused_early s p (MakePermanent handle) = is_use_refused s p handle
   is_refused_early s p (NewProcess inherit) = is_child_refused s p
   is_refused_early s p ExitProcess = not (is_live s p)

@@ -4,14 +4,15 @@ ghost use Rattle.std.specs.Prelude.{◌≡◌, length, true, IsOk, IfOk, IfErr, 
 ghost use Rattle.ob_base.specs.declared.Fault.TheVariants.{Memory};
 ghost use Rattle.ob_model.specs.declared.reply.Answer.TheVariants.{Done};
 ghost use Rattle.ob_model.specs.declared.reply.Event.TheVariants.{Start};
-ghost use Rattle.ob_model.specs.State.{table_size};
+ghost use Rattle.std.specs.Option.{is_some};
+ghost use Rattle.ob_model.specs.State.{held_of, table_size};
 ghost use Rattle.ob_model.specs.Opening.{opening};
 ghost use Rattle.ob_model.specs.Settle.{IsSettled};
 ghost use Rattle.ob_model.specs.Sound.{IsSound};
 ghost use Rattle.ob_model.specs.Step.{Step};
 ghost use Rattle.ob_space.specs.Namespace.{state_of};
 ghost use Rattle.ob_space.specs.Orderly.{IsOrderly};
-ghost use Rattle.ob_core.specs.Early.{ClosesHandles, is_refused_early};
+ghost use Rattle.ob_core.specs.Early.{TakesNoMemory, is_refused_early};
 ghost use Rattle.ob_core.specs.Starting.{answer_of};
 
 use crate::closing::close;
@@ -21,7 +22,8 @@ use crate::lives::{exit_process, new_process};
 use crate::making::{Making, link_to, object_of};
 use crate::naming::{query_link, query_name};
 use crate::opens::{open_name, type_wanted};
-use ob_base::{Fault, Proc};
+use crate::permanence::turn;
+use ob_base::{Fault, Handle, Proc};
 use ob_handles::HandleTable;
 use ob_model::{Command, Reply, Wanted};
 use ob_objects::Store;
@@ -88,14 +90,15 @@ impl<T: TypeSet, H: HandleTable> Core<T, H> {
     /// Starts a command of a process: makes one step of the machine, and answers what it answers.
     ///
     /// Every refusal is a reply; docs/namespace.md has their order. The only fault is want of memory,
-    /// which is told only where a growth was refused, and then nothing has changed. A close and the end
-    /// of a process take no memory, nor does a command that is refused before its lookup, so these never
-    /// fail: where the process is gone, the flags, the other parameters or the bytes or the length of
-    /// the name are refused, the process lacks the handle that it names, or no process more may live.
+    /// which is told only where a growth was refused, and then nothing has changed. A close, the end of a
+    /// process, and making an object permanent or temporary take no memory, nor does a command that is
+    /// refused before its lookup, so these never fail: where the process is gone, the flags, the other
+    /// parameters or the bytes or the length of the name are refused, the process lacks the handle that it
+    /// names, or no process more may live.
     pub fn start(&mut self, process: Proc, command: &Command<T::Kind>) -> Result<Started, Fault>
         ensures step { IfOk result (λ started.
             Step T.procedures self.old (Start process command.now) (answer_of started) self.new) }
-        ensures closes { ClosesHandles command.now → IsOk result }
+        ensures without_memory { TakesNoMemory command.now → IsOk result }
         ensures early { is_refused_early self.old process command.now ≡ true → IsOk result }
         ensures err { OnErr result (self.new ≡ self.old) }
         ensures memory { IfErr result (λ fault. fault ≡ Memory) }
@@ -127,6 +130,23 @@ impl<T: TypeSet, H: HandleTable> Core<T, H> {
         self.space.processes.len_of(process)
     }
 
+    /// Whether a process has a handle of exactly this value; the low two bits count. Takes no memory.
+    ///
+    /// Source: Windows Internals, Object Manager: handles and the process handle table.
+    pub fn holds(&self, process: Proc, handle: Handle) -> bool
+        ensures { result ≡ is_some (held_of self.now process handle) }
+    {
+        self.space.processes.get(process, handle).is_some()
+    }
+
+    /// The number that the next process gets, whichever makes it: above those of all that ever were. None
+    /// is left where it is 2^32 - 1. Source: this profile.
+    pub fn next_process(&self) -> Proc
+        ensures { result ≡ self.now.next_process }
+    {
+        Proc(self.space.next_process)
+    }
+
     /// The set of types, as the calls of its procedures have left it.
     pub fn set(&self) -> &T
         ensures { result.now ≡ self.now.set }
@@ -147,7 +167,7 @@ fn reply_to<T: TypeSet, H: HandleTable>(
     ensures orderly { IsOrderly T.idle (state_of T.Kind space.new) }
     ensures step { IfOk result (λ reply.
         Step T.procedures (state_of T.Kind space.old) (Start process command.now) (Done reply) (state_of T.Kind space.new)) }
-    ensures closes { ClosesHandles command.now → IsOk result }
+    ensures without_memory { TakesNoMemory command.now → IsOk result }
     ensures early { is_refused_early (state_of T.Kind space.old) process command.now ≡ true → IsOk result }
     ensures err { OnErr result (state_of T.Kind space.new ≡ state_of T.Kind space.old) }
     ensures memory { IfErr result (λ fault. fault ≡ Memory) }
@@ -192,6 +212,8 @@ fn reply_to<T: TypeSet, H: HandleTable>(
             to,
             inherit,
         } => duplicate(space, process, *handle, *to, *inherit),
+        Command::MakeTemporary { handle } => Ok(turn(space, process, *handle, false)),
+        Command::MakePermanent { handle } => Ok(turn(space, process, *handle, true)),
         Command::NewProcess { inherit } => Ok(new_process(space, process, *inherit)?),
         Command::ExitProcess => Ok(exit_process(space, process)),
     }

@@ -17,6 +17,7 @@ mod lives;
 mod making;
 mod naming;
 mod opens;
+mod permanence;
 mod replies;
 
 pub use commands::{Core, Started};

@@ -7,6 +7,10 @@ mod example;
 #[cfg(test)]
 mod namespace;
 #[cfg(test)]
+mod permanence;
+#[cfg(test)]
 mod processes;
 #[cfg(test)]
 mod random;
+#[cfg(test)]
+mod recorded;

@@ -323,6 +323,10 @@ fn a_child_of_1000_handles_begins_and_ends(rt: HostRuntime) -> Result<(), Fail> 
     reply(&mut core, 1, &Command::ExitProcess)?;
     let held = (core.handles_of(Proc(1)), core.handles_of(Proc(2)));
     assert_eq!(rt; held, (0, 1000));
+    assert_eq!(rt; core.next_process(), Proc(3));
+    let holds = [(2, 4), (2, 6), (2, 4_000), (2, 4_004), (1, 4)];
+    let told = holds.map(|(process, value)| core.holds(Proc(process), Handle(value)));
+    assert_eq!(rt; told, [true, false, true, false, false]);
     reply(&mut core, 2, &Command::ExitProcess)?;
     assert_eq!(rt; left(&core), (6, 0, 2000, 2000, 1));
     Ok(())

@@ -26,6 +26,7 @@ enum Ask {
     Make { name: usize, attrs: u32 },
     Open { name: usize, attrs: u32 },
     Close { value: u32 },
+    Turn { value: u32, permanent: bool },
     Duplicate { value: u32, to: u32, inherit: bool },
     Begin { inherit: bool },
     Exit,
@@ -60,10 +61,10 @@ struct Model {
     last_process: u32,
 }
 
-// Numbers that look random, from a seed: each the next of a linear congruence.
+// Numbers that look random: each state is the next one of a linear congruence.
 #[derive(Drop)]
 struct Dice {
-    seed: u64,
+    state: u64,
 }
 
 impl Dice {
@@ -71,11 +72,11 @@ impl Dice {
         requires { 0 < sides }
         ensures { result < sides }
     {
-        self.seed = self
-            .seed
+        self.state = self
+            .state
             .wrapping_mul(6_364_136_223_846_793_005)
             .wrapping_add(1_442_695_040_888_963_407);
-        (self.seed >> 33) % sides
+        (self.state >> 33) % sides
     }
 }
 
@@ -145,7 +146,7 @@ impl Model {
         match ask {
             Ask::Make { name, attrs } => self.make_status(name, attrs),
             Ask::Open { name, attrs } => self.open_status(process, name, attrs),
-            Ask::Close { value } => match self.own(process, value) {
+            Ask::Close { value } | Ask::Turn { value, .. } => match self.own(process, value) {
                 Some(_) => Status::Success,
                 None => Status::InvalidHandle,
             },
@@ -202,6 +203,11 @@ impl Model {
                 let handles = &mut self.handles;
                 handles.retain(|open| open.process != process || open.value.0 != value);
                 self.settle();
+                Ok(true)
+            }
+            Ask::Turn { value, permanent } => {
+                let event = self.own(process, value).map_or(0, |open| open.event);
+                self.turn(event, permanent);
                 Ok(true)
             }
             Ask::Duplicate { value, to, inherit } => {
@@ -286,6 +292,15 @@ impl Model {
         Ok(inherited)
     }
 
+    // The event of a number is permanent, or temporary.
+    fn turn(&mut self, number: u32, permanent: bool) {
+        for event in self.events.iter_mut() {
+            if event.number == number {
+                event.permanent = permanent;
+            }
+        }
+    }
+
     // Events that are temporary and have no handle go.
     fn settle(&mut self) {
         let Model {
@@ -314,12 +329,14 @@ fn next(dice: &mut Dice, model: &Model) -> (u32, Ask) {
     let value = held.map_or(0, |open| open.value.0);
     let (to, inherit) = (dice.below(14) as u32, dice.below(2) == 0);
     let many = model.processes.len();
-    let ask = match dice.below(16) {
+    let permanent = inherit;
+    let ask = match dice.below(18) {
         0..=3 => Ask::Make { name, attrs },
         4..=8 => Ask::Open { name, attrs },
         9..=11 => Ask::Close { value },
         12..=13 => Ask::Duplicate { value, to, inherit },
-        14 if many > 1 => Ask::Exit,
+        14..=15 => Ask::Turn { value, permanent },
+        16 if many > 1 => Ask::Exit,
         _ if many < 12 => Ask::Begin { inherit },
         _ => Ask::Exit,
     };
@@ -351,6 +368,13 @@ fn command(alloc: Global, ask: Ask) -> Result<Command<PlainKind>, AllocError> {
         Ask::Close { value } => Ok(Command::Close {
             handle: Handle(value),
         }),
+        Ask::Turn { value, permanent } => {
+            let handle = Handle(value);
+            Ok(match permanent {
+                true => Command::MakePermanent { handle },
+                false => Command::MakeTemporary { handle },
+            })
+        }
         Ask::Duplicate { value, to, inherit } => Ok(Command::Duplicate {
             handle: Handle(value),
             to: Proc(to),
@@ -362,10 +386,10 @@ fn command(alloc: Global, ask: Ask) -> Result<Command<PlainKind>, AllocError> {
 }
 
 // How many of so many random commands get what the model says, up to the first that doesn't.
-fn agreed(alloc: Global, seed: u64, count: u32) -> Result<u32, Fail> {
+fn agreed(alloc: Global, state: u64, count: u32) -> Result<u32, Fail> {
     let mut core: Core<Standard, OpenTable> = Core::new(alloc, Counting::new(Plain))?;
     let mut model = Model::new(alloc)?;
-    let mut dice = Dice { seed };
+    let mut dice = Dice { state };
     for done in 0..count {
         let (process, ask) = next(&mut dice, &model);
         let command = command(alloc, ask)?;
@@ -381,12 +405,8 @@ fn agreed(alloc: Global, seed: u64, count: u32) -> Result<u32, Fail> {
 
 #[test]
 fn random_commands_get_what_a_plain_model_says(rt: HostRuntime) -> Result<(), Fail> {
-    for seed in 1..5 {
-        assert_eq!(rt;
-            agreed(rt.alloc(), seed, 2_000)?,
-            2_000,
-            "from seed {seed:?}"
-        );
+    for state in 1..5 {
+        assert_eq!(rt; agreed(rt.alloc(), state, 2_000)?, 2_000, "from {state:?}");
     }
     Ok(())
 }

@@ -1,4 +1,5 @@
 pub mod Earliest
 pub mod Removed
+pub mod Stamps
 pub mod Rows
 pub mod Laws

@@ -40,7 +40,7 @@ remove-first stamp (e ∷ es) is = go (has_stamp stamp e) refl (remove-first sta
     go false there more = remove-behind e es (position_or_len (has_stamp stamp) es) ∙ ap (λ xs. e ∷ xs) more
 
 -- the place that is given is the first with the stamp
-position_is : (n m i : ℕ) (b : Bool) → cond b (Some n) None ≡ Some i → i ≡ n
+pub position_is : (n m i : ℕ) (b : Bool) → cond b (Some n) None ≡ Some i → i ≡ n
 position_is n m i true e = cc
 position_is n m i false e = cc
 

@@ -2,7 +2,7 @@
 
 ghost use Rattle.std.specs.Prelude.{◌≡◌, ◌≢◌, ◌<◌, ◌↔◌, ◌==◌, [], ◌∷◌, ◌++◌, length, filter, not};
 ghost use Rattle.std.specs.Prelude.{All, IfOk, IfErr, OnErr};
-ghost use Rattle.std.specs.List.{find, list_any, position};
+ghost use Rattle.std.specs.List.{find, position};
 ghost use Rattle.std.specs.Option.{option_copied, option_map};
 ghost use Rattle.ob_dirs.specs.Dir.{entry_found, is_named, IsDir};
 ghost use Rattle.ob_dirs.specs.Dir.{DirFindsWhatTheStateFinds, NotFoundIsFree};
@@ -117,20 +117,28 @@ impl Dir {
         Ok(())
     }
 
-    /// Takes away the entry of a stamp, which may be any number, and gives `true`; where no entry
-    /// has it, nothing changes and it gives `false`. The other entries stay, in their order. Takes
+    /// The entry of a stamp, which may be any number; `None` exactly where no entry has it. It is
+    /// sought by halves, since stamps rise. Takes no memory.
+    ///
+    /// Source: the stamps are this profile.
+    pub fn get(&self, stamp: u64) -> Option<&DirEntry>
+        ensures { option_copied result ≡ find (λ entry. entry.stamp == stamp) self.now }
+    {
+        let index = index_of(self.entries.as_slice(), stamp)?;
+        Some(&self.entries[index])
+    }
+
+    /// Takes away the entry of a stamp, which may be any number, and hands it back; where no entry
+    /// has it, nothing changes and it gives `None`. The other entries stay, in their order. Takes
     /// no memory.
     ///
     /// Source: Windows Internals, Object Manager: object directories; the stamps are this profile.
-    pub fn remove(&mut self, stamp: u64) -> bool
-        ensures there { result ≡ list_any (λ entry. entry.stamp == stamp) self.old }
+    pub fn remove(&mut self, stamp: u64) -> Option<DirEntry>
+        ensures there { result ≡ find (λ entry. entry.stamp == stamp) self.old }
         ensures others { self.new ≡ filter (λ entry. not (entry.stamp == stamp)) self.old }
     {
-        let Some(index) = index_of(self.entries.as_slice(), stamp) else {
-            return false;
-        };
-        self.entries.remove(index);
-        true
+        let index = index_of(self.entries.as_slice(), stamp)?;
+        Some(self.entries.remove(index))
     }
 }
 
@@ -143,11 +151,14 @@ fn first_named<'a>(entries: &'a [DirEntry], component: &[u8], fold: bool) -> Opt
         .find(|entry| same(entry.name.as_slice(), component, fold))
 }
 
-// Where the first of some entries with a stamp stands, and none where there is none.
+// Where the entry of a stamp stands among those of a directory, and none where there is none.
 fn index_of(entries: &[DirEntry], stamp: u64) -> Option<usize>
+    requires { IsDir entries.now }
     ensures { result ≡ position (λ entry. entry.stamp == stamp) entries.now }
 {
-    entries.iter().position(|entry| entry.stamp == stamp)
+    entries
+        .binary_search_by_key(&stamp, |entry| entry.stamp)
+        .ok()
 }
 
 /// The law that a directory finds what the state finds. Where the rows of a state that stand in a

@@ -237,7 +237,7 @@ module _ {K T F I : Type 0} (g : Procedures K T F I) (idle : I → Type 0) where
     drawn = is.drawn;
     descending = is.descending;
     stamped = is.stamped;
-    named = is.named;
+    standing = is.standing;
     unheld = is.unheld;
     opened = All-weaker (λ h. h.order < s.next_order) (λ h. h.order < s.next_order + 1) (λ h less. omega (arith, less)) s.handles is.opened;
     numbered = is.numbered;
@@ -279,7 +279,7 @@ module _ {K T F I : Type 0} (g : Procedures K T F I) (idle : I → Type 0) where
     drawn = is.drawn;
     descending = is.descending;
     stamped = is.stamped;
-    named = is.named;
+    standing = is.standing;
     unheld = is.unheld;
     opened = is.opened;
     numbered = All-push (λ x. x.number < s.next_process + 1) s.processes child
@@ -314,7 +314,7 @@ module _ {K T F I : Type 0} (g : Procedures K T F I) (idle : I → Type 0) where
     drawn = is.drawn;
     descending = is.descending;
     stamped = is.stamped;
-    named = is.named;
+    standing = is.standing;
     unheld = is.unheld;
     opened = is.opened;
     numbered = All-filter (λ x. not (x.number == p)) (λ x. x.number < s.next_process) s.processes is.numbered;

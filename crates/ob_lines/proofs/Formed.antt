@@ -1,172 +1,119 @@
 -- Requests, and forms of a line.
-use Rattle.std.proofs.Common.{◌≡◌, ◌≢◌, ℕ, ◌≤◌, inl, inr, List, [], ◌∷◌, ◌++◌, Option, Some, None, IfSome, length, get_or, eqb, Bool, false, refl, ap, arith, codes, append_assoc, sym, ◌∙◌}
+use Rattle.std.proofs.Common.{◌≡◌, ◌≢◌, ℕ, inl, inr, List, [], ◌∷◌, ◌++◌, Option, Some, None, IfSome, length, get_or, eqb, Bool, false, refl, ap, arith, codes, append_assoc, sym, subst, ◌∙◌}
 use Rattle.std.specs.Borrow.{Bor}
 use Rattle.std.specs.Char.{IsAsciiAlphabetic}
 use Rattle.std.specs.Str.{bytes_eq}
 use Rattle.std.proofs.lemmas.Bool.{both_ways}
 use Rattle.std.proofs.lemmas.Slice.Eq.{bytes_eq-Decides}
-use Rattle.ob_plain.specs.declared.plain.PlainKind.{PlainKind}
 use Rattle.ob_lines.specs.declared.form.Form.{Form}
 use Rattle.ob_lines.specs.declared.form.Form.TheVariants.{Nothing, Stat, Asks}
-use Rattle.ob_lines.specs.declared.handle.HandleForm.{HandleForm}
 use Rattle.ob_lines.specs.declared.request.NameForm.{NameForm}
 use Rattle.ob_lines.specs.declared.request.NameForm.TheVariants.{Absolute, Relative}
 use Rattle.ob_lines.specs.declared.request.PlaceForm.{PlaceForm}
 use Rattle.ob_lines.specs.declared.request.PlaceForm.TheVariants.{Named, Unnamed}
 use Rattle.ob_lines.specs.declared.request.Request.{Request}
-use Rattle.ob_lines.specs.declared.request.Request.TheVariants.{CreateDirectory, CreateLink, CreateObject, OpenDirectory, OpenLink, OpenObject, Close, QueryLink, QueryName}
+use Rattle.ob_lines.specs.declared.request.Request.TheVariants.{CreateDirectory, CreateLink, CreateObject, OpenDirectory, OpenLink, OpenObject, Close, QueryLink, QueryName, Duplicate, MakeTemporary, MakePermanent, NewProcess, ExitProcess}
 use Rattle.ob_lines.specs.declared.verb.Verb.{Verb}
 use Rattle.ob_lines.specs.declared.verb.Verb.TheVariants as verb
-use Rattle.ob_lines.specs.Text.{Lacks, IsText, IsProcessWord}
-use Rattle.ob_lines.specs.Parts.{text_of, BeginsWithName, BeginsWithPlace}
-use Rattle.ob_lines.specs.Grammar.{HasPlaceText, HasTexts, FormHasTexts, verb_text, verb_of, IsOperands, IsRequest, IsFlagsAndWord, IsFlagsTextAndWord, IsNameFlagsAndWord, IsPlaceFlagsTextAndWord, IsIdle, IsLine, LinesHaveOneForm, form_seen}
-use Rattle.ob_lines.proofs.Cuts.{cut_alike, lacks_no_cut}
-use Rattle.ob_lines.proofs.Spelled.{word_lacks}
+use Rattle.ob_lines.specs.Text.{Lacks, IsText}
+use Rattle.ob_lines.specs.Parts.{text_of, BeginsWithName, BeginsWithPlace, BeginsWithProcess}
+use Rattle.ob_lines.specs.Grammar.{HasPlaceText, HasTexts, FormHasTexts, verb_text, verb_of, IsOperands, IsVerbAndOperands, IsRequest, IsFlagsAndWord, IsFlagsTextAndWord, IsNameFlagsAndWord, IsPlaceFlagsTextAndWord, IsIdle, IsLine, LinesHaveOneForm, form_seen}
+use Rattle.ob_lines.proofs.Cuts.{lacks_no_cut}
 use Rattle.ob_lines.proofs.Flagged.{lacks_from_test}
 use Rattle.ob_lines.proofs.Handles.{handle_alike}
 use Rattle.ob_lines.proofs.Parted.{apart, differ, moved, spaced, spaced_alike, place_alike, kind_alike, want_alike, ends_alike, name_ends_alike, place_ends_alike}
-
--- the words of verbs have no space, and no two verbs share one
-pub verb_lacks : (v : Verb) → Lacks 0x20 (verb_text v)
-verb_lacks verb.Dir = lacks_from_test 0x20 (codes "dir") refl
-verb_lacks verb.Link = lacks_from_test 0x20 (codes "link") refl
-verb_lacks verb.Make = lacks_from_test 0x20 (codes "make") refl
-verb_lacks verb.OpenDir = lacks_from_test 0x20 (codes "opendir") refl
-verb_lacks verb.OpenLink = lacks_from_test 0x20 (codes "openlink") refl
-verb_lacks verb.Open = lacks_from_test 0x20 (codes "open") refl
-verb_lacks verb.Close = lacks_from_test 0x20 (codes "close") refl
-verb_lacks verb.Target = lacks_from_test 0x20 (codes "target") refl
-verb_lacks verb.Name = lacks_from_test 0x20 (codes "name") refl
-
-pub verb_same : (a b : Verb) → verb_text a ≡ verb_text b → a ≡ b
-verb_same verb.Dir verb.Dir e = refl
-verb_same verb.Link verb.Link e = refl
-verb_same verb.Make verb.Make e = refl
-verb_same verb.OpenDir verb.OpenDir e = refl
-verb_same verb.OpenLink verb.OpenLink e = refl
-verb_same verb.Open verb.Open e = refl
-verb_same verb.Close verb.Close e = refl
-verb_same verb.Target verb.Target e = refl
-verb_same verb.Name verb.Name e = refl
-verb_same a b e = absurd (differ (verb_text a) (verb_text b) refl e)
-
--- operands that are none of their verb's are those of no request of this verb
-pub no_directory : (bytes : List ℕ) (v : Verb) → v ≡ verb.Dir → ((p : PlaceForm (List ℕ)) (a : ℕ) (w : List ℕ) → ¬ IsOperands bytes (CreateDirectory p a w))
-    → (r : Request (List ℕ)) → verb_of r ≡ v → ¬ IsOperands bytes r
-no_directory bytes v d none (CreateDirectory p a w) e s = none p a w s
-no_directory bytes v d none r e s = absurd (differ (verb_text (verb_of r)) (verb_text verb.Dir) refl (ap verb_text (e ∙ d)))
-
-pub no_link : (bytes : List ℕ) (v : Verb) → v ≡ verb.Link
-    → ((p : PlaceForm (List ℕ)) (a : ℕ) (t w : List ℕ) → ¬ IsOperands bytes (CreateLink p a t w))
-    → (r : Request (List ℕ)) → verb_of r ≡ v → ¬ IsOperands bytes r
-no_link bytes v d none (CreateLink p a t w) e s = none p a t w s
-no_link bytes v d none r e s = absurd (differ (verb_text (verb_of r)) (verb_text verb.Link) refl (ap verb_text (e ∙ d)))
-
-pub no_object : (bytes : List ℕ) (v : Verb) → v ≡ verb.Make
-    → ((k : PlainKind) (p : PlaceForm (List ℕ)) (a : ℕ) (t w : List ℕ) → ¬ IsOperands bytes (CreateObject k p a t w))
-    → (r : Request (List ℕ)) → verb_of r ≡ v → ¬ IsOperands bytes r
-no_object bytes v d none (CreateObject k p a t w) e s = none k p a t w s
-no_object bytes v d none r e s = absurd (differ (verb_text (verb_of r)) (verb_text verb.Make) refl (ap verb_text (e ∙ d)))
-
-pub no_open_directory : (bytes : List ℕ) (v : Verb) → v ≡ verb.OpenDir
-    → ((n : NameForm (List ℕ)) (a : ℕ) (w : List ℕ) → ¬ IsOperands bytes (OpenDirectory n a w))
-    → (r : Request (List ℕ)) → verb_of r ≡ v → ¬ IsOperands bytes r
-no_open_directory bytes v d none (OpenDirectory n a w) e s = none n a w s
-no_open_directory bytes v d none r e s = absurd (differ (verb_text (verb_of r)) (verb_text verb.OpenDir) refl (ap verb_text (e ∙ d)))
-
-pub no_open_link : (bytes : List ℕ) (v : Verb) → v ≡ verb.OpenLink → ((n : NameForm (List ℕ)) (a : ℕ) (w : List ℕ) → ¬ IsOperands bytes (OpenLink n a w))
-    → (r : Request (List ℕ)) → verb_of r ≡ v → ¬ IsOperands bytes r
-no_open_link bytes v d none (OpenLink n a w) e s = none n a w s
-no_open_link bytes v d none r e s = absurd (differ (verb_text (verb_of r)) (verb_text verb.OpenLink) refl (ap verb_text (e ∙ d)))
-
-pub no_open_object : (bytes : List ℕ) (v : Verb) → v ≡ verb.Open
-    → ((k : Option PlainKind) (n : NameForm (List ℕ)) (a : ℕ) (w : List ℕ) → ¬ IsOperands bytes (OpenObject k n a w))
-    → (r : Request (List ℕ)) → verb_of r ≡ v → ¬ IsOperands bytes r
-no_open_object bytes v d none (OpenObject k n a w) e s = none k n a w s
-no_open_object bytes v d none r e s = absurd (differ (verb_text (verb_of r)) (verb_text verb.Open) refl (ap verb_text (e ∙ d)))
-
-pub no_close : (bytes : List ℕ) (v : Verb) → v ≡ verb.Close → ((h : HandleForm (List ℕ)) → ¬ IsOperands bytes (Close h))
-    → (r : Request (List ℕ)) → verb_of r ≡ v → ¬ IsOperands bytes r
-no_close bytes v d none (Close h) e s = none h s
-no_close bytes v d none r e s = absurd (differ (verb_text (verb_of r)) (verb_text verb.Close) refl (ap verb_text (e ∙ d)))
-
-pub no_link_query : (bytes : List ℕ) (v : Verb) → v ≡ verb.Target → ((h : HandleForm (List ℕ)) → ¬ IsOperands bytes (QueryLink h))
-    → (r : Request (List ℕ)) → verb_of r ≡ v → ¬ IsOperands bytes r
-no_link_query bytes v d none (QueryLink h) e s = none h s
-no_link_query bytes v d none r e s = absurd (differ (verb_text (verb_of r)) (verb_text verb.Target) refl (ap verb_text (e ∙ d)))
-
-pub no_name_query : (bytes : List ℕ) (v : Verb) → v ≡ verb.Name → ((h : HandleForm (List ℕ)) → ¬ IsOperands bytes (QueryName h))
-    → (r : Request (List ℕ)) → verb_of r ≡ v → ¬ IsOperands bytes r
-no_name_query bytes v d none (QueryName h) e s = none h s
-no_name_query bytes v d none r e s = absurd (differ (verb_text (verb_of r)) (verb_text verb.Name) refl (ap verb_text (e ∙ d)))
+use Rattle.ob_lines.proofs.Processed.{process_alike, process_uncut, handle_ends_alike, inherit_ends_alike}
+use Rattle.ob_lines.proofs.Verbs.{verb_lacks, verb_same, Each, of_verb}
 
 -- operands have one reading for each verb
-operands_alike : (bytes : List ℕ) (a b : Request (List ℕ)) → verb_of a ≡ verb_of b → IsOperands bytes a → IsOperands bytes b → a ≡ b
-operands_alike bytes (CreateDirectory p a w) (CreateDirectory p' a' w') e (r, b, f) (r', b', f') =
-    let place = place_alike bytes p r p' r' b b' in
-    let same = ends_alike r a w a' w' f (moved (λ x. IsFlagsAndWord x a' w') r r' place.1 f') in
+reads_alone : (bytes : List ℕ) (a : Request (List ℕ)) → IsOperands bytes a → Each (verb_of a) (λ b. IsOperands bytes b → a ≡ b)
+reads_alone bytes (CreateDirectory p a w) (r, b, f) = λ p' a' w' s.
+    let place = place_alike bytes p r p' s.0 b s.1 in
+    let same = ends_alike r a w a' w' f (moved (λ x. IsFlagsAndWord x a' w') r s.0 place.1 s.2) in
     rw (place.0, same.0, same.1) refl
-operands_alike bytes (CreateLink p a t w) (CreateLink p' a' t' w') e s s' =
+reads_alone bytes (CreateLink p a t w) s = λ p' a' t' w' s'.
     let same = place_ends_alike bytes p a t w p' a' t' w' s s' in
     rw (same.0, same.1, same.2, same.3) refl
-operands_alike bytes (CreateObject k p a t w) (CreateObject k' p' a' t' w') e (r, c, s) (r', c', s') =
-    let kind = kind_alike bytes k r k' r' c c' in
-    let same = place_ends_alike r p a t w p' a' t' w' s (moved (λ x. IsPlaceFlagsTextAndWord x p' a' t' w') r r' kind.1 s') in
+reads_alone bytes (CreateObject k p a t w) (r, c, s) = λ k' p' a' t' w' s'.
+    let kind = kind_alike bytes k r k' s'.0 c s'.1 in
+    let same = place_ends_alike r p a t w p' a' t' w' s (moved (λ x. IsPlaceFlagsTextAndWord x p' a' t' w') r s'.0 kind.1 s'.2) in
     rw (kind.0, same.0, same.1, same.2, same.3) refl
-operands_alike bytes (OpenDirectory n a w) (OpenDirectory n' a' w') e s s' =
+reads_alone bytes (OpenDirectory n a w) s = λ n' a' w' s'.
     let same = name_ends_alike bytes n a w n' a' w' s s' in
     rw (same.0, same.1, same.2) refl
-operands_alike bytes (OpenLink n a w) (OpenLink n' a' w') e s s' =
+reads_alone bytes (OpenLink n a w) s = λ n' a' w' s'.
     let same = name_ends_alike bytes n a w n' a' w' s s' in
     rw (same.0, same.1, same.2) refl
-operands_alike bytes (OpenObject k n a w) (OpenObject k' n' a' w') e (r, c, s) (r', c', s') =
-    let want = want_alike bytes k r k' r' c c' in
-    let same = name_ends_alike r n a w n' a' w' s (moved (λ x. IsNameFlagsAndWord x n' a' w') r r' want.1 s') in
+reads_alone bytes (OpenObject k n a w) (r, c, s) = λ k' n' a' w' s'.
+    let want = want_alike bytes k r k' s'.0 c s'.1 in
+    let same = name_ends_alike r n a w n' a' w' s (moved (λ x. IsNameFlagsAndWord x n' a' w') r s'.0 want.1 s'.2) in
     rw (want.0, same.0, same.1, same.2) refl
-operands_alike bytes (Close h) (Close h') e s s' = ap Close (handle_alike bytes h h' s s')
-operands_alike bytes (QueryLink h) (QueryLink h') e s s' = ap QueryLink (handle_alike bytes h h' s s')
-operands_alike bytes (QueryName h) (QueryName h') e s s' = ap QueryName (handle_alike bytes h h' s s')
-operands_alike bytes a b e s s' = absurd (differ (verb_text (verb_of a)) (verb_text (verb_of b)) refl (ap verb_text e))
+reads_alone bytes (Close h) s = λ h' s'. ap Close (handle_alike bytes h h' s s')
+reads_alone bytes (QueryLink h) s = λ h' s'. ap QueryLink (handle_alike bytes h h' s s')
+reads_alone bytes (QueryName h) s = λ h' s'. ap QueryName (handle_alike bytes h h' s s')
+reads_alone bytes (Duplicate h q i w) s = λ h' q' i' w' s'.
+    let same = handle_ends_alike bytes h q i w h' q' i' w' s s' in
+    rw (same.0, same.1, same.2, same.3) refl
+reads_alone bytes (MakeTemporary h) s = λ h' s'. ap MakeTemporary (handle_alike bytes h h' s s')
+reads_alone bytes (MakePermanent h) s = λ h' s'. ap MakePermanent (handle_alike bytes h h' s s')
+reads_alone bytes (NewProcess i q) s = λ i' q' s'.
+    let same = inherit_ends_alike bytes i q i' q' s s' in
+    rw (same.0, same.1) refl
+reads_alone bytes ExitProcess s = absurd s
 
--- a request that is cut behind its verb is no other
-pub request_parts : (bytes word rest : List ℕ) (r : Request (List ℕ)) → bytes ≡ word ++ (0x20 ∷ rest) → Lacks 0x20 word → IsRequest bytes r
+operands_alike : (bytes : List ℕ) (a b : Request (List ℕ)) → verb_of a ≡ verb_of b → IsOperands bytes a → IsOperands bytes b → a ≡ b
+operands_alike bytes a b e s = of_verb (λ r. IsOperands bytes r → a ≡ r) (verb_of a) (reads_alone bytes a s) b (sym e)
+
+-- a verb and operands that are cut behind the verb are no other
+pub request_parts : (bytes word rest : List ℕ) (r : Request (List ℕ)) → bytes ≡ word ++ (0x20 ∷ rest) → Lacks 0x20 word → IsVerbAndOperands bytes r
     → (word ≡ verb_text (verb_of r)) × IsOperands rest r
 request_parts bytes word rest r e l (operands, f, s) =
     let same : (word ≡ verb_text (verb_of r)) × (rest ≡ operands) = spaced_alike bytes word rest (verb_text (verb_of r)) operands l (verb_lacks (verb_of r)) e f in
     (same.0, moved (λ x. IsOperands x r) rest operands same.1 s)
 
-pub request_uncut : (bytes : List ℕ) (r : Request (List ℕ)) → Lacks 0x20 bytes → ¬ IsRequest bytes r
+pub request_uncut : (bytes : List ℕ) (r : Request (List ℕ)) → Lacks 0x20 bytes → ¬ IsVerbAndOperands bytes r
 request_uncut bytes r l (operands, e, s) =
     lacks_no_cut 0x20 bytes (verb_text (verb_of r)) operands l (spaced bytes (verb_text (verb_of r)) operands e)
 
--- a verb, a space and its operands are a request
+-- a verb, a space and its operands are read so
 pub request_joined : (bytes word rest : List ℕ) (v : Verb) (r : Request (List ℕ)) → bytes ≡ word ++ (0x20 ∷ rest) → word ≡ verb_text v → verb_of r ≡ v
-    → IsOperands rest r → IsRequest bytes r
+    → IsOperands rest r → IsVerbAndOperands bytes r
 request_joined bytes word rest v r e f g s = (rest, e ∙ (rw (f, g) (sym (simp append_assoc))), s)
 
+-- `exit` alone is no verb with operands, and bytes that a test tells apart from it are no `exit`
+alone_no_operands : (bytes : List ℕ) (r : Request (List ℕ)) → bytes ≡ codes "exit" → ¬ IsVerbAndOperands bytes r
+alone_no_operands bytes r e s = request_uncut bytes r (moved (Lacks 0x20) bytes (codes "exit") e (verb_lacks verb.Exit)) s
+
+pub no_exit : (bytes : List ℕ) → (bytes ≡ codes "exit" → ⊥) → ((r : Request (List ℕ)) → ¬ IsVerbAndOperands bytes r) → (r : Request (List ℕ)) → ¬ IsRequest bytes r
+no_exit bytes alone none r (inl s) = alone s.0
+no_exit bytes alone none r (inr s) = none r s
+
 -- a request has one reading
-pub request_alike : (bytes : List ℕ) (a b : Request (List ℕ)) → IsRequest bytes a → IsRequest bytes b → a ≡ b
-request_alike bytes a b (rest, e, s) t =
+spelled_requests_alike : (bytes : List ℕ) (a b : Request (List ℕ)) → IsVerbAndOperands bytes a → IsVerbAndOperands bytes b → a ≡ b
+spelled_requests_alike bytes a b (rest, e, s) t =
     let parts = request_parts bytes (verb_text (verb_of a)) rest b (spaced bytes (verb_text (verb_of a)) rest e) (verb_lacks (verb_of a)) t in
     operands_alike rest a b (verb_same (verb_of a) (verb_of b) parts.0) s parts.1
 
--- a line that is cut at its first space asks for nothing else
-pub asks_parts : (line process rest p : List ℕ) (r : Request (List ℕ)) → line ≡ process ++ (0x20 ∷ rest) → Lacks 0x20 process → IsLine line (Asks p r)
-    → (process ≡ p) × IsProcessWord process × IsRequest rest r
-asks_parts line process rest p r e l (more, f, word, request, short) =
-    let tails : process ++ (0x20 ∷ rest) ≡ p ++ (0x20 ∷ more) = sym e ∙ (f ∙ simp append_assoc) in
-    let same : (process ≡ p) × (rest ≡ more) = cut_alike 0x20 process rest p more l (word_lacks p word.0) tails in
-    (same.0, rw same.0 word, rw same.1 request)
+request_alike : (bytes : List ℕ) (a b : Request (List ℕ)) → IsRequest bytes a → IsRequest bytes b → a ≡ b
+request_alike bytes a b (inl s) (inl t) = s.1 ∙ sym t.1
+request_alike bytes a b (inl s) (inr t) = absurd (alone_no_operands bytes b s.0 t)
+request_alike bytes a b (inr s) (inl t) = absurd (alone_no_operands bytes a t.0 s)
+request_alike bytes a b (inr s) (inr t) = spelled_requests_alike bytes a b s t
 
-pub asks_uncut : (line p : List ℕ) (r : Request (List ℕ)) → Lacks 0x20 line → ¬ IsLine line (Asks p r)
-asks_uncut line p r l (more, f, word, request, short) =
-    let cut : line ≡ p ++ (0x20 ∷ more) = f ∙ simp append_assoc in lacks_no_cut 0x20 line p more l cut
+-- a line that begins with a process word asks for what stands behind it
+pub asks_rest : (line process rest p : List ℕ) (r : Request (List ℕ)) → BeginsWithProcess line process rest → IsLine line (Asks p r) → (process ≡ p) × IsRequest rest r
+asks_rest line process rest p r b (more, c, request, short) =
+    let same = process_alike line process rest p more b c in
+    (same.0, moved (λ x. IsRequest x r) rest more same.1 request)
+
+asks_uncut : (line p : List ℕ) (r : Request (List ℕ)) → Lacks 0x20 line → ¬ IsLine line (Asks p r)
+asks_uncut line p r l (more, b, request, short) = process_uncut line p more l b
 
 -- a line that asks for something isn't idle, and is no `stat`
 pub asks_not_idle : (line p : List ℕ) (r : Request (List ℕ)) → IsLine line (Asks p r) → ¬ IsIdle line
-asks_not_idle line [] r (more, f, word, request, short) idle = absurd word.0
-asks_not_idle line (c ∷ cs) r (more, f, word, request, short) (inl e) = cc
-asks_not_idle line (c ∷ cs) r (more, f, word, request, short) (inr (comment, e)) =
+asks_not_idle line [] r (more, b, request, short) idle = absurd b.0.0
+asks_not_idle line (c ∷ cs) r (more, (word, f), request, short) (inl e) = cc
+asks_not_idle line (c ∷ cs) r (more, (word, f), request, short) (inr (comment, e)) =
     let head : c ≡ 0x23 = cc in not_sharp c word.0.0 head
   where
     not_sharp : (c : ℕ) → IsAsciiAlphabetic c → c ≢ 0x23
@@ -191,19 +138,13 @@ line_alike line Stat Stat s t = refl
 line_alike line Stat (Asks p r) s t = absurd (asks_not_stat line p r t s)
 line_alike line (Asks p r) Nothing s t = absurd (asks_not_idle line p r s t.0)
 line_alike line (Asks p r) Stat s t = absurd (asks_not_stat line p r s t)
-line_alike line (Asks p r) (Asks q s) (rest, e, word, request, short) t =
-    let cut : line ≡ p ++ (0x20 ∷ rest) = e ∙ simp append_assoc in
-    let parts = asks_parts line p rest q s cut (word_lacks p word.0) t in
-    rw (parts.0, request_alike rest r s request parts.2) refl
+line_alike line (Asks p r) (Asks q s) (rest, b, request, short) t =
+    let parts = asks_rest line p rest q s b t in
+    rw (parts.0, request_alike rest r s request parts.1) refl
 
--- a process word and a request with a space between them are a line
-pub asks_joined : (line process rest : List ℕ) (r : Request (List ℕ)) → line ≡ process ++ (0x20 ∷ rest) → IsProcessWord process → IsRequest rest r → length line ≤ 262144
-    → IsLine line (Asks process r)
-asks_joined line process rest r e word request short = (rest, e ∙ sym (simp append_assoc), word, request, short)
-
--- a line that a test tells apart from `stat` is none
-pub no_stat : (line word : List ℕ) (told : Bool) → told ≡ false → told ≡ bytes_eq line word → word ≡ codes "stat" → line ≡ codes "stat" → ⊥
-no_stat line word told f is w e = both_ways told f (is ∙ (bytes_eq-Decides line word).1 (e ∙ sym w))
+-- bytes that a test tells apart from a word are another
+pub told_apart : (line word known : List ℕ) (told : Bool) → told ≡ false → told ≡ bytes_eq line word → word ≡ known → line ≡ known → ⊥
+told_apart line word known told f is w e = both_ways told f (is ∙ (bytes_eq-Decides line word).1 (e ∙ sym w))
 
 -- a line that has a first byte other than `#`, is no `stat` and asks for nothing has no form
 pub no_form : (line : List ℕ) → eqb (length line) 0 ≡ false → (get_or line 0 0 ≡ 0x23 → ⊥) → (line ≡ codes "stat" → ⊥)
@@ -235,9 +176,15 @@ request_has_texts bytes (OpenObject k n a w) (more, c, (rest, b, f)) = name_has_
 request_has_texts bytes (Close h) s = tt
 request_has_texts bytes (QueryLink h) s = tt
 request_has_texts bytes (QueryName h) s = tt
+request_has_texts bytes (Duplicate h q i w) s = tt
+request_has_texts bytes (MakeTemporary h) s = tt
+request_has_texts bytes (MakePermanent h) s = tt
+request_has_texts bytes (NewProcess i q) s = tt
+request_has_texts bytes ExitProcess s = tt
 
 line_has_texts : (line p : List ℕ) (r : Request (List ℕ)) → IsLine line (Asks p r) → HasTexts r
-line_has_texts line p r (rest, e, word, (operands, f, s), short) = request_has_texts operands r s
+line_has_texts line p r (rest, b, inl (e, is), short) = subst HasTexts (sym is) tt
+line_has_texts line p r (rest, b, inr (operands, f, s), short) = request_has_texts operands r s
 
 pub form_has_texts : (line : List ℕ) (form : Form (List ℕ)) → IsLine line form → FormHasTexts form
 form_has_texts line Nothing l = tt

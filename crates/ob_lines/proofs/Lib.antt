@@ -3,6 +3,8 @@ pub mod Spelled
 pub mod Flagged
 pub mod Handles
 pub mod Parted
+pub mod Processed
+pub mod Verbs
 pub mod Formed
 pub mod Lined
 pub mod Scripted

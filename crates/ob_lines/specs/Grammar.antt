@@ -2,19 +2,20 @@
 --
 -- A form is generic in how it holds bytes: in the code as slices of the line, here as lists.
 -- Source: this profile.
-use Rattle.std.specs.Prelude.{◌≡◌, ℕ, ◌≤◌, ◌⊎◌, List, [], ◌++◌, length, codes}
+use Rattle.std.specs.Prelude.{◌≡◌, ℕ, Bool, ◌≤◌, ◌⊎◌, List, [], ◌++◌, length, codes}
 use Rattle.std.specs.Borrow.{Bor}
+use Rattle.ob_lines.specs.declared.handle.HandleForm.{HandleForm}
 use Rattle.ob_lines.specs.declared.form.Form.{Form}
 use Rattle.ob_lines.specs.declared.form.Form.TheVariants.{Nothing, Stat, Asks}
 use Rattle.ob_lines.specs.declared.request.NameForm.{NameForm}
 use Rattle.ob_lines.specs.declared.request.PlaceForm.{PlaceForm}
 use Rattle.ob_lines.specs.declared.request.PlaceForm.TheVariants.{Named, Unnamed}
 use Rattle.ob_lines.specs.declared.request.Request.{Request}
-use Rattle.ob_lines.specs.declared.request.Request.TheVariants.{CreateDirectory, CreateLink, CreateObject, OpenDirectory, OpenLink, OpenObject, Close, QueryLink, QueryName}
+use Rattle.ob_lines.specs.declared.request.Request.TheVariants.{CreateDirectory, CreateLink, CreateObject, OpenDirectory, OpenLink, OpenObject, Close, QueryLink, QueryName, Duplicate, MakeTemporary, MakePermanent, NewProcess, ExitProcess}
 use Rattle.ob_lines.specs.declared.verb.Verb.{Verb}
 use Rattle.ob_lines.specs.declared.verb.Verb.TheVariants as verb
-use Rattle.ob_lines.specs.Text.{IsText, IsProcessWord}
-use Rattle.ob_lines.specs.Parts.{IsHandle, BeginsWithText, BeginsWithName, BeginsWithPlace, BeginsWithKind, BeginsWithWant, BeginsWithFlags, SetsWord, text_of, handle_seen, name_seen, place_seen}
+use Rattle.ob_lines.specs.Text.{IsText}
+use Rattle.ob_lines.specs.Parts.{IsHandle, BeginsWithText, BeginsWithHandle, BeginsWithName, BeginsWithPlace, BeginsWithKind, BeginsWithWant, BeginsWithFlags, BeginsWithProcess, BeginsWithInherit, SetsWord, SetsProcess, text_of, handle_seen, name_seen, place_seen}
 
 -- the most bytes that a line may have, without its LF
 abbrev pub longest_line : ℕ
@@ -38,6 +39,16 @@ abbrev pub IsPlaceFlagsTextAndWord : List ℕ → PlaceForm (List ℕ) → ℕ �
 IsPlaceFlagsTextAndWord bytes place attrs text word =
     (rest : List ℕ) × BeginsWithPlace bytes place rest × IsFlagsTextAndWord rest attrs text word
 
+-- `H Q plain =V` or `H Q inherit =V`
+abbrev pub IsHandleProcessAndWord : List ℕ → HandleForm (List ℕ) → List ℕ → Bool → List ℕ → Type 0
+IsHandleProcessAndWord bytes handle process inherit word =
+    (rest more last : List ℕ) × BeginsWithHandle bytes handle rest × BeginsWithProcess rest process more × BeginsWithInherit more inherit last
+    × SetsWord last word
+
+-- `plain =Q` or `inherit =Q`
+abbrev pub IsInheritAndProcess : List ℕ → Bool → List ℕ → Type 0
+IsInheritAndProcess bytes inherit process = (rest : List ℕ) × BeginsWithInherit bytes inherit rest × SetsProcess rest process
+
 -- the word of a verb
 abbrev pub verb_text : Verb → List ℕ
 verb_text verb.Dir = codes "dir"
@@ -49,6 +60,11 @@ verb_text verb.Open = codes "open"
 verb_text verb.Close = codes "close"
 verb_text verb.Target = codes "target"
 verb_text verb.Name = codes "name"
+verb_text verb.Dup = codes "dup"
+verb_text verb.Temp = codes "temp"
+verb_text verb.Perm = codes "perm"
+verb_text verb.New = codes "new"
+verb_text verb.Exit = codes "exit"
 
 -- the verb of a request
 abbrev pub verb_of : Request (List ℕ) → Verb
@@ -61,22 +77,17 @@ verb_of (OpenObject want name attrs word) = verb.Open
 verb_of (Close handle) = verb.Close
 verb_of (QueryLink handle) = verb.Target
 verb_of (QueryName handle) = verb.Name
-
--- the handle word of a request
-abbrev pub word_of : Request (List ℕ) → List ℕ
-word_of (CreateDirectory place attrs word) = word
-word_of (CreateLink place attrs target word) = word
-word_of (CreateObject kind place attrs args word) = word
-word_of (OpenDirectory name attrs word) = word
-word_of (OpenLink name attrs word) = word
-word_of (OpenObject want name attrs word) = word
-word_of (Close handle) = handle.word
-word_of (QueryLink handle) = handle.word
-word_of (QueryName handle) = handle.word
+verb_of (Duplicate handle to inherit word) = verb.Dup
+verb_of (MakeTemporary handle) = verb.Temp
+verb_of (MakePermanent handle) = verb.Perm
+verb_of (NewProcess inherit child) = verb.New
+verb_of ExitProcess = verb.Exit
 
 -- what stands behind the verb of a request and a space: `PLACE FLAGS =V` behind `dir`,
 -- `PLACE FLAGS TEXT =V` behind `link`, `KIND PLACE FLAGS TEXT =V` behind `make`, `NAME FLAGS =V` behind
--- `opendir` and `openlink`, `WANT NAME FLAGS =V` behind `open`, and `H` behind `close`, `target` and `name`
+-- `opendir` and `openlink`, `WANT NAME FLAGS =V` behind `open`, `H` behind `close`, `target`, `name`, `temp` and
+-- `perm`, `H Q plain =V` or `H Q inherit =V` behind `dup`, and `plain =Q` or `inherit =Q` behind `new`. `exit` has no
+-- operands.
 abbrev pub IsOperands : List ℕ → Request (List ℕ) → Type 0
 IsOperands bytes (CreateDirectory place attrs word) =
     (rest : List ℕ) × BeginsWithPlace bytes place rest × IsFlagsAndWord rest attrs word
@@ -90,11 +101,20 @@ IsOperands bytes (OpenObject want name attrs word) =
 IsOperands bytes (Close handle) = IsHandle bytes handle
 IsOperands bytes (QueryLink handle) = IsHandle bytes handle
 IsOperands bytes (QueryName handle) = IsHandle bytes handle
+IsOperands bytes (Duplicate handle to inherit word) = IsHandleProcessAndWord bytes handle to inherit word
+IsOperands bytes (MakeTemporary handle) = IsHandle bytes handle
+IsOperands bytes (MakePermanent handle) = IsHandle bytes handle
+IsOperands bytes (NewProcess inherit child) = IsInheritAndProcess bytes inherit child
+IsOperands bytes ExitProcess = ⊥
 
--- what a process asks for, behind its process word and a space: a verb, a space and its operands
-abbrev pub IsRequest : List ℕ → Request (List ℕ) → Type 0
-IsRequest bytes request =
+-- a verb, a space and its operands
+abbrev pub IsVerbAndOperands : List ℕ → Request (List ℕ) → Type 0
+IsVerbAndOperands bytes request =
     (operands : List ℕ) × (bytes ≡ verb_text (verb_of request) ++ codes " " ++ operands) × IsOperands operands request
+
+-- what a process asks for, behind its process word and a space: `exit` alone, or a verb and its operands
+abbrev pub IsRequest : List ℕ → Request (List ℕ) → Type 0
+IsRequest bytes request = ((bytes ≡ codes "exit") × (request ≡ ExitProcess)) ⊎ IsVerbAndOperands bytes request
 
 -- an empty line, or a comment, which begins with `#`
 abbrev pub IsIdle : List ℕ → Type 0
@@ -105,8 +125,7 @@ abbrev pub IsLine : List ℕ → Form (List ℕ) → Type 0
 IsLine line Nothing = IsIdle line × (length line ≤ longest_line)
 IsLine line Stat = line ≡ codes "stat"
 IsLine line (Asks process request) =
-    (rest : List ℕ) × (line ≡ process ++ codes " " ++ rest) × IsProcessWord process × IsRequest rest request
-    × (length line ≤ longest_line)
+    (rest : List ℕ) × BeginsWithProcess line process rest × IsRequest rest request × (length line ≤ longest_line)
 
 -- a line has no two forms
 abbrev pub LinesHaveOneForm : Type 0
@@ -128,6 +147,11 @@ HasTexts (OpenObject want name attrs word) = IsText (text_of name)
 HasTexts (Close handle) = Unit {0}
 HasTexts (QueryLink handle) = Unit {0}
 HasTexts (QueryName handle) = Unit {0}
+HasTexts (Duplicate handle to inherit word) = Unit {0}
+HasTexts (MakeTemporary handle) = Unit {0}
+HasTexts (MakePermanent handle) = Unit {0}
+HasTexts (NewProcess inherit child) = Unit {0}
+HasTexts ExitProcess = Unit {0}
 
 -- the texts of a form, where it has some, are texts
 abbrev pub FormHasTexts : Form (List ℕ) → Type 0
@@ -146,6 +170,11 @@ request_seen (OpenObject want name attrs word) = OpenObject want (name_seen name
 request_seen (Close handle) = Close (handle_seen handle)
 request_seen (QueryLink handle) = QueryLink (handle_seen handle)
 request_seen (QueryName handle) = QueryName (handle_seen handle)
+request_seen (Duplicate handle to inherit word) = Duplicate (handle_seen handle) to.now inherit word.now
+request_seen (MakeTemporary handle) = MakeTemporary (handle_seen handle)
+request_seen (MakePermanent handle) = MakePermanent (handle_seen handle)
+request_seen (NewProcess inherit child) = NewProcess inherit child.now
+request_seen ExitProcess = ExitProcess
 
 abbrev pub form_seen : Form (Bor (List ℕ)) → Form (List ℕ)
 form_seen Nothing = Nothing

@@ -3,4 +3,5 @@ pub mod Text
 pub mod Flags
 pub mod Parts
 pub mod Grammar
+pub mod Changes
 pub mod Script

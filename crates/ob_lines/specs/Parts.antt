@@ -1,9 +1,10 @@
--- The parts of a line: texts, handles, names, places, kinds, flags and the word that is set. Texts, names,
--- places, kinds and flags stand at the front of bytes that go on behind them and a space.
+-- The parts of a line: texts, handles, names, places, kinds, flags, process words, inheritance and the word that
+-- is set. Handles stand alone, or with all others but the last at the front of bytes that go on behind them and
+-- a space.
 --
 -- Handles, names and places are generic in how they hold bytes: in the code as slices of the line, here as lists.
 -- Source: this profile.
-use Rattle.std.specs.Prelude.{◌≡◌, ℕ, List, [], ◌++◌, Option, None, Some, codes}
+use Rattle.std.specs.Prelude.{◌≡◌, ℕ, Bool, true, false, List, [], ◌++◌, Option, None, Some, codes}
 use Rattle.std.specs.Borrow.{Bor}
 use Rattle.ob_plain.specs.declared.plain.PlainKind.{PlainKind}
 use Rattle.ob_plain.specs.Plain.{name_of}
@@ -14,7 +15,7 @@ use Rattle.ob_lines.specs.declared.request.NameForm.{NameForm}
 use Rattle.ob_lines.specs.declared.request.NameForm.TheVariants.{Absolute, Relative}
 use Rattle.ob_lines.specs.declared.request.PlaceForm.{PlaceForm}
 use Rattle.ob_lines.specs.declared.request.PlaceForm.TheVariants.{Named, Unnamed}
-use Rattle.ob_lines.specs.Text.{IsWord, IsText}
+use Rattle.ob_lines.specs.Text.{IsWord, IsProcessWord, IsText}
 use Rattle.ob_lines.specs.Flags.{IsFlags}
 
 -- a text between double quotes
@@ -38,6 +39,9 @@ offset_value Three = 3
 -- a handle: a handle word, or one with `+1`, `+2` or `+3` right behind it
 abbrev pub IsHandle : List ℕ → HandleForm (List ℕ) → Type 0
 IsHandle bytes handle = IsWord handle.word × (bytes ≡ handle.word ++ offset_text handle.offset)
+
+abbrev pub BeginsWithHandle : List ℕ → HandleForm (List ℕ) → List ℕ → Type 0
+BeginsWithHandle bytes handle rest = (spelled : List ℕ) × IsHandle spelled handle × (bytes ≡ spelled ++ codes " " ++ rest)
 
 -- a name: `TEXT`, which is absolute; or `H:TEXT`, which is relative to a handle
 abbrev pub BeginsWithName : List ℕ → NameForm (List ℕ) → List ℕ → Type 0
@@ -68,9 +72,22 @@ BeginsWithWant bytes (Some kind) rest = BeginsWithKind bytes kind rest
 abbrev pub BeginsWithFlags : List ℕ → ℕ → List ℕ → Type 0
 BeginsWithFlags bytes attrs rest = (flags : List ℕ) × IsFlags flags attrs × (bytes ≡ flags ++ codes " " ++ rest)
 
+-- a process word
+abbrev pub BeginsWithProcess : List ℕ → List ℕ → List ℕ → Type 0
+BeginsWithProcess bytes process rest = IsProcessWord process × (bytes ≡ process ++ codes " " ++ rest)
+
+-- `inherit`, or `plain` for no inheritance
+abbrev pub BeginsWithInherit : List ℕ → Bool → List ℕ → Type 0
+BeginsWithInherit bytes true rest = bytes ≡ codes "inherit " ++ rest
+BeginsWithInherit bytes false rest = bytes ≡ codes "plain " ++ rest
+
 -- `=V`, with nothing behind it
 abbrev pub SetsWord : List ℕ → List ℕ → Type 0
 SetsWord bytes word = IsWord word × (bytes ≡ codes "=" ++ word)
+
+-- `=Q`, with nothing behind it
+abbrev pub SetsProcess : List ℕ → List ℕ → Type 0
+SetsProcess bytes process = IsProcessWord process × (bytes ≡ codes "=" ++ process)
 
 -- a handle, a name, and a place, whose slices of bytes are seen as the lists that they hold
 abbrev pub handle_seen : HandleForm (Bor (List ℕ)) → HandleForm (List ℕ)

@@ -5,9 +5,8 @@ ghost use Rattle.ob_lines.specs.declared.form.Form.{Form};
 ghost use Rattle.ob_lines.specs.declared.request.Request.{Request};
 ghost use Rattle.ob_lines.specs.Grammar.{IsLine, form_seen, LinesHaveOneForm};
 
+use crate::process::take_process;
 use crate::request::{Request, request_of};
-use crate::split::split_at;
-use crate::text::is_process_word;
 
 /// The most bytes that a line may have, without its LF: 262,144. (this profile)
 pub const LONGEST_LINE: usize = 262_144;
@@ -52,10 +51,7 @@ fn asking_of(line: &[u8]) -> Option<Form<&[u8]>>
     ensures found { IfSome result (λ form. IsLine line.now (form_seen form)) }
     ensures none { IfNone result ((process : List ℕ) (request : Request (List ℕ)) → ¬ IsLine line.now (Form.Asks process request)) }
 {
-    let (process, rest) = split_at(line, b' ')?;
-    if !is_process_word(process) {
-        return None;
-    }
+    let (process, rest) = take_process(line)?;
     let request = request_of(rest)?;
     Some(Form::Asks { process, request })
 }

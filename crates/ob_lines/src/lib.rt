@@ -5,19 +5,22 @@
 //! the words stand for, and no namespace is needed. docs/script.md has the language.
 #![tactic(auto)]
 
+mod change;
 mod flags;
 mod form;
 mod handle;
 mod kind;
 mod parts;
+mod process;
 mod request;
 mod script;
 mod split;
 mod text;
 mod verb;
 
+pub use change::{Change, change_of};
 pub use form::{Form, LONGEST_LINE, form_of, lines_have_one_form};
 pub use handle::{HandleForm, Offset, offset_value};
-pub use request::{NameForm, PlaceForm, Request, word_of};
+pub use request::{NameForm, PlaceForm, Request};
 pub use script::{every_script_has_a_reading, read_line, scripts_have_one_reading};
 pub use text::{decode, texts_spell_one_thing};

@@ -68,7 +68,7 @@ fn take_flags(bytes: &[u8]) -> Option<(u32, &[u8])>
 }
 
 // The handle word that is set.
-fn word_set(bytes: &[u8]) -> Option<&[u8]>
+pub fn word_set(bytes: &[u8]) -> Option<&[u8]>
     ensures found { IfSome result (λ word. SetsWord bytes.now word.now) }
     ensures none { IfNone result ((word : List ℕ) → ¬ SetsWord bytes.now word) }
 {

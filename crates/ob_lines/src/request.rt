@@ -1,17 +1,20 @@
 //! What a process asks for in a line.
 
-ghost use Rattle.std.specs.Prelude.{◌≡◌, ◌≤◌, ℕ, List, Option, length, IfSome, IfNone};
+ghost use Rattle.std.specs.Prelude.{◌≡◌, ◌≤◌, ℕ, Bool, List, Option, length, IfSome, IfNone};
 ghost use Rattle.ob_plain.specs.declared.plain.PlainKind.{PlainKind};
 ghost use Rattle.ob_lines.specs.declared.handle.HandleForm.{HandleForm};
 ghost use Rattle.ob_lines.specs.declared.request.NameForm.{NameForm};
 ghost use Rattle.ob_lines.specs.declared.request.PlaceForm.{PlaceForm};
 ghost use Rattle.ob_lines.specs.declared.request.Request.{Request};
 ghost use Rattle.ob_lines.specs.declared.verb.Verb.{Verb};
-ghost use Rattle.ob_lines.specs.Grammar.{IsOperands, IsRequest, request_seen, verb_of, word_of};
+ghost use Rattle.ob_lines.specs.Grammar.{IsOperands, IsRequest, IsVerbAndOperands, request_seen, verb_of};
 
 use crate::handle::{HandleForm, handle_of};
 use crate::kind::{take_kind, take_want};
-use crate::parts::{flags_and_word, name_flags_and_word, place_flags_text_and_word, take_place};
+use crate::parts::{
+    flags_and_word, name_flags_and_word, place_flags_text_and_word, take_place, word_set,
+};
+use crate::process::{process_set, take_handle, take_inherit, take_process};
 use crate::split::split_at;
 use crate::verb::{Verb, verb_of};
 use ob_plain::PlainKind;
@@ -121,6 +124,37 @@ pub enum Request<T> {
         /// The handle.
         handle: HandleForm<T>,
     },
+    /// `dup H Q plain =V` or `dup H Q inherit =V`: a handle of another process, or of the same, to the
+    /// object of a handle.
+    Duplicate {
+        /// The handle of the process that asks.
+        handle: HandleForm<T>,
+        /// The process word of the process that gets the new handle.
+        to: T,
+        /// Whether the new handle can be inherited.
+        inherit: bool,
+        /// The handle word that is set, which is one of the process `to`.
+        word: T,
+    },
+    /// `temp H`: the object of a handle is made temporary.
+    MakeTemporary {
+        /// The handle.
+        handle: HandleForm<T>,
+    },
+    /// `perm H`: the object of a handle is made permanent.
+    MakePermanent {
+        /// The handle.
+        handle: HandleForm<T>,
+    },
+    /// `new plain =Q` or `new inherit =Q`: a new process, a child of the one that asks.
+    NewProcess {
+        /// Whether the child inherits the handles that can be inherited.
+        inherit: bool,
+        /// The process word that is set.
+        child: T,
+    },
+    /// `exit`: the process that asks ends.
+    ExitProcess,
 }
 
 // What is asked for, behind the process word and a space.
@@ -128,6 +162,18 @@ pub fn request_of(bytes: &[u8]) -> Option<Request<&[u8]>>
     requires { length bytes.now ≤ 262144 }
     ensures found { IfSome result (λ request. IsRequest bytes.now (request_seen request)) }
     ensures none { IfNone result ((request : Request (List ℕ)) → ¬ IsRequest bytes.now request) }
+{
+    if bytes == b"exit".as_slice() {
+        return Some(Request::ExitProcess);
+    }
+    verb_and_operands_of(bytes)
+}
+
+// What is asked for by a verb, a space and its operands.
+fn verb_and_operands_of(bytes: &[u8]) -> Option<Request<&[u8]>>
+    requires { length bytes.now ≤ 262144 }
+    ensures found { IfSome result (λ request. IsVerbAndOperands bytes.now (request_seen request)) }
+    ensures none { IfNone result ((request : Request (List ℕ)) → ¬ IsVerbAndOperands bytes.now request) }
 {
     let (word, operands) = split_at(bytes, b' ')?;
     let verb = verb_of(word)?;
@@ -151,6 +197,11 @@ fn operands_of(verb: Verb, operands: &[u8]) -> Option<Request<&[u8]>>
         Verb::Close => close_of(operands),
         Verb::Target => link_query_of(operands),
         Verb::Name => name_query_of(operands),
+        Verb::Dup => duplicate_of(operands),
+        Verb::Temp => temporary_of(operands),
+        Verb::Perm => permanent_of(operands),
+        Verb::New => new_process_of(operands),
+        Verb::Exit => None,
     }
 }
 
@@ -275,20 +326,52 @@ fn name_query_of(operands: &[u8]) -> Option<Request<&[u8]>>
     Some(Request::QueryName { handle })
 }
 
-/// The handle word of a request: the one that it sets, or that of the handle that it names.
-/// Source: this profile.
-pub fn word_of<'a>(request: Request<&'a [u8]>) -> &'a [u8]
-    ensures { result.now ≡ word_of (request_seen request.entry) }
+// The duplicate of a handle: `H Q plain =V` or `H Q inherit =V`.
+fn duplicate_of(operands: &[u8]) -> Option<Request<&[u8]>>
+    ensures verb { IfSome result (λ request. verb_of (request_seen request) ≡ Verb.Dup) }
+    ensures found { IfSome result (λ request. IsOperands operands.now (request_seen request)) }
+    ensures none { IfNone result ((handle : HandleForm (List ℕ)) (to : List ℕ) (inherit : Bool) (word : List ℕ)
+        → ¬ IsOperands operands.now (Request.Duplicate handle to inherit word)) }
 {
-    match request {
-        Request::CreateDirectory { word, .. } => word,
-        Request::CreateLink { word, .. } => word,
-        Request::CreateObject { word, .. } => word,
-        Request::OpenDirectory { word, .. } => word,
-        Request::OpenLink { word, .. } => word,
-        Request::OpenObject { word, .. } => word,
-        Request::Close { handle } => handle.word,
-        Request::QueryLink { handle } => handle.word,
-        Request::QueryName { handle } => handle.word,
-    }
+    let (handle, rest) = take_handle(operands)?;
+    let (to, rest) = take_process(rest)?;
+    let (inherit, rest) = take_inherit(rest)?;
+    let word = word_set(rest)?;
+    Some(Request::Duplicate {
+        handle,
+        to,
+        inherit,
+        word,
+    })
+}
+
+// An object made temporary: `H`.
+fn temporary_of(operands: &[u8]) -> Option<Request<&[u8]>>
+    ensures verb { IfSome result (λ request. verb_of (request_seen request) ≡ Verb.Temp) }
+    ensures found { IfSome result (λ request. IsOperands operands.now (request_seen request)) }
+    ensures none { IfNone result ((handle : HandleForm (List ℕ)) → ¬ IsOperands operands.now (Request.MakeTemporary handle)) }
+{
+    let handle = handle_of(operands)?;
+    Some(Request::MakeTemporary { handle })
+}
+
+// An object made permanent: `H`.
+fn permanent_of(operands: &[u8]) -> Option<Request<&[u8]>>
+    ensures verb { IfSome result (λ request. verb_of (request_seen request) ≡ Verb.Perm) }
+    ensures found { IfSome result (λ request. IsOperands operands.now (request_seen request)) }
+    ensures none { IfNone result ((handle : HandleForm (List ℕ)) → ¬ IsOperands operands.now (Request.MakePermanent handle)) }
+{
+    let handle = handle_of(operands)?;
+    Some(Request::MakePermanent { handle })
+}
+
+// A new process: `plain =Q` or `inherit =Q`.
+fn new_process_of(operands: &[u8]) -> Option<Request<&[u8]>>
+    ensures verb { IfSome result (λ request. verb_of (request_seen request) ≡ Verb.New) }
+    ensures found { IfSome result (λ request. IsOperands operands.now (request_seen request)) }
+    ensures none { IfNone result ((inherit : Bool) (child : List ℕ) → ¬ IsOperands operands.now (Request.NewProcess inherit child)) }
+{
+    let (inherit, rest) = take_inherit(operands)?;
+    let child = process_set(rest)?;
+    Some(Request::NewProcess { inherit, child })
 }

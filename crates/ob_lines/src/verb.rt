@@ -5,7 +5,7 @@ ghost use Rattle.ob_lines.specs.declared.verb.Verb.{Verb};
 ghost use Rattle.ob_lines.specs.Grammar.{verb_text};
 
 // What a process asks for.
-#[derive(Clone, Copy, PartialEq, Eq, Debug)]
+#[derive(Clone, Copy)]
 pub enum Verb {
     // `dir`: a new directory.
     Dir,
@@ -25,6 +25,16 @@ pub enum Verb {
     Target,
     // `name`: the path of a handle's object.
     Name,
+    // `dup`: a handle is duplicated into a process.
+    Dup,
+    // `temp`: the object of a handle is made temporary.
+    Temp,
+    // `perm`: the object of a handle is made permanent.
+    Perm,
+    // `new`: a new process.
+    New,
+    // `exit`: the process that asks ends. It has no operands.
+    Exit,
 }
 
 // The verb of a word.
@@ -58,6 +68,21 @@ pub fn verb_of(word: &[u8]) -> Option<Verb>
     }
     if word == b"name".as_slice() {
         return Some(Verb::Name);
+    }
+    if word == b"dup".as_slice() {
+        return Some(Verb::Dup);
+    }
+    if word == b"temp".as_slice() {
+        return Some(Verb::Temp);
+    }
+    if word == b"perm".as_slice() {
+        return Some(Verb::Perm);
+    }
+    if word == b"new".as_slice() {
+        return Some(Verb::New);
+    }
+    if word == b"exit".as_slice() {
+        return Some(Verb::Exit);
     }
     None
 }

@@ -4,3 +4,9 @@
 
 #[cfg(test)]
 mod lines;
+#[cfg(test)]
+mod permanence;
+#[cfg(test)]
+mod processes;
+#[cfg(test)]
+mod words;

@@ -1,5 +1,6 @@
 -- The small namespaces of the tests, with an object more and then its name.
-use Rattle.std.proofs.Common.{◌≡◌, ◌≢◌, ℕ, ◌<◌, ◌+◌, ◌==◌, Bool, true, false, cond, List, [], ◌∷◌, map, Option, None, All, IsSome, sym, subst, arith}
+use Rattle.std.proofs.Common.{◌≡◌, ◌≢◌, ◌∙◌, ap, ℕ, ◌<◌, ◌+◌, ◌==◌, Bool, true, false, cond, List, [], ◌∷◌, map, Option, None, All, IsSome, sym, subst, arith}
+use Rattle.std.proofs.lemmas.Bool.{false≢true}
 use Rattle.std.proofs.lemmas.List.Elements.{All-nil, All-cons, All-head, All-tail, All-weaker, All-map, All-push, All-filter}
 use Rattle.std.specs.Option.{unwrap_or}
 use Rattle.ob_dirs.specs.declared.entry.DirEntry.{DirEntry}
@@ -61,6 +62,14 @@ module _ {F I : Type 0} where
   pub entries_newest : (new store : Entries F I) (id d : ℕ) (x : StoredObject F I) → new ≡ with_entry store id x → entries_in x.body ≡ [] → IsStore new
       → All (λ r. r.stamp < id) (rows_of store) → All (λ e. e.stamp < id) (entries_at new d)
   entries_newest new store id d x put none is below = entries_below new id d is (rows_stay_below new store id x put none below)
+
+  -- and no row names it yet
+  pub rows_unnamed : (new store : Entries F I) (id : ℕ) (x : StoredObject F I) → new ≡ with_entry store id x → IsSpace store id → entries_in x.body ≡ [] → All (λ r. r.object ≢ id) (rows_of new)
+  rows_unnamed new store id x put is none =
+      subst (λ (s : Entries F I). All (λ r. r.object ≢ id) (rows_of s)) (sym put)
+      (subst (All (λ r. r.object ≢ id)) (sym (new_object_has_no_row store id x none))
+      (All-weaker (λ r. IsSome (stored_at store r.object)) (λ r. r.object ≢ id)
+      (λ r there same. false≢true (subst IsSome (ap (stored_at store) same ∙ next_is_free store id is) there)) (rows_of store) is.closed.rows))
 
   -- with its name
   ids_stay : (store : Entries F I) (n d : ℕ) (change : StoredObject F I → StoredObject F I) → All (λ e. e.0 < n) store → All (λ e. e.0 < n) (changed_at d change store)

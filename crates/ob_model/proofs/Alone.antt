@@ -22,6 +22,7 @@ use Rattle.ob_model.specs.Procedures.{Procedures, Reason, Created, Inherited}
 use Rattle.ob_model.specs.Settle.{settle}
 use Rattle.ob_model.specs.Grants.{Asked, first_refusal, is_exclusive, has_other_holder, is_table_full, grant_refusal, open_refusal, opened_object, opened_body, with_open, with_handle}
 use Rattle.ob_model.specs.Closing.{is_handle, without_handle, closed_body, closed_object, closed_handle}
+use Rattle.ob_model.specs.Permanence.{turned_object, with_permanence, turned}
 use Rattle.ob_model.specs.Creates.{Spot, created}
 use Rattle.ob_model.specs.Processes.{handles_in, inherited_from, with_child, without_process, inherits_one, inherits, begun, closed_in_turn, ended}
 use Rattle.ob_model.specs.Sound.{IsSound}
@@ -31,6 +32,7 @@ use Rattle.ob_model.specs.Run.{Entry, RunFrom, Run}
 use Rattle.ob_model.proofs.InOrder.{newest_is_free, in_order-find, in_order-others}
 use Rattle.ob_model.proofs.Settled.{object_of-settle, alive_from_handle}
 use Rattle.ob_model.proofs.Soundness.{find_id-map, opened_object-id, opened_object-is_directory, closed_object-id, closed_object-is_directory, stands_drawn, opening_sound}
+use Rattle.ob_model.proofs.Turned.{turned_object-id, turned_object-is_directory, turned_object-exclusive, turned_either}
 use Rattle.ob_model.proofs.Steps.{step_sound}
 use Rattle.ob_model.proofs.Leads.{step_leads}
 
@@ -199,6 +201,16 @@ module _ {K T F I : Type 0} (g : Procedures K T F I) where
   closed_alone : (s : State K T F I) (h : Held) → AreAlone s → AreAlone (closed_handle g s h)
   closed_alone s h is = fewer s (closed_handle g s h) (λ x. not (is_handle h.process h.value x)) refl (λ k d within. exclusive-closed s h (get_or s.handles k d).object) is
 
+  -- making an object permanent or temporary leaves which are exclusive
+  turned_alone : (s : State K T F I) (o : ℕ) (permanent : Bool) → AreAlone s → AreAlone (turned s o permanent)
+  turned_alone s o permanent is =
+      turned_either AreAlone s o permanent is
+      (agreeing s (with_permanence s o permanent) refl
+      (λ k d within.
+      let m = (get_or s.handles k d).object in
+      ap exclusive_found (find_id-map (turned_object o permanent) (turned_object-id o permanent) (turned_object-is_directory o permanent) m s.objects)
+      ∙ exclusive-map (turned_object o permanent) (turned_object-exclusive o permanent) (object_of s m)) is)
+
   -- a child inherits handles to objects that aren't exclusive
   inherits_one_alone : (s : State K T F I) (child : ℕ) (h : Held) → AreAlone s → is_exclusive s h.object ≡ false → AreAlone (inherits_one g s child h)
   inherits_one_alone s child h is shared = go (open_refusal g s h.object Inherited)
@@ -255,6 +267,7 @@ module _ {K T F I : Type 0} (g : Procedures K T F I) where
       (λ p value o asked reason e. settled_alone (with_handle (with_open g s o reason) p value o asked.inherit) (granted_alone s p value o asked reason is e))
       (λ p spot body attrs value lawful. settled_alone (created g s p spot body attrs value) (created_alone s p spot body attrs value sound is lawful))
       (λ x. settled_alone (closed_handle g s x) (closed_alone s x is))
+      (λ o permanent. settled_alone (turned s o permanent) (turned_alone s o permanent is))
       (λ p inherit. settled_alone (begun g s p inherit) (begun_alone s p inherit is))
       (λ p. settled_alone (ended g s p) (ended_alone s p is)) t event answer h
 

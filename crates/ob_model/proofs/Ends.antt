@@ -8,7 +8,7 @@ use Rattle.ob_base.specs.Attrs.{has_flag, open_if_flag}
 use Rattle.ob_base.specs.Handle.{key_of}
 use Rattle.ob_model.specs.declared.command.Place.{Place}
 use Rattle.ob_model.specs.declared.command.Place.TheVariants as place
-use Rattle.ob_model.specs.declared.command.Command.TheVariants.{CreateDirectory, CreateLink, CreateObject, OpenDirectory, OpenLink, OpenObject, Close, QueryLink, QueryName, Duplicate, NewProcess, ExitProcess}
+use Rattle.ob_model.specs.declared.command.Command.TheVariants.{CreateDirectory, CreateLink, CreateObject, OpenDirectory, OpenLink, OpenObject, Close, QueryLink, QueryName, Duplicate, MakeTemporary, MakePermanent, NewProcess, ExitProcess}
 use Rattle.ob_model.specs.declared.reply.Answer.{Answer}
 use Rattle.ob_model.specs.declared.reply.Event.{Event}
 use Rattle.ob_model.specs.declared.reply.Event.TheVariants.{Start}
@@ -24,13 +24,14 @@ use Rattle.ob_model.specs.Procedures.{Procedures, Reason, Opened, Created, Dupli
 use Rattle.ob_model.specs.Settle.{settle}
 use Rattle.ob_model.specs.Grants.{first_refusal, Grants, IsFreeValue, Asked, open_refusal_of, with_handle, with_open}
 use Rattle.ob_model.specs.Closing.{closed_handle}
+use Rattle.ob_model.specs.Permanence.{turned}
 use Rattle.ob_model.specs.Types.{is_wanted_at}
 use Rattle.ob_model.specs.Refusals.{gives, answers, IsRefused, Unless, create_refusals, open_refusals}
 use Rattle.ob_model.specs.Opens.{GivesHandle, OpensAt, Opens, asked_by, type_wanted, open_mode}
 use Rattle.ob_model.specs.Creates.{Making, MakesDirectory, MakesLink, MakesObject, is_fit, create_mode, type_made, Spot, room_refusals, make_refusal, body_made, created, dropped, Makes, Creates}
 use Rattle.ob_model.specs.Naming.{TellsName, TellsTarget}
 use Rattle.ob_model.specs.Processes.{values_in, is_crowded, begun, ended}
-use Rattle.ob_model.specs.Step.{WithHandle, WithRoot, CreatesIn, CreatesAt, OpensName, Step}
+use Rattle.ob_model.specs.Step.{WithHandle, WithRoot, CreatesIn, CreatesAt, OpensName, Turns, Step}
 use Rattle.ob_model.specs.Run.{Entry, RunFrom}
 use Rattle.ob_model.proofs.Lookup.{looks_up_unique}
 
@@ -185,6 +186,11 @@ module _ {K T F I : Type 0} (g : Procedures K T F I) where
       let same : b.0 ≡ a.0 = looks_up_unique (without_parse g) s p (open_mode wanted attrs) most_reparses at name b.0 a.0 b.1 a.1 in
       opens_end s t u p attrs wanted a.0 answer a.2 (subst (λ look. Opens g s p attrs wanted look answer u) same b.2))) h k
 
+  turns_end : (s t u : State K T F I) (p handle : ℕ) (permanent : Bool) (answer : Answer) → Turns g s p handle permanent answer t → Turns g s p handle permanent answer u → t ≡ u
+  turns_end s t u p handle permanent answer h k =
+      with_handle_end s t u p handle answer (λ x. (answer ≡ answers Success) × (t ≡ settle g (turned s x.object permanent)))
+      (λ x. (answer ≡ answers Success) × (u ≡ settle g (turned s x.object permanent))) (λ x a b. a.1 ∙ sym b.1) h k
+
   -- a step with its answer leads to one state alone
   pub step_end : (s t u : State K T F I) (event : Event K) (answer : Answer) → Step g s event answer t → Step g s event answer u → t ≡ u
   step_end s t u (Start p (CreateDirectory where_to attrs)) answer h k = creates_at_end s t u p where_to attrs MakesDirectory answer h k
@@ -212,6 +218,8 @@ module _ {K T F I : Type 0} (g : Procedures K T F I) where
       go : (o : Option Held) → MatchOption o (IsRefused s InvalidHandle answer t) (Given t) → MatchOption o (IsRefused s InvalidHandle answer u) (Given u) → t ≡ u
       go None h k = refused_end s t u InvalidHandle InvalidHandle answer h k
       go (Some x) h k = gives_handle_end s t u to x.object (record { inherit = inherit; exclusive = false }) Duplicated Success answer h k
+  step_end s t u (Start p (MakeTemporary handle)) answer h k = turns_end s t u p handle false answer h k
+  step_end s t u (Start p (MakePermanent handle)) answer h k = turns_end s t u p handle true answer h k
   step_end s t u (Start p (NewProcess inherit)) answer h k =
       unless_end ((not (is_live s p), ProcessGone) ∷ (is_crowded s p inherit, InsufficientResources) ∷ []) s t u answer (Child t) (Child u) (λ a b. a.1 ∙ sym b.1) h k
     where

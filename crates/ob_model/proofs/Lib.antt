@@ -11,6 +11,7 @@ pub mod Splits
 pub mod Earliest
 pub mod Settled
 pub mod Soundness
+pub mod Turned
 pub mod Steps
 pub mod Vacant
 pub mod Ids
@@ -22,3 +23,10 @@ pub mod Free
 pub mod Total
 pub mod Runs
 pub mod Alone
+pub mod Unvalued
+pub mod AlikeHandles
+pub mod AlikeLeads
+pub mod AlikeHeld
+pub mod Alike
+pub mod AlikeExits
+pub mod AlikeSteps

@@ -68,7 +68,7 @@ drawn_more : {F I : Type 0} (n m : ℕ) (xs : List (Object F I)) → n ≤ m →
 drawn_more n m xs later all = All-weaker (λ x. x.id < n) (λ x. x.id < m) (λ x less. omega (arith, less, later)) xs all
 
 -- and stay so where a change leaves the numbers
-drawn_map : {F I : Type 0} (f : Object F I → Object F I) → ((x : Object F I) → (f x).id ≡ x.id) → (n : ℕ) (xs : List (Object F I)) → All (λ x. x.id < n) xs → All (λ x. x.id < n) (map f xs)
+pub drawn_map : {F I : Type 0} (f : Object F I → Object F I) → ((x : Object F I) → (f x).id ≡ x.id) → (n : ℕ) (xs : List (Object F I)) → All (λ x. x.id < n) xs → All (λ x. x.id < n) (map f xs)
 drawn_map f same n xs all = All-map (λ x. x.id < n) f xs (λ k d within. subst (λ (i : ℕ). i < n) (sym (same (get_or xs k d))) (all k d within))
 
 -- what stands among objects whose numbers are below one has such a number
@@ -223,16 +223,16 @@ module _ {K T F I : Type 0} where
       or_right (o == global_id) _ some
 
   -- what each map, row and handle names stays where all that stands does
-  sound_maps : (s t : State K T F I) → ((o : ℕ) → IsDirectory s o → IsDirectory t o) → (xs : List Process) → All (HasSoundMap s) xs → All (HasSoundMap t) xs
+  pub sound_maps : (s t : State K T F I) → ((o : ℕ) → IsDirectory s o → IsDirectory t o) → (xs : List Process) → All (HasSoundMap s) xs → All (HasSoundMap t) xs
   sound_maps s t stays xs each = All-weaker (HasSoundMap s) (HasSoundMap t) (λ x h. sound_map s t x (λ d e. stays d) h) xs each
 
-  sound_rows : (s t : State K T F I) → ((o : ℕ) → Stands s o → Stands t o) → (xs : List Row) → All (λ r. Stands s r.object) xs → All (λ r. Stands t r.object) xs
+  pub sound_rows : (s t : State K T F I) → ((o : ℕ) → Stands s o → Stands t o) → (xs : List Row) → All (λ r. Stands s r.object) xs → All (λ r. Stands t r.object) xs
   sound_rows s t stays xs each = All-weaker (λ r. Stands s r.object) (λ r. Stands t r.object) (λ r h. stays r.object h) xs each
 
-  sound_pending : (s t : State K T F I) → ((o : ℕ) → Stands s o → Stands t o) → (xs : List (Pending K)) → All (λ x. Stands s x.object) xs → All (λ x. Stands t x.object) xs
+  pub sound_pending : (s t : State K T F I) → ((o : ℕ) → Stands s o → Stands t o) → (xs : List (Pending K)) → All (λ x. Stands s x.object) xs → All (λ x. Stands t x.object) xs
   sound_pending s t stays xs each = All-weaker (λ x. Stands s x.object) (λ x. Stands t x.object) (λ x k. stays x.object k) xs each
 
-  sound_handles : (s t : State K T F I) → ((o : ℕ) → Stands s o → Stands t o) → (xs : List Held) → All (λ h. Stands s h.object) xs → All (λ h. Stands t h.object) xs
+  pub sound_handles : (s t : State K T F I) → ((o : ℕ) → Stands s o → Stands t o) → (xs : List Held) → All (λ h. Stands s h.object) xs → All (λ h. Stands t h.object) xs
   sound_handles s t stays xs each = All-weaker (λ h. Stands s h.object) (λ h. Stands t h.object) (λ h k. stays h.object k) xs each
 
   -- a new object leaves what stands, and stands itself

@@ -19,6 +19,7 @@ use Rattle.ob_model.specs.Procedures.{Procedures, Reason, Created, Inherited}
 use Rattle.ob_model.specs.Settle.{is_permanent, has_handle, is_kept, has_name, is_pinned, is_mapped, holds_kept, is_alive, IsSettled, deleted_all, settle}
 use Rattle.ob_model.specs.Grants.{open_refusal, opened_object, opened_body, with_open, with_handle}
 use Rattle.ob_model.specs.Closing.{is_handle, without_handle, closed_body, closed_object, closed_handle}
+use Rattle.ob_model.specs.Permanence.{turned_object, with_permanence, turned}
 use Rattle.ob_model.specs.Creates.{Spot, new_rows, created}
 use Rattle.ob_model.specs.Opening.{opening}
 use Rattle.ob_model.specs.Processes.{inherited_from, with_child, inherits_one, inherits, begun, ended}
@@ -28,6 +29,7 @@ use Rattle.ob_model.proofs.InOrder.{in_order-All, in_order-others}
 use Rattle.ob_model.proofs.Ended.{any_filter}
 use Rattle.ob_model.proofs.Settled.{alive_from_root, alive_from_handle, alive_from_name, kept_twice, objects_alive}
 use Rattle.ob_model.proofs.Soundness.{find_id-map, opened_object-id, opened_object-is_directory, closed_object-id, closed_object-is_directory}
+use Rattle.ob_model.proofs.Turned.{turned_object-id, turned_either, turned_others}
 use Rattle.ob_model.proofs.Leads.{step_leads}
 
 or_left : (a b : Bool) → a ≡ true → (a || b) ≡ true
@@ -82,6 +84,31 @@ module _ {K T F I : Type 0} (s u : State K T F I) (permanent : (o : ℕ) → is_
       (λ h. or_left _ (is_mapped u o) (or_left _ (is_pinned u o) (or_right' (o == root_id) (has_handle u o) h))))
       (any_grows (λ r. (r.directory == o) && is_kept s r) (λ r. (r.directory == o) && is_kept u r)
       (λ r. and_grows (r.directory == o) (is_kept s r) (r.directory == o) (is_kept u r) (λ h. h) (kept_grows r)))
+
+module _ {K T F I : Type 0} where
+  -- an object that is made permanent or temporary leaves a settled state where it has a handle
+  pub turned_settled : (s : State K T F I) (o : ℕ) (permanent : Bool) → IsSettled s → has_handle s o ≡ true → IsSettled (turned s o permanent)
+  turned_settled s o permanent settled mine =
+      turned_either IsSettled s o permanent settled
+      (record {
+        names = All-weaker (λ r. is_kept s r ≡ true) (λ r. is_kept u r ≡ true) (λ r h. kept_grows s u still (λ m h. h) (λ m h. h) (λ m h. h) [] (sym (append-nil s.rows)) r h) s.rows settled.names;
+        objects = All-map (λ x. is_alive u x.id ≡ true) (turned_object o permanent) s.objects
+            (All-weaker (λ x. is_alive s x.id ≡ true) (λ x. is_alive u (turned_object o permanent x).id ≡ true)
+            (λ x h. subst (λ n. is_alive u n ≡ true) (sym (turned_object-id o permanent x)) (alive_grows s u still (λ m h. h) (λ m h. h) (λ m h. h) [] (sym (append-nil s.rows)) x.id h))
+            s.objects settled.objects);
+      })
+    where
+      u : State K T F I
+      u = with_permanence s o permanent
+
+      still : (m : ℕ) → is_permanent s m ≡ true → (is_permanent u m || has_handle u m) ≡ true
+      still m was = go (m == o) refl
+        where
+          go : (b : Bool) → (m == o) ≡ b → (is_permanent u m || has_handle u m) ≡ true
+          go true same = or_right' (is_permanent u m) (has_handle u m) (subst (λ n. has_handle s n ≡ true) (sym (eqb-true m o same)) mine)
+          go false other =
+              or_left (is_permanent u m) (has_handle u m)
+              (ap (λ (x : Option (Object F I)). option_map_or (λ y. y.permanent) x false) (turned_others o m permanent other s.objects) ∙ was)
 
 module _ {K T F I : Type 0} (g : Procedures K T F I) where
   -- an open leaves what is permanent
@@ -214,6 +241,7 @@ module _ {K T F I : Type 0} (g : Procedures K T F I) where
   step_settled s t event answer settled h =
       step_leads g s IsSettled settled (λ body. record { names = settled.names; objects = settled.objects }) (λ p value o asked reason e. settling_settles (with_handle (with_open g s o reason) p value o asked.inherit))
       (λ p spot body attrs value lawful. settling_settles (created g s p spot body attrs value)) (λ h. settling_settles (closed_handle g s h))
+      (λ o permanent. settling_settles (turned s o permanent))
       (λ p inherit. settling_settles (begun g s p inherit)) (λ p. settling_settles (ended g s p)) t event answer h
 
 -- each name of the opening state names a permanent object, and each object is the root or has such a name

@@ -23,6 +23,7 @@ use Rattle.ob_model.specs.Procedures.{Procedures, Created, ParseAnswer, Itself, 
 use Rattle.ob_model.specs.Looks.{Look, At, Vacant, Parse, Refused, Mode, most_reparses, LooksUp}
 use Rattle.ob_model.specs.Settle.{settle, has_name}
 use Rattle.ob_model.specs.Closing.{closed_handle}
+use Rattle.ob_model.specs.Permanence.{turned}
 use Rattle.ob_model.specs.Enumeration.{Shown, enumerated}
 use Rattle.ob_model.specs.Refusals.{gives, answers}
 use Rattle.ob_model.specs.Creates.{created, dropped}
@@ -348,6 +349,32 @@ PageBehindARowThatWent =
     let left = settle numbers (closed_handle numbers with_three_entries (handle_to 8 4 1)) in
     HasPage with_three_entries 0 28 false MoreEntries (shown_a ∷ shown_b ∷ []) 7 × HasPage left 7 28 false Success (shown_c ∷ []) 8
     × HasPage left 0 28 false Success (shown_a ∷ shown_c ∷ []) 8
+
+-- ---- temporary and permanent objects
+
+-- object 7 is `\Device\Disk`, which is permanent, object 8 is `\Device\Tape`, which isn't, and object 9 has
+-- no name; process 1 has a handle to each
+abbrev pub with_three_held : Numbers
+with_three_held =
+    record (opening_with (standing 7 Directory ∷ temporary 8 ∷ temporary 9 ∷ []) (row_in 4 6 (codes "Disk") 7 ∷ row_in 4 7 (codes "Tape") 8 ∷ [])) {
+      handles = handle_to 7 4 1 ∷ handle_to 8 8 2 ∷ handle_to 9 12 3 ∷ [];
+      next_order = 4;
+    }
+
+-- an object that is made temporary keeps its name while it has a handle, and goes with its last one
+abbrev pub MadeTemporaryGoes : Type 0
+MadeTemporaryGoes =
+    let made = settle numbers (turned with_three_held 7 false) in
+    let left = settle numbers (closed_handle numbers made (handle_to 7 4 1)) in
+    (object_of made 7 ≡ Some (temporary 7)) × (has_name made 7 ≡ true) × (object_of left 7 ≡ None) × (has_name left 7 ≡ false)
+
+-- one that is made permanent stays with its name; without a name none is made permanent, nor is the root again
+abbrev pub MadePermanentStays : Type 0
+MadePermanentStays =
+    let made = settle numbers (turned with_three_held 8 true) in
+    let left = settle numbers (closed_handle numbers made (handle_to 8 8 2)) in
+    (object_of left 8 ≡ Some (standing 8 Directory)) × (has_name left 8 ≡ true) × (turned with_three_held 9 true ≡ with_three_held)
+    × (turned (turned with_three_held 1 false) 1 true ≡ turned with_three_held 1 false)
 
 -- ---- parse runs
 

@@ -8,6 +8,8 @@ use Rattle.ob_model.specs.declared.state.Object.{Object}
 use Rattle.ob_model.specs.declared.state.Row.{Row}
 use Rattle.ob_model.specs.declared.reply.Answer.{Answer}
 use Rattle.ob_model.specs.declared.reply.Event.{Event}
+use Rattle.ob_model.specs.declared.reply.Event.TheVariants.{Start}
+use Rattle.ob_model.specs.declared.command.Command.{Command}
 use Rattle.ob_model.specs.Names.{separator, joined, IsRest, IsSplit, substituted, ends_in_separator, begins_with_separator}
 use Rattle.ob_model.specs.State.{State, root_id, insert_object, object_of, is_live}
 use Rattle.ob_model.specs.Opening.{opening}
@@ -16,10 +18,12 @@ use Rattle.ob_model.specs.Procedures.{Procedures, Reason}
 use Rattle.ob_model.specs.Looks.{Look, Mode, Looks, LooksUp}
 use Rattle.ob_model.specs.Settle.{IsSettled, settle, is_permanent, has_handle, has_name}
 use Rattle.ob_model.specs.Closing.{is_handle, closed_handle}
+use Rattle.ob_model.specs.Permanence.{turned}
 use Rattle.ob_model.specs.Grants.{with_open, with_handle}
 use Rattle.ob_model.specs.Creates.{Spot, created}
 use Rattle.ob_model.specs.Sound.{IsSound, IsDirectory, Stands}
 use Rattle.ob_model.specs.Exclusive.{AreAlone}
+use Rattle.ob_model.specs.Alike.{AreAlike, AreAlikeCommands, AreAlikeAnswers, LeadOn, HoldOn, IsClosedBy, receiver}
 use Rattle.ob_model.specs.Processes.{handles_in, inherited_from, with_child, accepted, begun, ended, Duplicates}
 use Rattle.ob_model.specs.Step.{Step}
 use Rattle.ob_model.specs.Run.{Entry, RunFrom, Run}
@@ -208,6 +212,20 @@ module _ (K T F I : Type 0) where
   abbrev pub BeginsWithoutHandles : Type 0
   BeginsWithoutHandles = (g : Procedures K T F I) (s : State K T F I) (p : ℕ) → (begun g s p false).handles ≡ s.handles
 
+  -- an object that is made temporary isn't permanent, and one with a name that is made permanent is; making
+  -- one without a name permanent changes nothing, and every other object is left as it was
+  abbrev pub MadeTemporary : Type 0
+  MadeTemporary = (s : State K T F I) (o : ℕ) → is_permanent (turned s o false) o ≡ false
+
+  abbrev pub MadePermanent : Type 0
+  MadePermanent = (s : State K T F I) (o : ℕ) → Stands s o → has_name s o ≡ true → is_permanent (turned s o true) o ≡ true
+
+  abbrev pub NamelessIsLeft : Type 0
+  NamelessIsLeft = (s : State K T F I) (o : ℕ) → has_name s o ≡ false → turned s o true ≡ s
+
+  abbrev pub OthersAreLeft : Type 0
+  OthersAreLeft = (s : State K T F I) (o m : ℕ) (permanent : Bool) → m ≢ o → object_of (turned s o permanent) m ≡ object_of s m
+
   -- settling leaves a settled state, and a settled state as it is
   abbrev pub SettlingSettles : Type 0
   SettlingSettles = (g : Procedures K T F I) (s : State K T F I) → IsSettled (settle g s)
@@ -239,6 +257,11 @@ module _ (K T F I : Type 0) where
       (g : Procedures K T F I) (s : State K T F I) (p : ℕ) (spot : Spot) (body : Body F I) (attrs value : ℕ)
       → IsSettled s → IsSettled (created g s p spot body attrs value)
 
+  -- so does an object with a handle that is made permanent or temporary
+  abbrev pub TurnStaysSettled : Type 0
+  TurnStaysSettled =
+      (s : State K T F I) (o : ℕ) (permanent : Bool) → IsSettled s → has_handle s o ≡ true → IsSettled (turned s o permanent)
+
   -- and so does a close of a handle whose object's names stay, where all handles of its process and value
   -- lead to that object, which has a name if it is permanent
   abbrev pub CloseStaysSettled : Type 0
@@ -248,3 +271,24 @@ module _ (K T F I : Type 0) where
       → (is_permanent s h.object ≡ true → ((h.object == root_id) || has_name s h.object) ≡ true)
       → (is_permanent (closed_handle g s h) h.object || has_handle (closed_handle g s h) h.object) ≡ true
       → IsSettled (closed_handle g s h)
+
+  -- two sound states that are alike, and alike commands of a process: whatever steps the machine makes, the
+  -- answers are alike, and so are the states that it leaves
+  abbrev pub StepsStayAlike : Type 0
+  StepsStayAlike =
+      (g : Procedures K T F I) (s t : State K T F I) (p : ℕ) (one other : Command K) (a b : Answer) (u v : State K T F I)
+      → IsSound s → IsSound t → AreAlike s t → AreAlikeCommands s t p one other → Step g s (Start p one) a u → Step g t (Start p other) b v
+      → AreAlikeAnswers a b × AreAlike u v
+
+  -- and what led alike leads alike then, so that the next commands can be alike too
+  abbrev pub HandlesLeadOn : Type 0
+  HandlesLeadOn =
+      (g : Procedures K T F I) (s t : State K T F I) (p : ℕ) (one other : Command K) (a b : Answer) (u v : State K T F I)
+      → IsSound s → IsSound t → AreAlike s t → AreAlikeCommands s t p one other → Step g s (Start p one) a u → Step g t (Start p other) b v
+      → LeadOn s t p (receiver p one) a b u v
+
+  -- what a step doesn't close is held on, and the handle that it gives is new
+  abbrev pub HandlesHoldOn : Type 0
+  HandlesHoldOn =
+      (g : Procedures K T F I) (s : State K T F I) (p : ℕ) (command : Command K) (a : Answer) (u : State K T F I)
+      → IsSound s → Step g s (Start p command) a u → HoldOn s (IsClosedBy p command) (receiver p command) a u

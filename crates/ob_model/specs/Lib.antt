@@ -9,6 +9,7 @@ pub mod Grants
 pub mod Enumeration
 pub mod Calls
 pub mod Closing
+pub mod Permanence
 pub mod Types
 pub mod Refusals
 pub mod Opens
@@ -19,5 +20,6 @@ pub mod Step
 pub mod Run
 pub mod Sound
 pub mod Exclusive
+pub mod Alike
 pub mod Laws
 pub mod Examples

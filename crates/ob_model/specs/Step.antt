@@ -3,17 +3,17 @@
 --
 -- Sources: ZwCreateDirectoryObject, ZwOpenDirectoryObject, ZwCreateSymbolicLinkObject,
 -- ZwOpenSymbolicLinkObject, ZwQuerySymbolicLinkObject, ZwCreateEvent, ZwOpenEvent, ZwClose, ZwDuplicateObject,
--- ObQueryNameString and OBJECT_ATTRIBUTES structure (Windows Driver Kit); Windows Internals, Object Manager and
+-- ZwMakeTemporaryObject, ZwMakePermanentObject, ObQueryNameString and OBJECT_ATTRIBUTES structure (Windows Driver Kit); Windows Internals, Object Manager and
 -- Processes.
 -- The order of refusals is this profile.
-use Rattle.std.specs.Prelude.{◌≡◌, ℕ, not, [], ◌∷◌, List, Option, None, Some, MatchOption}
+use Rattle.std.specs.Prelude.{◌≡◌, ℕ, Bool, true, false, not, [], ◌∷◌, List, Option, None, Some, MatchOption}
 use Rattle.std.specs.Option.{option_and_then}
 use Rattle.ob_base.specs.declared.status.Status.TheVariants.{Success, InvalidHandle, ProcessGone}
 use Rattle.ob_base.specs.Handle.{key_of}
 use Rattle.ob_model.specs.declared.command.Place.{Place}
 use Rattle.ob_model.specs.declared.command.Place.TheVariants as place
 use Rattle.ob_model.specs.declared.command.Command.{Command}
-use Rattle.ob_model.specs.declared.command.Command.TheVariants.{CreateDirectory, CreateLink, CreateObject, OpenDirectory, OpenLink, OpenObject, Close, QueryLink, QueryName, Duplicate, NewProcess, ExitProcess}
+use Rattle.ob_model.specs.declared.command.Command.TheVariants.{CreateDirectory, CreateLink, CreateObject, OpenDirectory, OpenLink, OpenObject, Close, QueryLink, QueryName, Duplicate, MakeTemporary, MakePermanent, NewProcess, ExitProcess}
 use Rattle.ob_model.specs.declared.reply.Answer.{Answer}
 use Rattle.ob_model.specs.declared.reply.Event.{Event}
 use Rattle.ob_model.specs.declared.reply.Event.TheVariants.{Start}
@@ -25,6 +25,7 @@ use Rattle.ob_model.specs.Looks.{Look, LooksUp, most_reparses}
 use Rattle.ob_model.specs.Procedures.{Procedures, without_parse}
 use Rattle.ob_model.specs.Settle.{settle}
 use Rattle.ob_model.specs.Closing.{closed_handle}
+use Rattle.ob_model.specs.Permanence.{turned}
 use Rattle.ob_model.specs.Refusals.{answers, create_refusals, open_refusals, IsRefused, Unless}
 use Rattle.ob_model.specs.Creates.{Making, MakesDirectory, MakesLink, MakesObject, is_fit, create_mode, Makes, Creates}
 use Rattle.ob_model.specs.Opens.{Opens, type_wanted, open_mode}
@@ -78,6 +79,10 @@ module _ {K T F I : Type 0} (g : Procedures K T F I) where
   abbrev pub Closes : State K T F I → ℕ → ℕ → Answer → State K T F I → Type 0
   Closes s p handle answer t = WithHandle s p handle answer t (λ h. (answer ≡ answers Success) × (t ≡ settle g (closed_handle g s h)))
 
+  -- the object of a handle of the caller is made permanent or temporary
+  abbrev pub Turns : State K T F I → ℕ → ℕ → Bool → Answer → State K T F I → Type 0
+  Turns s p handle permanent answer t = WithHandle s p handle answer t (λ h. (answer ≡ answers Success) × (t ≡ settle g (turned s h.object permanent)))
+
   -- a step for a command that a process starts
   abbrev pub Starts : State K T F I → ℕ → Command K → Answer → State K T F I → Type 0
   Starts s p (CreateDirectory where_to attrs) answer t = CreatesAt s p where_to attrs MakesDirectory answer t
@@ -90,6 +95,8 @@ module _ {K T F I : Type 0} (g : Procedures K T F I) where
   Starts s p (QueryLink handle) answer t = QueriesLink s p handle answer t
   Starts s p (QueryName handle) answer t = QueriesName s p handle answer t
   Starts s p (Duplicate handle to inherit) answer t = Duplicates g s p handle to inherit answer t
+  Starts s p (MakeTemporary handle) answer t = Turns s p handle false answer t
+  Starts s p (MakePermanent handle) answer t = Turns s p handle true answer t
   Starts s p (NewProcess inherit) answer t = MakesChild g s p inherit answer t
   Starts s p ExitProcess answer t = Exits g s p answer t
 

@@ -20,9 +20,10 @@ pub enum Place {
 /// A command of a process. Flags are raw: a lookup and its refusals judge them. The commands are
 /// those of the Windows Driver Kit's `Zw` routines (`ZwCreateDirectoryObject`,
 /// `ZwCreateSymbolicLinkObject`, `ZwCreateEvent` and its like, `ZwOpenDirectoryObject`,
-/// `ZwOpenSymbolicLinkObject`, `ZwClose`, `ZwQuerySymbolicLinkObject`, `ZwDuplicateObject`) and of
-/// `ObQueryNameString`, without access masks, and the beginning and the end of a process (Windows
-/// Internals, Processes). `K` is the kind of an object of the set of types.
+/// `ZwOpenSymbolicLinkObject`, `ZwClose`, `ZwQuerySymbolicLinkObject`, `ZwDuplicateObject`,
+/// `ZwMakeTemporaryObject`, `ZwMakePermanentObject`) and of `ObQueryNameString`, without access masks, and
+/// the beginning and the end of a process (Windows Internals, Processes). `K` is the kind of an object of
+/// the set of types.
 #[derive(Debug, Drop)]
 pub enum Command<K> {
     /// Makes a directory at a place and opens a handle to it. Uses every flag but OPENLINK.
@@ -110,6 +111,18 @@ pub enum Command<K> {
         to: Proc,
         /// Whether a child of that process can inherit the new handle.
         inherit: bool,
+    },
+    /// Makes the object of a handle of the caller temporary: its name goes when it has no handle. The low
+    /// two bits of the value are ignored.
+    MakeTemporary {
+        /// The handle.
+        handle: Handle,
+    },
+    /// Makes the object of a handle of the caller permanent, where it has a name: then the name stays, also
+    /// without a handle. The low two bits of the value are ignored.
+    MakePermanent {
+        /// The handle.
+        handle: Handle,
     },
     /// Makes a child of the caller.
     NewProcess {

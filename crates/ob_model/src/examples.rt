@@ -26,6 +26,8 @@ ghost use Rattle.ob_model.specs.Examples.{
   PagesOfADirectory,
   MoreEntriesAreLeft,
   PageBehindARowThatWent,
+  MadeTemporaryGoes,
+  MadePermanentStays,
   ParseRunsEnd,
   CallsOfMadeAndClosed,
   CallsOfTwoCloses,
@@ -148,6 +150,18 @@ pub fn more_entries_are_left()
 /// Where the row goes that a page ended with, the next page begins behind it and leaves nothing out.
 pub fn page_behind_a_row_that_went()
     ensures { PageBehindARowThatWent }
+{}
+
+/// A permanent object that is made temporary keeps its name while it has a handle, and goes when its last one
+/// is closed.
+pub fn made_temporary_goes()
+    ensures { MadeTemporaryGoes }
+{}
+
+/// A temporary object that is made permanent stays with its name when its last handle is closed. One without a
+/// name isn't made permanent.
+pub fn made_permanent_stays()
+    ensures { MadePermanentStays }
 {}
 
 /// A parse run ends with what is made once its rest is used up, in two steps here; with a refusal or a

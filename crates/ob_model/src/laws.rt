@@ -41,6 +41,10 @@ ghost use Rattle.ob_model.specs.Laws.{
   EndedHoldsNothing,
   EndedIsGone,
   BeginsWithoutHandles,
+  MadeTemporary,
+  MadePermanent,
+  NamelessIsLeft,
+  OthersAreLeft,
   SettlingSettles,
   SettledStays,
   OpeningIsSettled,
@@ -48,7 +52,11 @@ ghost use Rattle.ob_model.specs.Laws.{
   GrantStaysSettled,
   CreateStaysSettled,
   ChildStaysSettled,
+  TurnStaysSettled,
   CloseStaysSettled,
+  StepsStayAlike,
+  HandlesLeadOn,
+  HandlesHoldOn,
 };
 
 /// A text has one split at each length.
@@ -199,6 +207,15 @@ pub fn child_begins_without_handles<K, T, F, I>()
     ensures { BeginsWithoutHandles K T F I }
 {}
 
+/// An object that is made temporary isn't permanent, and one with a name that is made permanent is. Making an
+/// object without a name permanent changes nothing, and every other object is left as it was.
+pub fn permanence_is_of_one_object<K, T, F, I>()
+    ensures temporary { MadeTemporary K T F I }
+    ensures permanent { MadePermanent K T F I }
+    ensures nameless { NamelessIsLeft K T F I }
+    ensures others { OthersAreLeft K T F I }
+{}
+
 /// Settling leaves a settled state, and leaves a settled state as it is.
 pub fn settling_settles<K, T, F, I>()
     ensures settled { SettlingSettles K T F I }
@@ -220,8 +237,29 @@ pub fn what_comes_stays<K, T, F, I>()
     ensures child { ChildStaysSettled K T F I }
 {}
 
+/// So does an object that is made permanent or temporary while it has a handle, as it has where a process
+/// asks for that by one: what loses its permanence goes with its last handle, and not before.
+pub fn what_turns_stays<K, T, F, I>()
+    ensures { TurnStaysSettled K T F I }
+{}
+
 /// Nor does a close let anything go where its object's names stay: it is permanent, or another handle
 /// leads to it.
 pub fn what_is_kept_stays<K, T, F, I>()
     ensures { CloseStaysSettled K T F I }
+{}
+
+/// What a process sees of the machine doesn't depend on which values new handles were given: from two sound
+/// states that differ in the values of handles alone, alike commands of one process get answers that differ in
+/// the values of handles alone, and leave such states again. Values that lead to a handle at the same place in
+/// both states go on to, and so do those of the handles that the answers give, and those that a child inherits.
+pub fn steps_stay_alike<K, T, F, I>()
+    ensures steps { StepsStayAlike K T F I }
+    ensures handles { HandlesLeadOn K T F I }
+{}
+
+/// A step leaves each handle that it doesn't close under the value that names it; the value of a handle that it
+/// gives was free; and the values that are told with a new process are those of its handles.
+pub fn handles_hold_on<K, T, F, I>()
+    ensures { HandlesHoldOn K T F I }
 {}

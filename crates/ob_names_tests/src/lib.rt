@@ -12,4 +12,6 @@ mod names;
 #[cfg(test)]
 mod plain;
 #[cfg(test)]
+mod recorder;
+#[cfg(test)]
 mod types;

@@ -25,9 +25,11 @@ fn laws_hold_at_a_concrete_set() {
     laws::processes_stay_sound::<u8, u16, u32, u64>();
     laws::ended_process_is_gone::<u8, u16, u32, u64>();
     laws::child_begins_without_handles::<u8, u16, u32, u64>();
+    laws::permanence_is_of_one_object::<u8, u16, u32, u64>();
     laws::settling_settles::<u8, u16, u32, u64>();
     laws::step_stays_settled::<u8, u16, u32, u64>();
     laws::what_comes_stays::<u8, u16, u32, u64>();
+    laws::what_turns_stays::<u8, u16, u32, u64>();
     laws::what_is_kept_stays::<u8, u16, u32, u64>();
     examples::opening_is_settled::<u8, u16, u32, u64>();
 }
@@ -60,6 +62,8 @@ fn laws_of_names_and_examples_are_called() {
     examples::pages_of_a_directory();
     examples::more_entries_are_left();
     examples::page_behind_a_row_that_went();
+    examples::made_temporary_goes();
+    examples::made_permanent_stays();
     examples::parse_runs_end();
     examples::calls_of_made_and_closed();
     examples::calls_of_two_closes();

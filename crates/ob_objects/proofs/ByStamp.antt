@@ -1,7 +1,8 @@
 -- Rows by rising stamps: what a sort of them keeps.
-use Rattle.std.proofs.Common.{◌≡◌, ◌∙◌, ℕ, ◌≤◌, ◌<◌, Bool, true, false, cond, nat_le, List, [], ◌∷◌, ◌++◌, filter, All, refl, ap, sym, arith, leb-true, leb-false, le-leb}
+use Rattle.std.proofs.Common.{◌≡◌, ◌∙◌, ℕ, zero, suc, ◌≤◌, ◌<◌, Bool, true, false, cond, nat_le, List, [], ◌∷◌, ◌++◌, filter, All, refl, ap, sym, arith, leb-true, leb-false, le-leb}
 use Rattle.std.proofs.lemmas.List.Elements.{All-nil, All-cons, All-head, All-tail, All-filter, All-weaker}
 use Rattle.std.proofs.lemmas.List.Kept.{AllPairs-cons}
+use Rattle.std.specs.List.{AllPairs}
 use Rattle.ob_model.specs.declared.state.Row.{Row}
 use Rattle.ob_objects.specs.Rows.{insert_row, by_stamp, AreByStamp}
 
@@ -144,3 +145,61 @@ by_stamp-last r (x ∷ xs) ys before behind =
 pub AreByStamp-from_Rises : (rows : List Row) → Rises rows → AreByStamp rows
 AreByStamp-from_Rises [] rises = λ i j d before within. absurd (omega (arith, within))
 AreByStamp-from_Rises (r ∷ rows) rises = AllPairs-cons ComesFirst r rows rises.0 (AreByStamp-from_Rises rows rises.1)
+
+-- ---- pairs, where it doesn't matter which comes first
+
+pub pairs_head : {X : Type 0} (R : X → X → Type 0) (x : X) (xs : List X) → AllPairs R (x ∷ xs) → All (R x) xs
+pairs_head R x xs pairs k d below = pairs zero (suc k) d (omega arith) (omega (arith, below))
+
+pub pairs_tail : {X : Type 0} (R : X → X → Type 0) (x : X) (xs : List X) → AllPairs R (x ∷ xs) → AllPairs R xs
+pairs_tail R x xs pairs i j d before below = pairs (suc i) (suc j) d (omega (arith, before)) (omega (arith, below))
+
+pub pairs_none : {X : Type 0} (R : X → X → Type 0) → AllPairs R []
+pairs_none R i j d before below = absurd (omega (arith, below))
+
+module _ (R : Row → Row → Type 0) (turned : (a b : Row) → R a b → R b a) where
+  -- one row more, wherever it stands
+  pairs-insert_row : (r : Row) (rows : List Row) → All (R r) rows → AllPairs R rows → AllPairs R (insert_row r rows)
+  pairs-insert_row r [] all pairs = AllPairs-cons R r [] all pairs
+  pairs-insert_row r (q ∷ rows) all pairs =
+      go (nat_le r.stamp q.stamp) (pairs-insert_row r rows (All-tail (R r) q rows all) (pairs_tail R q rows pairs))
+    where
+      go : (t : Bool) → AllPairs R (insert_row r rows) → AllPairs R (cond t (r ∷ q ∷ rows) (q ∷ insert_row r rows))
+      go true more = AllPairs-cons R r (q ∷ rows) all pairs
+      go false more =
+          AllPairs-cons R q (insert_row r rows) (All-insert_row (R q) r rows (turned r q (All-head (R r) q rows all)) (pairs_head R q rows pairs)) more
+
+  inserted_pairs : (r : Row) (rows : List Row) → AllPairs R (insert_row r rows) → All (R r) rows × AllPairs R rows
+  inserted_pairs r [] pairs = (All-nil (R r), pairs_none R)
+  inserted_pairs r (q ∷ rows) pairs = go (nat_le r.stamp q.stamp) pairs (inserted_pairs r rows)
+    where
+      go : (t : Bool) → AllPairs R (cond t (r ∷ q ∷ rows) (q ∷ insert_row r rows)) → (AllPairs R (insert_row r rows) → All (R r) rows × AllPairs R rows)
+          → All (R r) (q ∷ rows) × AllPairs R (q ∷ rows)
+      go true pairs more = (pairs_head R r (q ∷ rows) pairs, pairs_tail R r (q ∷ rows) pairs)
+      go false pairs more =
+          let parts = more (pairs_tail R q (insert_row r rows) pairs) in
+          let first = inserted_holds (R q) r rows (pairs_head R q (insert_row r rows) pairs) in
+          (All-cons (R r) q rows (turned q r first.0) parts.0, AllPairs-cons R q rows first.1 parts.1)
+
+  pub pairs-by_stamp : (rows : List Row) → AllPairs R rows → AllPairs R (by_stamp rows)
+  pairs-by_stamp [] pairs = pairs
+  pairs-by_stamp (r ∷ rows) pairs =
+      pairs-insert_row r (by_stamp rows) (All-by_stamp (R r) rows (pairs_head R r rows pairs)) (pairs-by_stamp rows (pairs_tail R r rows pairs))
+
+  pub by_stamp-pairs : (rows : List Row) → AllPairs R (by_stamp rows) → AllPairs R rows
+  by_stamp-pairs [] pairs = pairs
+  by_stamp-pairs (r ∷ rows) pairs =
+      let parts = inserted_pairs r (by_stamp rows) pairs in
+      AllPairs-cons R r rows (by_stamp-All (R r) rows parts.0) (by_stamp-pairs rows parts.1)
+
+  -- and in the middle of them
+  pub pairs-middle : (r : Row) (xs ys : List Row) → All (R r) (xs ++ ys) → AllPairs R (xs ++ ys) → AllPairs R (xs ++ r ∷ ys)
+  pairs-middle r [] ys all pairs = AllPairs-cons R r ys all pairs
+  pairs-middle r (x ∷ xs) ys all pairs =
+      AllPairs-cons R x (xs ++ r ∷ ys)
+      (All-middle (R x) r xs ys (turned r x (All-head (R r) x (xs ++ ys) all)) (pairs_head R x (xs ++ ys) pairs))
+      (pairs-middle r xs ys (All-tail (R r) x (xs ++ ys) all) (pairs_tail R x (xs ++ ys) pairs))
+    where
+      All-middle : (P : Row → Type 0) (r : Row) (xs ys : List Row) → P r → All P (xs ++ ys) → All P (xs ++ r ∷ ys)
+      All-middle P r [] ys here all = All-cons P r ys here all
+      All-middle P r (x ∷ xs) ys here all = All-cons P x (xs ++ r ∷ ys) (All-head P x (xs ++ ys) all) (All-middle P r xs ys here (All-tail P x (xs ++ ys) all))

@@ -1,6 +1,6 @@
 -- Objects and names that come and go: what each makes of the objects of a store, and how it is taken
 -- back.
-use Rattle.std.proofs.Common.{◌≡◌, ◌∙◌, ℕ, suc, ◌<◌, ◌==◌, Bool, true, false, cond, not, List, [], ◌∷◌, ◌++◌, filter, find, map, Option, None, Some, option_map, All, refl, ap, sym, subst, arith, append-nil, eq-eqb}
+use Rattle.std.proofs.Common.{◌≡◌, ◌≢◌, ◌∙◌, ℕ, suc, ◌<◌, ◌==◌, Bool, true, false, cond, not, List, [], ◌∷◌, ◌++◌, filter, find, map, Option, None, Some, option_map, All, refl, ap, sym, subst, arith, append-nil, eq-eqb}
 use Rattle.std.proofs.lemmas.Bool.Decides.{nat_tests}
 use Rattle.std.proofs.lemmas.List.Elements.{All-nil, All-cons, All-head, All-tail, All-weaker, filter-append}
 use Rattle.std.proofs.lemmas.List.Kept.{AllPairs-cons}
@@ -109,6 +109,7 @@ module _ {F I : Type 0} where
   store_with_object store id x is free none = record {
     rising = rising_with_entry store id x free is.rising;
     directories = directories_with_entry store id x (subst IsDir (sym none) none_is_dir) is.directories;
+    named_once = subst (AllPairs (λ a b. a.object ≢ b.object)) (sym (new_object_has_no_row store id x none)) is.named_once;
   }
 
   pub new_object_is_stored : NewObjectIsStored F I

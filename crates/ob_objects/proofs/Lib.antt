@@ -4,5 +4,7 @@ pub mod Written
 pub mod Bodies
 pub mod Shown
 pub mod Searches
+pub mod Stands
+pub mod LastBefore
 pub mod Follow
 pub mod Free

@@ -77,7 +77,7 @@ module _ {F I : Type 0} where
       go false there more = more
 
   -- a directory's entries are a directory's
-  entries_at-is_dir : (store : Entries F I) (d : ℕ) → All (λ e. IsDir (entries_in e.1.body)) store → IsDir (entries_at store d)
+  pub entries_at-is_dir : (store : Entries F I) (d : ℕ) → All (λ e. IsDir (entries_in e.1.body)) store → IsDir (entries_at store d)
   entries_at-is_dir [] d all = λ i j x before within. absurd (omega (arith, within))
   entries_at-is_dir (e ∷ store) d all =
       go (e.0 == d) (entries_at-is_dir store d (All-tail (λ (x : ℕ × StoredObject F I). IsDir (entries_in x.1.body)) e store all))
@@ -135,7 +135,7 @@ module _ {F I : Type 0} where
   -- ---- objects change
 
   -- a change that leaves the entries that lie in an object leaves the rows
-  same_rows : (store : Entries F I) (id : ℕ) (change : StoredObject F I → StoredObject F I)
+  pub same_rows : (store : Entries F I) (id : ℕ) (change : StoredObject F I → StoredObject F I)
       → ((x : StoredObject F I) → entries_in (change x).body ≡ entries_in x.body) → rows_in_turn (changed_at id change store) ≡ rows_in_turn store
   same_rows [] id change same = refl
   same_rows (e ∷ store) id change same = go (e.0 == id) (same_rows store id change same)
@@ -216,19 +216,19 @@ rows-push d (e ∷ es) entry rows = ap (λ rs. row_of d e ∷ rs) (rows-push d e
 module _ {F I : Type 0} where
   -- ---- a name more
 
-  named_entries : (entry : DirEntry) (body : StoredBody F I) → IsSome (directory_of body) → entries_in (body_with_name entry body) ≡ entries_in body ++ entry ∷ []
+  pub named_entries : (entry : DirEntry) (body : StoredBody F I) → IsSome (directory_of body) → entries_in (body_with_name entry body) ≡ entries_in body ++ entry ∷ []
   named_entries entry (Directory entries) there = refl
   named_entries entry (Link target) there = absurd (false≢true there)
   named_entries entry (Other face inner) there = absurd (false≢true there)
 
   -- the rows before the new one, and those behind it
-  record Splits (store : Entries F I) (d : ℕ) (entry : DirEntry) : Type 0 where
-    before : List Row
-    behind : List Row
-    without : rows_in_turn store ≡ before ++ behind
-    together : rows_in_turn (with_name store d entry) ≡ before ++ row_of d entry ∷ behind
+  pub record Splits (store : Entries F I) (d : ℕ) (entry : DirEntry) : Type 0 where
+    pub before : List Row
+    pub behind : List Row
+    pub without : rows_in_turn store ≡ before ++ behind
+    pub together : rows_in_turn (with_name store d entry) ≡ before ++ row_of d entry ∷ behind
 
-  named_splits : (store : Entries F I) (d : ℕ) (entry : DirEntry) → Differ store → IsSome (directory_at store d) → Splits store d entry
+  pub named_splits : (store : Entries F I) (d : ℕ) (entry : DirEntry) → Differ store → IsSome (directory_at store d) → Splits store d entry
   named_splits [] d entry differ there = absurd (false≢true there)
   named_splits (e ∷ store) d entry differ there = go (e.0 == d) refl there (named_splits store d entry differ.1)
     where
@@ -275,7 +275,7 @@ module _ {F I : Type 0} where
 
   -- ---- a name less
 
-  unnamed_entries : (stamp : ℕ) (body : StoredBody F I) → entries_in (body_without_name stamp body) ≡ filter (λ e. not (e.stamp == stamp)) (entries_in body)
+  pub unnamed_entries : (stamp : ℕ) (body : StoredBody F I) → entries_in (body_without_name stamp body) ≡ filter (λ e. not (e.stamp == stamp)) (entries_in body)
   unnamed_entries stamp (Directory entries) = refl
   unnamed_entries stamp (Link target) = refl
   unnamed_entries stamp (Other face inner) = refl
@@ -336,7 +336,7 @@ module _ {K T F I : Type 0} where
   opened_body_is g set reason (Link target) = refl
   opened_body_is g set reason (Other face inner) = refl
 
-  opened_entries : (g : Procedures K T F I) (set : T) (reason : Reason) (body : StoredBody F I) → entries_in (stored_opened g set reason body) ≡ entries_in body
+  pub opened_entries : (g : Procedures K T F I) (set : T) (reason : Reason) (body : StoredBody F I) → entries_in (stored_opened g set reason body) ≡ entries_in body
   opened_entries g set reason (Directory entries) = refl
   opened_entries g set reason (Link target) = refl
   opened_entries g set reason (Other face inner) = refl
@@ -347,7 +347,7 @@ module _ {K T F I : Type 0} where
   closed_body_is g set process_left system_left (Link target) = refl
   closed_body_is g set process_left system_left (Other face inner) = refl
 
-  closed_entries : (g : Procedures K T F I) (set : T) (process_left system_left : ℕ) (body : StoredBody F I) → entries_in (stored_closed g set process_left system_left body) ≡ entries_in body
+  pub closed_entries : (g : Procedures K T F I) (set : T) (process_left system_left : ℕ) (body : StoredBody F I) → entries_in (stored_closed g set process_left system_left body) ≡ entries_in body
   closed_entries g set process_left system_left (Directory entries) = refl
   closed_entries g set process_left system_left (Link target) = refl
   closed_entries g set process_left system_left (Other face inner) = refl

@@ -1,5 +1,5 @@
 pub mod Rows
-pub mod Store
 pub mod Named
+pub mod Store
 pub mod Changes
 pub mod Laws

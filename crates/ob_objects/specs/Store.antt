@@ -3,11 +3,12 @@
 --
 -- Sources: Windows Internals, Object Manager (object headers and bodies, object directories); the ids
 -- are this profile.
-use Rattle.std.specs.Prelude.{◌≡◌, ℕ, ◌==◌, List, [], ◌∷◌, ◌++◌, Option, None, Some, All, map}
+use Rattle.std.specs.Prelude.{◌≡◌, ◌≢◌, ℕ, ◌==◌, List, [], ◌∷◌, ◌++◌, Option, None, Some, All, map}
 use Rattle.std.specs.Arc.{arc_value}
-use Rattle.std.specs.List.{find}
+use Rattle.std.specs.BTreeMap.{is_at}
+use Rattle.std.specs.List.{AllPairs, find}
 use Rattle.std.specs.List.Sorted.{IsStrictlySortedBy}
-use Rattle.std.specs.Map.{keys_of}
+use Rattle.std.specs.Map.{keys_of, lookup}
 use Rattle.std.specs.Option.{option_map, option_and_then, unwrap_or}
 use Rattle.std.specs.Ordering.{nat_cmp}
 use Rattle.ob_model.specs.declared.state.Body.{Body}
@@ -17,10 +18,12 @@ use Rattle.ob_model.specs.declared.state.Row.{Row}
 use Rattle.ob_model.specs.State.{State}
 use Rattle.ob_dirs.specs.declared.entry.DirEntry.{DirEntry}
 use Rattle.ob_dirs.specs.Dir.{IsDir, row_of}
+use Rattle.ob_objects.specs.declared.named.Place.{Place}
 use Rattle.ob_objects.specs.declared.object.StoredBody.{StoredBody}
 use Rattle.ob_objects.specs.declared.object.StoredBody.TheVariants.{Directory, Link, Other}
 use Rattle.ob_objects.specs.declared.object.StoredObject.{StoredObject}
 use Rattle.ob_objects.specs.Rows.{by_stamp}
+use Rattle.ob_objects.specs.Named.{place_of}
 
 -- an entry of a directory: its stamp, its name and the object that it names
 abbrev pub NameEntry : Type 0
@@ -52,12 +55,6 @@ module _ {F I : Type 0} where
   abbrev pub entries_at : Entries F I → ℕ → List NameEntry
   entries_at store id = unwrap_or (directory_at store id) []
 
-  -- What holds of every store: the ids rise strictly, and the entries of each directory are a
-  -- directory's.
-  pub record IsStore (store : Entries F I) : Type 0 where
-    pub rising : IsStrictlySortedBy nat_cmp (keys_of store)
-    pub directories : All (λ e. IsDir (entries_in e.1.body)) store
-
   -- ---- the objects and the rows of the abstract state
 
   -- what a body is in the abstract state, where a directory's entries are rows
@@ -82,6 +79,22 @@ module _ {F I : Type 0} where
   -- the rows of all directories of a store, by rising stamps
   abbrev pub rows_of : Entries F I → List Row
   rows_of store = by_stamp (rows_in_turn store)
+
+  -- where the name of an object stands
+  abbrev pub place_at : Entries F I → ℕ → Option Place
+  place_at store id = option_map place_of (find (λ r. r.object == id) (rows_of store))
+
+  -- What holds of every store: the ids rise strictly, the entries of each directory are a directory's,
+  -- and no object has two names.
+  pub record IsStore (store : Entries F I) : Type 0 where
+    pub rising : IsStrictlySortedBy nat_cmp (keys_of store)
+    pub directories : All (λ e. IsDir (entries_in e.1.body)) store
+    pub named_once : AllPairs (λ a b. a.object ≢ b.object) (rows_of store)
+
+  -- what holds of a store beside the places that it keeps: for each object that where its name stands
+  pub record KeepsPlaces (store : Entries F I) (kept : List (ℕ × Place)) : Type 0 where
+    pub is_store : IsStore store
+    pub places : (id : ℕ) → lookup (is_at (nat_cmp id)) kept ≡ place_at store id
 
   -- the objects and the rows of the state are those of the store
   pub record Shows {K T : Type 0} (s : State K T F I) (store : Entries F I) : Type 0 where

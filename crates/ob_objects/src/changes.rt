@@ -2,8 +2,7 @@
 
 ghost use Rattle.std.specs.Prelude.{◌≡◌, ◌≢◌, ◌<◌, ◌==◌, None, Some};
 ghost use Rattle.std.specs.Prelude.{not, length, All, IsSome, IfOk, IfErr, OnErr};
-ghost use Rattle.std.specs.List.{list_any};
-ghost use Rattle.ob_dirs.specs.Dir.{IsDir};
+ghost use Rattle.std.specs.List.{find};
 ghost use Rattle.ob_model.specs.State.{is_directory_body};
 ghost use Rattle.ob_model.specs.Grants.{open_refusal_of, opened_set};
 ghost use Rattle.ob_model.specs.Closing.{closed_set};
@@ -14,18 +13,9 @@ ghost use Rattle.ob_objects.specs.Changes.{stored_opened, stored_closed};
 
 use crate::{StoredBody, StoredObject};
 use ob_base::{Fault, ObjId};
+use ob_dirs::DirEntry;
 use ob_names::NameBuf;
 use ob_types::{Reason, TypeSet, laws};
-
-/// How many entries lie in an object: what holds of a directory's entries holds of these.
-pub(crate) fn count_names<F, I>(stored: &StoredObject<F, I>) -> usize
-    ensures { IsDir (entries_in stored.now.body) }
-{
-    match &stored.body {
-        StoredBody::Directory(dir) => dir.len(),
-        _ => 0,
-    }
-}
 
 /// Whether an object is a directory.
 pub(crate) fn is_directory<F, I>(stored: &StoredObject<F, I>) -> bool
@@ -67,14 +57,15 @@ pub(crate) fn insert_name<F, I>(
     dir.insert(stamp, name, object)
 }
 
-/// Takes the entry of a stamp out of a directory; from any other object nothing is taken.
-pub(crate) fn remove_name<F, I>(stored: &mut StoredObject<F, I>, stamp: u64) -> bool
-    ensures there { result ≡ list_any (λ entry. entry.stamp == stamp) (entries_in stored.old.body) }
+/// Takes the entry of a stamp out of a directory and hands it back; from any other object nothing is
+/// taken.
+pub(crate) fn remove_name<F, I>(stored: &mut StoredObject<F, I>, stamp: u64) -> Option<DirEntry>
+    ensures there { result ≡ find (λ entry. entry.stamp == stamp) (entries_in stored.old.body) }
     ensures others { stored.new ≡ record stored.old { body = body_without_name stamp stored.old.body } }
 {
     match &mut stored.body {
         StoredBody::Directory(dir) => dir.remove(stamp),
-        _ => false,
+        _ => None,
     }
 }
 

@@ -6,8 +6,9 @@ mod changes;
 pub mod laws;
 mod named;
 mod object;
+mod places;
 mod store;
 
-pub use named::Named;
+pub use named::{Named, Place};
 pub use object::{StoredBody, StoredObject};
 pub use store::Store;

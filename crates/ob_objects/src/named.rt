@@ -1,11 +1,10 @@
 //! Names of objects, as a store tells them.
 
-ghost use Rattle.std.specs.Prelude.{◌≡◌, ◌==◌, nat_lt, true};
+ghost use Rattle.std.specs.Prelude.{◌≡◌, ◌==◌};
 ghost use Rattle.std.specs.List.{find};
-ghost use Rattle.std.specs.Option.{option_copied, option_map_or};
-ghost use Rattle.ob_dirs.specs.Dir.{IsDir};
+ghost use Rattle.std.specs.Option.{option_copied};
 ghost use Rattle.ob_objects.specs.Store.{entries_in};
-ghost use Rattle.ob_objects.specs.Named.{row_of_named, FindsStamp};
+ghost use Rattle.ob_objects.specs.Named.{row_of_named};
 
 use crate::{StoredBody, StoredObject};
 use ob_base::ObjId;
@@ -31,44 +30,24 @@ impl<'a> Named<'a> {
     }
 }
 
-/// The first entry of an object that names another one; none where no entry lies in it that does.
-pub(crate) fn first_entry<F, I>(stored: &StoredObject<F, I>, object: ObjId) -> Option<&DirEntry>
-    ensures found { option_copied result
-        ≡ find (λ entry. entry.object == object) (entries_in stored.now.body) }
-    ensures entries { IsDir (entries_in stored.now.body) }
+/// Where a name stands: the directory that its entry lies in, and the entry's stamp.
+///
+/// Source: Windows Internals, Object Manager: object directories; the stamps are this profile.
+#[derive(Clone, Copy, PartialEq, Eq, Debug)]
+pub struct Place {
+    /// The directory's id.
+    pub directory: ObjId,
+    /// The entry's stamp.
+    pub stamp: u64,
+}
+
+/// The entry of a stamp in an object; none where no entry of that stamp lies in it.
+pub(crate) fn entry_of<F, I>(stored: &StoredObject<F, I>, stamp: u64) -> Option<&DirEntry>
+    ensures { option_copied result
+        ≡ find (λ entry. entry.stamp == stamp) (entries_in stored.now.body) }
 {
     match &stored.body {
-        StoredBody::Directory(dir) => dir.as_slice().iter().find(|entry| entry.object == object),
+        StoredBody::Directory(dir) => dir.get(stamp),
         _ => None,
     }
-}
-
-/// Whether an entry comes before the best name so far: there is none, or one of greater stamp.
-pub(crate) fn comes_first(entry: &DirEntry, best: &Option<Named<'_>>) -> bool
-    ensures { result ≡ option_map_or (λ named. nat_lt entry.now.stamp named.entry.now.stamp) best.now true }
-{
-    match best {
-        Some(named) => entry.stamp < named.entry.stamp,
-        None => true,
-    }
-}
-
-/// The stamp of an entry of an object that names one which passes a test; none where no entry lies in
-/// it that does.
-pub(crate) fn stamp_where<F, I, P: Fn(ObjId) -> bool>(
-    stored: &StoredObject<F, I>,
-    test: &P,
-) -> Option<u64>
-    requires { P.IsAlwaysCallable test.now }
-    ensures { FindsStamp (λ id passed. P.post test.now id passed) (entries_in stored.now.body) result }
-{
-    let StoredBody::Directory(dir) = &stored.body else {
-        return None;
-    };
-    for entry in dir.as_slice() {
-        if test(entry.object) {
-            return Some(entry.stamp);
-        }
-    }
-    None
 }

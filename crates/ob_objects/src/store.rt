@@ -7,9 +7,9 @@ ghost use Rattle.std.specs.List.{find, list_any};
 ghost use Rattle.std.specs.Option.{option_copied, option_map, option_map_or};
 ghost use Rattle.ob_model.specs.State.{is_directory_body};
 ghost use Rattle.ob_types.specs.Told.{reason_of};
-ghost use Rattle.ob_objects.specs.Store.{IsStore, stored_at, directory_at, entries_at};
+ghost use Rattle.ob_objects.specs.Store.{IsStore, stored_at, directory_at, entries_in, entries_at, place_at};
 ghost use Rattle.ob_objects.specs.Store.{objects_of, rows_of};
-ghost use Rattle.ob_objects.specs.Named.{row_of_named, FindsName, FindsLast};
+ghost use Rattle.ob_objects.specs.Named.{row_of_named, IsLastBefore};
 ghost use Rattle.ob_objects.specs.Changes.{with_entry, without_object, with_name, without_name, with_permanence};
 ghost use Rattle.ob_objects.specs.Changes.{
   refusal_to_open,
@@ -19,7 +19,7 @@ ghost use Rattle.ob_objects.specs.Changes.{
   set_after_close,
 };
 
-use crate::{Named, StoredObject, changes, named};
+use crate::{Named, Place, StoredObject, changes, named, places};
 use ob_base::{Fault, ObjId};
 use ob_names::NameBuf;
 use ob_types::{Reason, TypeSet};
@@ -33,20 +33,24 @@ use std::marker::Model;
 /// A store says nothing of which object is the root, nor that a name's object is there: that is for
 /// the code that fills it.
 ///
+/// With each name a store keeps its place, under the object that it names, so that the name of an
+/// object is not searched for. No object has two names.
+///
 /// Source: Windows Internals, Object Manager: object headers and bodies; the ids are this profile.
 #[derive(Drop)]
 pub struct Store<T: TypeSet> {
     objects: BTreeMap<u64, StoredObject<T::Face, T::Inner>>,
+    places: BTreeMap<u64, Place>,
 }
 
 impl<T: TypeSet> Model for Store<T> {
-    ghost use Rattle.ob_objects.specs.Store.{Entries, IsStore};
+    ghost use Rattle.ob_objects.specs.Store.{Entries, KeepsPlaces};
 
     ghost Value = { Entries T.Face T.Inner };
 
     ghost view = { λ store. store.objects.entries };
 
-    ghost invariant = { λ store. IsStore store.objects.entries };
+    ghost invariant = { λ store. KeepsPlaces store.objects.entries store.places.entries };
 }
 
 impl<T: TypeSet> Store<T> {
@@ -56,6 +60,7 @@ impl<T: TypeSet> Store<T> {
     {
         Store {
             objects: BTreeMap::new(alloc),
+            places: BTreeMap::new(alloc),
         }
     }
 
@@ -123,6 +128,24 @@ impl<T: TypeSet> Store<T> {
         }
     }
 
+    /// Whether an object has a name. Takes no memory.
+    ///
+    /// Source: Windows Internals, Object Manager: object names.
+    pub fn has_name(&self, id: ObjId) -> bool
+        ensures { result ≡ list_any (λ row. row.object == id) (rows_of self.now) }
+    {
+        self.place_of(id).is_some()
+    }
+
+    /// Where the name of an object stands; `None` exactly where no name is for it. Takes no memory.
+    ///
+    /// Source: Windows Internals, Object Manager: object names; the stamps are this profile.
+    pub fn place_of(&self, id: ObjId) -> Option<Place>
+        ensures { result ≡ place_at self.now id }
+    {
+        self.places.get(&id.0).copied()
+    }
+
     /// The name of an object: of all its names the one of least stamp, and of two with one stamp that
     /// in the directory of the lesser id. `None` exactly where no name is for it. Takes no memory.
     ///
@@ -130,50 +153,31 @@ impl<T: TypeSet> Store<T> {
     pub fn name_of(&self, id: ObjId) -> Option<Named<'_>>
         ensures { option_map row_of_named result ≡ find (λ row. row.object == id) (rows_of self.now) }
     {
-        let mut earliest = None;
-        for (directory, stored) in &self.objects {
-            let Some(entry) = named::first_entry(stored, id) else {
-                continue;
-            };
-            if named::comes_first(entry, &earliest) {
-                let directory = ObjId(*directory);
-                earliest = Some(Named { directory, entry });
-            }
-        }
-        earliest
+        let place = self.place_of(id)?;
+        let stored = self.get(place.directory)?;
+        let entry = named::entry_of(stored, place.stamp)?;
+        Some(Named {
+            directory: place.directory,
+            entry,
+        })
     }
 
-    /// Some name whose object passes a test: its directory and its stamp. `None` exactly where no
-    /// name's object passes. A name may be for an object that isn't there. Takes no memory.
-    pub fn name_where<P: Fn(ObjId) -> bool>(&self, test: P) -> Option<(ObjId, u64)>
-        requires { P.IsAlwaysCallable test }
-        ensures { FindsName (λ id passed. P.post test id passed) (rows_of self.now) result }
-    {
-        for (directory, stored) in &self.objects {
-            if let Some(stamp) = named::stamp_where(stored, &test) {
-                return Some((ObjId(*directory), stamp));
-            }
-        }
-        None
-    }
-
-    /// Of the objects that pass a test the one of greatest id; `None` exactly where none passes.
+    /// The greatest id of an object below this one; `None` exactly where no object has a lesser id.
     /// Takes no memory.
-    pub fn last_where<P: Fn(ObjId) -> bool>(&self, test: P) -> Option<ObjId>
-        requires { P.IsAlwaysCallable test }
-        ensures { FindsLast (λ id passed. P.post test id passed) (objects_of self.now) result }
+    ///
+    /// Source: the ids are this profile.
+    pub fn last_before(&self, id: ObjId) -> Option<ObjId>
+        ensures { IsLastBefore id (objects_of self.now) result }
     {
-        for id in self.objects.keys().rev() {
-            let id = ObjId(*id);
-            if test(id) {
-                return Some(id);
-            }
-        }
-        None
+        let bound = id.0;
+        let Some((last, _)) = self.objects.range(..bound).next_back() else {
+            return None;
+        };
+        Some(ObjId(*last))
     }
 
     /// Stores an object under an id that no object has; it stands in order of ids, before the first of a
-    /// greater one.
+    /// greater one. A directory must be empty: names come one by one.
     ///
     /// The only fault is `Memory`; then the object is dropped and nothing has changed.
     ///
@@ -184,11 +188,11 @@ impl<T: TypeSet> Store<T> {
         object: StoredObject<T::Face, T::Inner>,
     ) -> Result<(), Fault>
         requires free { stored_at self.old id ≡ None }
+        requires empty { entries_in object.body ≡ [] }
         ensures put { IfOk result (λ _. self.new ≡ with_entry self.old id object) }
         ensures memory { IfErr result (λ fault. fault ≡ Fault.Memory) }
         ensures unchanged { OnErr result (self.new ≡ self.old) }
     {
-        let _ = changes::count_names(&object);
         self.objects.insert(id.0, object)?;
         Ok(())
     }
@@ -199,12 +203,14 @@ impl<T: TypeSet> Store<T> {
         ensures there { result ≡ stored_at self.old id }
         ensures others { self.new ≡ without_object self.old id }
     {
-        self.objects.remove(&id.0)
+        let stored = self.objects.remove(&id.0)?;
+        places::forget(&mut self.places, &stored);
+        Some(stored)
     }
 
     /// Puts a name for an object behind all entries of a directory, which must be there. That
     /// spelling must be free in it, and the stamp above those of its entries. The object may have
-    /// any id.
+    /// any id, but not a name already.
     ///
     /// The only fault is `Memory`, and then nothing has changed.
     ///
@@ -219,15 +225,20 @@ impl<T: TypeSet> Store<T> {
         requires there { IsSome (directory_at self.old directory) }
         requires free { All (λ entry. entry.name ≢ name) (entries_at self.old directory) }
         requires newest { All (λ entry. entry.stamp < stamp) (entries_at self.old directory) }
+        requires unnamed { All (λ row. row.object ≢ object) (rows_of self.old) }
         ensures last { IfOk result (λ _. self.new
             ≡ with_name self.old directory (record { stamp = stamp; name = name; object = object })) }
         ensures memory { IfErr result (λ fault. fault ≡ Fault.Memory) }
         ensures unchanged { OnErr result (self.new ≡ self.old) }
     {
+        self.places.insert(object.0, Place { directory, stamp })?;
         let Some(stored) = self.objects.get_mut(&directory.0) else {
             unreachable!();
         };
-        changes::insert_name(stored, stamp, name, object)?;
+        if let Err(fault) = changes::insert_name(stored, stamp, name, object) {
+            self.places.remove(&object.0);
+            return Err(fault);
+        }
         Ok(())
     }
 
@@ -242,7 +253,12 @@ impl<T: TypeSet> Store<T> {
         let Some(stored) = self.objects.get_mut(&directory.0) else {
             return false;
         };
-        changes::remove_name(stored, stamp)
+        let Some(entry) = changes::remove_name(stored, stamp) else {
+            return false;
+        };
+        let object = entry.object;
+        self.places.remove(&object.0);
+        true
     }
 
     /// Makes an object permanent or temporary; where there is none, nothing changes. Takes no memory.

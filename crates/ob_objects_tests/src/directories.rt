@@ -76,7 +76,7 @@ fn a_removed_entry_is_not_found(rt: HostRuntime) -> Result<(), Fail> {
     let mut dir = three(rt.alloc())?;
     for (stamp, goes, left) in [(4, false, 3), (3, true, 2), (3, false, 2)] {
         assert!(rt;
-            dir.remove(stamp) == goes && dir.len() == left,
+            dir.remove(stamp).is_some() == goes && dir.len() == left,
             "at {stamp}"
         );
     }
@@ -88,14 +88,31 @@ fn a_removed_entry_is_not_found(rt: HostRuntime) -> Result<(), Fail> {
     for (component, fold, want) in finds {
         assert!(rt; dir.find(component, fold) == want, "at {component:?}");
     }
-    assert!(rt; dir.remove(9) && dir.remove(5) && dir.is_empty());
+    assert!(rt; dir.remove(9).is_some() && dir.remove(5).is_some() && dir.is_empty());
+    Ok(())
+}
+
+#[test]
+fn an_entry_is_told_by_its_stamp(rt: HostRuntime) -> Result<(), Fail> {
+    let dir = three(rt.alloc())?;
+    let table = [
+        (3, Some(10)),
+        (5, Some(11)),
+        (9, Some(12)),
+        (4, None),
+        (10, None),
+    ];
+    for (stamp, wanted) in table {
+        let object = dir.get(stamp).map(|entry| entry.object.0);
+        assert!(rt; object == wanted, "at {stamp}");
+    }
     Ok(())
 }
 
 #[test]
 fn a_name_comes_back_as_the_newest(rt: HostRuntime) -> Result<(), Fail> {
     let mut dir = three(rt.alloc())?;
-    assert!(rt; dir.remove(3));
+    assert!(rt; dir.remove(3).is_some());
     put(rt.alloc(), &mut dir, 12, b"Foo", 13)?;
     let (exactly, folded) = (dir.find(b"Foo", false), dir.find(b"Foo", true));
     assert!(rt; exactly == Some((12, ObjId(13))) && folded == Some((9, ObjId(12))));

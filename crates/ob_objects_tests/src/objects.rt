@@ -1,12 +1,12 @@
 //! A small store, and each law at a concrete set of types.
 
 ghost use Rattle.std.specs.Prelude.{◌≡◌, [], None, Some, IfOk};
-ghost use Rattle.ob_objects.specs.Store.{stored_at, directory_at};
+ghost use Rattle.ob_objects.specs.Store.{stored_at, directory_at, entries_in, rows_of};
 
 use ob_base::ObjId;
 use ob_dirs::Dir;
 use ob_names::{Name, NameBuf};
-use ob_objects::{Store, StoredBody, StoredObject, laws};
+use ob_objects::{Place, Store, StoredBody, StoredObject, laws};
 use ob_plain::{Counting, Plain, PlainFace, PlainInner, PlainKind, Standard};
 use ob_types::{Reason, TypeSet};
 use std::alloc::Global;
@@ -27,7 +27,9 @@ fn temporary(body: StoredBody<PlainFace, PlainInner>) -> Stored
 }
 
 // An event that one handle may be open to.
-fn event(alloc: Global) -> Result<Stored, Fail> {
+fn event(alloc: Global) -> Result<Stored, Fail>
+    ensures { IfOk result (λ stored. entries_in stored.body ≡ []) }
+{
     let Ok((face, inner)) = Standard::make(alloc, PlainKind::Event, b"1") else {
         return Err(Fail::from("no event"));
     };
@@ -35,7 +37,9 @@ fn event(alloc: Global) -> Result<Stored, Fail> {
     Ok(temporary(StoredBody::Other { face, inner }))
 }
 
-fn link(alloc: Global, target: &[u8]) -> Result<Stored, Fail> {
+fn link(alloc: Global, target: &[u8]) -> Result<Stored, Fail>
+    ensures { IfOk result (λ stored. entries_in stored.body ≡ []) }
+{
     let target = NameBuf::from_name(alloc, Name::read(target)?)?;
     Ok(temporary(StoredBody::Link(target)))
 }
@@ -45,6 +49,7 @@ fn three(alloc: Global) -> Result<Store<Standard>, Fail>
     ensures directory { IfOk result (λ store. directory_at store 1 ≡ Some []) }
     ensures free { IfOk result (λ store. stored_at store 6 ≡ None) }
     ensures between { IfOk result (λ store. stored_at store 3 ≡ None) }
+    ensures unnamed { IfOk result (λ store. rows_of store ≡ []) }
 {
     let mut store = Store::new(alloc);
     store.insert(ObjId(1), temporary(StoredBody::Directory(Dir::new(alloc))))?;
@@ -126,8 +131,8 @@ fn names_come_and_go(rt: HostRuntime) -> Result<(), Fail> {
     Ok(())
 }
 
-// A store of two directories, 1 and 4; in the first a name of stamp 7, in the second one of stamp 3,
-// both for the object 5.
+// A store of two directories, 1 and 4; in the first a name of stamp 7 for the object 5, in the second
+// one of stamp 3 for the object 6.
 fn named(alloc: Global) -> Result<Store<Standard>, Fail> {
     let event = NameBuf::from_name(alloc, Name::read(b"Event")?)?;
     let old = NameBuf::from_name(alloc, Name::read(b"Old")?)?;
@@ -135,7 +140,7 @@ fn named(alloc: Global) -> Result<Store<Standard>, Fail> {
     store.insert(ObjId(1), temporary(StoredBody::Directory(Dir::new(alloc))))?;
     store.insert_name(ObjId(1), 7, event, ObjId(5))?;
     store.insert(ObjId(4), temporary(StoredBody::Directory(Dir::new(alloc))))?;
-    store.insert_name(ObjId(4), 3, old, ObjId(5))?;
+    store.insert_name(ObjId(4), 3, old, ObjId(6))?;
     Ok(store)
 }
 
@@ -148,32 +153,69 @@ fn is_named(store: &Store<Standard>, id: ObjId, directory: ObjId, name: &[u8]) -
 }
 
 #[test]
-fn the_first_name_is_told(rt: HostRuntime) -> Result<(), Fail> {
+fn names_are_told(rt: HostRuntime) -> Result<(), Fail> {
     let store = named(rt.alloc())?;
-    assert!(rt; is_named(&store, ObjId(5), ObjId(4), b"Old"));
+    assert!(rt; is_named(&store, ObjId(5), ObjId(1), b"Event"));
+    assert!(rt; is_named(&store, ObjId(6), ObjId(4), b"Old"));
     assert!(rt; store.name_of(ObjId(4)).is_none() && store.name_of(ObjId(9)).is_none());
     Ok(())
 }
 
+// A place, where one is told.
+fn place(directory: u64, stamp: u64) -> Option<Place> {
+    Some(Place {
+        directory: ObjId(directory),
+        stamp,
+    })
+}
+
 #[test]
-fn names_are_sought_by_their_objects(rt: HostRuntime) -> Result<(), Fail> {
+fn places_are_told(rt: HostRuntime) -> Result<(), Fail> {
     let store = named(rt.alloc())?;
-    let some = store.name_where(|id| id == ObjId(5));
-    let none = store.name_where(|id| id != ObjId(5));
-    let is_one = some == Some((ObjId(1), 7)) || some == Some((ObjId(4), 3));
+    let table = [(5, place(1, 7)), (6, place(4, 3)), (4, None), (9, None)];
+    for (id, wanted) in table {
+        assert!(rt; store.place_of(ObjId(id)) == wanted, "at {id}");
+        assert!(rt; store.has_name(ObjId(id)) == wanted.is_some(), "at {id}");
+    }
     let [first, second, event] = [1, 4, 5].map(|id| store.holds_names(ObjId(id)));
-    assert!(rt; is_one && none.is_none() && first && second && !event);
+    assert!(rt; first && second && !event);
     Ok(())
 }
 
 #[test]
-fn the_last_object_is_sought(rt: HostRuntime) -> Result<(), Fail> {
+fn a_removed_name_is_told_no_more(rt: HostRuntime) -> Result<(), Fail> {
+    let mut store = named(rt.alloc())?;
+    assert!(rt; !store.remove_name(ObjId(1), 3) && store.has_name(ObjId(5)));
+    assert!(rt; store.remove_name(ObjId(1), 7) && !store.has_name(ObjId(5)));
+    assert!(rt; store.name_of(ObjId(5)).is_none() && store.place_of(ObjId(5)).is_none());
+    assert!(rt; is_named(&store, ObjId(6), ObjId(4), b"Old"));
+    Ok(())
+}
+
+#[test]
+fn names_go_with_their_directory(rt: HostRuntime) -> Result<(), Fail> {
+    let mut store = named(rt.alloc())?;
+    assert!(rt; store.remove(ObjId(4)).is_some());
+    assert!(rt; !store.has_name(ObjId(6)) && store.name_of(ObjId(6)).is_none());
+    assert!(rt; is_named(&store, ObjId(5), ObjId(1), b"Event"));
+    Ok(())
+}
+
+#[test]
+fn objects_are_gone_through_from_the_last(rt: HostRuntime) -> Result<(), Fail> {
     let store = three(rt.alloc())?;
-    let last = store.last_where(|_| true);
-    let before = store.last_where(|id| id != ObjId(5));
-    let none = store.last_where(|id| id == ObjId(3));
-    let are_so = last == Some(ObjId(5)) && before == Some(ObjId(2)) && none.is_none();
-    assert!(rt; are_so && !store.holds_names(ObjId(1)));
+    let table = [
+        (9, Some(5)),
+        (5, Some(2)),
+        (2, Some(1)),
+        (1, None),
+        (0, None),
+    ];
+    for (id, wanted) in table {
+        let last = store.last_before(ObjId(id));
+        assert!(rt; last.map(|id| id.0) == wanted, "at {id}");
+    }
+    assert!(rt; !store.holds_names(ObjId(1)));
     Ok(())
 }
 
@@ -184,9 +226,7 @@ fn a_lower_id_stands_in_order(rt: HostRuntime) -> Result<(), Fail> {
     let mut store = three(alloc)?;
     store.insert(ObjId(3), temporary(StoredBody::directory(alloc)))?;
     assert!(rt; store.len() == 4 && store.is_directory(ObjId(3)) && !store.is_directory(ObjId(5)));
-    let last = store.last_where(|_| true);
-    let before = store.last_where(|id| id != ObjId(5));
-    let first = store.last_where(|id| id != ObjId(5) && id != ObjId(3));
+    let [last, before, first] = [9, 5, 3].map(|id| store.last_before(ObjId(id)));
     assert!(rt; [last, before, first] == [Some(ObjId(5)), Some(ObjId(3)), Some(ObjId(2))]);
     assert!(rt; store.remove(ObjId(3)).is_some());
     assert!(rt; store.get(ObjId(3)).is_none() && store.len() == 3);

@@ -1,2 +1,4 @@
 pub mod Digits
 pub mod Decimals
+pub mod FirstCalls
+pub mod Recording

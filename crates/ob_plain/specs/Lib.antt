@@ -1,3 +1,5 @@
 pub mod Limits
 pub mod Plain
 pub mod Counting
+pub mod Calls
+pub mod Recorder

@@ -20,7 +20,7 @@ use Rattle.ob_shell.specs.declared.run.Ending.TheVariants as ending
 use Rattle.ob_lines.specs.declared.form.Form.{Form}
 use Rattle.ob_lines.specs.Script.{Forms, BeginsWithLine, BeginsWithForms}
 use Rattle.ob_lines.proofs.Scripted.{HaveTexts, begins_more, goes_on}
-use Rattle.ob_shell.specs.Words.{Words, no_words, process_of}
+use Rattle.ob_requests.specs.Words.{Words, first_words}
 use Rattle.ob_shell.specs.Writing.{AppendsFront, Gathers}
 use Rattle.ob_shell.proofs.Gathered.{gathers_nothing, gathers_more, gathers_front, gathers_out, gathers_out_front}
 use Rattle.ob_shell.specs.Machine.{Standard, standard, Space, IsFresh}
@@ -50,7 +50,7 @@ pub is_fresh : (set : Standard) → opens_of set ≡ 0 → closes_of set ≡ 0 �
 is_fresh set o c d = record { no_opens = o; no_closes = c; no_deletes = d }
 
 -- at first nothing was run and gathered
-pub stands_first : (old : Option (List ℕ)) (has script : List ℕ) (words : Words) (first : Standard) (s : Space) → has ≡ [] → IsFresh first → words ≡ no_words → s ≡ opening first
+pub stands_first : (old : Option (List ℕ)) (has script : List ℕ) (words : Words) (first : Standard) (s : Space) → has ≡ [] → IsFresh first → words ≡ first_words → s ≡ opening first
     → StandsBehind old old has script script 0 words s
 stands_first old has script words first s none f w e = record {
   done = [];
@@ -85,8 +85,8 @@ sound_after : (form : Option (Form (List ℕ))) (number : ℕ) (words words' : W
     → IsSound s → IsSound s'
 sound_after form number words words' s s' outcome.Idle (l, w, e) n sound = subst IsSound (sym e) sound
 sound_after form number words words' s s' (outcome.Counted counts) (l, k, w, e) n sound = subst IsSound (sym e) sound
-sound_after form number words words' s s' (outcome.Replied reply) (p, r, l, (c, command, step, w)) n sound =
-    step_sound standard s s' (Start (process_of p) c) (Done reply) sound step
+sound_after form number words words' s s' (outcome.Replied reply) (p, r, l, ((c, command, step), w)) n sound =
+    step_sound standard s s' (Start (words.processes p) c) (Done reply) sound step
 sound_after form number words words' s s' outcome.NoLine d n sound = cc
 sound_after form number words words' s s' outcome.NoMemory d n sound = cc
 
@@ -119,10 +119,10 @@ runs_more script rest behind form number words words' s s' o done so_far count b
         let P : Space → Type 0 = λ x. RunFrom standard x count entries t in
         b.onward (form ∷ forms) entries t (output_line (number + 1) (counts_text counts) ++ output) end (subst P e run)
         (rw l (output, ap (λ (x : Counts). output_line (number + 1) (counts_text x) ++ output) k, same forms entries output end w e shows))
-    go (outcome.Replied reply) (p, r, l, (c, command, step, w)) n forms entries t output end run shows =
+    go (outcome.Replied reply) (p, r, l, ((c, command, step), w)) n forms entries t output end run shows =
         let Q : Words → Type 0 = λ x. Shows (number + 1 + 1) forms x s' entries output end in
-        b.onward (form ∷ forms) (entry_of count (process_of p) c reply ∷ entries) t (output_line (number + 1) (reply_text reply) ++ output) end (s', refl, step, run)
-        (rw l (inl (entry_of count (process_of p) c reply, entries, output, c, reply, s', command, refl, refl, refl, step, refl, refl, subst Q w shows)))
+        b.onward (form ∷ forms) (entry_of count (words.processes p) c reply ∷ entries) t (output_line (number + 1) (reply_text reply) ++ output) end (s', refl, step, run)
+        (rw l (inl (entry_of count (words.processes p) c reply, entries, output, c, reply, s', command, refl, refl, refl, step, refl, refl, subst Q w shows)))
     go outcome.NoLine h n forms entries t output end run shows = cc
     go outcome.NoMemory d n forms entries t output end run shows = cc
 

@@ -1,9 +1,9 @@
 pub mod Readers
 pub mod Writers
 pub mod Gathered
-pub mod Worded
 pub mod Told
 pub mod Answered
 pub mod Totals
 pub mod Behind
 pub mod Offsets
+pub mod AlikeShown

@@ -14,7 +14,8 @@ use Rattle.ob_model.specs.declared.reply.Answer.{Answer}
 use Rattle.ob_model.specs.declared.reply.Answer.TheVariants.{Done}
 use Rattle.ob_model.specs.declared.reply.Event.{Event}
 use Rattle.ob_model.specs.declared.reply.Event.TheVariants.{Start}
-use Rattle.ob_model.specs.declared.reply.Given.TheVariants.{Handle, Text, Process}
+use Rattle.ob_model.specs.declared.reply.Given.{Given}
+use Rattle.ob_model.specs.declared.reply.Given.TheVariants.{Nothing, Handle, Text, Process}
 use Rattle.ob_model.specs.declared.reply.Reply.{Reply}
 use Rattle.ob_model.specs.declared.state.Held.{Held}
 use Rattle.ob_model.specs.declared.state.Wanted.{Wanted}
@@ -31,16 +32,18 @@ use Rattle.ob_model.specs.Refusals.{gives, answers, IsRefused, Unless, create_re
 use Rattle.ob_model.specs.Opens.{GivesHandle as GivesHandleAt, OpensAt, Opens, asked_by, type_wanted, open_mode}
 use Rattle.ob_model.specs.Creates.{Making, MakesDirectory, MakesLink, MakesObject, is_fit, create_mode, type_made, Spot, room_refusals, make_refusal, body_made, created, dropped, Makes, Creates}
 use Rattle.ob_model.specs.Processes.{values_in, is_crowded, begun, ended}
+use Rattle.ob_model.specs.Permanence.{turned}
 use Rattle.ob_model.specs.Naming.{TellsName, TellsTarget, target_of, path_text}
 use Rattle.ob_model.specs.Step.{WithHandle, WithRoot, CreatesIn, CreatesAt, OpensName, Step}
 use Rattle.ob_lines.specs.declared.handle.Offset.{Offset}
 use Rattle.ob_lines.specs.declared.handle.Offset.TheVariants.{Zero, One, Two, Three}
 use Rattle.ob_lines.specs.declared.request.Request.{Request}
-use Rattle.ob_lines.specs.declared.request.Request.TheVariants.{CreateDirectory, CreateLink, CreateObject, OpenDirectory, OpenLink, OpenObject, Close, QueryLink, QueryName}
-use Rattle.ob_shell.specs.Words.{Words, with_word}
+use Rattle.ob_requests.specs.Words.{Words, with_process, with_words, with_word, without_words, handed_on, is_among}
 use Rattle.ob_shell.specs.Machine.{standard}
-use Rattle.ob_shell.specs.Commands.{is_success, given_handle, value_after}
-use Rattle.ob_lines.specs.Grammar.{word_of}
+use Rattle.ob_requests.specs.Commands.{is_success, given_handle, with_child, changed, words_after}
+use Rattle.ob_lines.specs.declared.change.Change.{Change}
+use Rattle.ob_lines.specs.declared.change.Change.TheVariants as change
+use Rattle.ob_lines.specs.Changes.{change_of}
 use Rattle.ob_lines.specs.Parts.{offset_value}
 use Rattle.ob_shell.specs.Offsets.{HoldHandles, OffsetsAreAddedInFull}
 
@@ -200,6 +203,12 @@ module _ {K T F I : Type 0} (g : Procedures K T F I) where
       go : (o : Option Held) → MatchOption o (IsRefused s InvalidHandle answer t) Given → GivesHandle answer
       go None h = refused_gives s t InvalidHandle answer h
       go (Some x) h = gives_handle_gives s t to x.object (record { inherit = inherit; exclusive = false }) Duplicated Success answer h
+  step_gives s t (Start p (command.MakeTemporary handle)) answer h =
+      with_handle_gives s t p handle answer (λ x. (answer ≡ answers Success) × (t ≡ settle g (turned s x.object false)))
+      (λ x does. subst GivesHandle (sym does.0) (omega arith)) h
+  step_gives s t (Start p (command.MakePermanent handle)) answer h =
+      with_handle_gives s t p handle answer (λ x. (answer ≡ answers Success) × (t ≡ settle g (turned s x.object true)))
+      (λ x does. subst GivesHandle (sym does.0) (omega arith)) h
   step_gives s t (Start p (command.NewProcess inherit)) answer h =
       unless_gives ((not (is_live s p), ProcessGone) ∷ (is_crowded s p inherit, InsufficientResources) ∷ []) s t answer
       (let u = begun g s p inherit in (answer ≡ gives Success (Process s.next_process (values_in u s.next_process))) × (t ≡ settle g u))
@@ -207,30 +216,54 @@ module _ {K T F I : Type 0} (g : Procedures K T F I) where
   step_gives s t (Start p command.ExitProcess) answer h =
       unless_gives ((not (is_live s p), ProcessGone) ∷ []) s t answer ((answer ≡ answers Success) × (t ≡ settle g (ended g s p))) (λ does. subst GivesHandle (sym does.0) (omega arith)) h
 
--- the value of a request's word stays a handle
-value_kept : (request : Request (List ℕ)) (reply : Reply) (before : ℕ) → given_handle reply.given ≤ greatest_handle → before ≤ greatest_handle
-    → value_after request reply before ≤ greatest_handle
-value_kept (CreateDirectory place attrs word) reply before given had = given
-value_kept (CreateLink place attrs target word) reply before given had = given
-value_kept (CreateObject kind place attrs args word) reply before given had = given
-value_kept (OpenDirectory name attrs word) reply before given had = given
-value_kept (OpenLink name attrs word) reply before given had = given
-value_kept (OpenObject want name attrs word) reply before given had = given
-value_kept (Close handle) reply before given had = go (is_success reply.status)
+-- all words of a process are set to handles, and one of them is
+with_words_kept : (words : Words) (process : ℕ) (values : List ℕ → ℕ) → HoldHandles words → ((word : List ℕ) → values word ≤ greatest_handle)
+    → HoldHandles (with_words words process values)
+with_words_kept words process values had small p w = go (eqb process p)
   where
-    go : (closed : Bool) → cond closed 0 before ≤ greatest_handle
-    go true = omega arith
-    go false = had
-value_kept (QueryLink handle) reply before given had = had
-value_kept (QueryName handle) reply before given had = had
-
--- so do all words where one is set to a handle
-with_word_kept : (words : Words) (process : ℕ) (word : List ℕ) (value : ℕ) → HoldHandles words → value ≤ greatest_handle → HoldHandles (with_word words process word value)
-with_word_kept words process word value had small p w = go (eqb process p && bytes_eq word w)
-  where
-    go : (here : Bool) → cond here value (words p w) ≤ greatest_handle
-    go true = small
+    go : (here : Bool) → cond here values (words.values p) w ≤ greatest_handle
+    go true = small w
     go false = had p w
+
+with_word_kept : (words : Words) (process : ℕ) (word : List ℕ) (value : ℕ) → HoldHandles words → value ≤ greatest_handle → HoldHandles (with_word words process word value)
+with_word_kept words process word value had small = with_words_kept words process _ had (λ w. go w (bytes_eq word w))
+  where
+    go : (w : List ℕ) (here : Bool) → cond here value (words.values process w) ≤ greatest_handle
+    go w true = small
+    go w false = had process w
+
+without_words_kept : (words : Words) (process : ℕ) → HoldHandles words → HoldHandles (without_words words process)
+without_words_kept words process had = with_words_kept words process _ had (λ w. omega arith)
+
+-- so are those of a child
+with_child_kept : (words : Words) (parent : ℕ) (word : List ℕ) (inherit : Bool) (given : Given) → HoldHandles words → HoldHandles (with_child words parent word inherit given)
+with_child_kept words parent word inherit (Process process handles) had =
+    with_words_kept (with_process words word process) process _ had (λ w. go w (inherit && is_among handles (words.values parent w)))
+  where
+    go : (w : List ℕ) (here : Bool) → cond here (words.values parent w) 0 ≤ greatest_handle
+    go w true = had parent w
+    go w false = omega arith
+with_child_kept words parent word inherit Nothing had = had
+with_child_kept words parent word inherit (Handle handle) had = had
+with_child_kept words parent word inherit (Text text) had = had
+
+-- a reply that gives a handle leaves handles
+changed_kept : (change : Change (List ℕ)) (process : ℕ) (reply : Reply) (words : Words) → HoldHandles words → given_handle reply.given ≤ greatest_handle
+    → HoldHandles (changed change process reply words)
+changed_kept change.Nothing process reply words had given = had
+changed_kept (change.Sets word) process reply words had given = with_word_kept words process word _ had given
+changed_kept (change.SetsFor to word) process reply words had given = with_word_kept words (words.processes to) word _ had given
+changed_kept (change.GivesUp word) process reply words had given = go (is_success reply.status)
+  where
+    go : (done : Bool) → HoldHandles (cond done (with_word words process word 0) words)
+    go true = with_word_kept words process word 0 had (omega arith)
+    go false = had
+changed_kept change.GivesAllUp process reply words had given = go (is_success reply.status)
+  where
+    go : (done : Bool) → HoldHandles (cond done (without_words words process) words)
+    go true = without_words_kept words process had
+    go false = had
+changed_kept (change.SetsProcess word inherit) process reply words had given = with_child_kept words process word inherit reply.given had
 
 -- a sum of such a value and an offset is below the bound
 sum_exact : (value : ℕ) (offset : Offset) → value ≤ greatest_handle → min (value + offset_value offset) 4294967295 ≡ value + offset_value offset
@@ -243,7 +276,6 @@ pub added_in_full : OffsetsAreAddedInFull
 added_in_full = record {
   first = λ process word. omega arith;
   kept = λ request process c reply words s s' had step.
-      with_word_kept words process (word_of request) (value_after request reply (words process (word_of request))) had
-      (value_kept request reply (words process (word_of request)) (step_gives standard s s' (Start process c) (Done reply) step) (had process (word_of request)));
-  exact = λ handle process words had. sum_exact (words process handle.word) handle.offset (had process handle.word);
+      changed_kept (change_of request) process reply words had (step_gives standard s s' (Start process c) (Done reply) step);
+  exact = λ handle process words had. sum_exact (words.values process handle.word) handle.offset (had process handle.word);
 }

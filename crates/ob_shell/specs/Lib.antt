@@ -1,9 +1,8 @@
 pub mod Fault
 pub mod Reading
 pub mod Writing
-pub mod Words
 pub mod Machine
-pub mod Commands
 pub mod Shown
 pub mod Running
 pub mod Offsets
+pub mod Alike

@@ -11,20 +11,20 @@ use Rattle.ob_model.specs.Step.{Step}
 use Rattle.ob_plain.specs.declared.plain.PlainKind.{PlainKind}
 use Rattle.ob_lines.specs.declared.handle.HandleForm.{HandleForm}
 use Rattle.ob_lines.specs.declared.request.Request.{Request}
-use Rattle.ob_shell.specs.Words.{Words, no_words}
+use Rattle.ob_requests.specs.Words.{Words, first_words}
 use Rattle.ob_shell.specs.Machine.{standard, Space}
-use Rattle.ob_shell.specs.Commands.{handle_meant, words_after}
+use Rattle.ob_requests.specs.Commands.{handle_meant, words_after}
 use Rattle.ob_lines.specs.Parts.{offset_value}
 
 -- no word holds more than the greatest handle value
 abbrev pub HoldHandles : Words → Type 0
-HoldHandles words = (process : ℕ) (word : List ℕ) → words process word ≤ greatest_handle
+HoldHandles words = (process : ℕ) (word : List ℕ) → words.values process word ≤ greatest_handle
 
--- at first no word does, and none does after a step whose reply sets the word of a request; and with
+-- at first no word does, and none does after a step whose reply changes words; and with
 -- such words a handle is the sum of its word's value and what is added to it
 pub record OffsetsAreAddedInFull : Type 0 where
-  pub first : HoldHandles no_words
+  pub first : HoldHandles first_words
   pub kept : (request : Request (List ℕ)) (process : ℕ) (c : Command PlainKind) (reply : Reply) (words : Words) (s s' : Space) → HoldHandles words
       → Step standard s (Start process c) (Done reply) s' → HoldHandles (words_after request process reply words)
   pub exact : (handle : HandleForm (List ℕ)) (process : ℕ) (words : Words) → HoldHandles words
-      → handle_meant handle (words process) ≡ words process handle.word + offset_value handle.offset
+      → handle_meant handle (words.values process) ≡ words.values process handle.word + offset_value handle.offset

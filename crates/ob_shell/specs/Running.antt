@@ -13,27 +13,22 @@ use Rattle.ob_shell.specs.declared.line.Outcome.{Outcome}
 use Rattle.ob_shell.specs.declared.line.Outcome.TheVariants as outcome
 use Rattle.ob_shell.specs.declared.run.Ending.{Ending}
 use Rattle.ob_shell.specs.declared.run.Ending.TheVariants as ending
-use Rattle.ob_lines.specs.Grammar.{word_of}
-use Rattle.ob_shell.specs.Words.{Words, with_value, process_of}
+use Rattle.ob_requests.specs.Words.{Words}
 use Rattle.ob_shell.specs.Machine.{standard, Space, counts_of}
-use Rattle.ob_shell.specs.Commands.{IsCommand, value_after, words_after}
+use Rattle.ob_requests.specs.Commands.{IsCommand, words_after}
 use Rattle.ob_output.specs.Printed.{output_line, reply_text, counts_text}
 use Rattle.ob_shell.specs.Shown.{Plays, PlaysFirst, PlaysPartTo}
 use Rattle.ob_shell.specs.Writing.{Gathers}
 use Rattle.ob_shell.specs.declared.fault.ShellFault.{ShellFault}
 use Rattle.ob_shell.specs.declared.fault.ShellFault.TheVariants as fault
 
--- a request of a process was answered by a step of the machine, which left these words and states
-abbrev pub IsAnswered : Request (List ℕ) → ℕ → Words → Space → Reply → Words → Space → Type 0
-IsAnswered request process words s reply words' s' =
-    (c : Command PlainKind) × IsCommand request (words process) c × Step standard s (Start process c) (Done reply) s'
-    × (words' ≡ words_after request process reply words)
+-- a request of a process was asked with these words, and answered by a step of the machine
+abbrev pub IsAsked : Request (List ℕ) → ℕ → Words → Space → Reply → Space → Type 0
+IsAsked request process words s reply s' = (c : Command PlainKind) × IsCommand request words process c × Step standard s (Start process c) (Done reply) s'
 
--- the same, as the values of that process's words tell it
-abbrev pub IsAnsweredAlone : Request (List ℕ) → ℕ → (List ℕ → ℕ) → Space → Reply → (List ℕ → ℕ) → Space → Type 0
-IsAnsweredAlone request process values s reply values' s' =
-    (c : Command PlainKind) × IsCommand request values c × Step standard s (Start process c) (Done reply) s'
-    × (values' ≡ with_value values (word_of request) (value_after request reply (values (word_of request))))
+-- so it was, and the reply left these words
+abbrev pub IsAnswered : Request (List ℕ) → ℕ → Words → Space → Reply → Words → Space → Type 0
+IsAnswered request process words s reply words' s' = IsAsked request process words s reply s' × (words' ≡ words_after request process reply words)
 
 -- what became of a line of this form, and what it left; none: a line that is no script line
 abbrev pub IsDone : Option (Form (List ℕ)) → Words → Space → Outcome → Words → Space → Type 0
@@ -41,7 +36,7 @@ IsDone form words s outcome.Idle words' s' = (form ≡ Some Nothing) × (words' 
 IsDone form words s (outcome.Counted counts) words' s' = (form ≡ Some Stat) × (counts ≡ counts_of s) × (words' ≡ words) × (s' ≡ s)
 IsDone form words s (outcome.Replied reply) words' s' =
     (process : List ℕ) × (request : Request (List ℕ)) × (form ≡ Some (Asks process request))
-    × IsAnswered request (process_of process) words s reply words' s'
+    × IsAnswered request (words.processes process) words s reply words' s'
 IsDone form words s outcome.NoLine words' s' = form ≡ None
 IsDone form words s outcome.NoMemory words' s' = (process : List ℕ) × (request : Request (List ℕ)) × (form ≡ Some (Asks process request))
 

@@ -16,9 +16,9 @@ use Rattle.ob_lines.specs.declared.form.Form.TheVariants.{Nothing, Stat, Asks}
 use Rattle.ob_shell.specs.declared.run.Ending.{Ending}
 use Rattle.ob_shell.specs.declared.run.Ending.TheVariants as ending
 use Rattle.ob_lines.specs.Script.{Forms, BeginsWithForms}
-use Rattle.ob_shell.specs.Words.{Words, no_words, process_of}
+use Rattle.ob_requests.specs.Words.{Words, first_words}
 use Rattle.ob_shell.specs.Machine.{Standard, standard, Space, IsFresh, counts_of}
-use Rattle.ob_shell.specs.Commands.{IsCommand, words_after}
+use Rattle.ob_requests.specs.Commands.{IsCommand, words_after}
 use Rattle.ob_output.specs.Printed.{output_line, reply_text, counts_text}
 
 -- the entries of a run of the machine that a script asks for
@@ -36,10 +36,10 @@ ShowsForm number Stat words s entries output end Rest =
     (output' : List ℕ) × (output ≡ output_line number (counts_text (counts_of s)) ++ output') × Rest words s entries output'
 ShowsForm number (Asks process request) words s entries output end Rest =
     ((entry : Entry PlainKind) × (entries' : Entries) × (output' : List ℕ) × (c : Command PlainKind) × (reply : Reply) × (s' : Space)
-    × IsCommand request (words (process_of process)) c × (entry.seat ≡ 0)
-    × (entry.event ≡ Start (process_of process) c) × (entry.answer ≡ Done reply) × Step standard s entry.event entry.answer s'
+    × IsCommand request words (words.processes process) c × (entry.seat ≡ 0)
+    × (entry.event ≡ Start (words.processes process) c) × (entry.answer ≡ Done reply) × Step standard s entry.event entry.answer s'
     × (entries ≡ entry ∷ entries') × (output ≡ output_line number (reply_text reply) ++ output')
-    × Rest (words_after request (process_of process) reply words) s' entries' output')
+    × Rest (words_after request (words.processes process) reply words) s' entries' output')
     ⊎ ((entries ≡ []) × (output ≡ output_line number (codes "want of memory")) × (end ≡ ending.NoMemoryAt number))
 
 -- Lines of these forms, the first of this number, show the entries of a run and print the output, with
@@ -57,7 +57,7 @@ Shows number (None ∷ forms) words s entries output end =
 abbrev pub PlaysForms : Forms → List ℕ → Ending → Type 0
 PlaysForms forms output end =
     (first : Standard) × (entries : Entries) × (state : Space) × IsFresh first × Run standard first entries state
-    × Shows 1 forms no_words (opening first) entries output end
+    × Shows 1 forms first_words (opening first) entries output end
 
 -- A script plays so: its lines from the first on, as far as the run goes, do. A run that is done went
 -- through them all.

@@ -1,26 +1,18 @@
 //! One line of a script.
 
-ghost use Rattle.std.specs.Prelude.{◌≡◌, ◌<◌, length, IfOk, IfSome};
-ghost use Rattle.ob_model.specs.declared.reply.Event.TheVariants.{Start};
-ghost use Rattle.ob_model.specs.declared.reply.Answer.TheVariants.{Done};
-ghost use Rattle.ob_model.specs.Step.{Step};
+ghost use Rattle.std.specs.Prelude.{◌≡◌, IfOk, IfSome};
 ghost use Rattle.ob_lines.specs.Grammar.{HasTexts, FormHasTexts, form_seen, request_seen};
 ghost use Rattle.ob_lines.specs.Script.{found_seen};
-ghost use Rattle.ob_shell.specs.Words.{values_in, values_of};
-ghost use Rattle.ob_shell.specs.Machine.{standard};
-ghost use Rattle.ob_shell.specs.Commands.{value_after, given_handle};
-ghost use Rattle.ob_shell.specs.Running.{IsAnsweredAlone, IsDone};
+ghost use Rattle.ob_requests.specs.Tables.{words_in};
+ghost use Rattle.ob_shell.specs.Running.{IsAnswered, IsDone};
 
-use crate::asked::{Asker, command_of};
+use crate::asking::{Space, ask, begin_child, give_all_up, give_up, set_word};
 use crate::counts::counts_of;
-use crate::words::{Table, process_of, set_at, slot_of, value_at};
-use ob_base::{Fault, Handle, Proc, Status};
-use ob_core::{Core, OpenTable, Started};
-use ob_lines::{Form, Request, word_of};
-use ob_model::{Command, Given, Reply};
+use ob_base::{Fault, Proc};
+use ob_lines::{Change, Form, Request, change_of};
+use ob_model::Reply;
 use ob_output::Counts;
-use ob_plain::{PlainKind, Standard};
-use std::alloc::Global;
+use ob_requests::Words;
 
 // What became of a line.
 #[derive(Debug, Drop)]
@@ -37,31 +29,18 @@ pub enum Outcome {
     NoMemory,
 }
 
-// Runs a line of this form; none: a line that is no script line. Each process that is spoken of has a
-// table of its words.
-pub fn perform(
-    alloc: Global,
-    core: &mut Core<Standard, OpenTable>,
-    words: &mut [Table],
-    form: Option<Form<&[u8]>>,
-) -> Outcome
+// Runs a line of this form; none: a line that is no script line.
+pub fn perform(core: &mut Space, words: &mut Words, form: Option<Form<&[u8]>>) -> Outcome
     requires texts { IfSome form (λ form. FormHasTexts (form_seen form)) }
-    requires tables { 1 < length words.old }
-    ensures { IsDone (found_seen form.entry) (values_of words.old) core.old result (values_of words.new) core.new }
+    ensures { IsDone (found_seen form.entry) (words_in words.old) core.old result (words_in words.new) core.new }
 {
     match form {
         None => Outcome::NoLine,
         Some(Form::Nothing) => Outcome::Idle,
         Some(Form::Stat) => Outcome::Counted(counts_of(core)),
         Some(Form::Asks { process, request }) => {
-            let process = process_of(process);
-            match ask(
-                alloc,
-                core,
-                &mut words[process.0 as usize],
-                process,
-                request,
-            ) {
+            let process = words.process_of(process);
+            match answer(core, words, process, request) {
                 Ok(reply) => Outcome::Replied(reply),
                 Err(_) => Outcome::NoMemory,
             }
@@ -69,74 +48,30 @@ pub fn perform(
     }
 }
 
-// Runs the request of a process, with its words. All that can want memory comes before the step.
-fn ask(
-    alloc: Global,
-    core: &mut Core<Standard, OpenTable>,
-    table: &mut Table,
+// Runs the request of a process, and changes the words that its reply changes. All that can want memory
+// comes before the step.
+fn answer(
+    core: &mut Space,
+    words: &mut Words,
     process: Proc,
     request: Request<&[u8]>,
 ) -> Result<Reply, Fault>
     requires { HasTexts (request_seen request) }
-    ensures { IfOk result (λ reply. IsAnsweredAlone (request_seen request.entry) process (values_in table.old) core.old
-        reply (values_in table.new) core.new) }
+    ensures { IfOk result (λ reply. IsAnswered (request_seen request.entry) process (words_in words.old) core.old
+        reply (words_in words.new) core.new) }
 {
-    let slot = slot_of(alloc, table, word_of(request))?;
-    let before = value_at(table, slot);
-    let asker = Asker {
-        alloc,
-        table: &*table,
-        own: before,
-    };
-    let command = command_of(&asker, request)?;
-    let reply = start(core, process, &command)?;
-    set_at(table, slot, value_after(request, &reply, before));
-    Ok(reply)
-}
-
-// Starts a command, and gives its reply.
-fn start(
-    core: &mut Core<Standard, OpenTable>,
-    process: Proc,
-    command: &Command<PlainKind>,
-) -> Result<Reply, Fault>
-    ensures { IfOk result (λ reply. Step standard core.old (Start process command.now) (Done reply) core.new) }
-{
-    let Started::Done(reply) = core.start(process, command)?;
-    Ok(reply)
-}
-
-// The value of the request's word after the reply.
-fn value_after(request: Request<&[u8]>, reply: &Reply, before: Handle) -> Handle
-    ensures { result ≡ value_after (request_seen request.entry) reply.now before }
-{
-    match request {
-        Request::CreateDirectory { .. } => given_handle(&reply.given),
-        Request::CreateLink { .. } => given_handle(&reply.given),
-        Request::CreateObject { .. } => given_handle(&reply.given),
-        Request::OpenDirectory { .. } => given_handle(&reply.given),
-        Request::OpenLink { .. } => given_handle(&reply.given),
-        Request::OpenObject { .. } => given_handle(&reply.given),
-        Request::Close { .. } => {
-            if reply.status == Status::Success {
-                Handle(0)
-            } else {
-                before
-            }
+    match change_of(request) {
+        Change::Nothing => ask(core, words, process, request),
+        Change::Sets(word) => set_word(core, words, process, request, process, word),
+        Change::SetsFor { process: to, word } => {
+            let to = words.process_of(to);
+            set_word(core, words, process, request, to, word)
         }
-        Request::QueryLink { .. } => before,
-        Request::QueryName { .. } => before,
-    }
-}
-
-// The handle that was given, or 0.
-fn given_handle(given: &Given) -> Handle
-    ensures { result ≡ given_handle given.now }
-{
-    match given {
-        Given::Handle(handle) => *handle,
-        Given::Nothing => Handle(0),
-        Given::Text(_) => Handle(0),
-        Given::Process(..) => Handle(0),
+        Change::GivesUp(word) => give_up(core, words, process, request, word),
+        Change::GivesAllUp => give_all_up(core, words, process, request),
+        Change::SetsProcess {
+            process: child,
+            inherit,
+        } => begin_child(core, words, process, request, child, inherit),
     }
 }

@@ -10,11 +10,11 @@ use crate::fault::ShellFault;
 use crate::line::{Outcome, perform};
 use crate::printing::write_outcome;
 use crate::reading::{SCRIPT_LIMIT, read_script};
-use crate::words::Table;
 use crate::writing::write_out;
 use ob_core::Core;
 use ob_lines::read_line;
 use ob_plain::{Counting, Plain};
+use ob_requests::Words;
 use std::alloc::Global;
 use std::io::{Read, Write};
 
@@ -117,12 +117,14 @@ fn run_lines<W: Write>(
         Ok(core) => core,
         Err(_) => return Err(ShellFault::Memory),
     };
-    let mut words = [Table::new(alloc), Table::new(alloc)];
+    let Ok(mut words) = Words::new(alloc) else {
+        return Err(ShellFault::Memory);
+    };
     let mut rest = script;
     let mut number: u64 = 0;
     while let Some((form, behind)) = read_line(rest) {
         number += 1;
-        let outcome = perform(alloc, &mut core, &mut words, form);
+        let outcome = perform(&mut core, &mut words, form);
         match show(writer, block, number, outcome) {
             Ok(None) => {}
             Ok(Some(ending)) => return Ok(ending),

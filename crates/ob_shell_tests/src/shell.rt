@@ -1,7 +1,9 @@
 //! The shell's public functions over streams that trickle and fail, and its faults in words.
 
 use crate::streams::{End, Lasts, Sip, Tally, Trickle};
-use ob_shell::{Ending, ShellFault, read_script, run_script, write_out};
+use ob_shell::{
+    Ending, ShellFault, offsets_are_added_in_full, read_script, run_script, shown_law, write_out,
+};
 use std::alloc::{AllocError, Global};
 use std::io::{ErrorKind, Read, repeat};
 use std::test::Fail;
@@ -222,4 +224,11 @@ fn stored(alloc: Global, byte: u8) -> Result<usize, ShellFault> {
 fn want_of_memory_is_memory(rt: HostRuntime) {
     assert_eq!(rt; stored(rt.alloc(), 7), Ok(1));
     assert_eq!(rt; ShellFault::from(AllocError), ShellFault::Memory);
+}
+
+// The calls answer nothing; what they are for is told by their contracts, and here they return.
+#[test]
+fn a_script_shows_one_thing() {
+    offsets_are_added_in_full();
+    shown_law();
 }

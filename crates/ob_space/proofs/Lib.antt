@@ -1,4 +1,4 @@
-pub mod Backward
+pub mod Judged
 pub mod Closed
 pub mod Granted
 pub mod Handles
@@ -7,5 +7,5 @@ pub mod Opened
 pub mod Orders
 pub mod Placed
 pub mod Results
-pub mod Staying
+pub mod Walked
 pub mod Stored

@@ -3,7 +3,7 @@
 use Rattle.std.proofs.Common.{◌≡◌, ℕ, zero, suc, ◌+◌, ◌<◌, ◌≤◌, ◌==◌, Bool, true, false, ◌||◌, not, cond, List, [], ◌∷◌, ◌++◌, length, get_or, map, filter, find, All, None, Some, option_map, refl, ap, ◌∙◌, sym, subst, arith, eqb-true, eq-eqb}
 use Rattle.std.specs.Prelude.{count_by, MatchOption}
 use Rattle.std.specs.List.{AllPairs, list_any}
-use Rattle.std.specs.Option.{option_map_or, is_some}
+use Rattle.std.specs.Option.{option_map_or}
 use Rattle.std.proofs.lemmas.Bool.{ne_eqb}
 use Rattle.std.proofs.lemmas.List.Elements.{All-nil, All-append, All-push, All-map, All-filter, All-weaker}
 use Rattle.std.proofs.lemmas.List.Folds.{list_any-append}
@@ -13,21 +13,22 @@ use Rattle.ob_model.specs.declared.state.Body.{Body}
 use Rattle.ob_model.specs.declared.state.Body.TheVariants.{Directory, Link, Other}
 use Rattle.ob_model.specs.declared.state.Object.{Object}
 use Rattle.ob_model.specs.declared.state.Held.{Held}
-use Rattle.ob_model.specs.declared.state.Row.{Row}
 use Rattle.ob_model.specs.State.{State, root_id, is_directory, is_directory_body, most_handles, table_size, handle_count, handle_count_in}
 use Rattle.ob_model.specs.Procedures.{Procedures, Reason}
-use Rattle.ob_model.specs.Settle.{settle, is_alive, is_kept, is_permanent, has_handle, has_name}
+use Rattle.ob_model.specs.Settle.{settle, is_alive, is_kept, is_permanent, has_name}
 use Rattle.ob_model.specs.Grants.{with_open, with_handle, opened_object, opened_body}
 use Rattle.ob_model.specs.Closing.{is_handle, without_handle, closed_handle, closed_object, closed_body}
 use Rattle.ob_model.specs.Creates.{Spot, new_rows, with_object, with_row}
 use Rattle.ob_model.proofs.InOrder.{newest_is_free, in_order-All, in_order-rising}
-use Rattle.ob_model.proofs.Soundness.{root_stands, opened_root, closed_root, opened_object-id, closed_object-id, is_directory-with_object}
-use Rattle.ob_model.proofs.Finds.{filter_none}
+use Rattle.ob_model.specs.Sound.{Stands}
+use Rattle.ob_model.proofs.Settled.{alive_from_row, rows_are_names, stands-settle}
+use Rattle.ob_model.proofs.Soundness.{stands-opened, stands-closed, stands-with_object, new_stands, root_stands, opened_root, closed_root, opened_object-id, closed_object-id, is_directory-with_object}
+use Rattle.ob_model.proofs.Finds.{filter_none, All-kept}
 use Rattle.ob_space.proofs.Handles.{count-append, count_left}
-use Rattle.ob_space.specs.Orderly.{IsIdleBody, is_held, IsIdleUnheld, IsNamedPermanent, IsOrderly}
+use Rattle.ob_space.specs.Orderly.{IsIdleBody, is_held, IsIdleUnheld, IsOrderly}
 
 -- pairs of a list whose elements change, and stay as they were to one another
-pairs-map : {X Y : Type 0} (R : Y → Y → Type 0) (f : X → Y) (xs : List X) → AllPairs (λ a b. R (f a) (f b)) xs → AllPairs R (map f xs)
+pub pairs-map : {X Y : Type 0} (R : Y → Y → Type 0) (f : X → Y) (xs : List X) → AllPairs (λ a b. R (f a) (f b)) xs → AllPairs R (map f xs)
 pairs-map R f [] h = λ i j d less below. absurd (omega (arith, below))
 pairs-map R f (x ∷ xs) h =
     AllPairs-cons R (f x) (map f xs) (All-map (R (f x)) f xs (λ k d below. h 0 (suc k) d (omega arith) (omega (arith, below))))
@@ -47,7 +48,7 @@ count_none : {X : Type 0} (test : X → Bool) (xs : List X) → list_any test xs
 count_none test xs h = sym (length-filter test xs) ∙ ap length (filter_none test xs (none_pass test xs h))
 
 -- of a list that a filter went over, where it keeps each element that a test finds
-any_stays : {X : Type 0} (test keeps : X → Bool) (xs : List X) → All (λ x. test x ≡ true → keeps x ≡ true) xs → list_any test (filter keeps xs) ≡ list_any test xs
+pub any_stays : {X : Type 0} (test keeps : X → Bool) (xs : List X) → All (λ x. test x ≡ true → keeps x ≡ true) xs → list_any test (filter keeps xs) ≡ list_any test xs
 any_stays test keeps [] h = refl
 any_stays test keeps (x ∷ xs) h = go (keeps x) (test x) refl refl (any_stays test keeps xs (λ k d below. h (suc k) d (omega (arith, below))))
   where
@@ -116,7 +117,8 @@ module _ {K T F I : Type 0} (g : Procedures K T F I) (idle : I → Type 0) where
     drawn = All-filter (λ x. is_alive s x.id) (λ x. x.id < s.next_id) s.objects h.drawn;
     descending = All-filter (is_kept s) (λ r. r.directory < r.object) s.rows h.descending;
     stamped = All-filter (is_kept s) (λ r. r.stamp < s.next_stamp) s.rows h.stamped;
-    named = All-filter (λ x. is_alive s x.id) (IsNamedPermanent (settle g s)) s.objects (λ k d below. named_settled (get_or s.objects k d) (permanent_itself s h.rising k d below) (h.named k d below));
+    standing = All-kept (is_kept s) (λ r. (has_name s r.object ≡ true) × Stands s r.object) (λ r. Stands (settle g s) r.object)
+        (λ r kept there. stands-settle g s r.object (alive_from_row s r kept there.0) there.1) s.rows (λ k d below. (rows_are_names s k d below, h.standing k d below));
     unheld = All-filter (λ x. is_alive s x.id) (IsIdleUnheld idle s.handles) s.objects h.unheld;
     opened = h.opened;
     numbered = h.numbered;
@@ -124,16 +126,6 @@ module _ {K T F I : Type 0} (g : Procedures K T F I) (idle : I → Type 0) where
     few_processes = h.few_processes;
     unmapped = h.unmapped;
   }
-    where
-      -- the names of a permanent object stay
-      named_settled : (x : Object F I) → is_permanent s x.id ≡ x.permanent → IsNamedPermanent s x → IsNamedPermanent (settle g s) x
-      named_settled x itself before permanent =
-          ap (λ (b : Bool). (x.id == root_id) || b)
-          (any_stays (λ r. r.object == x.id) (is_kept s) s.rows (λ k d below found. kept (get_or s.rows k d) (eqb-true (get_or s.rows k d).object x.id found)))
-          ∙ before permanent
-        where
-          kept : (r : Row) → r.object ≡ x.id → is_kept s r ≡ true
-          kept r at = ap (λ (b : Bool). b || has_handle s r.object) (ap (is_permanent s) at ∙ itself ∙ permanent)
 
   -- an open and a grant to a process, whose table has room for it, leave an orderly state
   pub granted_orderly : (s : State K T F I) (p value o : ℕ) (reason : Reason) (inherit : Bool)
@@ -149,7 +141,7 @@ module _ {K T F I : Type 0} (g : Procedures K T F I) (idle : I → Type 0) where
         drawn = All-map (λ x. x.id < s.next_id) f s.objects (λ k d below. subst (λ (n : ℕ). n < s.next_id) (sym (opened_object-id g s.set o reason (get_or s.objects k d))) (h.drawn k d below));
         descending = h.descending;
         stamped = h.stamped;
-        named = All-map (IsNamedPermanent s) f s.objects (All-weaker (IsNamedPermanent s) (λ x. IsNamedPermanent s (f x)) opened_named s.objects h.named);
+        standing = All-weaker (λ r. Stands s r.object) (λ r. Stands (with_open g s o reason) r.object) (λ r there. stands-opened g s o r.object reason ∙ there) s.rows h.standing;
         unheld = All-map (IsIdleUnheld idle (s.handles ++ new ∷ [])) f s.objects
             (All-weaker (IsIdleUnheld idle s.handles) (λ x. IsIdleUnheld idle (s.handles ++ new ∷ []) (f x)) (opened_unheld new refl) s.objects h.unheld);
         opened = one_more_opened s new refl h.opened;
@@ -159,13 +151,6 @@ module _ {K T F I : Type 0} (g : Procedures K T F I) (idle : I → Type 0) where
         unmapped = h.unmapped;
       }
     where
-      opened_named : (x : Object F I) → IsNamedPermanent s x → IsNamedPermanent s (opened_object g s.set o reason x)
-      opened_named x before = go (x.id == o)
-        where
-          go : (b : Bool) → IsNamedPermanent s (cond b (record x { body = opened_body g s.set x.body reason }) x)
-          go true = before
-          go false = before
-
       opened_unheld : (new : Held) → new.object ≡ o → (x : Object F I) → IsIdleUnheld idle s.handles x → IsIdleUnheld idle (s.handles ++ new ∷ []) (opened_object g s.set o reason x)
       opened_unheld new at x before = go (x.id == o) refl
         where
@@ -184,7 +169,7 @@ module _ {K T F I : Type 0} (g : Procedures K T F I) (idle : I → Type 0) where
     drawn = All-weaker (λ x. x.id < s.next_id) (λ x. x.id < s.next_id + 1) (λ x less. omega (arith, less)) s.objects h.drawn;
     descending = h.descending;
     stamped = h.stamped;
-    named = h.named;
+    standing = h.standing;
     unheld = h.unheld;
     opened = h.opened;
     numbered = h.numbered;
@@ -219,7 +204,7 @@ module _ {K T F I : Type 0} (g : Procedures K T F I) (idle : I → Type 0) (clos
         drawn = All-map (λ x. x.id < s.next_id) f s.objects (λ k d below. subst (λ (n : ℕ). n < s.next_id) (sym (closed_object-id g s.set h.object left total (get_or s.objects k d))) (orderly.drawn k d below));
         descending = orderly.descending;
         stamped = orderly.stamped;
-        named = All-map (IsNamedPermanent s) f s.objects (All-weaker (IsNamedPermanent s) (λ x. IsNamedPermanent s (f x)) (closed_named left total) s.objects orderly.named);
+        standing = All-weaker (λ r. Stands s r.object) (λ r. Stands (closed_handle g s h) r.object) (λ r there. stands-closed g s h r.object ∙ there) s.rows orderly.standing;
         unheld = All-map (IsIdleUnheld idle kept) f s.objects
             (All-weaker (IsIdleUnheld idle s.handles) (λ x. IsIdleUnheld idle kept (f x)) (closed_unheld left total refl) s.objects orderly.unheld);
         opened = All-filter (λ k. not (is_handle h.process h.value k)) (λ k. k.order < s.next_order) s.handles orderly.opened;
@@ -232,13 +217,6 @@ module _ {K T F I : Type 0} (g : Procedures K T F I) (idle : I → Type 0) (clos
         unmapped = orderly.unmapped;
       }
     where
-      closed_named : (left total : ℕ) (x : Object F I) → IsNamedPermanent s x → IsNamedPermanent s (closed_object g s.set h.object left total x)
-      closed_named left total x before = go (x.id == h.object)
-        where
-          go : (b : Bool) → IsNamedPermanent s (cond b (record x { body = closed_body g s.set left total x.body }) x)
-          go true = before
-          go false = before
-
       closed_unheld : (left total : ℕ) → total ≡ handle_count (without_handle s h.process h.value) h.object → (x : Object F I) → IsIdleUnheld idle s.handles x
           → IsIdleUnheld idle (without_handle s h.process h.value).handles (closed_object g s.set h.object left total x)
       closed_unheld left total counted x before = go (x.id == h.object) refl
@@ -275,12 +253,11 @@ module _ {K T F I : Type 0} (idle : I → Type 0) (s : State K T F I) (orderly :
   -- has room, leaves an orderly state
   pub object_orderly : (set : T) (body : Body F I) (permanent exclusive : Bool) (spot : Spot) (p value : ℕ) (inherit : Bool)
       → table_size s p < most_handles → MatchOption spot (Unit {0}) (λ at. is_directory s at.0 ≡ true)
-      → (permanent ≡ true → is_some spot ≡ true)
       → IsOrderly idle (with_handle (with_row (with_object (record s { set = set }) body permanent exclusive) spot s.next_id) p value s.next_id inherit)
-  object_orderly set body permanent exclusive spot p value inherit room inside placed =
+  object_orderly set body permanent exclusive spot p value inherit room inside =
       let new : Object F I = record { id = s.next_id; body = body; permanent = permanent; exclusive = exclusive } in
       let handle : Held = record { process = p; value = value; object = s.next_id; inherit = inherit; order = s.next_order } in
-      let t : State K T F I = record s { rows = s.rows ++ new_rows spot s.next_stamp s.next_id } in
+      let t : State K T F I = with_object (record s { set = set }) body permanent exclusive in
       record {
         root = is_directory-with_object s body permanent exclusive root_id orderly.drawn orderly.root;
         rising = in_order-rising (λ x. x.id) new s.objects (newest_is_free (λ x. x.id) new s.objects orderly.drawn) orderly.rising;
@@ -289,7 +266,9 @@ module _ {K T F I : Type 0} (idle : I → Type 0) (s : State K T F I) (orderly :
         stamped = All-append (λ r. r.stamp < s.next_stamp + length (new_rows spot s.next_stamp s.next_id)) s.rows (new_rows spot s.next_stamp s.next_id)
             (All-weaker (λ r. r.stamp < s.next_stamp) (λ r. r.stamp < s.next_stamp + length (new_rows spot s.next_stamp s.next_id)) (λ r less. omega (arith, less)) s.rows orderly.stamped)
             (row_stamped spot);
-        named = in_order-All (λ x. x.id) (IsNamedPermanent t) new s.objects (λ permanent. new_named spot (placed permanent)) (All-weaker (IsNamedPermanent s) (IsNamedPermanent t) still_named s.objects orderly.named);
+        standing = All-append (λ r. Stands t r.object) s.rows (new_rows spot s.next_stamp s.next_id)
+            (All-weaker (λ r. Stands s r.object) (λ r. Stands t r.object) (λ r there. stands-with_object (record s { set = set }) body permanent exclusive r.object orderly.drawn there) s.rows orderly.standing)
+            (row_stands spot);
         unheld = in_order-All (λ x. x.id) (IsIdleUnheld idle (s.handles ++ handle ∷ [])) new s.objects (λ unheld. held_itself handle refl unheld)
             (All-weaker (IsIdleUnheld idle s.handles) (IsIdleUnheld idle (s.handles ++ handle ∷ [])) (λ x before unheld. before (unheld_before s.handles handle x.id unheld).0) s.objects orderly.unheld);
         opened = one_more_opened s handle refl orderly.opened;
@@ -303,26 +282,11 @@ module _ {K T F I : Type 0} (idle : I → Type 0) (s : State K T F I) (orderly :
       row_stamped None = All-nil (λ r. r.stamp < s.next_stamp + 0)
       row_stamped (Some at) = All-push (λ r. r.stamp < s.next_stamp + 1) [] _ (All-nil (λ r. r.stamp < s.next_stamp + 1)) (omega arith)
 
-      -- a further row takes no name away, and names the new object
-      still_named : (x : Object F I) → IsNamedPermanent s x → IsNamedPermanent (record s { rows = s.rows ++ new_rows spot s.next_stamp s.next_id }) x
-      still_named x before permanent = go (x.id == root_id) (has_name s x.id) (list_any-append (λ r. r.object == x.id) s.rows (new_rows spot s.next_stamp s.next_id)) (before permanent)
-        where
-          go : (root named : Bool) → has_name (record s { rows = s.rows ++ new_rows spot s.next_stamp s.next_id }) x.id ≡ (named || list_any (λ r. r.object == x.id) (new_rows spot s.next_stamp s.next_id))
-              → (root || named) ≡ true → (root || has_name (record s { rows = s.rows ++ new_rows spot s.next_stamp s.next_id }) x.id) ≡ true
-          go true named e h = refl
-          go false true e h = e
-          go false false e h = cc
-
-      new_named : (spot : Spot) → is_some spot ≡ true → ((s.next_id == root_id) || has_name (record s { rows = s.rows ++ new_rows spot s.next_stamp s.next_id }) s.next_id) ≡ true
-      new_named None h = cc
-      new_named (Some at) h =
-          or_right (s.next_id == root_id) _
-          (list_any-append (λ r. r.object == s.next_id) s.rows (new_rows (Some at) s.next_stamp s.next_id)
-          ∙ or_right (list_any (λ r. r.object == s.next_id) s.rows) _ (ap (λ (b : Bool). b || false) (eq-eqb s.next_id s.next_id refl)))
-        where
-          or_right : (a b : Bool) → b ≡ true → (a || b) ≡ true
-          or_right true b h = refl
-          or_right false b h = h
+      row_stands : (spot : Spot) → All (λ r. Stands (with_object (record s { set = set }) body permanent exclusive) r.object) (new_rows spot s.next_stamp s.next_id)
+      row_stands None = All-nil (λ r. Stands (with_object (record s { set = set }) body permanent exclusive) r.object)
+      row_stands (Some at) =
+          All-push (λ r. Stands (with_object (record s { set = set }) body permanent exclusive) r.object) [] _ (All-nil (λ r. Stands (with_object (record s { set = set }) body permanent exclusive) r.object))
+          (new_stands (record s { set = set }) body permanent exclusive orderly.drawn)
 
       row_descends : (spot : Spot) → MatchOption spot (Unit {0}) (λ at. is_directory s at.0 ≡ true) → All (λ r. r.directory < r.object) (new_rows spot s.next_stamp s.next_id)
       row_descends None h = All-nil (λ r. r.directory < r.object)

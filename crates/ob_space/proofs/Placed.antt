@@ -1,9 +1,13 @@
 -- A new object among those of a store, with its name: what the store has of its directories then, and
 -- what the state is; and what it is when the object is taken back.
-use Rattle.std.proofs.Common.{◌≡◌, ◌≢◌, ◌∙◌, ℕ, ◌+◌, ◌<◌, Bool, true, false, ◌||◌, not, cond, List, [], ◌∷◌, ◌++◌, length, map, filter, find, Option, None, Some, option_map, All, IsSome, refl, ap, sym, subst, append-nil}
+use Rattle.std.proofs.Common.{◌≡◌, ◌≢◌, ◌∙◌, ℕ, ◌+◌, ◌<◌, Bool, true, false, ◌||◌, not, cond, List, [], ◌∷◌, ◌++◌, length, map, filter, find, Option, None, Some, option_map, All, IsSome, refl, ap, sym, subst, append-nil, arith}
 use Rattle.std.specs.Prelude.{MatchOption}
+use Rattle.std.proofs.lemmas.List.Elements.{All-weaker}
+use Rattle.ob_model.specs.Sound.{Stands}
+use Rattle.ob_model.proofs.Soundness.{stands_drawn}
 use Rattle.std.specs.Option.{unwrap_or, is_some}
 use Rattle.ob_model.specs.declared.state.Object.{Object}
+use Rattle.ob_model.specs.declared.state.Row.{Row}
 use Rattle.ob_model.specs.State.{State, is_directory, table_size, most_handles}
 use Rattle.ob_model.specs.Closing.{is_handle}
 use Rattle.ob_model.specs.Procedures.{Procedures, Created}
@@ -36,6 +40,12 @@ module _ {F I : Type 0} where
       let same : directory_at new at.directory ≡ directory_at store at.directory =
       ap (λ (es : Entries F I). directory_at es at.directory) put ∙ directory_with_object store id at.directory x unused here.0 in
       subst (λ (o : Option (List NameEntry)). IsSome o × All (λ e. e.name ≢ at.name) (unwrap_or o []) × All (λ e. e.stamp < stamp) (unwrap_or o [])) (sym same) here
+
+  -- and it brings no row
+  pub unnamed_behind : (store new : Entries F I) (id : ℕ) (x : StoredObject F I) → new ≡ with_entry store id x → entries_in x.body ≡ []
+      → All (λ r. r.object ≢ id) (rows_of store) → All (λ r. r.object ≢ id) (rows_of new)
+  unnamed_behind store new id x put empty unnamed =
+      subst (λ (rows : List Row). All (λ r. r.object ≢ id) rows) (sym (ap (λ (es : Entries F I). rows_of es) put ∙ new_object_has_no_row store id x empty)) unnamed
 
   -- an object that came is taken back
   pub object_back : (store put kept left : Entries F I) (id : ℕ) (x : StoredObject F I) → stored_at store id ≡ None
@@ -140,11 +150,6 @@ first_false : (a b : Bool) → (a || b) ≡ false → a ≡ false
 first_false true b h = h
 first_false false b h = refl
 
--- a spot is given, or none is
-spot_given : (spot : Option Spot) → is_some spot ≡ is_some (spot_of spot)
-spot_given None = refl
-spot_given (Some at) = refl
-
 module _ (K : Type 0) {T F I : Type 0} (g : Procedures K T F I) (idle : I → Type 0) (a : Namespace T (Entries F I) Running) (orderly : IsOrderly idle (state_of K a)) where
   abbrev s : State K T F I
   s = state_of K a
@@ -152,6 +157,12 @@ module _ (K : Type 0) {T F I : Type 0} (g : Procedures K T F I) (idle : I → Ty
   -- the next id is above those of the store, and so it is free
   pub next_is_free : stored_at a.store a.next_id ≡ None
   next_is_free = newest_is_free a.store a.next_id orderly.drawn
+
+  -- and no row names it
+  pub next_is_unnamed : All (λ r. r.object ≢ a.next_id) (rows_of a.store)
+  next_is_unnamed =
+      All-weaker (λ r. Stands s r.object) (λ r. r.object ≢ a.next_id)
+      (λ r there same. let drawn : r.object < a.next_id = stands_drawn a.next_id s.objects r.object orderly.drawn there in omega (arith, drawn, same)) s.rows orderly.standing
 
   -- a vacant spot is free in the store
   pub vacant_is_free : IsStore a.store → (spot : Option Spot) → IsVacantSpot s spot → IsFreeSpot a.store a.next_stamp spot
@@ -166,7 +177,7 @@ module _ (K : Type 0) {T F I : Type 0} (g : Procedures K T F I) (idle : I → Ty
     room_in_table : table_size s p < most_handles
     room_in_table = has_room s p table_room
 
-    module _ (spot : Option Spot) (vacant : IsVacantSpot s spot) (x : StoredObject F I) (named : x.permanent ≡ true → is_some spot ≡ true) (value : ℕ) (inherit : Bool) (running : Running)
+    module _ (spot : Option Spot) (vacant : IsVacantSpot s spot) (x : StoredObject F I) (value : ℕ) (inherit : Bool) (running : Running)
         (unused : find (is_handle p value) a.processes.handles ≡ None)
         (last : running.handles ≡ a.processes.handles ++ record { process = p; value = value; object = a.next_id; inherit = inherit; order = a.next_order } ∷ [])
         (same : running.processes ≡ a.processes.processes) where
@@ -201,7 +212,7 @@ module _ (K : Type 0) {T F I : Type 0} (g : Procedures K T F I) (idle : I → Ty
             let body = body_of_stored x.body in
             subst (λ (t : State K T F I). IsOrderly idle t) (sym is_placed)
             (object_orderly idle s orderly (opened_set g s.set body Created) (opened_body g s.set body Created) x.permanent x.exclusive (spot_of spot) p value inherit
-            room_in_table (inside spot vacant) (λ permanent. sym (spot_given spot) ∙ named permanent))
+            room_in_table (inside spot vacant))
 
       -- the handle is taken back
       module _ (less : Running) (taken : less.handles ≡ filter (λ h. not (is_handle p value h)) running.handles) (processes : less.processes ≡ running.processes) where

@@ -1,5 +1,5 @@
 -- What every change of a namespace keeps true of its state.
-use Rattle.std.specs.Prelude.{◌≡◌, ℕ, ◌<◌, ◌≤◌, ◌==◌, ◌||◌, Bool, true, false, List, None, All, length}
+use Rattle.std.specs.Prelude.{◌≡◌, ℕ, ◌<◌, ◌≤◌, ◌==◌, Bool, true, false, List, None, All, length}
 use Rattle.std.specs.List.{AllPairs, list_any}
 use Rattle.ob_model.specs.declared.state.Body.{Body}
 use Rattle.ob_model.specs.declared.state.Body.TheVariants.{Directory, Link, Other}
@@ -7,7 +7,7 @@ use Rattle.ob_model.specs.declared.state.Object.{Object}
 use Rattle.ob_model.specs.declared.state.Held.{Held}
 use Rattle.ob_model.specs.State.{State, root_id, is_directory, table_size, most_handles}
 use Rattle.ob_model.specs.Processes.{most_processes}
-use Rattle.ob_model.specs.Settle.{has_name}
+use Rattle.ob_model.specs.Sound.{Stands}
 
 -- a body has no inner value, or one that stands for no open handle
 abbrev pub IsIdleBody : {F I : Type 0} → (I → Type 0) → Body F I → Type 0
@@ -23,22 +23,18 @@ is_held handles o = list_any (λ h. h.object == o) handles
 abbrev pub IsIdleUnheld : {F I : Type 0} → (I → Type 0) → List Held → Object F I → Type 0
 IsIdleUnheld idle handles x = is_held handles x.id ≡ false → IsIdleBody idle x.body
 
--- a permanent object other than the root has a name
-abbrev pub IsNamedPermanent : {K T F I : Type 0} → State K T F I → Object F I → Type 0
-IsNamedPermanent s x = x.permanent ≡ true → ((x.id == root_id) || has_name s x.id) ≡ true
-
 -- The root is a directory. The numbers of objects rise, and are all less than the next one, and so do
--- the stamps of rows; a row's directory was made before its object. A permanent object has a name. An
--- object without handles is idle. The order of each handle, and the number of each process, are less
+-- the stamps of rows; a row's object is there, and its directory was made before it. An object without
+-- handles is idle. The order of each handle, and the number of each process, are less
 -- than the next one. No more processes live, and no process has more handles, than may be. No process
 -- has a device map, since no command gives one yet.
 pub record IsOrderly {K T F I : Type 0} (idle : I → Type 0) (s : State K T F I) : Type 0 where
   pub root : is_directory s root_id ≡ true
   pub rising : AllPairs (λ a b. a.id < b.id) s.objects
   pub drawn : All (λ x. x.id < s.next_id) s.objects
+  pub standing : All (λ r. Stands s r.object) s.rows
   pub descending : All (λ r. r.directory < r.object) s.rows
   pub stamped : All (λ r. r.stamp < s.next_stamp) s.rows
-  pub named : All (IsNamedPermanent s) s.objects
   pub unheld : All (IsIdleUnheld idle s.handles) s.objects
   pub opened : All (λ h. h.order < s.next_order) s.handles
   pub numbered : All (λ x. x.number < s.next_process) s.processes

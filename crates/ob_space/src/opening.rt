@@ -4,7 +4,7 @@ ghost use Rattle.std.specs.Prelude.{◌≡◌, ◌≢◌, ◌<◌, All, IsSome, 
 ghost use Rattle.ob_base.specs.declared.Fault.TheVariants.{Memory};
 ghost use Rattle.ob_model.specs.Names.{is_name};
 ghost use Rattle.ob_model.specs.State.{root_id};
-ghost use Rattle.ob_objects.specs.Store.{directory_at, entries_at};
+ghost use Rattle.ob_objects.specs.Store.{directory_at, entries_at, rows_of};
 ghost use Rattle.ob_objects.specs.Changes.{with_name};
 ghost use Rattle.ob_space.specs.Opening.{standing, opening_objects, opening_entries};
 
@@ -74,6 +74,7 @@ fn name_in_root<T: TypeSet>(
     requires there { IsSome (directory_at store.old root_id) }
     requires free { All (λ entry. entry.name ≢ name.now) (entries_at store.old root_id) }
     requires newest { All (λ entry. entry.stamp < stamp) (entries_at store.old root_id) }
+    requires unnamed { All (λ row. row.object ≢ object) (rows_of store.old) }
     ensures put { IfOk result (λ _. store.new
         ≡ with_name store.old root_id (record { stamp = stamp; name = name.now; object = object })) }
     ensures memory { IfErr result (λ fault. fault ≡ Memory) }

@@ -1,7 +1,7 @@
 //! Placing a new object: its creator gets a handle, and it is put into the store, named, and opened by
 //! the set, or taken back.
 
-ghost use Rattle.std.specs.Prelude.{◌≡◌, ◌<◌, ◌||◌, [], None, Some, true, false, All};
+ghost use Rattle.std.specs.Prelude.{◌≡◌, ◌≢◌, ◌<◌, ◌||◌, [], None, Some, true, false, All};
 ghost use Rattle.std.specs.Prelude.{IfOk, IfErr, OnErr};
 ghost use Rattle.std.specs.Option.{option_map, is_some};
 ghost use Rattle.ob_base.specs.declared.Fault.TheVariants.{Memory};
@@ -38,8 +38,8 @@ pub struct Spot {
 /// stamp; then the set opens it. It gives the handle.
 ///
 /// It asks that the process is live and has room, that an id and, where a spot is given, a stamp are
-/// left, that the spot is vacant, that an object without a spot isn't permanent, that the object, if it
-/// is a directory, is empty, and that its inner value stands for no open handle.
+/// left, that the spot is vacant, that the object, if it is a directory, is empty, and that its inner
+/// value stands for no open handle.
 ///
 /// Where the set refuses, with its number, handle, name and object are taken back, the object is
 /// deleted, and its id stays drawn; all else is as it was. The only fault is want of memory, and then
@@ -58,7 +58,6 @@ pub fn place_new<T: TypeSet, H: HandleTable>(
     requires room { (is_table_full (state_of T.Kind space.old) process || is_store_full (state_of T.Kind space.old)) ≡ false }
     requires stamp { is_some spot ≡ true → is_stampless (state_of T.Kind space.old) ≡ false }
     requires vacant { IsVacantSpot (state_of T.Kind space.old) spot }
-    requires named { object.permanent ≡ true → is_some spot ≡ true }
     requires empty { entries_in object.body ≡ [] }
     requires idle { IsIdleBody T.idle (body_of_stored object.body) }
     ensures orderly { IsOrderly T.idle (state_of T.Kind space.new) }
@@ -111,6 +110,7 @@ fn put_and_open<T: TypeSet>(
     requires id { stored_at store.old id ≡ None }
     requires free { IsFreeSpot store.old stamp spot }
     requires newest { All (λ row. row.stamp < stamp) (rows_of store.old) }
+    requires unnamed { All (λ row. row.object ≢ id) (rows_of store.old) }
     requires empty { entries_in object.body ≡ [] }
     requires idle { IsIdleBody T.idle (body_of_stored object.body) }
     ensures opened { IfOk result (λ told. IfOk told (λ _.
@@ -151,6 +151,8 @@ fn put_in<T: TypeSet>(
 ) -> Result<(), Fault>
     requires id { stored_at store.old id ≡ None }
     requires free { IsFreeSpot store.old stamp spot }
+    requires unnamed { All (λ row. row.object ≢ id) (rows_of store.old) }
+    requires empty { entries_in object.body ≡ [] }
     ensures put { IfOk result (λ _. store.new ≡ with_placed store.old id stamp spot object) }
     ensures err { OnErr result (store.new ≡ store.old) }
     ensures memory { IfErr result (λ fault. fault ≡ Memory) }

@@ -1,12 +1,11 @@
 //! What stays at the end of a step.
 
-ghost use Rattle.std.specs.Prelude.{◌≡◌, true, ◌<◌, ◌||◌, [], filter, not, All};
-ghost use Rattle.std.specs.List.{AllPairs};
-ghost use Rattle.ob_model.specs.Settle.{settle, IsSettled, is_kept, is_permanent, has_handle, deleted_one, deleted_all};
-ghost use Rattle.ob_objects.specs.Store.{objects_of, rows_of, body_of_stored};
+ghost use Rattle.std.specs.Prelude.{◌≡◌, ◌||◌, ◌==◌, [], filter, not, All, MatchOption};
+ghost use Rattle.ob_model.specs.Settle.{settle, IsSettled, is_permanent, has_handle, deleted_one};
+ghost use Rattle.ob_objects.specs.Store.{objects_of, rows_of, body_of_stored, stored_at};
 ghost use Rattle.ob_space.specs.Namespace.{state_of, listed, handles_alone};
 ghost use Rattle.ob_space.specs.Orderly.{IsOrderly, IsIdleBody, IsIdleUnheld};
-ghost use Rattle.ob_space.specs.Settling.{is_held_up};
+ghost use Rattle.ob_space.specs.Settling.{is_held_up, settled_one, with_handle_to, without_names, without_object};
 
 use crate::space::{GLOBAL, Namespace, ROOT};
 use ob_base::ObjId;
@@ -19,6 +18,9 @@ use ob_types::TypeSet;
 /// deletes those objects from the highest number down: the set is told of each object of its own. It
 /// asks that the state is orderly, and leaves it so. No memory is taken.
 ///
+/// It is one walk over the objects, from the highest number down: what lies in a directory has greater
+/// numbers, so at each directory the names that are left in it are those that stay.
+///
 /// Source: Windows Internals, Object Manager (object retention); that it is judged once, at the end of
 /// a step, and the order of the deletes are this profile.
 pub fn settle<T: TypeSet, H: HandleTable>(space: &mut Namespace<T, Store<T>, Processes<H>>)
@@ -26,16 +28,21 @@ pub fn settle<T: TypeSet, H: HandleTable>(space: &mut Namespace<T, Store<T>, Pro
     ensures orderly { IsOrderly T.idle (state_of T.Kind space.new) }
     ensures settled { state_of T.Kind space.new ≡ settle T.procedures (state_of T.Kind space.old) }
 {
-    forget_names(&mut space.store, &space.processes);
-    delete_objects(space);
+    let mut bound = ObjId(space.next_id);
+    while let Some(id) = space.store.last_before(bound) {
+        settle_one(space, id);
+        bound = id;
+    }
 }
 
 /// Settles after a handle to an object was closed: an object that is neither permanent nor has a
-/// handle loses its names, and goes if it holds no names that stay. The set is told of each object of
-/// its own that goes, from the greatest id down. The root and `\GLOBAL??` stay always.
+/// handle loses its name, and goes if it holds no names that stay; and then the directory of that name
+/// goes, if nothing holds it now. The set is told of each object of its own that goes, the object first.
+/// The root and `\GLOBAL??` stay always.
 ///
-/// It asks that the state is orderly, and that all stays already where the object is permanent or has
-/// another handle: then nothing is looked for. It leaves an orderly state. No memory is taken.
+/// It asks that the state is orderly, and that it was settled while there was one handle more to the
+/// object, so that nothing else can go: a directory that stays by a name in it has no name itself. It
+/// leaves an orderly state. No memory is taken, and no other object is looked at.
 ///
 /// Source: Windows Internals, Object Manager (object retention); that it is judged once, at the end of
 /// a step, and the order of the deletes are this profile.
@@ -44,43 +51,70 @@ pub fn settle_after_close<T: TypeSet, H: HandleTable>(
     object: ObjId,
 )
     requires orderly { IsOrderly T.idle (state_of T.Kind space.old) }
-    requires kept { (is_permanent (state_of T.Kind space.old) object || has_handle (state_of T.Kind space.old) object) ≡ true
-        → IsSettled (state_of T.Kind space.old) }
+    requires kept { IsSettled (with_handle_to (state_of T.Kind space.old) object) }
     ensures orderly { IsOrderly T.idle (state_of T.Kind space.new) }
     ensures settled { state_of T.Kind space.new ≡ settle T.procedures (state_of T.Kind space.old) }
 {
-    if !is_kept(&space.store, &space.processes, object) {
-        settle(space);
+    // The length tells what holds of every store.
+    let _ = space.store.len();
+    let place = space.store.place_of(object);
+    settle_one(space, object);
+    if let Some(place) = place {
+        settle_one(space, place.directory);
     }
 }
 
-/// Takes away the names that don't stay.
-fn forget_names<T: TypeSet, H: HandleTable>(store: &mut Store<T>, processes: &Processes<H>)
+/// Settles one object: its name goes unless it stays, and then the object goes unless it stays, given
+/// the names that are left.
+fn settle_one<T: TypeSet, H: HandleTable>(
+    space: &mut Namespace<T, Store<T>, Processes<H>>,
+    id: ObjId,
+)
+    requires { All (IsIdleUnheld T.idle space.old.processes.handles) (objects_of space.old.store) }
+    ensures { state_of T.Kind space.new ≡ settled_one T.procedures (state_of T.Kind space.old) id }
+{
+    forget_unkept(&mut space.store, &space.processes, id);
+    if !is_held_up(&space.store, &space.processes, id) {
+        delete_object(space, id);
+    }
+}
+
+/// Takes away the name of an object, unless it stays.
+fn forget_unkept<T: TypeSet, H: HandleTable>(
+    store: &mut Store<T>,
+    processes: &Processes<H>,
+    id: ObjId,
+)
     ensures objects { objects_of store.new ≡ objects_of store.old }
-    ensures rows { rows_of store.new ≡ filter (is_kept (listed (objects_of store.old) [] processes.now.handles)) (rows_of store.old) }
+    ensures rows { rows_of store.new
+        ≡ (without_names (listed (objects_of store.old) (rows_of store.old) processes.now.handles) id).rows }
 {
-    while let Some((directory, stamp)) = store.name_where(|id| !is_kept(store, processes, id)) {
-        store.remove_name(directory, stamp);
+    if !is_kept(store, processes, id) {
+        forget_name(store, id);
     }
 }
 
-/// Takes away and deletes the objects that don't stay, given the names that stay, from the last one
-/// back.
-fn delete_objects<T: TypeSet, H: HandleTable>(space: &mut Namespace<T, Store<T>, Processes<H>>)
-    requires rising { AllPairs (λ a b. a.id < b.id) (objects_of space.old.store) }
-    requires unheld { All (IsIdleUnheld T.idle space.old.processes.handles) (objects_of space.old.store) }
-    ensures { let s = state_of T.Kind space.old in state_of T.Kind space.new ≡ record s {
-      objects = filter (λ x. is_held_up s x.id) s.objects;
-      set = deleted_all T.procedures s.set (filter (λ x. not (is_held_up s x.id)) s.objects);
-    } }
+/// Takes away the name of an object, where it has one.
+fn forget_name<T: TypeSet>(store: &mut Store<T>, id: ObjId)
+    ensures objects { objects_of store.new ≡ objects_of store.old }
+    ensures rows { rows_of store.new ≡ filter (λ row. not (row.object == id)) (rows_of store.old) }
 {
-    while let Some(id) = space
-        .store
-        .last_where(|id| !is_held_up(&space.store, &space.processes, id))
-    {
-        let Some(stored) = space.store.remove(id) else {
-            unreachable!();
-        };
+    // The length tells what holds of every store.
+    let _ = store.len();
+    if let Some(place) = store.place_of(id) {
+        store.remove_name(place.directory, place.stamp);
+    }
+}
+
+/// Takes away and deletes an object, where it is there, with what lies in it.
+fn delete_object<T: TypeSet, H: HandleTable>(
+    space: &mut Namespace<T, Store<T>, Processes<H>>,
+    id: ObjId,
+)
+    requires { MatchOption (stored_at space.old.store id) (Unit {0}) (λ object. IsIdleBody T.idle (body_of_stored object.body)) }
+    ensures { state_of T.Kind space.new ≡ without_object T.procedures (state_of T.Kind space.old) id }
+{
+    if let Some(stored) = space.store.remove(id) {
         delete_body(&mut space.set, stored.body);
     }
 }
@@ -106,8 +140,8 @@ fn is_held_up<T: TypeSet, H: HandleTable>(
 {
     id == ROOT
         || id == GLOBAL
-        || store.is_permanent(id)
         || has_handle(processes, id)
+        || (store.is_permanent(id) && store.has_name(id))
         || store.holds_names(id)
 }
 

@@ -4,7 +4,7 @@ use Rattle.ob_base.specs.Handle.{key_of}
 use Rattle.ob_model.specs.Settle.{settle}
 use Rattle.ob_model.specs.declared.reply.Answer.TheVariants.{Done}
 use Rattle.ob_space.specs.Namespace.{state_of}
-use Rattle.ob_core.proofs.Closed.{found_itself, closed_stays}
+use Rattle.ob_core.proofs.Closed.{found_itself, closed_was_settled}
 use Rattle.ob_core.proofs.Stepping.{closes}
 use Rattle.ob_core.proofs.closing.close.Goals as goal
 
@@ -14,9 +14,9 @@ close_handle-requires-clause-held g c κs within =
 
 pub settle_after_close-requires-clause-kept : goal.settle_after_close-requires-clause-kept
 settle_after_close-requires-clause-kept g c κs within =
-    closed_stays g.T.TypeSet.procedures (state_of g.row.T-Kind.Denot c.args.space.now) (state_of g.row.T-Kind.Denot c.close_handle.new.space) c.in-Some.held c.requires.sound c.requires.orderly.named c.requires.settled
+    closed_was_settled g.T.TypeSet.procedures (state_of g.row.T-Kind.Denot c.args.space.now) c.in-Some.held c.requires.sound
     (found_itself (state_of g.row.T-Kind.Denot c.args.space.now) c.args.process (key_of c.args.handle) c.in-Some.held (sym c.in-Some.ensures))
-    c.close_handle.ensures.closed
+    (state_of g.row.T-Kind.Denot c.close_handle.new.space) c.requires.settled c.close_handle.ensures.closed
 
 pub returns-clause-step : goal.returns-clause-step
 returns-clause-step g c =

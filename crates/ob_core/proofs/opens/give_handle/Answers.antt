@@ -1,5 +1,5 @@
 -- A handle is granted, or is refused.
-use Rattle.std.proofs.Common.{ap, sym, ◌∙◌, subst}
+use Rattle.std.proofs.Common.{ap, subst}
 use Rattle.std.specs.Prelude.{Result}
 use Rattle.ob_types.specs.Told.{reason_of}
 use Rattle.ob_model.specs.declared.reply.Answer.TheVariants.{Done}

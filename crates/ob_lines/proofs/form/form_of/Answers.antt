@@ -1,11 +1,11 @@
 -- A line that is neither idle nor a `stat` nor asks for something has no form.
 use Rattle.std.proofs.Common.{sym, ◌∙◌}
 use Rattle.ob_lines.proofs.Cuts.{IfNone-map}
-use Rattle.ob_lines.proofs.Formed.{no_form, no_stat}
+use Rattle.ob_lines.proofs.Formed.{no_form, told_apart}
 use Rattle.ob_lines.proofs.form.form_of.Goals as goal
 
 pub returns-clause-none : goal.returns-clause-none
 returns-clause-none c =
     IfNone-map c.asking_of.result _ _
-    (no_form _ (sym c.is_empty.ensures ∙ c.if-is_empty.false) c.if-line-eq35.false (no_stat _ _ _ c.if-eq.false c.eq.ensures c.as_slice.ensures))
+    (no_form _ (sym c.is_empty.ensures ∙ c.if-is_empty.false) c.if-line-eq35.false (told_apart _ _ _ _ c.if-eq.false c.eq.ensures c.as_slice.ensures))
     c.asking_of.ensures.none

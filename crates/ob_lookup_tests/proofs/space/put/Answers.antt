@@ -1,7 +1,7 @@
 -- The object comes, and then its name.
 use Rattle.std.proofs.Common.{◌+◌, subst, sym}
 use Rattle.ob_lookup_tests.specs.Space.{IsSpace}
-use Rattle.ob_lookup_tests.proofs.Spaces.{next_is_free, space_with_object, directory_there, entries_free, entries_newest, space_with_name}
+use Rattle.ob_lookup_tests.proofs.Spaces.{next_is_free, space_with_object, directory_there, entries_free, entries_newest, rows_unnamed, space_with_name}
 use Rattle.ob_lookup_tests.proofs.space.put.Goals as goal
 
 pub insert-requires-clause-free : goal.insert-requires-clause-free
@@ -17,6 +17,9 @@ insert_name-requires-clause-free c = λ κs.
 pub insert_name-requires-clause-newest : goal.insert_name-requires-clause-newest
 insert_name-requires-clause-newest c = λ κs.
     entries_newest c.insert.new.self c.args.store.now c.args.id c.args.directory c.args.object c.in_ok-insert.ensures.put c.requires.empty c.len.ensures.store c.requires.space.stamps
+
+pub insert_name-requires-clause-unnamed : goal.insert_name-requires-clause-unnamed
+insert_name-requires-clause-unnamed c = λ κs. rows_unnamed c.insert.new.self c.args.store.now c.args.id c.args.object c.in_ok-insert.ensures.put c.requires.space c.requires.empty
 
 pub returns-in_err-insert_name : goal.returns-in_err-insert_name
 returns-in_err-insert_name c =

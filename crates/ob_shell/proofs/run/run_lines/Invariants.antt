@@ -1,6 +1,6 @@
 use Rattle.std.proofs.Common.{◌+◌, ◌≤◌, length}
 use Rattle.std.specs.Vec.{vec_capacity}
-use Rattle.ob_shell.specs.Words.{values_of}
+use Rattle.ob_requests.specs.Tables.{words_in}
 use Rattle.ob_shell.proofs.Behind.{StandsBehind}
 use Rattle.ob_shell.proofs.run.run_lines.Given as goal
 
@@ -8,7 +8,7 @@ use Rattle.ob_shell.proofs.run.run_lines.Given as goal
 -- has its room
 abbrev pub invariant-loop-form : goal.invariant-loop-form
 invariant-loop-form g l =
-    StandsBehind (g.W.Write.contents l.initial.writer) (g.W.Write.contents l.writer) l.block.items l.script l.rest l.number (values_of l.words) l.core
+    StandsBehind (g.W.Write.contents l.initial.writer) (g.W.Write.contents l.writer) l.block.items l.script l.rest l.number (words_in l.words) l.core
     × (l.number + length l.rest ≤ length l.script) × (192 ≤ vec_capacity l.block)
 
 abbrev pub decreases-loop-form : goal.decreases-loop-form

@@ -1,9 +1,34 @@
--- Where the names of the object stay, all stays.
+-- Only the object may go, and then the directory of its name.
 use Rattle.std.proofs.Common.{◌∙◌, sym}
-use Rattle.ob_model.proofs.Staying.{settled_itself}
 use Rattle.ob_space.specs.Namespace.{state_of}
+use Rattle.ob_space.proofs.Walked.{closed_alone, closed_both, closed_unheld, settled_is_orderly}
 use Rattle.ob_space.proofs.settling.settle_after_close.Goals as goal
 
-pub returns-else-not-is_kept-clause-settled : goal.returns-else-not-is_kept-clause-settled
-returns-else-not-is_kept-clause-settled g c =
-    sym (settled_itself g.T.TypeSet.procedures (state_of g.row.T-Kind.Denot c.args.space.now) (c.requires.kept (sym c.is_kept.ensures ∙ c.if-not-is_kept.false)))
+pub settle_one-requires-in-Some-after_bounds : goal.settle_one-requires-in-Some-after_bounds
+settle_one-requires-in-Some-after_bounds g c κs within =
+    closed_unheld g.row.T-Kind.Denot g.T.TypeSet.procedures g.T.TypeSet.idle c.args.space.now c.requires.orderly
+    c.args.object c.requires.kept c.len.ensures.store c.in-Some.place (sym c.place_of-place.ensures ∙ c.in-Some.is) (state_of g.row.T-Kind.Denot c.settle_one.new.space) c.settle_one.ensures
+
+pub returns-in-Some-clause-orderly : goal.returns-in-Some-clause-orderly
+returns-in-Some-clause-orderly g c =
+    settled_is_orderly g.row.T-Kind.Denot g.T.TypeSet.procedures g.T.TypeSet.idle c.args.space.now c.requires.orderly (state_of g.row.T-Kind.Denot c.settle_one-in-Some.new.space)
+    (closed_both g.row.T-Kind.Denot g.T.TypeSet.procedures g.T.TypeSet.idle c.args.space.now c.requires.orderly
+    c.args.object c.requires.kept c.len.ensures.store c.in-Some.place (sym c.place_of-place.ensures ∙ c.in-Some.is) (state_of g.row.T-Kind.Denot c.settle_one.new.space) c.settle_one.ensures
+    (state_of g.row.T-Kind.Denot c.settle_one-in-Some.new.space) c.settle_one-in-Some.ensures)
+
+pub returns-in-Some-clause-settled : goal.returns-in-Some-clause-settled
+returns-in-Some-clause-settled g c =
+    closed_both g.row.T-Kind.Denot g.T.TypeSet.procedures g.T.TypeSet.idle c.args.space.now c.requires.orderly
+    c.args.object c.requires.kept c.len.ensures.store c.in-Some.place (sym c.place_of-place.ensures ∙ c.in-Some.is) (state_of g.row.T-Kind.Denot c.settle_one.new.space) c.settle_one.ensures
+    (state_of g.row.T-Kind.Denot c.settle_one-in-Some.new.space) c.settle_one-in-Some.ensures
+
+pub returns-in_default-clause-orderly : goal.returns-in_default-clause-orderly
+returns-in_default-clause-orderly g c =
+    settled_is_orderly g.row.T-Kind.Denot g.T.TypeSet.procedures g.T.TypeSet.idle c.args.space.now c.requires.orderly (state_of g.row.T-Kind.Denot c.settle_one.new.space)
+    (closed_alone g.row.T-Kind.Denot g.T.TypeSet.procedures g.T.TypeSet.idle c.args.space.now c.requires.orderly
+    c.args.object c.requires.kept (state_of g.row.T-Kind.Denot c.settle_one.new.space) c.settle_one.ensures c.len.ensures.store (sym c.place_of-place.ensures ∙ c.in_default.is))
+
+pub returns-in_default-clause-settled : goal.returns-in_default-clause-settled
+returns-in_default-clause-settled g c =
+    closed_alone g.row.T-Kind.Denot g.T.TypeSet.procedures g.T.TypeSet.idle c.args.space.now c.requires.orderly
+    c.args.object c.requires.kept (state_of g.row.T-Kind.Denot c.settle_one.new.space) c.settle_one.ensures c.len.ensures.store (sym c.place_of-place.ensures ∙ c.in_default.is)

@@ -1,15 +1,14 @@
 -- The change is written under the id, or nothing is there.
 use Rattle.std.proofs.Common.{◌∙◌, ap, sym, subst, Some, None}
 use Rattle.std.specs.Option.{option_copied_mut}
-use Rattle.ob_dirs.specs.Dir.{IsDir}
-use Rattle.ob_objects.specs.Store.{IsStore, entries_in}
+use Rattle.ob_objects.specs.Store.{KeepsPlaces}
 use Rattle.ob_objects.specs.Changes.{stored_closed}
-use Rattle.ob_objects.proofs.Written.{found_is_dir, left_changed, written_changed, written_store, set_closed}
-use Rattle.ob_objects.proofs.Bodies.{closed_is_dir}
+use Rattle.ob_objects.proofs.Written.{left_changed, written_changed, changed_keeps, set_closed}
+use Rattle.ob_objects.proofs.Shown.{closed_entries}
 use Rattle.ob_objects.proofs.store.Store.close.Goals as goal
 
 pub invariant_of-self : goal.invariant_of-self
-invariant_of-self g c = subst IsStore (sym (ap (λ m. m.entries) c.get_mut.follows.holds-at-none)) c.self.invariant
+invariant_of-self g c = subst (λ es. KeepsPlaces es c.self.inside.places.entries) (sym (ap (λ m. m.entries) c.get_mut.follows.holds-at-none)) c.self.invariant
 
 pub returns-in_default-clause-closed : goal.returns-in_default-clause-closed
 returns-in_default-clause-closed g c =
@@ -24,17 +23,17 @@ returns-in_default-clause-set g c =
 pub invariant_of-self-2 : goal.invariant_of-self-2
 invariant_of-self-2 g c =
     let found = sym c.get_mut.ensures.value ∙ ap option_copied_mut c.in-Some.is in
-    let dir = found_is_dir c.self.inside.objects.entries c.id.inside.0 c.in-Some.stored.now c.self.invariant found in
-    written_store _ c.self.inside.objects.entries c.id.inside.0 c.close.new.stored c.self.invariant ((c.get_mut.follows.holds c.close.new.stored).0)
-    (subst (λ x. IsDir (entries_in x.body)) (sym c.close.ensures.closed)
-    (closed_is_dir g.T.TypeSet.procedures c.args.set.now c.args.process_left c.args.system_left c.in-Some.stored.now.body dir))
+    changed_keeps _ c.self.inside.objects.entries c.self.inside.places.entries c.id.inside.0
+    (λ x. record x { body = stored_closed g.T.TypeSet.procedures c.args.set.now c.args.process_left c.args.system_left x.body }) c.in-Some.stored.now c.close.new.stored
+    c.self.invariant found ((c.get_mut.follows.holds c.close.new.stored).0) c.close.ensures.closed
+    (λ x. closed_entries g.T.TypeSet.procedures c.args.set.now c.args.process_left c.args.system_left x.body)
 
 pub returns-clause-closed : goal.returns-clause-closed
 returns-clause-closed g c =
     let found = sym c.get_mut.ensures.value ∙ ap option_copied_mut c.in-Some.is in
     written_changed _ c.self.inside.objects.entries c.args.self.now c.id.inside.0 c.args.id
     (λ x. record x { body = stored_closed g.T.TypeSet.procedures c.args.set.now c.args.process_left c.args.system_left x.body }) c.in-Some.stored.now c.close.new.stored
-    c.self.invariant found ((c.get_mut.follows.holds c.close.new.stored).0) c.close.ensures.closed c.self.view_is c.id.view_is
+    c.self.invariant.is_store found ((c.get_mut.follows.holds c.close.new.stored).0) c.close.ensures.closed c.self.view_is c.id.view_is
 
 pub returns-clause-set : goal.returns-clause-set
 returns-clause-set g c =

@@ -1,12 +1,12 @@
 -- An id that no object has comes in its order.
-use Rattle.ob_objects.proofs.Written.{inserted_put, inserted_store}
+use Rattle.ob_objects.proofs.Written.{inserted_put, inserted_keeps}
 use Rattle.ob_objects.proofs.store.Store.insert.Goals as goal
 
 pub invariant_of-self-2 : goal.invariant_of-self-2
 invariant_of-self-2 g c =
     let inside = c.self.inside.objects.entries in
     let put = inserted_put c.insert.new.self.entries inside c.args.self.now c.id.inside.0 c.args.id c.args.object c.in_ok-insert.ensures.entries c.self.view_is c.id.view_is c.requires.free in
-    inserted_store c.insert.new.self.entries inside c.args.self.now c.args.id c.args.object c.self.invariant c.self.view_is put c.in_ok-insert.ensures.ordered c.count_names.ensures
+    inserted_keeps c.insert.new.self.entries inside c.args.self.now c.self.inside.places.entries c.args.id c.args.object c.self.invariant c.self.view_is put c.in_ok-insert.ensures.ordered c.requires.empty
 
 pub returns-clause-put : goal.returns-clause-put
 returns-clause-put g c =

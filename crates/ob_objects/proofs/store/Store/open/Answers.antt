@@ -1,12 +1,10 @@
 -- The change is written under the id, or nothing is there.
 use Rattle.std.proofs.Common.{◌≡◌, ◌∙◌, ap, sym, subst, Some, None, Option, ℕ, IfOk, IfErr}
 use Rattle.std.specs.Option.{option_copied_mut}
-use Rattle.ob_dirs.specs.Dir.{IsDir}
 use Rattle.ob_types.specs.Told.{reason_of}
-use Rattle.ob_objects.specs.Store.{entries_in}
 use Rattle.ob_objects.specs.Changes.{stored_opened}
-use Rattle.ob_objects.proofs.Written.{on_error, found_is_dir, left_changed, written_changed, written_same, written_store, refusal_found, set_opened}
-use Rattle.ob_objects.proofs.Bodies.{opened_is_dir}
+use Rattle.ob_objects.proofs.Written.{on_error, left_changed, written_changed, written_same, changed_keeps, refusal_found, set_opened}
+use Rattle.ob_objects.proofs.Shown.{opened_entries}
 use Rattle.ob_objects.proofs.store.Store.open.Goals as goal
 
 pub returns-in_default-clause-accepted : goal.returns-in_default-clause-accepted
@@ -27,10 +25,10 @@ returns-in_default-clause-set g c =
 pub invariant_of-self-2 : goal.invariant_of-self-2
 invariant_of-self-2 g c =
     let found = sym c.get_mut.ensures.value ∙ ap option_copied_mut c.in-Some.is in
-    let dir = found_is_dir c.self.inside.objects.entries c.id.inside.0 c.in-Some.stored.now c.self.invariant found in
-    written_store _ c.self.inside.objects.entries c.id.inside.0 c.open.new.stored c.self.invariant ((c.get_mut.follows.holds c.open.new.stored).0)
-    (subst (λ x. IsDir (entries_in x.body)) (sym c.open.ensures.opened)
-    (opened_is_dir g.T.TypeSet.procedures c.args.set.now (reason_of c.args.reason) c.in-Some.stored.now.body dir))
+    changed_keeps _ c.self.inside.objects.entries c.self.inside.places.entries c.id.inside.0
+    (λ x. record x { body = stored_opened g.T.TypeSet.procedures c.args.set.now (reason_of c.args.reason) x.body }) c.in-Some.stored.now c.open.new.stored
+    c.self.invariant found ((c.get_mut.follows.holds c.open.new.stored).0) c.open.ensures.opened
+    (λ x. opened_entries g.T.TypeSet.procedures c.args.set.now (reason_of c.args.reason) x.body)
 
 pub returns-clause-accepted : goal.returns-clause-accepted
 returns-clause-accepted g c =
@@ -49,7 +47,7 @@ returns-clause-opened g c =
     let found = sym c.get_mut.ensures.value ∙ ap option_copied_mut c.in-Some.is in
     written_changed _ c.self.inside.objects.entries c.args.self.now c.id.inside.0 c.args.id
     (λ x. record x { body = stored_opened g.T.TypeSet.procedures c.args.set.now (reason_of c.args.reason) x.body }) c.in-Some.stored.now c.open.new.stored
-    c.self.invariant found ((c.get_mut.follows.holds c.open.new.stored).0) c.open.ensures.opened c.self.view_is c.id.view_is
+    c.self.invariant.is_store found ((c.get_mut.follows.holds c.open.new.stored).0) c.open.ensures.opened c.self.view_is c.id.view_is
 
 pub returns-clause-set : goal.returns-clause-set
 returns-clause-set g c =

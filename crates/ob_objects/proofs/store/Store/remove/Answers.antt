@@ -1,14 +1,30 @@
--- The id that goes is in one entry at most.
-use Rattle.ob_objects.proofs.Written.{found_stored, removed_without, removed_store}
+-- The id that goes is in one entry at most, and the places of what lay in it go too.
+use Rattle.std.proofs.Common.{◌∙◌, sym, Some, refl}
+use Rattle.ob_objects.specs.Store.{entries_in}
+use Rattle.ob_objects.proofs.Written.{found_stored, entries_found, removed_without, removed_keeps}
 use Rattle.ob_objects.proofs.store.Store.remove.Goals as goal
 
-pub invariant_of-self : goal.invariant_of-self
-invariant_of-self g c =
-    removed_store c.remove.new.self.entries c.self.inside.objects.entries c.id.inside.0 c.self.invariant c.remove.ensures.entries c.remove.ensures.ordered
+pub returns-in_err-stored-clause-there : goal.returns-in_err-stored-clause-there
+returns-in_err-stored-clause-there g c =
+    c.from_residual.ensures ∙ sym c.in_err-stored.was
+    ∙ found_stored c.self.inside.objects.entries c.args.self.now c.id.inside.0 c.args.id c.remove.result c.remove.ensures.value c.self.view_is c.id.view_is
+
+pub returns-in_err-stored-clause-others : goal.returns-in_err-stored-clause-others
+returns-in_err-stored-clause-others g c =
+    removed_without c.remove.new.self.entries c.self.inside.objects.entries c.args.self.now c.id.inside.0 c.args.id c.self.invariant.is_store c.remove.ensures.entries c.self.view_is c.id.view_is
+
+pub invariant_of-self-2 : goal.invariant_of-self-2
+invariant_of-self-2 g c =
+    removed_keeps c.remove.new.self.entries c.self.inside.objects.entries c.self.inside.places.entries c.forget.new.places.entries c.id.inside.0 (entries_in c.in_ok-stored.stored.body)
+    c.self.invariant c.remove.ensures.entries c.remove.ensures.ordered
+    (entries_found c.self.inside.objects.entries c.self.inside.objects.entries c.id.inside.0 c.id.inside.0 (Some c.in_ok-stored.stored) (sym c.remove.ensures.value ∙ c.in_ok-stored.was) refl refl)
+    c.forget.ensures
 
 pub returns-clause-there : goal.returns-clause-there
-returns-clause-there g c = found_stored c.self.inside.objects.entries c.args.self.now c.id.inside.0 c.args.id _ c.remove.ensures.value c.self.view_is c.id.view_is
+returns-clause-there g c =
+    sym c.in_ok-stored.was
+    ∙ found_stored c.self.inside.objects.entries c.args.self.now c.id.inside.0 c.args.id c.remove.result c.remove.ensures.value c.self.view_is c.id.view_is
 
 pub returns-clause-others : goal.returns-clause-others
 returns-clause-others g c =
-    removed_without c.remove.new.self.entries c.self.inside.objects.entries c.args.self.now c.id.inside.0 c.args.id c.self.invariant c.remove.ensures.entries c.self.view_is c.id.view_is
+    removed_without c.remove.new.self.entries c.self.inside.objects.entries c.args.self.now c.id.inside.0 c.args.id c.self.invariant.is_store c.remove.ensures.entries c.self.view_is c.id.view_is

@@ -1,13 +1,15 @@
--- The change is written under the id, or nothing is there.
-use Rattle.std.proofs.Common.{◌∙◌, ◌==◌, ap, sym, subst, Some, None}
+-- The change is written under the id, or nothing is there; with the entry goes its object's place.
+use Rattle.std.proofs.Common.{◌∙◌, ◌==◌, ap, cond, sym, Some, None}
+use Rattle.std.specs.BTreeMap.{is_at}
 use Rattle.std.specs.List.{list_any}
-use Rattle.std.specs.Option.{option_copied_mut}
+use Rattle.std.specs.Map.{lookup}
+use Rattle.std.specs.Option.{is_some, option_copied_mut}
+use Rattle.std.specs.Ordering.{nat_cmp}
 use Rattle.ob_dirs.specs.declared.entry.DirEntry.{DirEntry}
-use Rattle.ob_dirs.specs.Dir.{IsDir}
 use Rattle.ob_objects.specs.Store.{entries_in}
 use Rattle.ob_objects.specs.Changes.{body_without_name}
-use Rattle.ob_objects.proofs.Written.{found_is_dir, entries_found, left_changed, written_changed, written_store}
-use Rattle.ob_objects.proofs.Bodies.{without_name_is_dir}
+use Rattle.ob_objects.proofs.Written.{entries_found, left_changed, written_changed, unnamed_keeps, unnamed_none}
+use Rattle.ob_objects.proofs.Stands.{any_found}
 use Rattle.ob_objects.proofs.store.Store.remove_name.Goals as goal
 
 pub returns-in_default-clause-there : goal.returns-in_default-clause-there
@@ -21,23 +23,43 @@ returns-in_default-clause-others g c =
     left_changed _ c.self.inside.objects.entries c.args.self.now c.directory.inside.0 c.args.directory _ (ap (λ m. m.entries) c.get_mut.follows.holds-at-none)
     (sym c.get_mut.ensures.value ∙ ap option_copied_mut c.in_default.is) c.self.view_is c.directory.view_is
 
+pub invariant_of-self-in_default-remove_name : goal.invariant_of-self-in_default-remove_name
+invariant_of-self-in_default-remove_name g c =
+    let found = sym c.get_mut.ensures.value ∙ ap option_copied_mut c.in-Some.is in
+    unnamed_none _ c.self.inside.objects.entries c.self.inside.places.entries c.directory.inside.0 c.args.stamp c.in-Some.stored.now c.remove_name.new.stored c.self.invariant found
+    ((c.get_mut.follows.holds c.remove_name.new.stored).0) c.remove_name.ensures.others (sym c.in_default-remove_name.is ∙ c.remove_name.ensures.there)
+
+pub returns-in_default-remove_name-clause-there : goal.returns-in_default-remove_name-clause-there
+returns-in_default-remove_name-clause-there g c =
+    let found = sym c.get_mut.ensures.value ∙ ap option_copied_mut c.in-Some.is in
+    ap is_some (sym c.in_default-remove_name.is ∙ c.remove_name.ensures.there) ∙ sym (any_found (λ (e : DirEntry). e.stamp == c.args.stamp) (entries_in c.in-Some.stored.now.body))
+    ∙ ap (list_any (λ (e : DirEntry). e.stamp == c.args.stamp))
+    (entries_found c.self.inside.objects.entries c.args.self.now c.directory.inside.0 c.args.directory (Some c.in-Some.stored.now) found c.self.view_is c.directory.view_is)
+
+pub returns-in_default-remove_name-clause-others : goal.returns-in_default-remove_name-clause-others
+returns-in_default-remove_name-clause-others g c =
+    let found = sym c.get_mut.ensures.value ∙ ap option_copied_mut c.in-Some.is in
+    written_changed _ c.self.inside.objects.entries c.args.self.now c.directory.inside.0 c.args.directory
+    (λ x. record x { body = body_without_name c.args.stamp x.body }) c.in-Some.stored.now c.remove_name.new.stored
+    c.self.invariant.is_store found ((c.get_mut.follows.holds c.remove_name.new.stored).0) c.remove_name.ensures.others c.self.view_is c.directory.view_is
+
 pub invariant_of-self-2 : goal.invariant_of-self-2
 invariant_of-self-2 g c =
     let found = sym c.get_mut.ensures.value ∙ ap option_copied_mut c.in-Some.is in
-    let dir = found_is_dir c.self.inside.objects.entries c.directory.inside.0 c.in-Some.stored.now c.self.invariant found in
-    written_store _ c.self.inside.objects.entries c.directory.inside.0 c.remove_name.new.stored c.self.invariant ((c.get_mut.follows.holds c.remove_name.new.stored).0)
-    (subst (λ x. IsDir (entries_in x.body)) (sym c.remove_name.ensures.others) (without_name_is_dir c.args.stamp c.in-Some.stored.now.body dir))
+    unnamed_keeps _ c.self.inside.objects.entries c.self.inside.places.entries c.remove.new.self.entries c.directory.inside.0 c.args.stamp c.in-Some-remove_name.entry c.in-Some.stored.now c.remove_name.new.stored c.self.invariant found
+    ((c.get_mut.follows.holds c.remove_name.new.stored).0) c.remove_name.ensures.others (sym c.in-Some-remove_name.is ∙ c.remove_name.ensures.there)
+    (λ id. c.remove.ensures.updates.0 id ∙ ap (λ k. cond (is_at (nat_cmp k) id) None (lookup (is_at (nat_cmp id)) c.self.inside.places.entries)) c.object.view_is)
 
 pub returns-clause-there : goal.returns-clause-there
 returns-clause-there g c =
-    c.remove_name.ensures.there
+    let found = sym c.get_mut.ensures.value ∙ ap option_copied_mut c.in-Some.is in
+    ap is_some (sym c.in-Some-remove_name.is ∙ c.remove_name.ensures.there) ∙ sym (any_found (λ (e : DirEntry). e.stamp == c.args.stamp) (entries_in c.in-Some.stored.now.body))
     ∙ ap (list_any (λ (e : DirEntry). e.stamp == c.args.stamp))
-    (entries_found c.self.inside.objects.entries c.args.self.now c.directory.inside.0 c.args.directory (Some c.in-Some.stored.now)
-    (sym c.get_mut.ensures.value ∙ ap option_copied_mut c.in-Some.is) c.self.view_is c.directory.view_is)
+    (entries_found c.self.inside.objects.entries c.args.self.now c.directory.inside.0 c.args.directory (Some c.in-Some.stored.now) found c.self.view_is c.directory.view_is)
 
 pub returns-clause-others : goal.returns-clause-others
 returns-clause-others g c =
     let found = sym c.get_mut.ensures.value ∙ ap option_copied_mut c.in-Some.is in
     written_changed _ c.self.inside.objects.entries c.args.self.now c.directory.inside.0 c.args.directory
     (λ x. record x { body = body_without_name c.args.stamp x.body }) c.in-Some.stored.now c.remove_name.new.stored
-    c.self.invariant found ((c.get_mut.follows.holds c.remove_name.new.stored).0) c.remove_name.ensures.others c.self.view_is c.directory.view_is
+    c.self.invariant.is_store found ((c.get_mut.follows.holds c.remove_name.new.stored).0) c.remove_name.ensures.others c.self.view_is c.directory.view_is

@@ -1,0 +1,99 @@
+//! A namespace whose set records its calls: they are those that the commands make, in their order.
+
+use ob_base::{Fault, Handle, Proc};
+use ob_core::{Bytes, Command, Core, Given, OpenTable, Place, Reply, Started};
+use ob_plain::{Call, CallKind, Plain, PlainKind, Recorder};
+use ob_types::Reason;
+use std::alloc::{AllocError, Global};
+use std::test::Fail;
+
+type Recording = Core<Recorder<Plain>, OpenTable>;
+
+// Makes the event `\E`, to which two handles may be open.
+fn make(alloc: Global) -> Result<Command<PlainKind>, AllocError> {
+    Ok(Command::CreateObject {
+        place: Place::At {
+            root: None,
+            name: Bytes::from_slice(alloc, b"\\E")?,
+        },
+        attrs: 0,
+        kind: PlainKind::Event,
+        args: Bytes::from_slice(alloc, b"2")?,
+    })
+}
+
+fn open(alloc: Global) -> Result<Command<PlainKind>, AllocError> {
+    Ok(Command::OpenObject {
+        root: None,
+        name: Bytes::from_slice(alloc, b"\\E")?,
+        attrs: 0,
+        want: None,
+    })
+}
+
+fn reply(core: &mut Recording, command: &Command<PlainKind>) -> Result<Reply, Fault> {
+    let Started::Done(reply) = core.start(Proc(1), command)?;
+    Ok(reply)
+}
+
+fn handle_of(reply: &Reply) -> Handle {
+    match reply.given {
+        Given::Handle(handle) => handle,
+        _ => Handle(0),
+    }
+}
+
+// The handle that a command of process 1 gives, or 0 where it gives none.
+fn given(core: &mut Recording, command: &Command<PlainKind>) -> Result<Handle, Fault> {
+    let reply = reply(core, command)?;
+    Ok(handle_of(&reply))
+}
+
+// The event is made, opened, refused to a third handle, and closed twice.
+fn play(alloc: Global, room: usize) -> Result<Recording, Fault> {
+    let set = Recorder::new(alloc, Plain, room)?;
+    let mut core: Recording = Core::new(alloc, set)?;
+    let (make, open) = (make(alloc)?, open(alloc)?);
+    let made = given(&mut core, &make)?;
+    let opened = given(&mut core, &open)?;
+    let refused = given(&mut core, &open)?;
+    for handle in [made, refused, opened] {
+        given(&mut core, &Command::Close { handle })?;
+    }
+    Ok(core)
+}
+
+fn closed(left: u32) -> CallKind {
+    CallKind::Closed {
+        process_left: left,
+        system_left: left,
+    }
+}
+
+#[test]
+fn calls_of_a_namespace_are_recorded(rt: HostRuntime) -> Result<(), Fail> {
+    let kinds = [
+        CallKind::Opened(Reason::Created),
+        CallKind::Opened(Reason::Opened),
+        closed(1),
+        closed(0),
+        CallKind::Deleted,
+    ];
+    for room in 0..7 {
+        let core = play(rt.alloc(), room)?;
+        let calls = core.set().calls();
+        let kept = room.min(5);
+        assert!(rt; calls.len() == kept && core.set().lost() == (5 - kept) as u64);
+        for (call, what) in calls.iter().zip(kinds.iter()) {
+            assert!(rt;
+                *call
+                    == Call {
+                        serial: 1,
+                        what: *what
+                    },
+                "{call:?}"
+            );
+        }
+    }
+    Ok(())
+}

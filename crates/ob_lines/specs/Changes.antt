@@ -1,0 +1,35 @@
+-- Changes: which words of a script the reply to a request changes.
+--
+-- Source: this profile.
+use Rattle.std.specs.Prelude.{ℕ, List}
+use Rattle.std.specs.Borrow.{Bor}
+use Rattle.ob_lines.specs.declared.change.Change.{Change}
+use Rattle.ob_lines.specs.declared.change.Change.TheVariants.{Nothing, Sets, SetsFor, GivesUp, GivesAllUp, SetsProcess}
+use Rattle.ob_lines.specs.declared.request.Request.{Request}
+use Rattle.ob_lines.specs.declared.request.Request.TheVariants.{CreateDirectory, CreateLink, CreateObject, OpenDirectory, OpenLink, OpenObject, Close, QueryLink, QueryName, Duplicate, MakeTemporary, MakePermanent, NewProcess, ExitProcess}
+
+-- what the reply to a request changes
+abbrev pub change_of : Request (List ℕ) → Change (List ℕ)
+change_of (CreateDirectory place attrs word) = Sets word
+change_of (CreateLink place attrs target word) = Sets word
+change_of (CreateObject kind place attrs args word) = Sets word
+change_of (OpenDirectory name attrs word) = Sets word
+change_of (OpenLink name attrs word) = Sets word
+change_of (OpenObject want name attrs word) = Sets word
+change_of (Close handle) = GivesUp handle.word
+change_of (QueryLink handle) = Nothing
+change_of (QueryName handle) = Nothing
+change_of (Duplicate handle to inherit word) = SetsFor to word
+change_of (MakeTemporary handle) = Nothing
+change_of (MakePermanent handle) = Nothing
+change_of (NewProcess inherit child) = SetsProcess child inherit
+change_of ExitProcess = GivesAllUp
+
+-- a change, whose slices of bytes are seen as the lists that they hold
+abbrev pub change_seen : Change (Bor (List ℕ)) → Change (List ℕ)
+change_seen Nothing = Nothing
+change_seen (Sets word) = Sets word.now
+change_seen (SetsFor process word) = SetsFor process.now word.now
+change_seen (GivesUp word) = GivesUp word.now
+change_seen GivesAllUp = GivesAllUp
+change_seen (SetsProcess process inherit) = SetsProcess process.now inherit

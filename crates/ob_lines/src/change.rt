@@ -1,0 +1,65 @@
+//! The words that the reply to a request changes.
+
+ghost use Rattle.std.specs.Prelude.{◌≡◌};
+ghost use Rattle.ob_lines.specs.Grammar.{request_seen};
+ghost use Rattle.ob_lines.specs.Changes.{change_of, change_seen};
+
+use crate::request::Request;
+
+/// Which words of a script the reply to a request changes. `T` is how bytes are held: as slices of the
+/// line, or, in contracts, as lists.
+#[derive(Clone, Copy, PartialEq, Eq, Debug)]
+pub enum Change<T> {
+    /// None: of a query, and of an object that is made temporary or permanent.
+    Nothing,
+    /// `=V` of a create or an open: this handle word of the process that asks is set to the handle that
+    /// was given, or to 0 where none was given.
+    Sets(T),
+    /// `Q .. =V` of a `dup`: a handle word of the process that this process word names, which may be the
+    /// one that asks, is set to the handle that was given, or to 0 where none was given.
+    SetsFor {
+        /// The process word.
+        process: T,
+        /// The handle word.
+        word: T,
+    },
+    /// `H` of a `close`: this handle word of the process that asks is set to 0 where the reply is SUCCESS,
+    /// whatever was added to its value.
+    GivesUp(T),
+    /// `exit`: all handle words of the process that asks are set to 0 where the reply is SUCCESS.
+    GivesAllUp,
+    /// `=Q` of a `new`: this process word is set to the child, or to 0 where none was made. Where one was,
+    /// its handle words are set too: to what it inherited of its parent's, where it does, and else to 0.
+    SetsProcess {
+        /// The process word.
+        process: T,
+        /// Whether the child inherits.
+        inherit: bool,
+    },
+}
+
+/// The words that the reply to a request changes. A `dup` with inheritance and one without change the
+/// same. Takes no memory. Source: this profile.
+pub fn change_of<'a>(request: Request<&'a [u8]>) -> Change<&'a [u8]>
+    ensures { change_seen result ≡ change_of (request_seen request.entry) }
+{
+    match request {
+        Request::CreateDirectory { word, .. } => Change::Sets(word),
+        Request::CreateLink { word, .. } => Change::Sets(word),
+        Request::CreateObject { word, .. } => Change::Sets(word),
+        Request::OpenDirectory { word, .. } => Change::Sets(word),
+        Request::OpenLink { word, .. } => Change::Sets(word),
+        Request::OpenObject { word, .. } => Change::Sets(word),
+        Request::Close { handle } => Change::GivesUp(handle.word),
+        Request::QueryLink { .. } => Change::Nothing,
+        Request::QueryName { .. } => Change::Nothing,
+        Request::Duplicate { to, word, .. } => Change::SetsFor { process: to, word },
+        Request::MakeTemporary { .. } => Change::Nothing,
+        Request::MakePermanent { .. } => Change::Nothing,
+        Request::NewProcess { inherit, child } => {
+            let process = child;
+            Change::SetsProcess { process, inherit }
+        }
+        Request::ExitProcess => Change::GivesAllUp,
+    }
+}

@@ -1,0 +1,166 @@
+//! A set that records the calls of another.
+
+ghost use Rattle.std.specs.Prelude.{◌≡◌, ◌≢◌, ℕ, None, Some, IfOk, IfErr, IsOk};
+ghost use Rattle.std.proofs.Common.{ap, ◌∙◌};
+ghost use Rattle.ob_model.specs.Procedures as model;
+ghost use Rattle.ob_plain.specs.Counting.{counted};
+ghost use Rattle.ob_plain.specs.Calls.{none_kept, noted};
+ghost use Rattle.ob_plain.specs.Recorder.{recording_procedures, opened_by, IsRecordedIdle, part_of, kept_of, last_of};
+ghost use Rattle.ob_plain.specs.Recorder.{serial_after, opened_call};
+ghost use Rattle.ob_plain.specs.declared.recorder.Recorder.{Recorder};
+ghost use Rattle.ob_plain.specs.declared.recorder.Recorded.{Recorded};
+
+use crate::calls::CallList;
+use crate::{Call, CallKind};
+use ob_base::Fault;
+use ob_types::{Reason, Refusal, TypeSet};
+use std::alloc::Global;
+
+/// A set of types with the first of its calls, as many as there is room for, and the number of the
+/// others. An open that is refused is none of them. No call takes memory for that: the room is
+/// reserved when the recorder is made. (this profile)
+#[derive(Debug, Drop)]
+pub struct Recorder<T> {
+    part: T,
+    last: u64,
+    calls: CallList,
+}
+
+/// What the procedures change of an object of a recorded set. (this profile)
+#[derive(Debug, Drop)]
+pub struct Recorded<I> {
+    /// What they change of it in the set below.
+    pub part: I,
+    /// The serial that its first accepted open drew, from 1; 0 before. At the greatest u64, that one
+    /// or none that is its own.
+    pub serial: u64,
+}
+
+impl<T: Drop> Recorder<T> {
+    /// A recorder with no call yet, and room for so many. Want of memory for the room is the only
+    /// error; the set is then dropped. No room needs no memory.
+    pub fn new(alloc: Global, part: T, room: usize) -> Result<Recorder<T>, Fault>
+        ensures part { IfOk result (λ recorder. part_of recorder ≡ part) }
+        ensures calls { IfOk result (λ recorder. kept_of recorder ≡ none_kept room) }
+        ensures serials { IfOk result (λ recorder. last_of recorder ≡ 0) }
+        ensures no_room { room ≡ 0 → IsOk result }
+        ensures memory { IfErr result (λ fault. fault ≡ Fault.Memory) }
+    {
+        let calls = CallList::new(alloc, room)?;
+        Ok(Recorder {
+            part,
+            last: 0,
+            calls,
+        })
+    }
+}
+
+impl<T> Recorder<T> {
+    /// The calls that there was room for, the first of them first.
+    pub fn calls(&self) -> &[Call]
+        ensures { result.now ≡ (kept_of self.now).calls }
+    {
+        self.calls.as_slice()
+    }
+
+    /// The number of the calls behind them, which stops at the greatest u64.
+    pub fn lost(&self) -> u64
+        ensures { result ≡ (kept_of self.now).lost }
+    {
+        self.calls.lost()
+    }
+}
+
+/// Every call is handed to the set below, whose answers and laws this set has; then it is noted with
+/// the object's serial. An open that is refused is not noted, and draws no serial. (this profile)
+impl<T: TypeSet> TypeSet for Recorder<T> {
+    type Kind = T::Kind;
+
+    type Face = T::Face;
+
+    type Inner = Recorded<T::Inner>;
+
+    ghost procedures = { recording_procedures T.procedures };
+
+    ghost idle = { IsRecordedIdle T.idle };
+
+    fn type_name(kind: T::Kind) -> &'static str {
+        T::type_name(kind)
+    }
+
+    fn kind_of(face: &T::Face) -> T::Kind {
+        T::kind_of(face)
+    }
+
+    fn make(
+        alloc: Global,
+        kind: T::Kind,
+        args: &[u8],
+    ) -> Result<(T::Face, Recorded<T::Inner>), Refusal> {
+        let (face, part) = T::make(alloc, kind, args)?;
+        Ok((face, Recorded { part, serial: 0 }))
+    }
+
+    fn on_open(&mut self, inner: &mut Recorded<T::Inner>, reason: Reason) -> Result<(), u16> {
+        self.part.on_open(&mut inner.part, reason)?;
+        if inner.serial == 0 {
+            self.last = self.last.saturating_add(1);
+            inner.serial = self.last;
+        }
+        self.calls.note(Call {
+            serial: inner.serial,
+            what: CallKind::Opened(reason),
+        });
+        Ok(())
+    }
+
+    fn on_close(&mut self, inner: &mut Recorded<T::Inner>, process_left: u32, system_left: u32) {
+        self.part
+            .on_close(&mut inner.part, process_left, system_left);
+        self.calls.note(Call {
+            serial: inner.serial,
+            what: CallKind::Closed {
+                process_left,
+                system_left,
+            },
+        });
+    }
+
+    fn on_delete(&mut self, inner: Recorded<T::Inner>) {
+        let Recorded { part, serial } = inner;
+        self.part.on_delete(part);
+        self.calls.note(Call {
+            serial,
+            what: CallKind::Deleted,
+        });
+    }
+
+    ghost refused_open = { λ recorder inner reason k told. ap (λ left. opened_by ((T.procedures).refuses_to_open recorder.part inner.part reason) recorder inner reason left) (T.refused_open recorder.part inner.part reason k told) ∙ ap (λ refusal. opened_by refusal recorder inner reason (recorder.part, inner.part)) told };
+
+    ghost made_idle = { T.made_idle };
+
+    ghost closed_idle = { λ recorder inner. T.closed_idle recorder.part inner.part };
+
+    ghost one_kind = { T.one_kind };
+
+    ghost own_kind = { T.own_kind };
+
+    ghost equal_kinds = { T.equal_kinds };
+}
+
+/// An open that the set below accepts is noted, and one that it refuses changes nothing. The first that
+/// is accepted of an object draws the next serial; later ones leave it. This holds of every lawful set;
+/// nothing is done when it runs. (this profile)
+pub fn accepted_opens_are_noted<T: TypeSet>()
+    ensures below { (recorder : Recorder T) (inner : Recorded T.Inner) (reason : model.Reason) → part_of ((recording_procedures T.procedures).opened recorder inner reason).0 ≡ ((T.procedures).opened (part_of recorder) inner.part reason).0 }
+    ensures noted { (recorder : Recorder T) (inner : Recorded T.Inner) (reason : model.Reason) → (T.procedures).refuses_to_open (part_of recorder) inner.part reason ≡ None → kept_of ((recording_procedures T.procedures).opened recorder inner reason).0 ≡ noted (kept_of recorder) (opened_call (serial_after (last_of recorder) inner.serial) reason) }
+    ensures refused { (recorder : Recorder T) (inner : Recorded T.Inner) (reason : model.Reason) (k : ℕ) → (T.procedures).refuses_to_open (part_of recorder) inner.part reason ≡ Some k → (recording_procedures T.procedures).opened recorder inner reason ≡ (recorder, inner) }
+    ensures first { (recorder : Recorder T) (inner : Recorded T.Inner) (reason : model.Reason) → (T.procedures).refuses_to_open (part_of recorder) inner.part reason ≡ None → inner.serial ≡ 0 → ((recording_procedures T.procedures).opened recorder inner reason).1.serial ≡ counted (last_of recorder) }
+    ensures later { (recorder : Recorder T) (inner : Recorded T.Inner) (reason : model.Reason) → inner.serial ≢ 0 → ((recording_procedures T.procedures).opened recorder inner reason).1.serial ≡ inner.serial }
+{}
+
+/// The recorder of a lawful set is lawful, also in its parse procedures. Nothing is done when it runs.
+/// (this profile)
+pub fn recorder_is_lawful<T: TypeSet>()
+    ensures { model.IsLawful T.procedures T.idle → model.IsLawful (recording_procedures T.procedures) (IsRecordedIdle T.idle) }
+{}

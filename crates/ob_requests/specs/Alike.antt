@@ -1,0 +1,49 @@
+-- Alike words: in two alike states they lead to the same handles, and so the same requests ask alike, and their
+-- replies leave alike words.
+--
+-- Source: this profile.
+use Rattle.std.specs.Prelude.{◌≡◌, ℕ, ◌⊎◌, true, List}
+use Rattle.std.specs.Str.{bytes_eq}
+use Rattle.ob_model.specs.declared.command.Command.{Command}
+use Rattle.ob_model.specs.declared.reply.Reply.{Reply}
+use Rattle.ob_model.specs.declared.reply.Answer.TheVariants.{Done}
+use Rattle.ob_model.specs.declared.reply.Event.TheVariants.{Start}
+use Rattle.ob_model.specs.State.{State}
+use Rattle.ob_model.specs.Procedures.{Procedures}
+use Rattle.ob_model.specs.Sound.{IsSound}
+use Rattle.ob_model.specs.Step.{Step}
+use Rattle.ob_model.specs.Grants.{IsHandleValue}
+use Rattle.ob_model.specs.Alike.{AreAlike, IsHeld, LeadAlike, AreAlikeCommands}
+use Rattle.ob_plain.specs.declared.plain.PlainKind.{PlainKind}
+use Rattle.ob_lines.specs.declared.request.Request.{Request}
+use Rattle.ob_requests.specs.Words.{Words}
+use Rattle.ob_requests.specs.Commands.{IsCommand, words_after}
+
+module _ {K T F I : Type 0} where
+  -- the values of a word that isn't set in either state, or values of handles of a process that lead alike
+  pub data AreAlikeValues (s t : State K T F I) (p : ℕ) (value other : ℕ) : Type 0 where
+    unset : value ≡ 0 → other ≡ 0 → AreAlikeValues s t p value other
+    set : IsHeld s p value → LeadAlike s t p value other → IsHandleValue value → IsHandleValue other → AreAlikeValues s t p value other
+
+  -- words of the same processes, whose values are alike for each process, and no two of them one handle's
+  pub record AreAlikeWords (s t : State K T F I) (words others : Words) : Type 0 where
+    pub processes : (word : List ℕ) → words.processes word ≡ others.processes word
+    pub values : (p : ℕ) (word : List ℕ) → AreAlikeValues s t p (words.values p word) (others.values p word)
+    pub apart : (p : ℕ) (a b : List ℕ) → words.values p a ≡ words.values p b → (words.values p a ≡ 0) ⊎ (bytes_eq a b ≡ true)
+    pub apart_too : (p : ℕ) (a b : List ℕ) → others.values p a ≡ others.values p b → (others.values p a ≡ 0) ⊎ (bytes_eq a b ≡ true)
+
+-- in alike states, with alike words, a request of a process spells alike commands
+abbrev pub RequestsAskAlike : (T F I : Type 0) → Type 0
+RequestsAskAlike T F I =
+    (s t : State PlainKind T F I) (p : ℕ) (request : Request (List ℕ)) (words others : Words) (c d : Command PlainKind)
+    → AreAlike s t → AreAlikeWords s t words others → IsCommand request words p c → IsCommand request others p d → AreAlikeCommands s t p c d
+
+-- and whatever steps the machine makes for those commands, the words after their replies are alike in the states that
+-- it leaves
+abbrev pub RepliesLeaveAlikeWords : (T F I : Type 0) → Type 0
+RepliesLeaveAlikeWords T F I =
+    (g : Procedures PlainKind T F I) (s t u v : State PlainKind T F I) (p : ℕ) (request : Request (List ℕ)) (words others : Words)
+    (c d : Command PlainKind) (a b : Reply)
+    → IsSound s → IsSound t → AreAlike s t → AreAlikeWords s t words others → IsCommand request words p c → IsCommand request others p d
+    → Step g s (Start p c) (Done a) u → Step g t (Start p d) (Done b) v
+    → AreAlikeWords u v (words_after request p a words) (words_after request p b others)

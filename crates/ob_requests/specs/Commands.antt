@@ -1,0 +1,125 @@
+-- Commands: what a request asks of the namespace, and the words after its reply.
+--
+-- Source: this profile.
+use Rattle.std.specs.Prelude.{◌≡◌, ℕ, ◌+◌, min, List, Bool, true, false, Option, None, Some, if◌then◌else◌}
+use Rattle.ob_base.specs.declared.status.Status.{Status}
+use Rattle.ob_base.specs.declared.status.Status.TheVariants.{Success}
+use Rattle.ob_model.specs.declared.command.Command.{Command}
+use Rattle.ob_model.specs.declared.command.Command.TheVariants as command
+use Rattle.ob_model.specs.declared.command.Place.{Place}
+use Rattle.ob_model.specs.declared.command.Place.TheVariants as place
+use Rattle.ob_model.specs.declared.reply.Given.{Given}
+use Rattle.ob_model.specs.declared.reply.Given.TheVariants as given
+use Rattle.ob_model.specs.declared.reply.Reply.{Reply}
+use Rattle.ob_plain.specs.declared.plain.PlainKind.{PlainKind}
+use Rattle.ob_lines.specs.declared.handle.HandleForm.{HandleForm}
+use Rattle.ob_lines.specs.declared.request.NameForm.{NameForm}
+use Rattle.ob_lines.specs.declared.request.NameForm.TheVariants.{Absolute, Relative}
+use Rattle.ob_lines.specs.declared.request.PlaceForm.{PlaceForm}
+use Rattle.ob_lines.specs.declared.request.PlaceForm.TheVariants.{Named, Unnamed}
+use Rattle.ob_lines.specs.declared.request.Request.{Request}
+use Rattle.ob_lines.specs.declared.request.Request.TheVariants.{CreateDirectory, CreateLink, CreateObject, OpenDirectory, OpenLink, OpenObject, Close, QueryLink, QueryName, Duplicate, MakeTemporary, MakePermanent, NewProcess, ExitProcess}
+use Rattle.ob_lines.specs.Text.{Spells}
+use Rattle.ob_lines.specs.Parts.{offset_value, text_of}
+use Rattle.ob_lines.specs.declared.change.Change.{Change}
+use Rattle.ob_lines.specs.declared.change.Change.TheVariants as change
+use Rattle.ob_lines.specs.Changes.{change_of}
+use Rattle.ob_requests.specs.Words.{Words, with_process, with_words, with_word, without_words, handed_on}
+
+-- the greatest number that a handle is named by
+abbrev pub greatest_named : ℕ
+greatest_named = 4294967295
+
+-- the handle that is meant, with these values of its process's words: the word's value and what is added to
+-- it. A sum past the greatest number would be that number; in a run there is none (`Offsets`).
+abbrev pub handle_meant : HandleForm (List ℕ) → (List ℕ → ℕ) → ℕ
+handle_meant handle values = min (values handle.word + offset_value handle.offset) greatest_named
+
+-- the handle that a name is relative to, with these values of its process's words; an absolute name has
+-- none
+abbrev pub root_of : NameForm (List ℕ) → (List ℕ → ℕ) → Option ℕ
+root_of (Absolute text) values = None
+root_of (Relative root text) values = Some (handle_meant root values)
+
+-- the place that is meant, with these values: the name that a text spells, by its root handle, or nowhere
+abbrev pub IsPlace : PlaceForm (List ℕ) → (List ℕ → ℕ) → Place → Type 0
+IsPlace (Named name) values where_to = (bytes : List ℕ) × Spells (text_of name) bytes × (where_to ≡ place.At (root_of name values) bytes)
+IsPlace Unnamed values where_to = where_to ≡ place.Unnamed
+
+-- the creates, and the opens, that these parts of a line spell
+abbrev pub IsCreateDirectory : PlaceForm (List ℕ) → ℕ → (List ℕ → ℕ) → Command PlainKind → Type 0
+IsCreateDirectory place attrs values c = (where_to : Place) × IsPlace place values where_to × (c ≡ command.CreateDirectory where_to attrs)
+
+abbrev pub IsCreateLink : PlaceForm (List ℕ) → ℕ → List ℕ → (List ℕ → ℕ) → Command PlainKind → Type 0
+IsCreateLink place attrs target values c =
+    (where_to : Place) × (bytes : List ℕ) × IsPlace place values where_to × Spells target bytes
+    × (c ≡ command.CreateLink where_to attrs bytes)
+
+abbrev pub IsCreateObject : PlainKind → PlaceForm (List ℕ) → ℕ → List ℕ → (List ℕ → ℕ) → Command PlainKind → Type 0
+IsCreateObject kind place attrs args values c =
+    (where_to : Place) × (bytes : List ℕ) × IsPlace place values where_to × Spells args bytes
+    × (c ≡ command.CreateObject where_to attrs kind bytes)
+
+abbrev pub IsOpenDirectory : NameForm (List ℕ) → ℕ → (List ℕ → ℕ) → Command PlainKind → Type 0
+IsOpenDirectory name attrs values c =
+    (bytes : List ℕ) × Spells (text_of name) bytes × (c ≡ command.OpenDirectory (root_of name values) bytes attrs)
+
+abbrev pub IsOpenLink : NameForm (List ℕ) → ℕ → (List ℕ → ℕ) → Command PlainKind → Type 0
+IsOpenLink name attrs values c =
+    (bytes : List ℕ) × Spells (text_of name) bytes × (c ≡ command.OpenLink (root_of name values) bytes attrs)
+
+abbrev pub IsOpenObject : Option PlainKind → NameForm (List ℕ) → ℕ → (List ℕ → ℕ) → Command PlainKind → Type 0
+IsOpenObject want name attrs values c =
+    (bytes : List ℕ) × Spells (text_of name) bytes × (c ≡ command.OpenObject (root_of name values) bytes attrs want)
+
+-- the command that a request of a process spells, with these words
+abbrev pub IsCommand : Request (List ℕ) → Words → ℕ → Command PlainKind → Type 0
+IsCommand (CreateDirectory place attrs word) words process c = IsCreateDirectory place attrs (words.values process) c
+IsCommand (CreateLink place attrs target word) words process c = IsCreateLink place attrs target (words.values process) c
+IsCommand (CreateObject kind place attrs args word) words process c = IsCreateObject kind place attrs args (words.values process) c
+IsCommand (OpenDirectory name attrs word) words process c = IsOpenDirectory name attrs (words.values process) c
+IsCommand (OpenLink name attrs word) words process c = IsOpenLink name attrs (words.values process) c
+IsCommand (OpenObject want name attrs word) words process c = IsOpenObject want name attrs (words.values process) c
+IsCommand (Close handle) words process c = c ≡ command.Close (handle_meant handle (words.values process))
+IsCommand (QueryLink handle) words process c = c ≡ command.QueryLink (handle_meant handle (words.values process))
+IsCommand (QueryName handle) words process c = c ≡ command.QueryName (handle_meant handle (words.values process))
+IsCommand (Duplicate handle to inherit word) words process c =
+    c ≡ command.Duplicate (handle_meant handle (words.values process)) (words.processes to) inherit
+IsCommand (MakeTemporary handle) words process c = c ≡ command.MakeTemporary (handle_meant handle (words.values process))
+IsCommand (MakePermanent handle) words process c = c ≡ command.MakePermanent (handle_meant handle (words.values process))
+IsCommand (NewProcess inherit child) words process c = c ≡ command.NewProcess inherit
+IsCommand ExitProcess words process c = c ≡ command.ExitProcess
+
+-- whether a status is SUCCESS
+abbrev pub is_success : Status → Bool
+is_success Success = true
+is_success status = false
+
+-- the value of a word that is set: the handle that was given, or 0 where none was given
+abbrev pub given_handle : Given → ℕ
+given_handle given.Nothing = 0
+given_handle (given.Handle handle) = handle
+given_handle (given.Text text) = 0
+given_handle (given.Process process values) = 0
+
+-- the words with a child, where the reply gives one: a process word names it, and it has the words of its
+-- parent that are handed on to it; where none is given the process word is 0
+abbrev pub with_child : Words → ℕ → List ℕ → Bool → Given → Words
+with_child words parent word inherit (given.Process process handles) =
+    with_words (with_process words word process) process (handed_on (words.values parent) inherit handles)
+with_child words parent word inherit given.Nothing = with_process words word 0
+with_child words parent word inherit (given.Handle handle) = with_process words word 0
+with_child words parent word inherit (given.Text text) = with_process words word 0
+
+-- the words after the reply to a process, which changes these of them
+abbrev pub changed : Change (List ℕ) → ℕ → Reply → Words → Words
+changed change.Nothing process reply words = words
+changed (change.Sets word) process reply words = with_word words process word (given_handle reply.given)
+changed (change.SetsFor to word) process reply words = with_word words (words.processes to) word (given_handle reply.given)
+changed (change.GivesUp word) process reply words = if is_success reply.status then with_word words process word 0 else words
+changed change.GivesAllUp process reply words = if is_success reply.status then without_words words process else words
+changed (change.SetsProcess word inherit) process reply words = with_child words process word inherit reply.given
+
+-- the words after the reply to a request of a process
+abbrev pub words_after : Request (List ℕ) → ℕ → Reply → Words → Words
+words_after request process reply words = changed (change_of request) process reply words

@@ -1,0 +1,232 @@
+//! The command that a request spells.
+
+ghost use Rattle.std.specs.Prelude.{◌≡◌, ◌+◌, min, IfOk};
+ghost use Rattle.ob_lines.specs.Parts.{offset_value, text_of, name_seen, place_seen, handle_seen};
+ghost use Rattle.ob_lines.specs.Grammar.{HasPlaceText, HasTexts, request_seen};
+ghost use Rattle.ob_lines.specs.Text.{IsText, Spells};
+ghost use Rattle.ob_requests.specs.Tables.{words_in};
+ghost use Rattle.ob_requests.specs.Commands.{greatest_named, handle_meant, root_of, IsCommand, IsCreateDirectory, IsCreateLink, IsCreateObject, IsOpenDirectory, IsOpenLink, IsOpenObject, IsPlace};
+
+use crate::words::Words;
+use ob_base::{Handle, Proc};
+use ob_lines::{HandleForm, NameForm, Offset, PlaceForm, Request, decode, offset_value};
+use ob_model::{Bytes, Command, Place};
+use ob_plain::PlainKind;
+use std::alloc::AllocError;
+
+/// A process that asks for something, and the words of the script. (this profile)
+#[derive(Clone, Copy)]
+pub struct Asker<'a> {
+    /// The words of the script.
+    pub words: &'a Words,
+    /// The process.
+    pub process: Proc,
+}
+
+/// The command that a request spells, or want of memory. (this profile)
+pub type Asked = Result<Command<PlainKind>, AllocError>;
+
+/// The command that a request of a process spells, with the words of the script. The only fault is want
+/// of memory. Source: this profile.
+pub fn command_of(asker: &Asker<'_>, request: Request<&[u8]>) -> Asked
+    requires texts { HasTexts (request_seen request) }
+    ensures { IfOk result (IsCommand (request_seen request.entry) (words_in asker.now.words.now) asker.now.process) }
+{
+    match request {
+        Request::CreateDirectory { place, attrs, .. } => create_directory(asker, place, attrs),
+        Request::CreateLink {
+            place,
+            attrs,
+            target,
+            ..
+        } => create_link(asker, place, attrs, target),
+        Request::CreateObject {
+            kind,
+            place,
+            attrs,
+            args,
+            ..
+        } => create_object(asker, kind, place, attrs, args),
+        Request::OpenDirectory { name, attrs, .. } => open_directory(asker, name, attrs),
+        Request::OpenLink { name, attrs, .. } => open_link(asker, name, attrs),
+        Request::OpenObject {
+            want,
+            name,
+            attrs,
+            ..
+        } => open_object(asker, want, name, attrs),
+        Request::Close { handle } => {
+            let handle = handle_meant(asker, handle);
+            Ok(Command::Close { handle })
+        }
+        Request::QueryLink { handle } => {
+            let handle = handle_meant(asker, handle);
+            Ok(Command::QueryLink { handle })
+        }
+        Request::QueryName { handle } => {
+            let handle = handle_meant(asker, handle);
+            Ok(Command::QueryName { handle })
+        }
+        Request::Duplicate {
+            handle,
+            to,
+            inherit,
+            ..
+        } => {
+            let handle = handle_meant(asker, handle);
+            let to = asker.words.process_of(to);
+            Ok(Command::Duplicate {
+                handle,
+                to,
+                inherit,
+            })
+        }
+        Request::MakeTemporary { handle } => {
+            let handle = handle_meant(asker, handle);
+            Ok(Command::MakeTemporary { handle })
+        }
+        Request::MakePermanent { handle } => {
+            let handle = handle_meant(asker, handle);
+            Ok(Command::MakePermanent { handle })
+        }
+        Request::NewProcess { inherit, .. } => Ok(Command::NewProcess { inherit }),
+        Request::ExitProcess => Ok(Command::ExitProcess),
+    }
+}
+
+// The create of a directory.
+fn create_directory(asker: &Asker<'_>, place: PlaceForm<&[u8]>, attrs: u32) -> Asked
+    requires { HasPlaceText (place_seen place) }
+    ensures { IfOk result (IsCreateDirectory (place_seen place.entry) attrs ((words_in asker.now.words.now).values asker.now.process)) }
+{
+    let place = place_of(asker, place)?;
+    Ok(Command::CreateDirectory { place, attrs })
+}
+
+// The create of a symbolic link.
+fn create_link(asker: &Asker<'_>, place: PlaceForm<&[u8]>, attrs: u32, target: &[u8]) -> Asked
+    requires place { HasPlaceText (place_seen place) }
+    requires target { IsText target.now }
+    ensures { IfOk result (IsCreateLink (place_seen place.entry) attrs target.now ((words_in asker.now.words.now).values asker.now.process)) }
+{
+    let place = place_of(asker, place)?;
+    let target = decode(asker.words.alloc, target)?;
+    Ok(Command::CreateLink {
+        place,
+        attrs,
+        target,
+    })
+}
+
+// The create of an object.
+fn create_object(
+    asker: &Asker<'_>,
+    kind: PlainKind,
+    place: PlaceForm<&[u8]>,
+    attrs: u32,
+    args: &[u8],
+) -> Asked
+    requires place { HasPlaceText (place_seen place) }
+    requires args { IsText args.now }
+    ensures { IfOk result (IsCreateObject kind (place_seen place.entry) attrs args.now ((words_in asker.now.words.now).values asker.now.process)) }
+{
+    let place = place_of(asker, place)?;
+    let args = decode(asker.words.alloc, args)?;
+    Ok(Command::CreateObject {
+        place,
+        attrs,
+        kind,
+        args,
+    })
+}
+
+// The open of a directory.
+fn open_directory(asker: &Asker<'_>, name: NameForm<&[u8]>, attrs: u32) -> Asked
+    requires { IsText (text_of (name_seen name)) }
+    ensures { IfOk result (IsOpenDirectory (name_seen name.entry) attrs ((words_in asker.now.words.now).values asker.now.process)) }
+{
+    let root = root_of(asker, name);
+    let name = bytes_of(asker, name)?;
+    Ok(Command::OpenDirectory { root, name, attrs })
+}
+
+// The open of a symbolic link.
+fn open_link(asker: &Asker<'_>, name: NameForm<&[u8]>, attrs: u32) -> Asked
+    requires { IsText (text_of (name_seen name)) }
+    ensures { IfOk result (IsOpenLink (name_seen name.entry) attrs ((words_in asker.now.words.now).values asker.now.process)) }
+{
+    let root = root_of(asker, name);
+    let name = bytes_of(asker, name)?;
+    Ok(Command::OpenLink { root, name, attrs })
+}
+
+// The open of an object.
+fn open_object(
+    asker: &Asker<'_>,
+    want: Option<PlainKind>,
+    name: NameForm<&[u8]>,
+    attrs: u32,
+) -> Asked
+    requires { IsText (text_of (name_seen name)) }
+    ensures { IfOk result (IsOpenObject want (name_seen name.entry) attrs ((words_in asker.now.words.now).values asker.now.process)) }
+{
+    let root = root_of(asker, name);
+    let name = bytes_of(asker, name)?;
+    Ok(Command::OpenObject {
+        root,
+        name,
+        attrs,
+        want,
+    })
+}
+
+// The place that a line means.
+fn place_of(asker: &Asker<'_>, place: PlaceForm<&[u8]>) -> Result<Place, AllocError>
+    requires { HasPlaceText (place_seen place) }
+    ensures { IfOk result (IsPlace (place_seen place.entry) ((words_in asker.now.words.now).values asker.now.process)) }
+{
+    match place {
+        PlaceForm::Named(name) => {
+            let root = root_of(asker, name);
+            let name = bytes_of(asker, name)?;
+            Ok(Place::At { root, name })
+        }
+        PlaceForm::Unnamed => Ok(Place::Unnamed),
+    }
+}
+
+// The handle that a name is relative to; none for an absolute name.
+fn root_of(asker: &Asker<'_>, name: NameForm<&[u8]>) -> Option<Handle>
+    ensures { result ≡ root_of (name_seen name.entry) ((words_in asker.now.words.now).values asker.now.process) }
+{
+    match name {
+        NameForm::Absolute(_) => None,
+        NameForm::Relative { root, .. } => Some(handle_meant(asker, root)),
+    }
+}
+
+// The bytes that the text of a name spells.
+fn bytes_of(asker: &Asker<'_>, name: NameForm<&[u8]>) -> Result<Bytes, AllocError>
+    requires { IsText (text_of (name_seen name)) }
+    ensures { IfOk result (λ bytes. Spells (text_of (name_seen name.entry)) bytes) }
+{
+    match name {
+        NameForm::Absolute(text) => decode(asker.words.alloc, text),
+        NameForm::Relative { text, .. } => decode(asker.words.alloc, text),
+    }
+}
+
+// The handle that is meant: the value of a word, and the number that is added to it.
+fn handle_meant(asker: &Asker<'_>, handle: HandleForm<&[u8]>) -> Handle
+    ensures { result ≡ handle_meant (handle_seen handle.entry) ((words_in asker.now.words.now).values asker.now.process) }
+{
+    let value = asker.words.value_of(asker.process, handle.word);
+    with_offset(value, handle.offset)
+}
+
+// A handle value with the number that is added to it.
+fn with_offset(value: Handle, offset: Offset) -> Handle
+    ensures { result ≡ min (value + offset_value offset) greatest_named }
+{
+    Handle(value.0.saturating_add(offset_value(offset)))
+}

@@ -1,0 +1,11 @@
+//! Requests of a script: the command that each spells by the script's words, and the words after its reply.
+#![tactic(auto)]
+
+mod commands;
+pub mod laws;
+mod table;
+mod words;
+
+pub use commands::{Asked, Asker, command_of};
+pub use table::{Table, keep};
+pub use words::Words;

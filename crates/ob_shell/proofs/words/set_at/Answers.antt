@@ -1,9 +1,0 @@
--- The slot's word, and no other, has the value.
-use Rattle.std.proofs.Common.{refl}
-use Rattle.indexmap.specs.IndexMap.{with_value_at}
-use Rattle.ob_shell.proofs.Worded.{set_values}
-use Rattle.ob_shell.proofs.words.set_at.Goals as goal
-
-pub returns : goal.returns
-returns c =
-    λ word at. set_values c.args.table.now (with_value_at c.args.table.now c.args.slot c.args.value) c.args.slot word c.args.value refl at

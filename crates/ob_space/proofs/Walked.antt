@@ -1,0 +1,312 @@
+-- What the calls of settling make of a namespace: one object forgotten, deleted and settled; the walk over all
+-- objects; and the two that may go after a close.
+use Rattle.std.proofs.Common.{◌≡◌, ℕ, ◌<◌, ◌≤◌, Bool, true, false, not, ◌||◌, ◌&&◌, ◌==◌, nat_le, cond, List, [], get_or, find, refl, ap, ◌∙◌, sym, subst, arith, filter, All, eq-eqb, eqb-true, leb-true, leb-false, le-leb}
+use Rattle.std.specs.Prelude.{Option, None, Some, option_map, MatchOption}
+use Rattle.std.specs.List.{list_any}
+use Rattle.std.specs.Option.{option_map_or, is_some}
+use Rattle.std.proofs.lemmas.Bool.{false≢true, ne_eqb}
+use Rattle.std.proofs.lemmas.Bool.Decides.{nat_tests}
+use Rattle.std.proofs.lemmas.List.Elements.{All-filter}
+use Rattle.std.proofs.lemmas.List.Folds.{list_any-append}
+use Rattle.ob_model.specs.declared.state.Row.{Row}
+use Rattle.ob_model.specs.declared.state.Held.{Held}
+use Rattle.ob_model.specs.declared.state.Object.{Object}
+use Rattle.ob_model.specs.Procedures.{Procedures}
+use Rattle.ob_model.specs.Sound.{Stands}
+use Rattle.ob_model.specs.State.{State, root_id, global_id}
+use Rattle.ob_model.specs.Settle.{is_kept, is_alive, is_permanent, has_handle, has_name, is_pinned, is_mapped, holds_kept, deleted_one, settle, IsSettled}
+use Rattle.ob_model.proofs.Finds.{filter_all}
+use Rattle.ob_model.proofs.Soundness.{stands_drawn}
+use Rattle.ob_objects.specs.declared.named.Place.{Place}
+use Rattle.ob_objects.specs.declared.object.StoredObject.{StoredObject}
+use Rattle.ob_objects.specs.Changes as changes
+use Rattle.ob_objects.specs.Named.{IsLastBefore}
+use Rattle.ob_objects.specs.Store.{Entries, NameEntry, IsStore, stored_at, body_of_stored, object_of_stored, objects_of, rows_of, place_at}
+use Rattle.ob_objects.proofs.ByStamp.{above-leb}
+use Rattle.ob_objects.proofs.Follow.{found_is_stored, object_goes_alone}
+use Rattle.ob_objects.proofs.Shown.{names_change_no_object, rows_go_with_directory}
+use Rattle.ob_objects.proofs.Stands.{name_goes, no_name, one_directory, placed}
+use Rattle.ob_processes.specs.Running.{Running}
+use Rattle.ob_space.specs.declared.space.Namespace.{Namespace}
+use Rattle.ob_space.specs.Namespace.{state_of}
+use Rattle.ob_space.specs.Orderly.{IsIdleBody, is_held, IsIdleUnheld, IsOrderly}
+use Rattle.ob_space.specs.Settling.{is_held_up, without_names, with_handle_to, without_object, settled_one}
+use Rattle.ob_space.proofs.Handles.{found_passes}
+use Rattle.ob_space.proofs.Judged.{Judged, none_judged, judged_alike, all_judged, one_judged, holds_of, unheld_left, none_mapped, or_none, any_agrees, all_pass, all_found, left_stays, some_done}
+use Rattle.ob_space.proofs.Orders.{finds_itself, settled_orderly}
+use Rattle.ob_space.proofs.Stored.{body_is}
+
+-- ---- the name of one object
+
+no_entry : NameEntry
+no_entry = record { stamp = 0; name = []; object = 0 }
+
+module _ {F I : Type 0} (store : Entries F I) (is : IsStore store) (id : ℕ) where
+  module _ (p : Place) (at : place_at store id ≡ Some p) (left : Entries F I) (others : left ≡ changes.without_name store p.directory p.stamp) where
+    pub objects_stay : objects_of left ≡ objects_of store
+    objects_stay = ap objects_of others ∙ (names_change_no_object store p.directory no_entry p.stamp).1
+
+    pub name_gone : rows_of left ≡ filter (λ r. not (r.object == id)) (rows_of store)
+    name_gone = ap rows_of others ∙ name_goes store is id p at
+
+  pub none_gone : place_at store id ≡ None → rows_of store ≡ filter (λ r. not (r.object == id)) (rows_of store)
+  none_gone none = sym (filter_all (λ r. not (r.object == id)) (rows_of store) (λ k d below. ap not (no_name store is id none k d below)))
+
+first_three : (a b c d e : Bool) → (a || b || c || d || e) ≡ false → c ≡ false
+first_three true b c d e h = cc
+first_three false true c d e h = cc
+first_three false false true d e h = cc
+first_three false false false d e h = refl
+
+module _ (K : Type 0) {T F I : Type 0} (g : Procedures K T F I) (a : Namespace T (Entries F I) Running) (id : ℕ) where
+  -- ---- one object is deleted
+
+  pub is_deleted : (x : Option (StoredObject F I)) (left : Entries F I) (after : T) → x ≡ stored_at a.store id → left ≡ changes.without_object a.store id
+      → after ≡ option_map_or (λ y. deleted_one g (body_of_stored y.body) a.set) x a.set
+      → record (state_of K a) { objects = objects_of left; rows = rows_of left; set = after } ≡ without_object g (state_of K a) id
+  is_deleted x left after there others told =
+      λ i. record (state_of K a) {
+        objects = (ap objects_of others ∙ object_goes_alone a.store id) i;
+        rows = (ap rows_of others ∙ rows_go_with_directory a.store id) i;
+        set = (told ∙ mapped x ∙ ap (λ o. option_map_or (λ body. deleted_one g body a.set) o a.set) (sym (body_is (state_of K a) a.store (record { objects = refl; rows = refl }) id x there))) i;
+      }
+    where
+      mapped : (x : Option (StoredObject F I)) → option_map_or (λ y. deleted_one g (body_of_stored y.body) a.set) x a.set
+          ≡ option_map_or (λ body. deleted_one g body a.set) (option_map (λ y. body_of_stored y.body) x) a.set
+      mapped None = refl
+      mapped (Some y) = refl
+
+  -- ---- one object is settled
+
+  module _ (store : Entries F I) (objects : objects_of store ≡ objects_of a.store) (rows : rows_of store ≡ (without_names (state_of K a) id).rows) where
+    forgotten : state_of K (record a { store = store }) ≡ without_names (state_of K a) id
+    forgotten = λ i. record (state_of K a) { objects = objects i; rows = rows i }
+
+    pub settled_gone : (u : State K T F I) → u ≡ without_object g (state_of K (record a { store = store })) id → is_held_up (state_of K (record a { store = store })) id ≡ false → u ≡ settled_one g (state_of K a) id
+    settled_gone u is up =
+        is ∙ ap (λ t. without_object g t id) forgotten
+        ∙ sym (ap (λ b. cond b (without_names (state_of K a) id) (without_object g (without_names (state_of K a) id) id)) (sym (ap (λ t. is_held_up t id) forgotten) ∙ up))
+
+    pub settled_there : is_held_up (state_of K (record a { store = store })) id ≡ true → state_of K (record a { store = store }) ≡ settled_one g (state_of K a) id
+    settled_there up =
+        forgotten
+        ∙ sym (ap (λ b. cond b (without_names (state_of K a) id) (without_object g (without_names (state_of K a) id) id)) (sym (ap (λ t. is_held_up t id) forgotten) ∙ up))
+
+    pub idle_there : (idle : I → Type 0) → All (IsIdleUnheld idle a.processes.handles) (objects_of a.store) → is_held_up (state_of K (record a { store = store })) id ≡ false
+        → MatchOption (stored_at store id) (Unit {0}) (λ x. IsIdleBody idle (body_of_stored x.body))
+    idle_there idle unheld up = go (stored_at store id) refl
+      where
+        go : (x : Option (StoredObject F I)) → stored_at store id ≡ x → MatchOption x (Unit {0}) (λ y. IsIdleBody idle (body_of_stored y.body))
+        go None e = tt
+        go (Some x) e =
+            all_found (IsIdleUnheld idle a.processes.handles) (λ o. o.id == id) (objects_of store) (object_of_stored id x)
+            (subst (All (IsIdleUnheld idle a.processes.handles)) (sym objects) unheld) (found_is_stored store id ∙ ap (option_map (object_of_stored id)) e)
+            (first_three (id == root_id) (id == global_id) (is_held a.processes.handles id) _ _ up)
+
+-- ---- the walk over all objects, and the two after a close
+
+turned : (a b : ℕ) → (a == b) ≡ false → (b == a) ≡ false
+turned a b other = ne_eqb b a (λ same. false≢true (sym other ∙ eq-eqb a b (sym same)))
+
+not_both : (a b : Bool) → (a ≡ true → b ≡ true → ⊥) → (a && b) ≡ false
+not_both true true h = absurd (h refl refl)
+not_both true false h = refl
+not_both false b h = refl
+
+and_false : (b : Bool) → (b && false) ≡ false
+and_false true = refl
+and_false false = refl
+
+more_done : (k a b : Bool) → (k || a) ≡ true → (k || (a || b)) ≡ true
+more_done true a b h = refl
+more_done false true b h = refl
+more_done false false b h = cc
+
+bounds_agree : (b id o : ℕ) → id < b → (o < b → o ≤ id) → (nat_le b o || (o == id)) ≡ nat_le id o
+bounds_agree b id o less last = go (nat_le b o) refl
+  where
+    go : (t : Bool) → nat_le b o ≡ t → (t || (o == id)) ≡ nat_le id o
+    go true e = sym (le-leb id o (omega (arith, less, leb-true b o e)))
+    go false e = near (last (leb-false b o e))
+      where
+        near : o ≤ id → (false || (o == id)) ≡ nat_le id o
+        near below = grind (arith, nat_tests)
+
+module _ (K : Type 0) {T F I : Type 0} (g : Procedures K T F I) (idle : I → Type 0) (a : Namespace T (Entries F I) Running) (orderly : IsOrderly idle (state_of K a)) where
+  abbrev s : State K T F I
+  s = state_of K a
+
+  mapped : (id : ℕ) → is_mapped s id ≡ (id == global_id)
+  mapped id = ap (λ b. (id == global_id) || b) (none_mapped s.processes id orderly.unmapped) ∙ or_none (id == global_id)
+
+  -- each object is there
+  there : All (λ x. Stands s x.id) s.objects
+  there k d below = ap is_some (finds_itself s.objects orderly.rising k d below)
+
+  pub settled_is_orderly : (t : State K T F I) → t ≡ settle g s → IsOrderly idle t
+  settled_is_orderly t is = subst (λ (u : State K T F I). IsOrderly idle u) (sym is) (settled_orderly g idle s orderly)
+
+  pub walk_first : Judged g s (nat_le a.next_id) s
+  walk_first =
+      none_judged g s (nat_le a.next_id) (λ k d below. above-leb (get_or s.objects k d).id a.next_id (orderly.drawn k d below))
+      (λ k d below. above-leb (get_or s.rows k d).object a.next_id (stands_drawn a.next_id s.objects (get_or s.rows k d).object orderly.drawn (orderly.standing k d below)))
+
+  module _ (bound : ℕ) (t : State K T F I) (judged : Judged g s (nat_le bound) t) where
+    pub walk_unheld : All (IsIdleUnheld idle t.handles) t.objects
+    walk_unheld = unheld_left g s (nat_le bound) t judged idle orderly.unheld
+
+    module _ (id : ℕ) (last : IsLastBefore bound t.objects (Some id)) where
+      last_one : (o : ℕ) → Stands s o → o < bound → o ≤ id
+      last_one o stands less = holds_of g s (nat_le bound) t judged (λ n. n < bound → n ≤ id) o (above-leb o bound less) stands last.2 less
+
+      pub walk_step : (u : State K T F I) → u ≡ settled_one g t id → Judged g s (nat_le id) u
+      walk_step u is =
+          subst (Judged g s (nat_le id)) (sym is)
+          (judged_alike g s (λ o. nat_le bound o || (o == id)) (nat_le id) (settled_one g t id)
+          (λ k d below. bounds_agree bound id (get_or s.objects k d).id last.1 (last_one (get_or s.objects k d).id (there k d below)))
+          (λ k d below. bounds_agree bound id (get_or s.rows k d).object last.1 (last_one (get_or s.rows k d).object (orderly.standing k d below)))
+          (one_judged g s (nat_le bound) t judged id (above-leb id bound last.1) orderly.rising refl (mapped id) inside behind))
+        where
+          inside : All (λ r. (r.directory == id) ≡ true → (is_kept s r || (nat_le bound r.object || (r.object == id))) ≡ true) s.rows
+          inside k d below here = some_done (is_kept s (get_or s.rows k d)) _ (go (nat_le bound (get_or s.rows k d).object) refl)
+            where
+              go : (b : Bool) → nat_le bound (get_or s.rows k d).object ≡ b → (b || ((get_or s.rows k d).object == id)) ≡ true
+              go true e = refl
+              go false e =
+                  let lower = last_one (get_or s.rows k d).object (orderly.standing k d below) (leb-false bound (get_or s.rows k d).object e) in
+                  let same : (get_or s.rows k d).directory ≡ id = eqb-true (get_or s.rows k d).directory id here in
+                  absurd (omega (arith, lower, same, orderly.descending k d below))
+
+          left : All (λ x. (is_alive s x.id || not (nat_le bound x.id)) ≡ true) t.objects
+          left = subst (λ (xs : List (Object F I)). All (λ x. (is_alive s x.id || not (nat_le bound x.id)) ≡ true) xs) (sym judged.objects) (all_pass (λ x. is_alive s x.id || not (nat_le bound x.id)) s.objects)
+
+          behind : All (λ x. id < x.id → is_alive s x.id ≡ true) t.objects
+          behind k d below later = left_stays (is_alive s (get_or t.objects k d).id) (nat_le bound (get_or t.objects k d).id) (left k d below) (go (nat_le bound (get_or t.objects k d).id) refl)
+            where
+              go : (b : Bool) → nat_le bound (get_or t.objects k d).id ≡ b → b ≡ true
+              go true e = refl
+              go false e = absurd (omega (arith, later, last.2 k d below (leb-false bound (get_or t.objects k d).id e)))
+
+    pub walk_end : IsLastBefore bound t.objects None → t ≡ settle g s
+    walk_end none =
+        all_judged g s (nat_le bound) t
+        (λ k d below. some_done (is_alive s (get_or s.objects k d).id) _ (done (get_or s.objects k d).id (there k d below)))
+        (λ k d below. some_done (is_kept s (get_or s.rows k d)) _ (done (get_or s.rows k d).object (orderly.standing k d below))) judged
+      where
+        done : (o : ℕ) → Stands s o → nat_le bound o ≡ true
+        done o stands = go (nat_le bound o) refl
+          where
+            go : (b : Bool) → nat_le bound o ≡ b → b ≡ true
+            go true e = refl
+            go false e = absurd (omega (arith, leb-false bound o e, holds_of g s (nat_le bound) t judged (λ n. bound ≤ n) o e stands none))
+
+  -- ---- after a close
+
+  module _ (object : ℕ) (settled : IsSettled (with_handle_to s object)) where
+    -- one handle more leads to this object, and to no other
+    handle_more : (o : ℕ) → has_handle (with_handle_to s object) o ≡ (has_handle s o || ((object == o) || false))
+    handle_more o = list_any-append (λ (h : Held). h.object == o) s.handles _
+
+    handle_same : (o : ℕ) → (o == object) ≡ false → has_handle (with_handle_to s object) o ≡ has_handle s o
+    handle_same o other = handle_more o ∙ ap (λ b. has_handle s o || (b || false)) (turned o object other) ∙ or_none (has_handle s o)
+
+    kept_same : (r : Row) → (r.object == object) ≡ false → is_kept (with_handle_to s object) r ≡ is_kept s r
+    kept_same r other = ap (λ b. is_permanent s r.object || b) (handle_same r.object other)
+
+    -- names of other objects stay
+    kept_others : All (λ r. (is_kept s r || (r.object == object)) ≡ true) s.rows
+    kept_others k d below = go (get_or s.rows k d) ((get_or s.rows k d).object == object) refl (settled.names k d below)
+      where
+        go : (r : Row) (b : Bool) → (r.object == object) ≡ b → is_kept (with_handle_to s object) r ≡ true → (is_kept s r || b) ≡ true
+        go r true e kept = some_done (is_kept s r) true refl
+        go r false e kept = ap (λ b. b || false) (sym (kept_same r e) ∙ kept)
+
+    -- an object in which no name of this one lies stays as it did
+    alive_others : (m : ℕ) → (m == object) ≡ false → All (λ r. ((r.directory == m) && (r.object == object)) ≡ false) s.rows → is_alive (with_handle_to s object) m ≡ is_alive s m
+    alive_others m other none = λ i. (m == root_id) || handle_same m other i || is_pinned s m || is_mapped s m || (is_permanent s m && has_name s m) || holds i
+      where
+        agree : (r : Row) (b : Bool) → ((b && (r.object == object)) ≡ false) → (b && is_kept (with_handle_to s object) r) ≡ (b && is_kept s r)
+        agree r true apart = kept_same r apart
+        agree r false apart = refl
+
+        holds : list_any (λ r. (r.directory == m) && is_kept (with_handle_to s object) r) s.rows ≡ holds_kept s m
+        holds =
+            any_agrees (λ r. (r.directory == m) && is_kept (with_handle_to s object) r) (λ r. (r.directory == m) && is_kept s r) s.rows
+            (λ k d below. agree (get_or s.rows k d) ((get_or s.rows k d).directory == m) (none k d below))
+
+    first_judged : Judged g s (λ o. false || (o == object)) (settled_one g s object)
+    first_judged =
+        one_judged g s (λ o. false) s (none_judged g s (λ o. false) (λ k d below. refl) (λ k d below. refl)) object refl orderly.rising refl (mapped object)
+        (λ k d below here. kept_others k d below)
+        (λ k d below later. sym (alive_others (get_or s.objects k d).id (ne_eqb (get_or s.objects k d).id object (λ same. omega (arith, later, same)))
+        (λ j e within. not_both ((get_or s.rows j e).directory == (get_or s.objects k d).id) ((get_or s.rows j e).object == object)
+        (λ inside of. omega (arith, later, orderly.descending j e within, eqb-true (get_or s.rows j e).directory (get_or s.objects k d).id inside, eqb-true (get_or s.rows j e).object object of))))
+        ∙ settled.objects k d below)
+
+    -- where it has no name, no other goes
+    pub closed_alone : (t : State K T F I) → t ≡ settled_one g s object → IsStore a.store → place_at a.store object ≡ None → t ≡ settle g s
+    closed_alone t is store none =
+        all_judged g s (λ o. false || (o == object)) t
+        (λ k d below. go (get_or s.objects k d).id ((get_or s.objects k d).id == object) refl (settled.objects k d below))
+        kept_others (subst (Judged g s (λ o. false || (o == object))) (sym is) first_judged)
+      where
+        go : (m : ℕ) (b : Bool) → (m == object) ≡ b → is_alive (with_handle_to s object) m ≡ true → (is_alive s m || (false || b)) ≡ true
+        go m true e alive = some_done (is_alive s m) true refl
+        go m false e alive =
+            ap (λ b. b || false) (sym (alive_others m e (λ j x within. ap (λ b. ((get_or s.rows j x).directory == m) && b) (no_name a.store store object none j x within) ∙ and_false ((get_or s.rows j x).directory == m))) ∙ alive)
+
+    -- where it has one, the directory of its name may go
+    module _ (store : IsStore a.store) (p : Place) (at : place_at a.store object ≡ Some p) where
+      in_one : All (λ r. (r.object == object) ≡ true → r.directory ≡ p.directory) s.rows
+      in_one = one_directory a.store store object p at
+
+      before : p.directory < object
+      before =
+          let found = placed (find (λ (r : Row). r.object == object) (rows_of a.store)) p at in
+          let same : found.0.object ≡ object = eqb-true found.0.object object (found_passes (λ (r : Row). r.object == object) (rows_of a.store) found.0 found.1) in
+          let less : found.0.directory < found.0.object = all_found (λ (r : Row). r.directory < r.object) (λ r. r.object == object) (rows_of a.store) found.0 orderly.descending found.1 in
+          let stands : p.directory ≡ found.0.directory = ap (λ (x : Place). x.directory) found.2 in
+          omega (arith, same, less, stands)
+
+      elsewhere : (m : ℕ) → (m == p.directory) ≡ false → All (λ r. ((r.directory == m) && (r.object == object)) ≡ false) s.rows
+      elsewhere m other k d below =
+          not_both ((get_or s.rows k d).directory == m) ((get_or s.rows k d).object == object)
+          (λ inside of. false≢true (sym other ∙ eq-eqb m p.directory (sym (eqb-true (get_or s.rows k d).directory m inside) ∙ in_one k d below of)))
+
+      module _ (t : State K T F I) (is : t ≡ settled_one g s object) where
+        judged : Judged g s (λ o. false || (o == object)) t
+        judged = subst (Judged g s (λ o. false || (o == object))) (sym is) first_judged
+
+        pub closed_unheld : All (IsIdleUnheld idle t.handles) t.objects
+        closed_unheld = unheld_left g s (λ o. false || (o == object)) t judged idle orderly.unheld
+
+        behind : All (λ x. p.directory < x.id → is_alive s x.id ≡ true) t.objects
+        behind k d below later = go (get_or t.objects k d).id ((get_or t.objects k d).id == object) refl later (left k d below) (alive k d below)
+          where
+            left : All (λ x. (is_alive s x.id || not (false || (x.id == object))) ≡ true) t.objects
+            left =
+                subst (λ (xs : List (Object F I)). All (λ x. (is_alive s x.id || not (false || (x.id == object))) ≡ true) xs) (sym judged.objects)
+                (all_pass (λ x. is_alive s x.id || not (false || (x.id == object))) s.objects)
+
+            alive : All (λ x. is_alive (with_handle_to s object) x.id ≡ true) t.objects
+            alive =
+                subst (λ (xs : List (Object F I)). All (λ x. is_alive (with_handle_to s object) x.id ≡ true) xs) (sym judged.objects)
+                (All-filter (λ x. is_alive s x.id || not (false || (x.id == object))) (λ x. is_alive (with_handle_to s object) x.id ≡ true) s.objects settled.objects)
+
+            go : (m : ℕ) (b : Bool) → (m == object) ≡ b → p.directory < m → (is_alive s m || not (false || b)) ≡ true → is_alive (with_handle_to s object) m ≡ true → is_alive s m ≡ true
+            go m true e later left alive = left_stays (is_alive s m) true left refl
+            go m false e later left alive = sym (alive_others m e (elsewhere m (ne_eqb m p.directory (λ same. omega (arith, later, same))))) ∙ alive
+
+        pub closed_both : (u : State K T F I) → u ≡ settled_one g t p.directory → u ≡ settle g s
+        closed_both u then =
+            all_judged g s (λ o. (false || (o == object)) || (o == p.directory)) u
+            (λ k d below. go (get_or s.objects k d).id ((get_or s.objects k d).id == object) ((get_or s.objects k d).id == p.directory) refl refl (settled.objects k d below))
+            (λ k d below. more_done (is_kept s (get_or s.rows k d)) ((get_or s.rows k d).object == object) ((get_or s.rows k d).object == p.directory) (kept_others k d below))
+            (subst (Judged g s (λ o. (false || (o == object)) || (o == p.directory))) (sym then)
+            (one_judged g s (λ o. false || (o == object)) t judged p.directory (ne_eqb p.directory object (λ same. omega (arith, before, same))) orderly.rising refl (mapped p.directory)
+            (λ k d below here. more_done (is_kept s (get_or s.rows k d)) ((get_or s.rows k d).object == object) ((get_or s.rows k d).object == p.directory) (kept_others k d below)) behind))
+          where
+            go : (m : ℕ) (b c : Bool) → (m == object) ≡ b → (m == p.directory) ≡ c → is_alive (with_handle_to s object) m ≡ true → (is_alive s m || ((false || b) || c)) ≡ true
+            go m true c e f alive = some_done (is_alive s m) true refl
+            go m false true e f alive = some_done (is_alive s m) true refl
+            go m false false e f alive = ap (λ b. b || false) (sym (alive_others m e (elsewhere m f)) ∙ alive)
