@@ -12,7 +12,7 @@ use Rattle.ob_lines.specs.declared.request.NameForm.TheVariants.{Absolute, Relat
 use Rattle.ob_lines.specs.declared.request.PlaceForm.{PlaceForm}
 use Rattle.ob_lines.specs.declared.request.PlaceForm.TheVariants.{Named, Unnamed}
 use Rattle.ob_lines.specs.declared.request.Request.{Request}
-use Rattle.ob_lines.specs.declared.request.Request.TheVariants.{CreateDirectory, CreateLink, CreateObject, OpenDirectory, OpenLink, OpenObject, Close, QueryLink, QueryName, Duplicate, MakeTemporary, MakePermanent, NewProcess, ExitProcess}
+use Rattle.ob_lines.specs.declared.request.Request.TheVariants.{CreateDirectory, CreateLink, CreateObject, OpenDirectory, OpenLink, OpenObject, Close, QueryLink, QueryName, Duplicate, MakeTemporary, MakePermanent, SetDeviceMap, NewProcess, ExitProcess}
 use Rattle.ob_lines.specs.declared.verb.Verb.{Verb}
 use Rattle.ob_lines.specs.declared.verb.Verb.TheVariants as verb
 use Rattle.ob_lines.specs.Text.{Lacks, IsText}
@@ -56,6 +56,7 @@ reads_alone bytes (Duplicate h q i w) s = λ h' q' i' w' s'.
     rw (same.0, same.1, same.2, same.3) refl
 reads_alone bytes (MakeTemporary h) s = λ h' s'. ap MakeTemporary (handle_alike bytes h h' s s')
 reads_alone bytes (MakePermanent h) s = λ h' s'. ap MakePermanent (handle_alike bytes h h' s s')
+reads_alone bytes (SetDeviceMap h) s = λ h' s'. ap SetDeviceMap (handle_alike bytes h h' s s')
 reads_alone bytes (NewProcess i q) s = λ i' q' s'.
     let same = inherit_ends_alike bytes i q i' q' s s' in
     rw (same.0, same.1) refl
@@ -179,6 +180,7 @@ request_has_texts bytes (QueryName h) s = tt
 request_has_texts bytes (Duplicate h q i w) s = tt
 request_has_texts bytes (MakeTemporary h) s = tt
 request_has_texts bytes (MakePermanent h) s = tt
+request_has_texts bytes (SetDeviceMap h) s = tt
 request_has_texts bytes (NewProcess i q) s = tt
 request_has_texts bytes ExitProcess s = tt
 

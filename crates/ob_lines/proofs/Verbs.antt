@@ -6,7 +6,7 @@ use Rattle.ob_lines.specs.declared.handle.HandleForm.{HandleForm}
 use Rattle.ob_lines.specs.declared.request.NameForm.{NameForm}
 use Rattle.ob_lines.specs.declared.request.PlaceForm.{PlaceForm}
 use Rattle.ob_lines.specs.declared.request.Request.{Request}
-use Rattle.ob_lines.specs.declared.request.Request.TheVariants.{CreateDirectory, CreateLink, CreateObject, OpenDirectory, OpenLink, OpenObject, Close, QueryLink, QueryName, Duplicate, MakeTemporary, MakePermanent, NewProcess, ExitProcess}
+use Rattle.ob_lines.specs.declared.request.Request.TheVariants.{CreateDirectory, CreateLink, CreateObject, OpenDirectory, OpenLink, OpenObject, Close, QueryLink, QueryName, Duplicate, MakeTemporary, MakePermanent, SetDeviceMap, NewProcess, ExitProcess}
 use Rattle.ob_lines.specs.declared.verb.Verb.{Verb}
 use Rattle.ob_lines.specs.declared.verb.Verb.TheVariants as verb
 use Rattle.ob_lines.specs.Text.{Lacks}
@@ -27,6 +27,7 @@ verb_lacks verb.Name = lacks_from_test 0x20 (codes "name") refl
 verb_lacks verb.Dup = lacks_from_test 0x20 (codes "dup") refl
 verb_lacks verb.Temp = lacks_from_test 0x20 (codes "temp") refl
 verb_lacks verb.Perm = lacks_from_test 0x20 (codes "perm") refl
+verb_lacks verb.Map = lacks_from_test 0x20 (codes "map") refl
 verb_lacks verb.New = lacks_from_test 0x20 (codes "new") refl
 verb_lacks verb.Exit = lacks_from_test 0x20 (codes "exit") refl
 
@@ -45,6 +46,7 @@ read word =
     else if bytes_eq word (codes "dup") then verb.Dup
     else if bytes_eq word (codes "temp") then verb.Temp
     else if bytes_eq word (codes "perm") then verb.Perm
+    else if bytes_eq word (codes "map") then verb.Map
     else if bytes_eq word (codes "new") then verb.New
     else verb.Exit
 
@@ -62,6 +64,7 @@ reads_back verb.Name = refl
 reads_back verb.Dup = refl
 reads_back verb.Temp = refl
 reads_back verb.Perm = refl
+reads_back verb.Map = refl
 reads_back verb.New = refl
 reads_back verb.Exit = refl
 
@@ -82,6 +85,7 @@ Each verb.Name P = (h : HandleForm (List ℕ)) → P (QueryName h)
 Each verb.Dup P = (h : HandleForm (List ℕ)) (q : List ℕ) (i : Bool) (w : List ℕ) → P (Duplicate h q i w)
 Each verb.Temp P = (h : HandleForm (List ℕ)) → P (MakeTemporary h)
 Each verb.Perm P = (h : HandleForm (List ℕ)) → P (MakePermanent h)
+Each verb.Map P = (h : HandleForm (List ℕ)) → P (SetDeviceMap h)
 Each verb.New P = (i : Bool) (q : List ℕ) → P (NewProcess i q)
 Each verb.Exit P = P ExitProcess
 
@@ -99,6 +103,7 @@ of_own P (QueryName h) each = each h
 of_own P (Duplicate h q i w) each = each h q i w
 of_own P (MakeTemporary h) each = each h
 of_own P (MakePermanent h) each = each h
+of_own P (SetDeviceMap h) each = each h
 of_own P (NewProcess i q) each = each i q
 of_own P ExitProcess each = each
 

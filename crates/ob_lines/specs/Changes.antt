@@ -6,7 +6,7 @@ use Rattle.std.specs.Borrow.{Bor}
 use Rattle.ob_lines.specs.declared.change.Change.{Change}
 use Rattle.ob_lines.specs.declared.change.Change.TheVariants.{Nothing, Sets, SetsFor, GivesUp, GivesAllUp, SetsProcess}
 use Rattle.ob_lines.specs.declared.request.Request.{Request}
-use Rattle.ob_lines.specs.declared.request.Request.TheVariants.{CreateDirectory, CreateLink, CreateObject, OpenDirectory, OpenLink, OpenObject, Close, QueryLink, QueryName, Duplicate, MakeTemporary, MakePermanent, NewProcess, ExitProcess}
+use Rattle.ob_lines.specs.declared.request.Request.TheVariants.{CreateDirectory, CreateLink, CreateObject, OpenDirectory, OpenLink, OpenObject, Close, QueryLink, QueryName, Duplicate, MakeTemporary, MakePermanent, SetDeviceMap, NewProcess, ExitProcess}
 
 -- what the reply to a request changes
 abbrev pub change_of : Request (List ℕ) → Change (List ℕ)
@@ -22,6 +22,7 @@ change_of (QueryName handle) = Nothing
 change_of (Duplicate handle to inherit word) = SetsFor to word
 change_of (MakeTemporary handle) = Nothing
 change_of (MakePermanent handle) = Nothing
+change_of (SetDeviceMap handle) = Nothing
 change_of (NewProcess inherit child) = SetsProcess child inherit
 change_of ExitProcess = GivesAllUp
 

@@ -11,7 +11,7 @@ use Rattle.ob_lines.specs.declared.request.NameForm.{NameForm}
 use Rattle.ob_lines.specs.declared.request.PlaceForm.{PlaceForm}
 use Rattle.ob_lines.specs.declared.request.PlaceForm.TheVariants.{Named, Unnamed}
 use Rattle.ob_lines.specs.declared.request.Request.{Request}
-use Rattle.ob_lines.specs.declared.request.Request.TheVariants.{CreateDirectory, CreateLink, CreateObject, OpenDirectory, OpenLink, OpenObject, Close, QueryLink, QueryName, Duplicate, MakeTemporary, MakePermanent, NewProcess, ExitProcess}
+use Rattle.ob_lines.specs.declared.request.Request.TheVariants.{CreateDirectory, CreateLink, CreateObject, OpenDirectory, OpenLink, OpenObject, Close, QueryLink, QueryName, Duplicate, MakeTemporary, MakePermanent, SetDeviceMap, NewProcess, ExitProcess}
 use Rattle.ob_lines.specs.declared.verb.Verb.{Verb}
 use Rattle.ob_lines.specs.declared.verb.Verb.TheVariants as verb
 use Rattle.ob_lines.specs.Text.{IsText}
@@ -63,6 +63,7 @@ verb_text verb.Name = codes "name"
 verb_text verb.Dup = codes "dup"
 verb_text verb.Temp = codes "temp"
 verb_text verb.Perm = codes "perm"
+verb_text verb.Map = codes "map"
 verb_text verb.New = codes "new"
 verb_text verb.Exit = codes "exit"
 
@@ -80,13 +81,14 @@ verb_of (QueryName handle) = verb.Name
 verb_of (Duplicate handle to inherit word) = verb.Dup
 verb_of (MakeTemporary handle) = verb.Temp
 verb_of (MakePermanent handle) = verb.Perm
+verb_of (SetDeviceMap handle) = verb.Map
 verb_of (NewProcess inherit child) = verb.New
 verb_of ExitProcess = verb.Exit
 
 -- what stands behind the verb of a request and a space: `PLACE FLAGS =V` behind `dir`,
 -- `PLACE FLAGS TEXT =V` behind `link`, `KIND PLACE FLAGS TEXT =V` behind `make`, `NAME FLAGS =V` behind
--- `opendir` and `openlink`, `WANT NAME FLAGS =V` behind `open`, `H` behind `close`, `target`, `name`, `temp` and
--- `perm`, `H Q plain =V` or `H Q inherit =V` behind `dup`, and `plain =Q` or `inherit =Q` behind `new`. `exit` has no
+-- `opendir` and `openlink`, `WANT NAME FLAGS =V` behind `open`, `H` behind `close`, `target`, `name`, `temp`,
+-- `perm` and `map`, `H Q plain =V` or `H Q inherit =V` behind `dup`, and `plain =Q` or `inherit =Q` behind `new`. `exit` has no
 -- operands.
 abbrev pub IsOperands : List ℕ → Request (List ℕ) → Type 0
 IsOperands bytes (CreateDirectory place attrs word) =
@@ -104,6 +106,7 @@ IsOperands bytes (QueryName handle) = IsHandle bytes handle
 IsOperands bytes (Duplicate handle to inherit word) = IsHandleProcessAndWord bytes handle to inherit word
 IsOperands bytes (MakeTemporary handle) = IsHandle bytes handle
 IsOperands bytes (MakePermanent handle) = IsHandle bytes handle
+IsOperands bytes (SetDeviceMap handle) = IsHandle bytes handle
 IsOperands bytes (NewProcess inherit child) = IsInheritAndProcess bytes inherit child
 IsOperands bytes ExitProcess = ⊥
 
@@ -150,6 +153,7 @@ HasTexts (QueryName handle) = Unit {0}
 HasTexts (Duplicate handle to inherit word) = Unit {0}
 HasTexts (MakeTemporary handle) = Unit {0}
 HasTexts (MakePermanent handle) = Unit {0}
+HasTexts (SetDeviceMap handle) = Unit {0}
 HasTexts (NewProcess inherit child) = Unit {0}
 HasTexts ExitProcess = Unit {0}
 
@@ -173,6 +177,7 @@ request_seen (QueryName handle) = QueryName (handle_seen handle)
 request_seen (Duplicate handle to inherit word) = Duplicate (handle_seen handle) to.now inherit word.now
 request_seen (MakeTemporary handle) = MakeTemporary (handle_seen handle)
 request_seen (MakePermanent handle) = MakePermanent (handle_seen handle)
+request_seen (SetDeviceMap handle) = SetDeviceMap (handle_seen handle)
 request_seen (NewProcess inherit child) = NewProcess inherit child.now
 request_seen ExitProcess = ExitProcess
 

@@ -10,7 +10,7 @@ use crate::request::Request;
 /// line, or, in contracts, as lists.
 #[derive(Clone, Copy, PartialEq, Eq, Debug)]
 pub enum Change<T> {
-    /// None: of a query, and of an object that is made temporary or permanent.
+    /// None: of a query, of an object that is made temporary or permanent, and of a device map that is set.
     Nothing,
     /// `=V` of a create or an open: this handle word of the process that asks is set to the handle that
     /// was given, or to 0 where none was given.
@@ -56,6 +56,7 @@ pub fn change_of<'a>(request: Request<&'a [u8]>) -> Change<&'a [u8]>
         Request::Duplicate { to, word, .. } => Change::SetsFor { process: to, word },
         Request::MakeTemporary { .. } => Change::Nothing,
         Request::MakePermanent { .. } => Change::Nothing,
+        Request::SetDeviceMap { .. } => Change::Nothing,
         Request::NewProcess { inherit, child } => {
             let process = child;
             Change::SetsProcess { process, inherit }

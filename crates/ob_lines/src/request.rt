@@ -146,6 +146,11 @@ pub enum Request<T> {
         /// The handle.
         handle: HandleForm<T>,
     },
+    /// `map H`: the directory of a handle becomes the device map of the process.
+    SetDeviceMap {
+        /// The handle.
+        handle: HandleForm<T>,
+    },
     /// `new plain =Q` or `new inherit =Q`: a new process, a child of the one that asks.
     NewProcess {
         /// Whether the child inherits the handles that can be inherited.
@@ -200,6 +205,7 @@ fn operands_of(verb: Verb, operands: &[u8]) -> Option<Request<&[u8]>>
         Verb::Dup => duplicate_of(operands),
         Verb::Temp => temporary_of(operands),
         Verb::Perm => permanent_of(operands),
+        Verb::Map => device_map_of(operands),
         Verb::New => new_process_of(operands),
         Verb::Exit => None,
     }
@@ -363,6 +369,16 @@ fn permanent_of(operands: &[u8]) -> Option<Request<&[u8]>>
 {
     let handle = handle_of(operands)?;
     Some(Request::MakePermanent { handle })
+}
+
+// A directory made the device map: `H`.
+fn device_map_of(operands: &[u8]) -> Option<Request<&[u8]>>
+    ensures verb { IfSome result (λ request. verb_of (request_seen request) ≡ Verb.Map) }
+    ensures found { IfSome result (λ request. IsOperands operands.now (request_seen request)) }
+    ensures none { IfNone result ((handle : HandleForm (List ℕ)) → ¬ IsOperands operands.now (Request.SetDeviceMap handle)) }
+{
+    let handle = handle_of(operands)?;
+    Some(Request::SetDeviceMap { handle })
 }
 
 // A new process: `plain =Q` or `inherit =Q`.

@@ -31,6 +31,8 @@ pub enum Verb {
     Temp,
     // `perm`: the object of a handle is made permanent.
     Perm,
+    // `map`: the directory of a handle becomes the device map of the process.
+    Map,
     // `new`: a new process.
     New,
     // `exit`: the process that asks ends. It has no operands.
@@ -77,6 +79,9 @@ pub fn verb_of(word: &[u8]) -> Option<Verb>
     }
     if word == b"perm".as_slice() {
         return Some(Verb::Perm);
+    }
+    if word == b"map".as_slice() {
+        return Some(Verb::Map);
     }
     if word == b"new".as_slice() {
         return Some(Verb::New);

@@ -5,6 +5,7 @@
 #[cfg(test)]
 mod lines;
 #[cfg(test)]
+mod maps;
 mod permanence;
 #[cfg(test)]
 mod processes;

@@ -67,7 +67,7 @@ fn handle<'a>(offset: Offset) -> HandleForm<&'a [u8]> {
 #[test]
 fn requests_spell_commands_by_the_words_of_their_process(rt: HostRuntime) -> Result<(), Fail> {
     let words = some_words(rt.alloc())?;
-    let table: [(u32, Request<&[u8]>, &str); 8] = [
+    let table: [(u32, Request<&[u8]>, &str); 9] = [
         (
             1,
             Request::Close {
@@ -121,6 +121,13 @@ fn requests_spell_commands_by_the_words_of_their_process(rt: HostRuntime) -> Res
                 handle: handle(Offset::Zero),
             },
             "MakePermanent { handle: Handle(4) }",
+        ),
+        (
+            2,
+            Request::SetDeviceMap {
+                handle: handle(Offset::One),
+            },
+            "SetDeviceMap { handle: Handle(13) }",
         ),
     ];
     for (process, request, spelled) in &table {
