@@ -6,6 +6,7 @@
 mod lines;
 #[cfg(test)]
 mod maps;
+#[cfg(test)]
 mod permanence;
 #[cfg(test)]
 mod processes;
