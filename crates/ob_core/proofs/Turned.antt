@@ -87,7 +87,6 @@ module _ {K T F I : Type 0} (idle : I → Type 0) (s : State K T F I) (o : ℕ) 
         numbered = orderly.numbered;
         few_handles = orderly.few_handles;
         few_processes = orderly.few_processes;
-        unmapped = orderly.unmapped;
       }
     where
       turned_unheld : (x : Object F I) → IsIdleUnheld idle s.handles x → IsIdleUnheld idle s.handles (turned_object o permanent x)

@@ -243,7 +243,6 @@ module _ {K T F I : Type 0} (g : Procedures K T F I) (idle : I → Type 0) where
     numbered = is.numbered;
     few_handles = is.few_handles;
     few_processes = is.few_processes;
-    unmapped = is.unmapped;
   }
 
   one_orderly : (s : State K T F I) (child : ℕ) (h : Held) → IsOrderly idle s → table_size s child < most_handles → IsOrderly idle (inherits_one g s child h)
@@ -286,7 +285,6 @@ module _ {K T F I : Type 0} (g : Procedures K T F I) (idle : I → Type 0) where
         (All-weaker (λ x. x.number < s.next_process) (λ x. x.number < s.next_process + 1) (λ x less. omega (arith, less)) s.processes is.numbered) (omega arith);
     few_handles = is.few_handles;
     few_processes = let longer : length (s.processes ++ child ∷ []) ≡ length s.processes + 1 = length-append s.processes (child ∷ []) in omega (arith, room, longer);
-    unmapped = All-push (λ x. x.map ≡ None) s.processes child is.unmapped (go (process_of s p) (find_of (λ x. x.map ≡ None) (λ x. x.number == p) s.processes is.unmapped));
   }
     where
       child : Process
@@ -324,7 +322,6 @@ module _ {K T F I : Type 0} (g : Procedures K T F I) (idle : I → Type 0) where
         let fewer = count_by-le-length (λ x. not (x.number == p)) s.processes in
         let few : length s.processes ≤ most_processes = is.few_processes in
         omega (arith, counted, fewer, few);
-    unmapped = All-filter (λ x. not (x.number == p)) (λ x. x.map ≡ None) s.processes is.unmapped;
   }
 
 -- fewer processes live than may

@@ -36,11 +36,6 @@ any_kept : (kept test : Row → Bool) (rows : List Row) → list_any test (filte
 any_kept kept test [] = refl
 any_kept kept test (r ∷ rs) = any_kept_step (kept r) (test r) r test (filter kept rs) _ refl (any_kept kept test rs)
 
--- where no process has a map, no directory is one
-pub none_mapped : (ps : List Process) (o : ℕ) → All (λ p. p.map ≡ None) ps → list_any (λ p. option_map_or (λ d. d == o) p.map false) ps ≡ false
-none_mapped ps o unmapped =
-    list_any_none (λ p. option_map_or (λ d. d == o) p.map false) ps (λ k d below. ap (λ (m : Option ℕ). option_map_or (λ n. n == o) m false) (unmapped k d below))
-
 -- one filter for two tests that agree on the elements
 pub filter_agrees : {X : Type 0} (p q : X → Bool) (xs : List X) → All (λ x. p x ≡ q x) xs → filter p xs ≡ filter q xs
 filter_agrees p q [] same = refl
@@ -121,13 +116,6 @@ none_done false d h = ap not h
 kept_there : (t k d : Bool) → (t ≡ true → (k || d) ≡ true) → (t && (k || not d)) ≡ (t && k)
 kept_there true k d h = done_left k d (h refl)
 kept_there false k d h = refl
-
-reorder : (r g h n k : Bool) → (r || g || h || n || k) ≡ (r || h || false || g || n || k)
-reorder true g h n k = refl
-reorder false true true n k = refl
-reorder false true false n k = refl
-reorder false false true n k = refl
-reorder false false false n k = refl
 
 last_false : (a b : Bool) → (a || b) ≡ false → b ≡ false
 last_false true b h = cc
@@ -273,7 +261,7 @@ module _ {K T F I : Type 0} (g : Procedures K T F I) (s : State K T F I) where
 
     -- one object more is judged: each name in it is of one that was, and each of a greater number that is left
     -- stays
-    module _ (id : ℕ) (new : done id ≡ false) (rising : AllPairs (λ a b. a.id < b.id) s.objects) (unpinned : is_pinned s id ≡ false) (mapped : is_mapped s id ≡ (id == global_id))
+    module _ (id : ℕ) (new : done id ≡ false) (rising : AllPairs (λ a b. a.id < b.id) s.objects) (unpinned : is_pinned s id ≡ false)
         (inside : All (λ r. (r.directory == id) ≡ true → (is_kept s r || (done r.object || (r.object == id))) ≡ true) s.rows)
         (behind : All (λ x. id < x.id → is_alive s x.id ≡ true) t.objects) where
       abbrev pub next : ℕ → Bool
@@ -284,6 +272,9 @@ module _ {K T F I : Type 0} (g : Procedures K T F I) (s : State K T F I) where
 
       handle_same : has_handle t id ≡ has_handle s id
       handle_same = ap (list_any (λ (h : Held). h.object == id)) judged.handles
+
+      mapped_same : is_mapped t id ≡ is_mapped s id
+      mapped_same = ap (λ (ps : List Process). (id == global_id) || list_any (λ p. option_map_or (λ d. d == id) p.map false) ps) judged.processes
 
       rows_next : (without_names t id).rows ≡ filter (λ r. is_kept s r || not (next r.object)) s.rows
       rows_next =
@@ -306,10 +297,9 @@ module _ {K T F I : Type 0} (g : Procedures K T F I) (s : State K T F I) where
       -- it is judged as it was at first
       held_same : is_held_up (without_names t id) id ≡ is_alive s id
       held_same =
-          (λ i. (id == root_id) || (id == global_id) || handle_same i || (permanent_same i && list_any (λ r. r.object == id) (rows_next i)) || list_any (λ r. r.directory == id) (rows_next i))
-          ∙ (λ i. (id == root_id) || (id == global_id) || has_handle s id || named (is_permanent s id) refl i || holds i)
-          ∙ reorder (id == root_id) (id == global_id) (has_handle s id) (is_permanent s id && has_name s id) (holds_kept s id)
-          ∙ (λ i. (id == root_id) || has_handle s id || sym unpinned i || sym mapped i || (is_permanent s id && has_name s id) || holds_kept s id)
+          (λ i. (id == root_id) || handle_same i || mapped_same i || (permanent_same i && list_any (λ r. r.object == id) (rows_next i)) || list_any (λ r. r.directory == id) (rows_next i))
+          ∙ (λ i. (id == root_id) || has_handle s id || is_mapped s id || named (is_permanent s id) refl i || holds i)
+          ∙ (λ i. (id == root_id) || has_handle s id || sym unpinned i || is_mapped s id || (is_permanent s id && has_name s id) || holds_kept s id)
         where
           named : (b : Bool) → is_permanent s id ≡ b → (b && list_any (λ r. r.object == id) (filter (λ r. is_kept s r || not (next r.object)) s.rows)) ≡ (b && has_name s id)
           named true e =

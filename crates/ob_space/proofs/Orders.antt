@@ -124,7 +124,6 @@ module _ {K T F I : Type 0} (g : Procedures K T F I) (idle : I → Type 0) where
     numbered = h.numbered;
     few_handles = h.few_handles;
     few_processes = h.few_processes;
-    unmapped = h.unmapped;
   }
 
   -- an open and a grant to a process, whose table has room for it, leave an orderly state
@@ -148,7 +147,6 @@ module _ {K T F I : Type 0} (g : Procedures K T F I) (idle : I → Type 0) where
         numbered = h.numbered;
         few_handles = still_few s new room h.few_handles;
         few_processes = h.few_processes;
-        unmapped = h.unmapped;
       }
     where
       opened_unheld : (new : Held) → new.object ≡ o → (x : Object F I) → IsIdleUnheld idle s.handles x → IsIdleUnheld idle (s.handles ++ new ∷ []) (opened_object g s.set o reason x)
@@ -175,7 +173,6 @@ module _ {K T F I : Type 0} (g : Procedures K T F I) (idle : I → Type 0) where
     numbered = h.numbered;
     few_handles = h.few_handles;
     few_processes = h.few_processes;
-    unmapped = h.unmapped;
   }
 
 not_false : (b : Bool) → (b ≡ true → ⊥) → not b ≡ true
@@ -214,7 +211,6 @@ module _ {K T F I : Type 0} (g : Procedures K T F I) (idle : I → Type 0) (clos
             let left : count_by (λ k. k.process == p) (filter (λ k. not (is_handle h.process h.value k)) s.handles) ≤ table_size s p = count_left (λ k. k.process == p) (λ k. not (is_handle h.process h.value k)) s.handles in
             omega (arith, most, left);
         few_processes = orderly.few_processes;
-        unmapped = orderly.unmapped;
       }
     where
       closed_unheld : (left total : ℕ) → total ≡ handle_count (without_handle s h.process h.value) h.object → (x : Object F I) → IsIdleUnheld idle s.handles x
@@ -275,7 +271,6 @@ module _ {K T F I : Type 0} (idle : I → Type 0) (s : State K T F I) (orderly :
         numbered = orderly.numbered;
         few_handles = still_few s handle room orderly.few_handles;
         few_processes = orderly.few_processes;
-        unmapped = orderly.unmapped;
       }
     where
       row_stamped : (spot : Spot) → All (λ r. r.stamp < s.next_stamp + length (new_rows spot s.next_stamp s.next_id)) (new_rows spot s.next_stamp s.next_id)

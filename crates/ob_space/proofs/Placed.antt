@@ -24,7 +24,7 @@ use Rattle.ob_lookup.proofs.Stays.{directory_with_object}
 use Rattle.ob_processes.specs.Running.{Running}
 use Rattle.ob_space.specs.declared.placing.Spot.{Spot}
 use Rattle.ob_space.specs.declared.space.Namespace.{Namespace}
-use Rattle.ob_space.specs.Namespace.{state_of, holding}
+use Rattle.ob_space.specs.Namespace.{state_of, holding, none_running}
 use Rattle.ob_space.specs.Placing.{spot_of, IsVacantSpot, IsFreeSpot, with_placed, without_name_in, IsOpened, IsTakenBack, placed}
 use Rattle.ob_space.specs.Orderly.{IsOrderly}
 use Rattle.ob_space.proofs.Granted.{has_room}
@@ -82,7 +82,7 @@ module _ {F I : Type 0} where
 module _ {K T F I : Type 0} (g : Procedures K T F I) (store put : Entries F I) (same : objects_of put ≡ objects_of store) (set : T) (id : ℕ) where
   -- stores of the same objects are opened alike
   abbrev t : Entries F I → State K T F I
-  t es = holding set (objects_of es) (rows_of es) []
+  t es = holding set (objects_of es) (rows_of es) none_running
 
   opened_alike : objects_of (with_opened g put set id Created) ≡ objects_of (with_opened g store set id Created)
   opened_alike = (opened_is_machines g put set id Created).0 ∙ ap (map (opened_object g set id Created)) same ∙ sym (opened_is_machines g store set id Created).0
@@ -90,13 +90,13 @@ module _ {K T F I : Type 0} (g : Procedures K T F I) (store put : Entries F I) (
   refused_alike : refusal_to_open g put set id Created ≡ refusal_to_open g store set id Created
   refused_alike =
       refusal_is_machines g (t put) put (record { objects = refl; rows = refl }) id Created
-      ∙ ap (λ (os : List (Object F I)). open_refusal g (holding {K = K} set os [] []) id Created) same
+      ∙ ap (λ (os : List (Object F I)). open_refusal g (holding {K = K} set os [] none_running) id Created) same
       ∙ sym (refusal_is_machines g (t store) store (record { objects = refl; rows = refl }) id Created)
 
   set_alike : set_after_open g put set id Created ≡ set_after_open g store set id Created
   set_alike =
       set_after_open_is_machines g (t put) put (record { objects = refl; rows = refl }) id Created
-      ∙ ap (λ (os : List (Object F I)). (with_open g (holding {K = K} set os [] []) id Created).set) same
+      ∙ ap (λ (os : List (Object F I)). (with_open g (holding {K = K} set os [] none_running) id Created).set) same
       ∙ sym (set_after_open_is_machines g (t store) store (record { objects = refl; rows = refl }) id Created)
 
 -- An object is put into a store, and the set opens it or refuses.

@@ -32,7 +32,7 @@ use Rattle.ob_space.specs.Namespace.{state_of}
 use Rattle.ob_space.specs.Orderly.{IsIdleBody, is_held, IsIdleUnheld, IsOrderly}
 use Rattle.ob_space.specs.Settling.{is_held_up, without_names, with_handle_to, without_object, settled_one}
 use Rattle.ob_space.proofs.Handles.{found_passes}
-use Rattle.ob_space.proofs.Judged.{Judged, none_judged, judged_alike, all_judged, one_judged, holds_of, unheld_left, none_mapped, or_none, any_agrees, all_pass, all_found, left_stays, some_done}
+use Rattle.ob_space.proofs.Judged.{Judged, none_judged, judged_alike, all_judged, one_judged, holds_of, unheld_left, or_none, any_agrees, all_pass, all_found, left_stays, some_done}
 use Rattle.ob_space.proofs.Orders.{finds_itself, settled_orderly}
 use Rattle.ob_space.proofs.Stored.{body_is}
 
@@ -52,11 +52,10 @@ module _ {F I : Type 0} (store : Entries F I) (is : IsStore store) (id : ℕ) wh
   pub none_gone : place_at store id ≡ None → rows_of store ≡ filter (λ r. not (r.object == id)) (rows_of store)
   none_gone none = sym (filter_all (λ r. not (r.object == id)) (rows_of store) (λ k d below. ap not (no_name store is id none k d below)))
 
-first_three : (a b c d e : Bool) → (a || b || c || d || e) ≡ false → c ≡ false
-first_three true b c d e h = cc
-first_three false true c d e h = cc
-first_three false false true d e h = cc
-first_three false false false d e h = refl
+second_false : (a b c : Bool) → (a || b || c) ≡ false → b ≡ false
+second_false true b c h = cc
+second_false false true c h = cc
+second_false false false c h = refl
 
 module _ (K : Type 0) {T F I : Type 0} (g : Procedures K T F I) (a : Namespace T (Entries F I) Running) (id : ℕ) where
   -- ---- one object is deleted
@@ -101,7 +100,7 @@ module _ (K : Type 0) {T F I : Type 0} (g : Procedures K T F I) (a : Namespace T
         go (Some x) e =
             all_found (IsIdleUnheld idle a.processes.handles) (λ o. o.id == id) (objects_of store) (object_of_stored id x)
             (subst (All (IsIdleUnheld idle a.processes.handles)) (sym objects) unheld) (found_is_stored store id ∙ ap (option_map (object_of_stored id)) e)
-            (first_three (id == root_id) (id == global_id) (is_held a.processes.handles id) _ _ up)
+            (second_false (id == root_id) (is_held a.processes.handles id) _ up)
 
 -- ---- the walk over all objects, and the two after a close
 
@@ -136,9 +135,6 @@ module _ (K : Type 0) {T F I : Type 0} (g : Procedures K T F I) (idle : I → Ty
   abbrev s : State K T F I
   s = state_of K a
 
-  mapped : (id : ℕ) → is_mapped s id ≡ (id == global_id)
-  mapped id = ap (λ b. (id == global_id) || b) (none_mapped s.processes id orderly.unmapped) ∙ or_none (id == global_id)
-
   -- each object is there
   there : All (λ x. Stands s x.id) s.objects
   there k d below = ap is_some (finds_itself s.objects orderly.rising k d below)
@@ -165,7 +161,7 @@ module _ (K : Type 0) {T F I : Type 0} (g : Procedures K T F I) (idle : I → Ty
           (judged_alike g s (λ o. nat_le bound o || (o == id)) (nat_le id) (settled_one g t id)
           (λ k d below. bounds_agree bound id (get_or s.objects k d).id last.1 (last_one (get_or s.objects k d).id (there k d below)))
           (λ k d below. bounds_agree bound id (get_or s.rows k d).object last.1 (last_one (get_or s.rows k d).object (orderly.standing k d below)))
-          (one_judged g s (nat_le bound) t judged id (above-leb id bound last.1) orderly.rising refl (mapped id) inside behind))
+          (one_judged g s (nat_le bound) t judged id (above-leb id bound last.1) orderly.rising refl inside behind))
         where
           inside : All (λ r. (r.directory == id) ≡ true → (is_kept s r || (nat_le bound r.object || (r.object == id))) ≡ true) s.rows
           inside k d below here = some_done (is_kept s (get_or s.rows k d)) _ (go (nat_le bound (get_or s.rows k d).object) refl)
@@ -236,7 +232,7 @@ module _ (K : Type 0) {T F I : Type 0} (g : Procedures K T F I) (idle : I → Ty
 
     first_judged : Judged g s (λ o. false || (o == object)) (settled_one g s object)
     first_judged =
-        one_judged g s (λ o. false) s (none_judged g s (λ o. false) (λ k d below. refl) (λ k d below. refl)) object refl orderly.rising refl (mapped object)
+        one_judged g s (λ o. false) s (none_judged g s (λ o. false) (λ k d below. refl) (λ k d below. refl)) object refl orderly.rising refl
         (λ k d below here. kept_others k d below)
         (λ k d below later. sym (alive_others (get_or s.objects k d).id (ne_eqb (get_or s.objects k d).id object (λ same. omega (arith, later, same)))
         (λ j e within. not_both ((get_or s.rows j e).directory == (get_or s.objects k d).id) ((get_or s.rows j e).object == object)
@@ -303,7 +299,7 @@ module _ (K : Type 0) {T F I : Type 0} (g : Procedures K T F I) (idle : I → Ty
             (λ k d below. go (get_or s.objects k d).id ((get_or s.objects k d).id == object) ((get_or s.objects k d).id == p.directory) refl refl (settled.objects k d below))
             (λ k d below. more_done (is_kept s (get_or s.rows k d)) ((get_or s.rows k d).object == object) ((get_or s.rows k d).object == p.directory) (kept_others k d below))
             (subst (Judged g s (λ o. (false || (o == object)) || (o == p.directory))) (sym then)
-            (one_judged g s (λ o. false || (o == object)) t judged p.directory (ne_eqb p.directory object (λ same. omega (arith, before, same))) orderly.rising refl (mapped p.directory)
+            (one_judged g s (λ o. false || (o == object)) t judged p.directory (ne_eqb p.directory object (λ same. omega (arith, before, same))) orderly.rising refl
             (λ k d below here. more_done (is_kept s (get_or s.rows k d)) ((get_or s.rows k d).object == object) ((get_or s.rows k d).object == p.directory) (kept_others k d below)) behind))
           where
             go : (m : ℕ) (b c : Bool) → (m == object) ≡ b → (m == p.directory) ≡ c → is_alive (with_handle_to s object) m ≡ true → (is_alive s m || ((false || b) || c)) ≡ true

@@ -24,13 +24,14 @@ state_of K a = record {
   next_order = a.next_order;
 }
 
--- a state with this value of the set, these objects, rows and handles, for what reads nothing else
-abbrev pub holding : {K T F I : Type 0} → T → List (Object F I) → List Row → List Held → State K T F I
-holding set objects rows handles = record {
+-- a state with this value of the set, these objects and rows, and these processes with their handles, for
+-- what reads nothing else
+abbrev pub holding : {K T F I : Type 0} → T → List (Object F I) → List Row → Running → State K T F I
+holding set objects rows running = record {
   objects = objects;
   rows = rows;
-  handles = handles;
-  processes = [];
+  handles = running.handles;
+  processes = running.processes;
   pending = [];
   set = set;
   next_id = 0;
@@ -40,12 +41,19 @@ holding set objects rows handles = record {
 }
 
 -- the same, for what doesn't read the value of the set
-abbrev pub listed : {F I : Type 0} → List (Object F I) → List Row → List Held → State (Unit {0}) (Unit {0}) F I
-listed objects rows handles = holding tt objects rows handles
+abbrev pub listed : {F I : Type 0} → List (Object F I) → List Row → Running → State (Unit {0}) (Unit {0}) F I
+listed objects rows running = holding tt objects rows running
 
--- the state of rows alone, and of handles alone
+-- no process runs
+abbrev pub none_running : Running
+none_running = record { processes = []; handles = [] }
+
+-- the state of rows alone, of processes with their handles alone, and of handles alone
 abbrev pub rows_alone : List Row → State (Unit {0}) (Unit {0}) (Unit {0}) (Unit {0})
-rows_alone rows = listed [] rows []
+rows_alone rows = listed [] rows none_running
+
+abbrev pub running_alone : Running → State (Unit {0}) (Unit {0}) (Unit {0}) (Unit {0})
+running_alone running = listed [] [] running
 
 abbrev pub handles_alone : List Held → State (Unit {0}) (Unit {0}) (Unit {0}) (Unit {0})
-handles_alone handles = listed [] [] handles
+handles_alone handles = running_alone (record { processes = []; handles = handles })

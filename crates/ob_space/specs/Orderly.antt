@@ -1,5 +1,5 @@
 -- What every change of a namespace keeps true of its state.
-use Rattle.std.specs.Prelude.{◌≡◌, ℕ, ◌<◌, ◌≤◌, ◌==◌, Bool, true, false, List, None, All, length}
+use Rattle.std.specs.Prelude.{◌≡◌, ℕ, ◌<◌, ◌≤◌, ◌==◌, Bool, true, false, List, All, length}
 use Rattle.std.specs.List.{AllPairs, list_any}
 use Rattle.ob_model.specs.declared.state.Body.{Body}
 use Rattle.ob_model.specs.declared.state.Body.TheVariants.{Directory, Link, Other}
@@ -26,8 +26,7 @@ IsIdleUnheld idle handles x = is_held handles x.id ≡ false → IsIdleBody idle
 -- The root is a directory. The numbers of objects rise, and are all less than the next one, and so do
 -- the stamps of rows; a row's object is there, and its directory was made before it. An object without
 -- handles is idle. The order of each handle, and the number of each process, are less
--- than the next one. No more processes live, and no process has more handles, than may be. No process
--- has a device map, since no command gives one yet.
+-- than the next one. No more processes live, and no process has more handles, than may be.
 pub record IsOrderly {K T F I : Type 0} (idle : I → Type 0) (s : State K T F I) : Type 0 where
   pub root : is_directory s root_id ≡ true
   pub rising : AllPairs (λ a b. a.id < b.id) s.objects
@@ -40,4 +39,3 @@ pub record IsOrderly {K T F I : Type 0} (idle : I → Type 0) (s : State K T F I
   pub numbered : All (λ x. x.number < s.next_process) s.processes
   pub few_handles : (p : ℕ) → table_size s p ≤ most_handles
   pub few_processes : length s.processes ≤ most_processes
-  pub unmapped : All (λ x. x.map ≡ None) s.processes

@@ -1,9 +1,9 @@
 //! What stays at the end of a step.
 
 ghost use Rattle.std.specs.Prelude.{◌≡◌, ◌||◌, ◌==◌, [], filter, not, All, MatchOption};
-ghost use Rattle.ob_model.specs.Settle.{settle, IsSettled, is_permanent, has_handle, deleted_one};
+ghost use Rattle.ob_model.specs.Settle.{settle, IsSettled, is_permanent, has_handle, is_mapped, deleted_one};
 ghost use Rattle.ob_objects.specs.Store.{objects_of, rows_of, body_of_stored, stored_at};
-ghost use Rattle.ob_space.specs.Namespace.{state_of, listed, handles_alone};
+ghost use Rattle.ob_space.specs.Namespace.{state_of, listed, none_running, running_alone, handles_alone};
 ghost use Rattle.ob_space.specs.Orderly.{IsOrderly, IsIdleBody, IsIdleUnheld};
 ghost use Rattle.ob_space.specs.Settling.{is_held_up, settled_one, with_handle_to, without_names, without_object};
 
@@ -35,18 +35,18 @@ pub fn settle<T: TypeSet, H: HandleTable>(space: &mut Namespace<T, Store<T>, Pro
     }
 }
 
-/// Settles after a handle to an object was closed: an object that is neither permanent nor has a
-/// handle loses its name, and goes if it holds no names that stay; and then the directory of that name
-/// goes, if nothing holds it now. The set is told of each object of its own that goes, the object first.
-/// The root and `\GLOBAL??` stay always.
+/// Settles after an object has lost a handle, or is a process's map directory no longer: an object that
+/// is neither permanent nor has a handle loses its name, and goes if it holds no names that stay and is no
+/// map directory; and then the directory of that name goes, if nothing holds it now. The set is told of each
+/// object of its own that goes, the object first. The root and `\GLOBAL??` stay always.
 ///
-/// It asks that the state is orderly, and that it was settled while there was one handle more to the
-/// object, so that nothing else can go: a directory that stays by a name in it has no name itself. It
+/// It asks that the state is orderly, and that with one handle more to the object it is settled, so that
+/// nothing else can go: a directory that stays by a name in it has no name itself. It
 /// leaves an orderly state. No memory is taken, and no other object is looked at.
 ///
 /// Source: Windows Internals, Object Manager (object retention); that it is judged once, at the end of
 /// a step, and the order of the deletes are this profile.
-pub fn settle_after_close<T: TypeSet, H: HandleTable>(
+pub fn settle_after_loss<T: TypeSet, H: HandleTable>(
     space: &mut Namespace<T, Store<T>, Processes<H>>,
     object: ObjId,
 )
@@ -87,7 +87,7 @@ fn forget_unkept<T: TypeSet, H: HandleTable>(
 )
     ensures objects { objects_of store.new ≡ objects_of store.old }
     ensures rows { rows_of store.new
-        ≡ (without_names (listed (objects_of store.old) (rows_of store.old) processes.now.handles) id).rows }
+        ≡ (without_names (listed (objects_of store.old) (rows_of store.old) processes.now) id).rows }
 {
     if !is_kept(store, processes, id) {
         forget_name(store, id);
@@ -125,7 +125,7 @@ fn is_kept<T: TypeSet, H: HandleTable>(
     processes: &Processes<H>,
     id: ObjId,
 ) -> bool
-    ensures { result ≡ (is_permanent (listed (objects_of store.now) [] []) id || has_handle (handles_alone processes.now.handles) id) }
+    ensures { result ≡ (is_permanent (listed (objects_of store.now) [] none_running) id || has_handle (handles_alone processes.now.handles) id) }
 {
     store.is_permanent(id) || has_handle(processes, id)
 }
@@ -136,11 +136,11 @@ fn is_held_up<T: TypeSet, H: HandleTable>(
     processes: &Processes<H>,
     id: ObjId,
 ) -> bool
-    ensures { result ≡ is_held_up (listed (objects_of store.now) (rows_of store.now) processes.now.handles) id }
+    ensures { result ≡ is_held_up (listed (objects_of store.now) (rows_of store.now) processes.now) id }
 {
     id == ROOT
-        || id == GLOBAL
         || has_handle(processes, id)
+        || is_mapped(processes, id)
         || (store.is_permanent(id) && store.has_name(id))
         || store.holds_names(id)
 }
@@ -150,6 +150,13 @@ fn has_handle<H: HandleTable>(processes: &Processes<H>, id: ObjId) -> bool
     ensures { result ≡ has_handle (handles_alone processes.now.handles) id }
 {
     processes.count_of(id) > 0
+}
+
+/// Whether an object is `\GLOBAL??`, or the map directory of a live process.
+fn is_mapped<H: HandleTable>(processes: &Processes<H>, id: ObjId) -> bool
+    ensures { result ≡ is_mapped (running_alone processes.now) id }
+{
+    id == GLOBAL || processes.is_mapped(id)
 }
 
 /// Deletes an object that stands for no open handle. Directories and links have no procedures.

@@ -2,7 +2,7 @@
 use Rattle.std.proofs.Common.{◌∙◌, sym}
 use Rattle.ob_space.specs.Namespace.{state_of}
 use Rattle.ob_space.proofs.Walked.{closed_alone, closed_both, closed_unheld, settled_is_orderly}
-use Rattle.ob_space.proofs.settling.settle_after_close.Goals as goal
+use Rattle.ob_space.proofs.settling.settle_after_loss.Goals as goal
 
 pub settle_one-requires-in-Some-after_bounds : goal.settle_one-requires-in-Some-after_bounds
 settle_one-requires-in-Some-after_bounds g c κs within =
