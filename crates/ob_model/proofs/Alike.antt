@@ -16,20 +16,21 @@ use Rattle.ob_model.specs.declared.state.Held.{Held}
 use Rattle.ob_model.specs.declared.state.Body.{Body}
 use Rattle.ob_model.specs.declared.state.Wanted.{Wanted}
 use Rattle.ob_model.specs.Names.{longest_name}
-use Rattle.ob_model.specs.State.{State, is_live, held_of, body_of}
+use Rattle.ob_model.specs.State.{State, is_live, is_directory, held_of, body_of}
 use Rattle.ob_model.specs.Looks.{Look, At, Vacant, Parse, Refused, Mode, LooksUp, most_reparses}
 use Rattle.ob_model.specs.Procedures.{Procedures, Reason, Opened, Created, Duplicated, without_parse}
 use Rattle.ob_model.specs.Settle.{settle}
 use Rattle.ob_model.specs.Grants.{Asked, first_refusal, Grants, grant_refusal, IsFreeValue, open_refusal_of, opened_body, opened_set, with_open, with_handle}
 use Rattle.ob_model.specs.Closing.{is_handle, without_handle, with_close, closed_handle}
 use Rattle.ob_model.specs.Permanence.{turned}
+use Rattle.ob_model.specs.Maps.{with_map}
 use Rattle.ob_model.specs.Types.{is_wanted_at}
 use Rattle.ob_model.specs.Refusals.{gives, answers, IsRefused, Unless, create_refusals, open_refusals}
 use Rattle.ob_model.specs.Opens.{GivesHandle, OpensAt, Opens, asked_by, open_mode}
 use Rattle.ob_model.specs.Creates.{Making, is_fit, create_mode, type_made, Spot, room_refusals, make_refusal, body_made, with_object, with_row, created, dropped, Makes, Creates}
 use Rattle.ob_model.specs.Naming.{IsWayUp, path_text, path_answer, target_of, TellsName, TellsTarget}
 use Rattle.ob_model.specs.Processes.{values_in, is_crowded, begun, Duplicates, MakesChild}
-use Rattle.ob_model.specs.Step.{WithHandle, WithRoot, CreatesIn, CreatesAt, OpensName, Closes, QueriesLink, QueriesName, Turns}
+use Rattle.ob_model.specs.Step.{WithHandle, WithRoot, CreatesIn, CreatesAt, OpensName, Closes, QueriesLink, QueriesName, Turns, SetsMap}
 use Rattle.ob_model.specs.Sound.{IsSound}
 use Rattle.ob_model.specs.Alike.{unvalued_handle, unvalued_answer, AreAlikeAnswers, is_named, unvalued, handle_given, process_given, AreAlike, LeadAlike, LeadOn, HoldOn, AreAlikeRoots, no_root, roots, AreAlikePlaces, no_name, names}
 use Rattle.ob_model.proofs.Lookup.{looks_up_unique}
@@ -426,6 +427,24 @@ module _ {K T F I : Type 0} (g : Procedures K T F I) (s t : State K T F I) (alik
       (same_lead (answers Success) (answers Success) (settle g (turned s x.object permanent)) (settle g (turned t y.object permanent)) refl refl
       (turned_handles s x.object permanent) (turned_handles t y.object permanent))
       (same_hold (answers Success) (settle g (turned s x.object permanent)) refl refl (turned_handles s x.object permanent))) h k
+
+  pub sets_map_alike : (p value other : ℕ) → LeadAlike s t p value other → SetsMap g s p value a u → SetsMap g t p other b v → EndAlike
+  sets_map_alike p value other lead h k =
+      using_handle_alike p value other (Sets s a u) (Sets t b v) lead
+      (λ x y first second same h k.
+      unless_alike ((not (is_directory s x.object), ObjectTypeMismatch) ∷ []) ((not (is_directory t y.object), ObjectTypeMismatch) ∷ []) (Done s a u x) (Done t b v y)
+      (λ i. (not (is_directory (alike i) (same i).object), ObjectTypeMismatch) ∷ [])
+      (λ h k.
+      ends_alike (answers Success) (answers Success) (settle g (with_map s p x.object)) (settle g (with_map t p y.object)) h.0 h.1 k.0 k.1 refl
+      (settle_alike g (with_map s p x.object) (with_map t p y.object) (λ i. with_map (alike i) p (same i).object))
+      (same_lead (answers Success) (answers Success) (settle g (with_map s p x.object)) (settle g (with_map t p y.object)) refl refl refl refl)
+      (same_hold (answers Success) (settle g (with_map s p x.object)) refl refl refl)) h k) h k
+    where
+      Done : State K T F I → Answer → State K T F I → Held → Type 0
+      Done x answer end y = (answer ≡ answers Success) × (end ≡ settle g (with_map x p y.object))
+
+      Sets : State K T F I → Answer → State K T F I → Held → Type 0
+      Sets x answer end y = Unless ((not (is_directory x y.object), ObjectTypeMismatch) ∷ []) x answer end (Done x answer end y)
 
   pub duplicates_alike : (p value other : ℕ) (inherit : Bool) → LeadAlike s t p value other → Duplicates g s p value r inherit a u → Duplicates g t p other r inherit b v → EndAlike
   duplicates_alike p value other inherit lead h k =

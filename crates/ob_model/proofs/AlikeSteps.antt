@@ -5,7 +5,7 @@ use Rattle.ob_base.specs.declared.status.Status.TheVariants.{Success, ProcessGon
 use Rattle.ob_model.specs.declared.command.Place.{Place}
 use Rattle.ob_model.specs.declared.command.Place.TheVariants as place
 use Rattle.ob_model.specs.declared.command.Command.{Command}
-use Rattle.ob_model.specs.declared.command.Command.TheVariants.{CreateDirectory, CreateLink, CreateObject, OpenDirectory, OpenLink, OpenObject, Close, QueryLink, QueryName, Duplicate, MakeTemporary, MakePermanent, NewProcess, ExitProcess}
+use Rattle.ob_model.specs.declared.command.Command.TheVariants.{CreateDirectory, CreateLink, CreateObject, OpenDirectory, OpenLink, OpenObject, Close, QueryLink, QueryName, Duplicate, MakeTemporary, MakePermanent, SetDeviceMap, NewProcess, ExitProcess}
 use Rattle.ob_model.specs.declared.reply.Answer.{Answer}
 use Rattle.ob_model.specs.declared.reply.Event.TheVariants.{Start}
 use Rattle.ob_model.specs.declared.state.Wanted.TheVariants as wanted
@@ -18,8 +18,8 @@ use Rattle.ob_model.specs.Creates.{MakesDirectory, MakesLink, MakesObject}
 use Rattle.ob_model.specs.Processes.{ended}
 use Rattle.ob_model.specs.Step.{Step}
 use Rattle.ob_model.specs.Sound.{IsSound}
-use Rattle.ob_model.specs.Alike.{AreAlikeAnswers, AreAlike, LeadOn, HoldOn, IsClosedBy, receiver, AreAlikeRoots, no_root, roots, AreAlikePlaces, no_name, names, AreAlikeCommands, create_directories, create_links, create_objects, open_directories, open_links, open_objects, closes, queries_of_links, queries_of_names, duplicates, temporaries, permanents, new_processes, exits}
-use Rattle.ob_model.proofs.Alike.{ends_alike, settle_alike, unless_alike, is_live_alike, creates_at_alike, opens_name_alike, closes_alike, queries_link_alike, queries_name_alike, turns_alike, duplicates_alike, makes_child_alike}
+use Rattle.ob_model.specs.Alike.{AreAlikeAnswers, AreAlike, LeadOn, HoldOn, IsClosedBy, receiver, AreAlikeRoots, no_root, roots, AreAlikePlaces, no_name, names, AreAlikeCommands, create_directories, create_links, create_objects, open_directories, open_links, open_objects, closes, queries_of_links, queries_of_names, duplicates, temporaries, permanents, device_maps, new_processes, exits}
+use Rattle.ob_model.proofs.Alike.{ends_alike, settle_alike, unless_alike, is_live_alike, creates_at_alike, opens_name_alike, closes_alike, queries_link_alike, queries_name_alike, turns_alike, sets_map_alike, duplicates_alike, makes_child_alike}
 use Rattle.ob_model.proofs.AlikeLeads.{lead_on_with_nothing}
 use Rattle.ob_model.proofs.AlikeHeld.{hold_on_with_nothing, ended_held}
 use Rattle.ob_model.proofs.AlikeExits.{ended_alike}
@@ -51,6 +51,7 @@ module _ {K T F I : Type 0} where
       duplicates_alike g s t alike a b u v p to none p value second inherit lead h k
   steps_alike g s t p one other a b u v s_sound t_sound alike (temporaries {value = value} {other = second} lead) h k = turns_alike g s t alike a b u v p p none p value second false lead h k
   steps_alike g s t p one other a b u v s_sound t_sound alike (permanents {value = value} {other = second} lead) h k = turns_alike g s t alike a b u v p p none p value second true lead h k
+  steps_alike g s t p one other a b u v s_sound t_sound alike (device_maps {value = value} {other = second} lead) h k = sets_map_alike g s t alike a b u v p p none p value second lead h k
   steps_alike g s t p one other a b u v s_sound t_sound alike (new_processes {inherit = inherit}) h k = makes_child_alike g s t alike a b u v p p none s_sound t_sound inherit h k
   steps_alike g s t p one other a b u v s_sound t_sound alike exits h k =
       unless_alike g s t alike a b u v p p (λ q value. q ≡ p) ((not (is_live s p), ProcessGone) ∷ []) ((not (is_live t p), ProcessGone) ∷ [])
@@ -98,6 +99,7 @@ module _ {K T F I : Type 0} where
   command_itself s p (Duplicate handle to inherit) = duplicates refl
   command_itself s p (MakeTemporary handle) = temporaries refl
   command_itself s p (MakePermanent handle) = permanents refl
+  command_itself s p (SetDeviceMap handle) = device_maps refl
   command_itself s p (NewProcess inherit) = new_processes
   command_itself s p ExitProcess = exits
 

@@ -23,6 +23,7 @@ use Rattle.ob_model.specs.Settle.{settle}
 use Rattle.ob_model.specs.Grants.{Asked, first_refusal, is_exclusive, has_other_holder, is_table_full, grant_refusal, open_refusal, opened_object, opened_body, with_open, with_handle}
 use Rattle.ob_model.specs.Closing.{is_handle, without_handle, closed_body, closed_object, closed_handle}
 use Rattle.ob_model.specs.Permanence.{turned_object, with_permanence, turned}
+use Rattle.ob_model.specs.Maps.{with_map}
 use Rattle.ob_model.specs.Creates.{Spot, created}
 use Rattle.ob_model.specs.Processes.{handles_in, inherited_from, with_child, without_process, inherits_one, inherits, begun, closed_in_turn, ended}
 use Rattle.ob_model.specs.Sound.{IsSound}
@@ -268,6 +269,7 @@ module _ {K T F I : Type 0} (g : Procedures K T F I) where
       (λ p spot body attrs value lawful. settled_alone (created g s p spot body attrs value) (created_alone s p spot body attrs value sound is lawful))
       (λ x. settled_alone (closed_handle g s x) (closed_alone s x is))
       (λ o permanent. settled_alone (turned s o permanent) (turned_alone s o permanent is))
+      (λ p m. settled_alone (with_map s p m) (agreeing s (with_map s p m) refl (λ k d within. refl) is))
       (λ p inherit. settled_alone (begun g s p inherit) (begun_alone s p inherit is))
       (λ p. settled_alone (ended g s p) (ended_alone s p is)) t event answer h
 

@@ -8,7 +8,7 @@ use Rattle.ob_base.specs.Attrs.{has_flag, open_if_flag}
 use Rattle.ob_base.specs.Handle.{key_of}
 use Rattle.ob_model.specs.declared.command.Place.{Place}
 use Rattle.ob_model.specs.declared.command.Place.TheVariants as place
-use Rattle.ob_model.specs.declared.command.Command.TheVariants.{CreateDirectory, CreateLink, CreateObject, OpenDirectory, OpenLink, OpenObject, Close, QueryLink, QueryName, Duplicate, MakeTemporary, MakePermanent, NewProcess, ExitProcess}
+use Rattle.ob_model.specs.declared.command.Command.TheVariants.{CreateDirectory, CreateLink, CreateObject, OpenDirectory, OpenLink, OpenObject, Close, QueryLink, QueryName, Duplicate, MakeTemporary, MakePermanent, SetDeviceMap, NewProcess, ExitProcess}
 use Rattle.ob_model.specs.declared.reply.Answer.{Answer}
 use Rattle.ob_model.specs.declared.reply.Event.{Event}
 use Rattle.ob_model.specs.declared.reply.Event.TheVariants.{Start}
@@ -18,20 +18,21 @@ use Rattle.ob_model.specs.declared.reply.Given.TheVariants.{Handle, Nothing, Pro
 use Rattle.ob_model.specs.declared.state.Held.{Held}
 use Rattle.ob_model.specs.declared.state.Wanted.{Wanted}
 use Rattle.ob_model.specs.declared.state.Wanted.TheVariants as wanted
-use Rattle.ob_model.specs.State.{State, is_live, held_of}
+use Rattle.ob_model.specs.State.{State, is_live, is_directory, held_of}
 use Rattle.ob_model.specs.Looks.{Look, At, Vacant, Parse, Refused, LooksUp, most_reparses}
 use Rattle.ob_model.specs.Procedures.{Procedures, Reason, Opened, Created, Duplicated, without_parse}
 use Rattle.ob_model.specs.Settle.{settle}
 use Rattle.ob_model.specs.Grants.{first_refusal, Grants, IsFreeValue, Asked, open_refusal_of, with_handle, with_open}
 use Rattle.ob_model.specs.Closing.{closed_handle}
 use Rattle.ob_model.specs.Permanence.{turned}
+use Rattle.ob_model.specs.Maps.{with_map}
 use Rattle.ob_model.specs.Types.{is_wanted_at}
 use Rattle.ob_model.specs.Refusals.{gives, answers, IsRefused, Unless, create_refusals, open_refusals}
 use Rattle.ob_model.specs.Opens.{GivesHandle, OpensAt, Opens, asked_by, type_wanted, open_mode}
 use Rattle.ob_model.specs.Creates.{Making, MakesDirectory, MakesLink, MakesObject, is_fit, create_mode, type_made, Spot, room_refusals, make_refusal, body_made, created, dropped, Makes, Creates}
 use Rattle.ob_model.specs.Naming.{TellsName, TellsTarget}
 use Rattle.ob_model.specs.Processes.{values_in, is_crowded, begun, ended}
-use Rattle.ob_model.specs.Step.{WithHandle, WithRoot, CreatesIn, CreatesAt, OpensName, Turns, Step}
+use Rattle.ob_model.specs.Step.{WithHandle, WithRoot, CreatesIn, CreatesAt, OpensName, Turns, SetsMap, Step}
 use Rattle.ob_model.specs.Run.{Entry, RunFrom}
 use Rattle.ob_model.proofs.Lookup.{looks_up_unique}
 
@@ -191,6 +192,16 @@ module _ {K T F I : Type 0} (g : Procedures K T F I) where
       with_handle_end s t u p handle answer (λ x. (answer ≡ answers Success) × (t ≡ settle g (turned s x.object permanent)))
       (λ x. (answer ≡ answers Success) × (u ≡ settle g (turned s x.object permanent))) (λ x a b. a.1 ∙ sym b.1) h k
 
+  sets_map_end : (s t u : State K T F I) (p handle : ℕ) (answer : Answer) → SetsMap g s p handle answer t → SetsMap g s p handle answer u → t ≡ u
+  sets_map_end s t u p handle answer h k =
+      with_handle_end s t u p handle answer (Sets t) (Sets u)
+      (λ x a b.
+      unless_end ((not (is_directory s x.object), ObjectTypeMismatch) ∷ []) s t u answer
+      ((answer ≡ answers Success) × (t ≡ settle g (with_map s p x.object))) ((answer ≡ answers Success) × (u ≡ settle g (with_map s p x.object))) (λ a b. a.1 ∙ sym b.1) a b) h k
+    where
+      Sets : State K T F I → Held → Type 0
+      Sets end x = Unless ((not (is_directory s x.object), ObjectTypeMismatch) ∷ []) s answer end ((answer ≡ answers Success) × (end ≡ settle g (with_map s p x.object)))
+
   -- a step with its answer leads to one state alone
   pub step_end : (s t u : State K T F I) (event : Event K) (answer : Answer) → Step g s event answer t → Step g s event answer u → t ≡ u
   step_end s t u (Start p (CreateDirectory where_to attrs)) answer h k = creates_at_end s t u p where_to attrs MakesDirectory answer h k
@@ -220,6 +231,7 @@ module _ {K T F I : Type 0} (g : Procedures K T F I) where
       go (Some x) h k = gives_handle_end s t u to x.object (record { inherit = inherit; exclusive = false }) Duplicated Success answer h k
   step_end s t u (Start p (MakeTemporary handle)) answer h k = turns_end s t u p handle false answer h k
   step_end s t u (Start p (MakePermanent handle)) answer h k = turns_end s t u p handle true answer h k
+  step_end s t u (Start p (SetDeviceMap handle)) answer h k = sets_map_end s t u p handle answer h k
   step_end s t u (Start p (NewProcess inherit)) answer h k =
       unless_end ((not (is_live s p), ProcessGone) ∷ (is_crowded s p inherit, InsufficientResources) ∷ []) s t u answer (Child t) (Child u) (λ a b. a.1 ∙ sym b.1) h k
     where

@@ -1,6 +1,6 @@
 -- What a step leads to: the state as it was, one whose new object was dropped, or one that settled after a
--- handle was granted, an object made, a handle closed, an object made permanent or temporary, or a process
--- begun or ended.
+-- handle was granted, an object made, a handle closed, an object made permanent or temporary, a device map
+-- set, or a process begun or ended.
 use Rattle.std.proofs.Common.{◌≡◌, ℕ, Bool, true, false, ◌||◌, not, refl, List, [], ◌∷◌, Option, None, Some, Result, Ok, Err, MatchOption, MatchResult, sym, subst}
 use Rattle.std.specs.Prelude.{MatchBool}
 use Rattle.std.specs.Option.{option_and_then}
@@ -10,7 +10,7 @@ use Rattle.ob_base.specs.Attrs.{has_flag, open_if_flag, are_lawful}
 use Rattle.ob_base.specs.Handle.{key_of}
 use Rattle.ob_model.specs.declared.command.Place.{Place}
 use Rattle.ob_model.specs.declared.command.Place.TheVariants as place
-use Rattle.ob_model.specs.declared.command.Command.TheVariants.{CreateDirectory, CreateLink, CreateObject, OpenDirectory, OpenLink, OpenObject, Close, QueryLink, QueryName, Duplicate, MakeTemporary, MakePermanent, NewProcess, ExitProcess}
+use Rattle.ob_model.specs.declared.command.Command.TheVariants.{CreateDirectory, CreateLink, CreateObject, OpenDirectory, OpenLink, OpenObject, Close, QueryLink, QueryName, Duplicate, MakeTemporary, MakePermanent, SetDeviceMap, NewProcess, ExitProcess}
 use Rattle.ob_model.specs.declared.reply.Answer.{Answer}
 use Rattle.ob_model.specs.declared.reply.Event.{Event}
 use Rattle.ob_model.specs.declared.reply.Event.TheVariants.{Start}
@@ -19,20 +19,21 @@ use Rattle.ob_model.specs.declared.state.Held.{Held}
 use Rattle.ob_model.specs.declared.state.Body.{Body}
 use Rattle.ob_model.specs.declared.state.Wanted.{Wanted}
 use Rattle.ob_model.specs.declared.state.Wanted.TheVariants as wanted
-use Rattle.ob_model.specs.State.{State, is_live, held_of}
+use Rattle.ob_model.specs.State.{State, is_live, is_directory, held_of}
 use Rattle.ob_model.specs.Looks.{Look, At, Vacant, Parse, Refused, LooksUp, most_reparses}
 use Rattle.ob_model.specs.Procedures.{Procedures, Reason, Opened, Created, Duplicated, without_parse}
 use Rattle.ob_model.specs.Settle.{settle}
 use Rattle.ob_model.specs.Grants.{Asked, first_refusal, Grants, grant_refusal, IsFreeValue, open_refusal_of, with_open, with_handle}
 use Rattle.ob_model.specs.Closing.{closed_handle}
 use Rattle.ob_model.specs.Permanence.{turned}
+use Rattle.ob_model.specs.Maps.{with_map}
 use Rattle.ob_model.specs.Types.{is_wanted_at}
 use Rattle.ob_model.specs.Refusals.{gives, answers, IsRefused, Unless, name_refusals, create_refusals, open_refusals}
 use Rattle.ob_model.specs.Opens.{GivesHandle, OpensAt, Opens, asked_by, type_wanted, open_mode}
 use Rattle.ob_model.specs.Creates.{Making, MakesDirectory, MakesLink, MakesObject, is_fit, create_mode, type_made, Spot, room_refusals, make_refusal, body_made, created, dropped, Makes, Creates}
 use Rattle.ob_model.specs.Naming.{TellsName, TellsTarget}
 use Rattle.ob_model.specs.Processes.{values_in, is_crowded, begun, ended}
-use Rattle.ob_model.specs.Step.{WithHandle, WithRoot, CreatesIn, CreatesAt, OpensName, Turns, Step}
+use Rattle.ob_model.specs.Step.{WithHandle, WithRoot, CreatesIn, CreatesAt, OpensName, Turns, SetsMap, Step}
 
 -- where a create isn't refused at first, its flags are lawful
 lawful_to_create : (live fit : Bool) (where_to : Place) (attrs : ℕ) → first_refusal (create_refusals live fit where_to attrs) ≡ None → are_lawful attrs ≡ true
@@ -55,6 +56,7 @@ module _ {K T F I : Type 0} (g : Procedures K T F I) (s : State K T F I) (P : St
     (makes : (p : ℕ) (spot : Spot) (body : Body F I) (attrs value : ℕ) → are_lawful attrs ≡ true → P (settle g (created g s p spot body attrs value)))
     (closes : (h : Held) → P (settle g (closed_handle g s h)))
     (turns : (o : ℕ) (permanent : Bool) → P (settle g (turned s o permanent)))
+    (sets_map : (p d : ℕ) → P (settle g (with_map s p d)))
     (begins : (p : ℕ) (inherit : Bool) → P (settle g (begun g s p inherit)))
     (ends : (p : ℕ) → P (settle g (ended g s p))) where
   -- a step that is refused leaves the state
@@ -162,6 +164,14 @@ module _ {K T F I : Type 0} (g : Procedures K T F I) (s : State K T F I) (P : St
       with_handle_leads t p handle answer (λ x. (answer ≡ answers Success) × (t ≡ settle g (turned s x.object permanent)))
       (λ x does. subst P (sym does.1) (turns x.object permanent)) h
 
+  sets_map_leads : (t : State K T F I) (p handle : ℕ) (answer : Answer) → SetsMap g s p handle answer t → P t
+  sets_map_leads t p handle answer h =
+      with_handle_leads t p handle answer
+      (λ x. Unless ((not (is_directory s x.object), ObjectTypeMismatch) ∷ []) s answer t ((answer ≡ answers Success) × (t ≡ settle g (with_map s p x.object))))
+      (λ x.
+      unless_leads ((not (is_directory s x.object), ObjectTypeMismatch) ∷ []) t answer ((answer ≡ answers Success) × (t ≡ settle g (with_map s p x.object)))
+      (λ e does. subst P (sym does.1) (sets_map p x.object))) h
+
   -- a step leads there
   pub step_leads : (t : State K T F I) (event : Event K) (answer : Answer) → Step g s event answer t → P t
   step_leads t (Start p (CreateDirectory where_to attrs)) answer h = creates_at_leads t p where_to attrs MakesDirectory answer h
@@ -188,6 +198,7 @@ module _ {K T F I : Type 0} (g : Procedures K T F I) (s : State K T F I) (P : St
       go (Some x) h = granted_or_refused_leads t h.1 to x.object (record { inherit = inherit; exclusive = false }) Duplicated Success answer h.0 h.2 h.3
   step_leads t (Start p (MakeTemporary handle)) answer h = turns_leads t p handle false answer h
   step_leads t (Start p (MakePermanent handle)) answer h = turns_leads t p handle true answer h
+  step_leads t (Start p (SetDeviceMap handle)) answer h = sets_map_leads t p handle answer h
   step_leads t (Start p (NewProcess inherit)) answer h =
       unless_leads ((not (is_live s p), ProcessGone) ∷ (is_crowded s p inherit, InsufficientResources) ∷ []) t answer
       (let u = begun g s p inherit in (answer ≡ gives Success (Process s.next_process (values_in u s.next_process))) × (t ≡ settle g u))

@@ -12,6 +12,7 @@ pub mod Earliest
 pub mod Settled
 pub mod Soundness
 pub mod Turned
+pub mod Maps
 pub mod Steps
 pub mod Vacant
 pub mod Ids

@@ -20,6 +20,7 @@ use Rattle.ob_model.specs.Settle.{is_permanent, has_handle, is_kept, has_name, i
 use Rattle.ob_model.specs.Grants.{open_refusal, opened_object, opened_body, with_open, with_handle}
 use Rattle.ob_model.specs.Closing.{is_handle, without_handle, closed_body, closed_object, closed_handle}
 use Rattle.ob_model.specs.Permanence.{turned_object, with_permanence, turned}
+use Rattle.ob_model.specs.Maps.{with_map}
 use Rattle.ob_model.specs.Creates.{Spot, new_rows, created}
 use Rattle.ob_model.specs.Opening.{opening}
 use Rattle.ob_model.specs.Processes.{inherited_from, with_child, inherits_one, inherits, begun, ended}
@@ -241,7 +242,7 @@ module _ {K T F I : Type 0} (g : Procedures K T F I) where
   step_settled s t event answer settled h =
       step_leads g s IsSettled settled (λ body. record { names = settled.names; objects = settled.objects }) (λ p value o asked reason e. settling_settles (with_handle (with_open g s o reason) p value o asked.inherit))
       (λ p spot body attrs value lawful. settling_settles (created g s p spot body attrs value)) (λ h. settling_settles (closed_handle g s h))
-      (λ o permanent. settling_settles (turned s o permanent))
+      (λ o permanent. settling_settles (turned s o permanent)) (λ p d. settling_settles (with_map s p d))
       (λ p inherit. settling_settles (begun g s p inherit)) (λ p. settling_settles (ended g s p)) t event answer h
 
 -- each name of the opening state names a permanent object, and each object is the root or has such a name

@@ -8,7 +8,7 @@ use Rattle.ob_base.specs.Attrs.{has_flag, open_if_flag}
 use Rattle.ob_base.specs.Handle.{key_of}
 use Rattle.ob_model.specs.declared.command.Place.{Place}
 use Rattle.ob_model.specs.declared.command.Place.TheVariants as place
-use Rattle.ob_model.specs.declared.command.Command.TheVariants.{CreateDirectory, CreateLink, CreateObject, OpenDirectory, OpenLink, OpenObject, Close, QueryLink, QueryName, Duplicate, MakeTemporary, MakePermanent, NewProcess, ExitProcess}
+use Rattle.ob_model.specs.declared.command.Command.TheVariants.{CreateDirectory, CreateLink, CreateObject, OpenDirectory, OpenLink, OpenObject, Close, QueryLink, QueryName, Duplicate, MakeTemporary, MakePermanent, SetDeviceMap, NewProcess, ExitProcess}
 use Rattle.ob_model.specs.declared.reply.Answer.{Answer}
 use Rattle.ob_model.specs.declared.reply.Event.{Event}
 use Rattle.ob_model.specs.declared.reply.Event.TheVariants.{Start}
@@ -17,24 +17,26 @@ use Rattle.ob_model.specs.declared.state.Held.{Held}
 use Rattle.ob_model.specs.declared.state.Object.{Object}
 use Rattle.ob_model.specs.declared.state.Wanted.{Wanted}
 use Rattle.ob_model.specs.declared.state.Wanted.TheVariants as wanted
-use Rattle.ob_model.specs.State.{State, is_live, held_of, object_of}
+use Rattle.ob_model.specs.State.{State, is_live, is_directory, held_of, object_of}
 use Rattle.ob_model.specs.Looks.{Look, At, Vacant, Parse, Refused, LooksUp, most_reparses}
 use Rattle.ob_model.specs.Procedures.{Procedures, Opened, Created, without_parse}
 use Rattle.ob_model.specs.Settle.{settle}
 use Rattle.ob_model.specs.Grants.{first_refusal, IsFreeValue, open_refusal_of}
 use Rattle.ob_model.specs.Closing.{closed_handle}
 use Rattle.ob_model.specs.Permanence.{turned}
+use Rattle.ob_model.specs.Maps.{with_map}
 use Rattle.ob_model.specs.Types.{is_wanted, is_wanted_at}
 use Rattle.ob_model.specs.Refusals.{gives, answers, IsRefused, Unless, create_refusals, open_refusals}
 use Rattle.ob_model.specs.Opens.{GivesHandle, OpensAt, Opens, asked_by, type_wanted, open_mode}
 use Rattle.ob_model.specs.Creates.{Making, MakesDirectory, MakesLink, MakesObject, is_fit, create_mode, type_made, Spot, room_refusals, make_refusal, body_made, created, dropped, Makes, Creates}
 use Rattle.ob_model.specs.Naming.{TellsName, TellsTarget}
 use Rattle.ob_model.specs.Processes.{values_in, is_crowded, begun, ended}
-use Rattle.ob_model.specs.Step.{WithHandle, WithRoot, CreatesIn, CreatesAt, OpensName, Turns, Step}
+use Rattle.ob_model.specs.Step.{WithHandle, WithRoot, CreatesIn, CreatesAt, OpensName, Turns, SetsMap, Step}
 use Rattle.ob_model.specs.Sound.{IsSound, IsDirectory, Stands, is_barred}
 use Rattle.ob_model.proofs.Vacant.{IsUsableEnd, usable_end}
 use Rattle.ob_model.proofs.Soundness.{settled_sound, created_sound, dropped_sound, gives_handle_sound, closed_sound}
 use Rattle.ob_model.proofs.Turned.{turned_sound}
+use Rattle.ob_model.proofs.Maps.{mapped_sound}
 use Rattle.ob_model.proofs.Ended.{begun_sound, ended_sound, duplicates_sound}
 
 -- where a create or an open isn't refused at first, its process is live
@@ -173,6 +175,14 @@ module _ {K T F I : Type 0} (g : Procedures K T F I) where
       with_handle_sound s t p handle answer (λ x. (answer ≡ answers Success) × (t ≡ settle g (turned s x.object permanent))) sound
       (λ x does. subst IsSound (sym does.1) (settled_sound g (turned s x.object permanent) (turned_sound s x.object permanent sound))) h
 
+  sets_map_sound : (s t : State K T F I) (p handle : ℕ) (answer : Answer) → IsSound s → SetsMap g s p handle answer t → IsSound t
+  sets_map_sound s t p handle answer sound h =
+      with_handle_sound s t p handle answer
+      (λ x. Unless ((not (is_directory s x.object), ObjectTypeMismatch) ∷ []) s answer t ((answer ≡ answers Success) × (t ≡ settle g (with_map s p x.object)))) sound
+      (λ x.
+      tested_sound (is_directory s x.object) ObjectTypeMismatch s t answer ((answer ≡ answers Success) × (t ≡ settle g (with_map s p x.object))) sound
+      (λ directory does. subst IsSound (sym does.1) (settled_sound g (with_map s p x.object) (mapped_sound s p x.object directory sound)))) h
+
   -- a step from a sound state leads to a sound one
   pub step_sound : (s t : State K T F I) (event : Event K) (answer : Answer) → IsSound s → Step g s event answer t → IsSound t
   step_sound s t (Start p (CreateDirectory where_to attrs)) answer sound h = creates_at_sound s t p where_to attrs MakesDirectory answer sound h
@@ -191,6 +201,7 @@ module _ {K T F I : Type 0} (g : Procedures K T F I) where
   step_sound s t (Start p (Duplicate handle to inherit)) answer sound h = duplicates_sound g s t p handle to inherit answer sound h
   step_sound s t (Start p (MakeTemporary handle)) answer sound h = turns_sound s t p handle false answer sound h
   step_sound s t (Start p (MakePermanent handle)) answer sound h = turns_sound s t p handle true answer sound h
+  step_sound s t (Start p (SetDeviceMap handle)) answer sound h = sets_map_sound s t p handle answer sound h
   step_sound s t (Start p (NewProcess inherit)) answer sound h =
       unless_sound ((not (is_live s p), ProcessGone) ∷ (is_crowded s p inherit, InsufficientResources) ∷ []) s t answer
       (let u = begun g s p inherit in (answer ≡ gives Success (Process s.next_process (values_in u s.next_process))) × (t ≡ settle g u)) sound

@@ -10,7 +10,7 @@ use Rattle.ob_base.specs.Attrs.{has_flag, open_if_flag}
 use Rattle.ob_base.specs.Handle.{key_of}
 use Rattle.ob_model.specs.declared.command.Place.{Place}
 use Rattle.ob_model.specs.declared.command.Place.TheVariants as place
-use Rattle.ob_model.specs.declared.command.Command.TheVariants.{CreateDirectory, CreateLink, CreateObject, OpenDirectory, OpenLink, OpenObject, Close, QueryLink, QueryName, Duplicate, MakeTemporary, MakePermanent, NewProcess, ExitProcess}
+use Rattle.ob_model.specs.declared.command.Command.TheVariants.{CreateDirectory, CreateLink, CreateObject, OpenDirectory, OpenLink, OpenObject, Close, QueryLink, QueryName, Duplicate, MakeTemporary, MakePermanent, SetDeviceMap, NewProcess, ExitProcess}
 use Rattle.ob_model.specs.declared.reply.Answer.{Answer}
 use Rattle.ob_model.specs.declared.reply.Event.{Event}
 use Rattle.ob_model.specs.declared.reply.Event.TheVariants.{Start}
@@ -19,20 +19,21 @@ use Rattle.ob_model.specs.declared.state.Held.{Held}
 use Rattle.ob_model.specs.declared.state.Row.{Row}
 use Rattle.ob_model.specs.declared.state.Wanted.{Wanted}
 use Rattle.ob_model.specs.declared.state.Wanted.TheVariants as wanted
-use Rattle.ob_model.specs.State.{State, root_id, is_live, held_of, body_of, table_size, most_handles, greatest_number}
+use Rattle.ob_model.specs.State.{State, root_id, is_live, held_of, body_of, table_size, most_handles, greatest_number, is_directory}
 use Rattle.ob_model.specs.Looks.{Look, At, Vacant, Parse, Refused, LooksUp, most_reparses}
 use Rattle.ob_model.specs.Procedures.{Procedures, Reason, Opened, Created, Duplicated, without_parse}
 use Rattle.ob_model.specs.Settle.{settle}
 use Rattle.ob_model.specs.Grants.{first_refusal, IsFreeValue, Asked, is_table_full, is_exclusive, has_other_holder, grant_refusal, open_refusal, open_refusal_of, with_open, with_handle}
 use Rattle.ob_model.specs.Closing.{closed_handle}
 use Rattle.ob_model.specs.Permanence.{turned}
+use Rattle.ob_model.specs.Maps.{with_map}
 use Rattle.ob_model.specs.Types.{is_wanted_at}
 use Rattle.ob_model.specs.Refusals.{gives, answers, IsRefused, Unless, create_refusals, open_refusals}
 use Rattle.ob_model.specs.Opens.{GivesHandle, OpensAt, Opens, asked_by, type_wanted, open_mode}
 use Rattle.ob_model.specs.Creates.{Making, MakesDirectory, MakesLink, MakesObject, is_fit, create_mode, type_made, Spot, is_store_full, is_stampless, room_refusals, make_refusal, body_made, created, dropped, Makes, MakesInRoom, Creates}
 use Rattle.ob_model.specs.Naming.{IsWayUp, row_of, path_text, path_answer, target_of, TellsName, TellsTarget}
 use Rattle.ob_model.specs.Processes.{values_in, is_crowded, begun, ended}
-use Rattle.ob_model.specs.Step.{WithHandle, WithRoot, CreatesIn, CreatesAt, OpensName, Turns, Step}
+use Rattle.ob_model.specs.Step.{WithHandle, WithRoot, CreatesIn, CreatesAt, OpensName, Turns, SetsMap, Step}
 use Rattle.ob_model.specs.Sound.{IsSound, Stands}
 use Rattle.ob_model.proofs.SoundPaths.{find_of}
 use Rattle.ob_model.proofs.Lookup.{looks_up_total}
@@ -264,6 +265,14 @@ module _ {K T F I : Type 0} (g : Procedures K T F I) where
       with_handle_total s p handle (λ h answer t. (answer ≡ answers Success) × (t ≡ settle g (turned s h.object permanent))) sound
       (λ h stands. (answers Success, settle g (turned s h.object permanent), (refl, refl)))
 
+  sets_map_total : (s : State K T F I) (p handle : ℕ) → IsSound s → Has (SetsMap g s p handle)
+  sets_map_total s p handle sound =
+      with_handle_total s p handle
+      (λ h answer t. Unless ((not (is_directory s h.object), ObjectTypeMismatch) ∷ []) s answer t ((answer ≡ answers Success) × (t ≡ settle g (with_map s p h.object)))) sound
+      (λ h stands.
+      unless_total ((not (is_directory s h.object), ObjectTypeMismatch) ∷ []) s (λ answer t. (answer ≡ answers Success) × (t ≡ settle g (with_map s p h.object)))
+      (λ e. (answers Success, settle g (with_map s p h.object), (refl, refl))))
+
   -- in a sound state every event has an answer
   pub step_total : (s : State K T F I) (event : Event K) → IsSound s → (answer : Answer) × (t : State K T F I) × Step g s event answer t
   step_total s (Start p (CreateDirectory where_to attrs)) sound = creates_at_total s p where_to attrs MakesDirectory sound
@@ -287,6 +296,7 @@ module _ {K T F I : Type 0} (g : Procedures K T F I) where
       Given h answer t = GivesHandle g s to h.object (record { inherit = inherit; exclusive = false }) Duplicated Success answer t
   step_total s (Start p (MakeTemporary handle)) sound = turns_total s p handle false sound
   step_total s (Start p (MakePermanent handle)) sound = turns_total s p handle true sound
+  step_total s (Start p (SetDeviceMap handle)) sound = sets_map_total s p handle sound
   step_total s (Start p (NewProcess inherit)) sound =
       unless_total ((not (is_live s p), ProcessGone) ∷ (is_crowded s p inherit, InsufficientResources) ∷ []) s
       (λ answer t. let u = begun g s p inherit in (answer ≡ gives Success (Process s.next_process (values_in u s.next_process))) × (t ≡ settle g u))

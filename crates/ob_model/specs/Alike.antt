@@ -8,7 +8,7 @@ use Rattle.ob_base.specs.Handle.{key_of}
 use Rattle.ob_model.specs.declared.command.Place.{Place}
 use Rattle.ob_model.specs.declared.command.Place.TheVariants.{At, Unnamed}
 use Rattle.ob_model.specs.declared.command.Command.{Command}
-use Rattle.ob_model.specs.declared.command.Command.TheVariants.{CreateDirectory, CreateLink, CreateObject, OpenDirectory, OpenLink, OpenObject, Close, QueryLink, QueryName, Duplicate, MakeTemporary, MakePermanent, NewProcess, ExitProcess}
+use Rattle.ob_model.specs.declared.command.Command.TheVariants.{CreateDirectory, CreateLink, CreateObject, OpenDirectory, OpenLink, OpenObject, Close, QueryLink, QueryName, Duplicate, MakeTemporary, MakePermanent, SetDeviceMap, NewProcess, ExitProcess}
 use Rattle.ob_model.specs.declared.reply.Answer.{Answer}
 use Rattle.ob_model.specs.declared.reply.Answer.TheVariants.{Done}
 use Rattle.ob_model.specs.declared.reply.Given.{Given}
@@ -144,5 +144,6 @@ module _ {K T F I : Type 0} (s t : State K T F I) (p : ℕ) where
     duplicates : {value other to : ℕ} {inherit : Bool} → LeadAlike s t p value other → AreAlikeCommands (Duplicate value to inherit) (Duplicate other to inherit)
     temporaries : {value other : ℕ} → LeadAlike s t p value other → AreAlikeCommands (MakeTemporary value) (MakeTemporary other)
     permanents : {value other : ℕ} → LeadAlike s t p value other → AreAlikeCommands (MakePermanent value) (MakePermanent other)
+    device_maps : {value other : ℕ} → LeadAlike s t p value other → AreAlikeCommands (SetDeviceMap value) (SetDeviceMap other)
     new_processes : {inherit : Bool} → AreAlikeCommands (NewProcess inherit) (NewProcess inherit)
     exits : AreAlikeCommands ExitProcess ExitProcess

@@ -9,7 +9,7 @@ use Rattle.std.specs.Prelude.{◌≡◌, ℕ, ◌+◌, Bool, true, false, ◌&&�
 use Rattle.std.specs.Option.{is_some, option_and_then, option_map_or}
 use Rattle.ob_base.specs.Handle.{key_of}
 use Rattle.ob_model.specs.declared.command.Command.{Command}
-use Rattle.ob_model.specs.declared.command.Command.TheVariants.{CreateDirectory, CreateLink, CreateObject, OpenDirectory, OpenLink, OpenObject, Close, QueryLink, QueryName, Duplicate, MakeTemporary, MakePermanent, NewProcess, ExitProcess}
+use Rattle.ob_model.specs.declared.command.Command.TheVariants.{CreateDirectory, CreateLink, CreateObject, OpenDirectory, OpenLink, OpenObject, Close, QueryLink, QueryName, Duplicate, MakeTemporary, MakePermanent, SetDeviceMap, NewProcess, ExitProcess}
 use Rattle.ob_model.specs.declared.reply.Answer.{Answer}
 use Rattle.ob_model.specs.declared.reply.Answer.TheVariants.{Done}
 use Rattle.ob_model.specs.declared.reply.Event.{Event}
@@ -66,6 +66,7 @@ is_set_create (QueryName handle) = false
 is_set_create (Duplicate handle to inherit) = false
 is_set_create (MakeTemporary handle) = false
 is_set_create (MakePermanent handle) = false
+is_set_create (SetDeviceMap handle) = false
 is_set_create (NewProcess inherit) = false
 is_set_create ExitProcess = false
 
@@ -133,6 +134,7 @@ module _ {K T F I : Type 0} where
   calls_of_command s t p (Duplicate handle to inherit) given o = calls_of_grant ForDuplicate t to given o
   calls_of_command s t p (MakeTemporary handle) given o = []
   calls_of_command s t p (MakePermanent handle) given o = []
+  calls_of_command s t p (SetDeviceMap handle) given o = []
   calls_of_command s t p (NewProcess inherit) given o = calls_of_child t s.next_process o
   calls_of_command s t p ExitProcess given o = if is_live s p && is_of_set s o then closes_at_end s p o else []
 

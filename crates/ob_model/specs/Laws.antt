@@ -2,6 +2,9 @@
 -- src/laws.rt, which prove them.
 use Rattle.std.specs.Prelude.{◌≡◌, ◌≢◌, ℕ, ◌+◌, ◌<◌, ◌≤◌, Bool, true, false, ◌&&◌, ◌||◌, ◌==◌, List, [], ◌∷◌, ◌++◌, length, map, All, AllPairs, Contains, Option, Some, MatchOption, if◌then◌else◌}
 use Rattle.std.specs.List.{find}
+use Rattle.std.specs.Option.{option_and_then}
+use Rattle.ob_base.specs.declared.status.Status.TheVariants.{Success}
+use Rattle.ob_base.specs.Handle.{key_of}
 use Rattle.ob_model.specs.declared.state.Body.{Body}
 use Rattle.ob_model.specs.declared.state.Held.{Held}
 use Rattle.ob_model.specs.declared.state.Object.{Object}
@@ -10,8 +13,9 @@ use Rattle.ob_model.specs.declared.reply.Answer.{Answer}
 use Rattle.ob_model.specs.declared.reply.Event.{Event}
 use Rattle.ob_model.specs.declared.reply.Event.TheVariants.{Start}
 use Rattle.ob_model.specs.declared.command.Command.{Command}
+use Rattle.ob_model.specs.declared.command.Command.TheVariants.{SetDeviceMap}
 use Rattle.ob_model.specs.Names.{separator, joined, IsRest, IsSplit, substituted, ends_in_separator, begins_with_separator}
-use Rattle.ob_model.specs.State.{State, root_id, insert_object, object_of, is_live}
+use Rattle.ob_model.specs.State.{State, root_id, insert_object, object_of, is_directory, process_of, is_live, held_of}
 use Rattle.ob_model.specs.Opening.{opening}
 use Rattle.ob_model.specs.Paths.{Origin, found, is_match, IsPath, directory_at}
 use Rattle.ob_model.specs.Procedures.{Procedures, Reason}
@@ -19,6 +23,8 @@ use Rattle.ob_model.specs.Looks.{Look, Mode, Looks, LooksUp}
 use Rattle.ob_model.specs.Settle.{IsSettled, settle, is_permanent, has_handle, has_name}
 use Rattle.ob_model.specs.Closing.{is_handle, closed_handle}
 use Rattle.ob_model.specs.Permanence.{turned}
+use Rattle.ob_model.specs.Maps.{map_of}
+use Rattle.ob_model.specs.Refusals.{answers}
 use Rattle.ob_model.specs.Grants.{with_open, with_handle}
 use Rattle.ob_model.specs.Creates.{Spot, created}
 use Rattle.ob_model.specs.Sound.{IsSound, IsDirectory, Stands}
@@ -225,6 +231,32 @@ module _ (K T F I : Type 0) where
 
   abbrev pub OthersAreLeft : Type 0
   OthersAreLeft = (s : State K T F I) (o m : ℕ) (permanent : Bool) → m ≢ o → object_of (turned s o permanent) m ≡ object_of s m
+
+  -- a process that sets its map with success has the directory of its handle as its map then, and every other
+  -- process is left as it was, whatever is answered
+  abbrev pub MapIsSet : Type 0
+  MapIsSet =
+      (g : Procedures K T F I) (s t : State K T F I) (p handle : ℕ) → Step g s (Start p (SetDeviceMap handle)) (answers Success) t
+      → (h : Held) × (option_and_then (held_of s p) (key_of handle) ≡ Some h) × (is_directory s h.object ≡ true) × (map_of t p ≡ Some h.object)
+
+  abbrev pub OtherMapsAreLeft : Type 0
+  OtherMapsAreLeft =
+      (g : Procedures K T F I) (s t : State K T F I) (p handle : ℕ) (answer : Answer) (q : ℕ) → q ≢ p → Step g s (Start p (SetDeviceMap handle)) answer t
+      → process_of t q ≡ process_of s q
+
+  -- the directory of a live process's map stays, and is there after each step
+  abbrev pub MappedStays : Type 0
+  MappedStays = (g : Procedures K T F I) (s : State K T F I) (p d : ℕ) → map_of s p ≡ Some d → object_of (settle g s) d ≡ object_of s d
+
+  abbrev pub MapIsDirectory : Type 0
+  MapIsDirectory =
+      (g : Procedures K T F I) (s t : State K T F I) (event : Event K) (answer : Answer) (p d : ℕ)
+      → IsSound s → Step g s event answer t → map_of t p ≡ Some d → IsDirectory t d
+
+  -- a child begins with its parent's map
+  abbrev pub ChildHasItsMap : Type 0
+  ChildHasItsMap =
+      (g : Procedures K T F I) (s : State K T F I) (p : ℕ) (inherit : Bool) → IsSound s → map_of (begun g s p inherit) s.next_process ≡ map_of s p
 
   -- settling leaves a settled state, and a settled state as it is
   abbrev pub SettlingSettles : Type 0

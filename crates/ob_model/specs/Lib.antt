@@ -10,6 +10,7 @@ pub mod Enumeration
 pub mod Calls
 pub mod Closing
 pub mod Permanence
+pub mod Maps
 pub mod Types
 pub mod Refusals
 pub mod Opens

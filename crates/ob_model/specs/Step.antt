@@ -3,29 +3,30 @@
 --
 -- Sources: ZwCreateDirectoryObject, ZwOpenDirectoryObject, ZwCreateSymbolicLinkObject,
 -- ZwOpenSymbolicLinkObject, ZwQuerySymbolicLinkObject, ZwCreateEvent, ZwOpenEvent, ZwClose, ZwDuplicateObject,
--- ZwMakeTemporaryObject, ZwMakePermanentObject, ObQueryNameString and OBJECT_ATTRIBUTES structure (Windows Driver Kit); Windows Internals, Object Manager and
--- Processes.
+-- ZwMakeTemporaryObject, ZwMakePermanentObject, ObQueryNameString and OBJECT_ATTRIBUTES structure (Windows Driver Kit);
+-- NtSetInformationProcess (ProcessDeviceMap); Windows Internals, Object Manager and Processes.
 -- The order of refusals is this profile.
 use Rattle.std.specs.Prelude.{◌≡◌, ℕ, Bool, true, false, not, [], ◌∷◌, List, Option, None, Some, MatchOption}
 use Rattle.std.specs.Option.{option_and_then}
-use Rattle.ob_base.specs.declared.status.Status.TheVariants.{Success, InvalidHandle, ProcessGone}
+use Rattle.ob_base.specs.declared.status.Status.TheVariants.{Success, InvalidHandle, ObjectTypeMismatch, ProcessGone}
 use Rattle.ob_base.specs.Handle.{key_of}
 use Rattle.ob_model.specs.declared.command.Place.{Place}
 use Rattle.ob_model.specs.declared.command.Place.TheVariants as place
 use Rattle.ob_model.specs.declared.command.Command.{Command}
-use Rattle.ob_model.specs.declared.command.Command.TheVariants.{CreateDirectory, CreateLink, CreateObject, OpenDirectory, OpenLink, OpenObject, Close, QueryLink, QueryName, Duplicate, MakeTemporary, MakePermanent, NewProcess, ExitProcess}
+use Rattle.ob_model.specs.declared.command.Command.TheVariants.{CreateDirectory, CreateLink, CreateObject, OpenDirectory, OpenLink, OpenObject, Close, QueryLink, QueryName, Duplicate, MakeTemporary, MakePermanent, SetDeviceMap, NewProcess, ExitProcess}
 use Rattle.ob_model.specs.declared.reply.Answer.{Answer}
 use Rattle.ob_model.specs.declared.reply.Event.{Event}
 use Rattle.ob_model.specs.declared.reply.Event.TheVariants.{Start}
 use Rattle.ob_model.specs.declared.state.Held.{Held}
 use Rattle.ob_model.specs.declared.state.Wanted.{Wanted}
 use Rattle.ob_model.specs.declared.state.Wanted.TheVariants as wanted
-use Rattle.ob_model.specs.State.{State, is_live, held_of}
+use Rattle.ob_model.specs.State.{State, is_live, is_directory, held_of}
 use Rattle.ob_model.specs.Looks.{Look, LooksUp, most_reparses}
 use Rattle.ob_model.specs.Procedures.{Procedures, without_parse}
 use Rattle.ob_model.specs.Settle.{settle}
 use Rattle.ob_model.specs.Closing.{closed_handle}
 use Rattle.ob_model.specs.Permanence.{turned}
+use Rattle.ob_model.specs.Maps.{with_map}
 use Rattle.ob_model.specs.Refusals.{answers, create_refusals, open_refusals, IsRefused, Unless}
 use Rattle.ob_model.specs.Creates.{Making, MakesDirectory, MakesLink, MakesObject, is_fit, create_mode, Makes, Creates}
 use Rattle.ob_model.specs.Opens.{Opens, type_wanted, open_mode}
@@ -83,6 +84,12 @@ module _ {K T F I : Type 0} (g : Procedures K T F I) where
   abbrev pub Turns : State K T F I → ℕ → ℕ → Bool → Answer → State K T F I → Type 0
   Turns s p handle permanent answer t = WithHandle s p handle answer t (λ h. (answer ≡ answers Success) × (t ≡ settle g (turned s h.object permanent)))
 
+  -- the directory of a handle of the caller becomes its device map; what isn't a directory is of another type
+  abbrev pub SetsMap : State K T F I → ℕ → ℕ → Answer → State K T F I → Type 0
+  SetsMap s p handle answer t =
+      WithHandle s p handle answer t
+      (λ h. Unless ((not (is_directory s h.object), ObjectTypeMismatch) ∷ []) s answer t ((answer ≡ answers Success) × (t ≡ settle g (with_map s p h.object))))
+
   -- a step for a command that a process starts
   abbrev pub Starts : State K T F I → ℕ → Command K → Answer → State K T F I → Type 0
   Starts s p (CreateDirectory where_to attrs) answer t = CreatesAt s p where_to attrs MakesDirectory answer t
@@ -97,6 +104,7 @@ module _ {K T F I : Type 0} (g : Procedures K T F I) where
   Starts s p (Duplicate handle to inherit) answer t = Duplicates g s p handle to inherit answer t
   Starts s p (MakeTemporary handle) answer t = Turns s p handle false answer t
   Starts s p (MakePermanent handle) answer t = Turns s p handle true answer t
+  Starts s p (SetDeviceMap handle) answer t = SetsMap s p handle answer t
   Starts s p (NewProcess inherit) answer t = MakesChild g s p inherit answer t
   Starts s p ExitProcess answer t = Exits g s p answer t
 

@@ -21,9 +21,9 @@ pub enum Place {
 /// those of the Windows Driver Kit's `Zw` routines (`ZwCreateDirectoryObject`,
 /// `ZwCreateSymbolicLinkObject`, `ZwCreateEvent` and its like, `ZwOpenDirectoryObject`,
 /// `ZwOpenSymbolicLinkObject`, `ZwClose`, `ZwQuerySymbolicLinkObject`, `ZwDuplicateObject`,
-/// `ZwMakeTemporaryObject`, `ZwMakePermanentObject`) and of `ObQueryNameString`, without access masks, and
-/// the beginning and the end of a process (Windows Internals, Processes). `K` is the kind of an object of
-/// the set of types.
+/// `ZwMakeTemporaryObject`, `ZwMakePermanentObject`), of `ObQueryNameString` and of
+/// `NtSetInformationProcess` with `ProcessDeviceMap`, without access masks, and the beginning and the end of
+/// a process (Windows Internals, Processes). `K` is the kind of an object of the set of types.
 #[derive(Debug, Drop)]
 pub enum Command<K> {
     /// Makes a directory at a place and opens a handle to it. Uses every flag but OPENLINK.
@@ -122,6 +122,12 @@ pub enum Command<K> {
     /// without a handle. The low two bits of the value are ignored.
     MakePermanent {
         /// The handle.
+        handle: Handle,
+    },
+    /// Sets the device map of the caller: the directory of a handle of the caller becomes the local directory
+    /// of its map. The low two bits of the value are ignored.
+    SetDeviceMap {
+        /// The handle, which must lead to a directory.
         handle: Handle,
     },
     /// Makes a child of the caller.

@@ -45,6 +45,11 @@ ghost use Rattle.ob_model.specs.Laws.{
   MadePermanent,
   NamelessIsLeft,
   OthersAreLeft,
+  MapIsSet,
+  OtherMapsAreLeft,
+  MappedStays,
+  MapIsDirectory,
+  ChildHasItsMap,
   SettlingSettles,
   SettledStays,
   OpeningIsSettled,
@@ -214,6 +219,25 @@ pub fn permanence_is_of_one_object<K, T, F, I>()
     ensures permanent { MadePermanent K T F I }
     ensures nameless { NamelessIsLeft K T F I }
     ensures others { OthersAreLeft K T F I }
+{}
+
+/// A process that sets its device map with success has the directory of its handle as its map. Every other
+/// process is left as it was, and so has the map that it had.
+pub fn map_is_of_one_process<K, T, F, I>()
+    ensures set { MapIsSet K T F I }
+    ensures others { OtherMapsAreLeft K T F I }
+{}
+
+/// The directory of a live process's map stays, whatever lets go of it: after each step from a sound state it
+/// is there, and is a directory.
+pub fn mapped_directory_stays<K, T, F, I>()
+    ensures stays { MappedStays K T F I }
+    ensures directory { MapIsDirectory K T F I }
+{}
+
+/// A child has its parent's map.
+pub fn child_has_the_map_of_its_parent<K, T, F, I>()
+    ensures { ChildHasItsMap K T F I }
 {}
 
 /// Settling leaves a settled state, and leaves a settled state as it is.

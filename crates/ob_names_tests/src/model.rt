@@ -26,6 +26,9 @@ fn laws_hold_at_a_concrete_set() {
     laws::ended_process_is_gone::<u8, u16, u32, u64>();
     laws::child_begins_without_handles::<u8, u16, u32, u64>();
     laws::permanence_is_of_one_object::<u8, u16, u32, u64>();
+    laws::map_is_of_one_process::<u8, u16, u32, u64>();
+    laws::mapped_directory_stays::<u8, u16, u32, u64>();
+    laws::child_has_the_map_of_its_parent::<u8, u16, u32, u64>();
     laws::settling_settles::<u8, u16, u32, u64>();
     laws::step_stays_settled::<u8, u16, u32, u64>();
     laws::what_comes_stays::<u8, u16, u32, u64>();
