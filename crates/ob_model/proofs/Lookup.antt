@@ -39,9 +39,9 @@ Ends-unique (Follow target rest) Fits a b same h k = same target rest h k
 module _ {K T F I : Type 0} where
   looked_again-Again : (s : State K T F I) (p : ℕ) (mode : Mode) (text : List ℕ) (goes_on : Origin × List ℕ → Look) (Fits : Look → Origin → List ℕ → Type 0)
       → IsSound s → ((at : Origin × List ℕ) → IsDirectory s (directory_at s at.0) → IsRest at.1 → Fits (goes_on at) at.0 at.1)
-      → (look : Look) → look ≡ looked_again (nat_lt longest_name (length text)) (origin_of s p mode.create mode.views text) goes_on
+      → (look : Look) → look ≡ looked_again (nat_lt longest_name (length text)) (origin_of s p mode.create text) goes_on
       → Again s p mode text (Fits look) (λ status. look ≡ Refused status)
-  looked_again-Again s p mode text goes_on Fits sound fits look e = go (nat_lt longest_name (length text)) (origin_of s p mode.create mode.views text) (origin_is_directory s p mode.create mode.views text sound) e
+  looked_again-Again s p mode text goes_on Fits sound fits look e = go (nat_lt longest_name (length text)) (origin_of s p mode.create text) (origin_is_directory s p mode.create text sound) e
     where
       go : (t : Bool) (o : Option (Origin × List ℕ)) → IsSoundOrigin s o → look ≡ looked_again t o goes_on
           → MatchBool t (look ≡ Refused NameTooLong) (MatchOption o (look ≡ Refused ObjectPathSyntaxBad) (λ at. Fits look at.0 at.1))
@@ -52,7 +52,7 @@ module _ {K T F I : Type 0} where
   Again-unique : (s : State K T F I) (p : ℕ) (mode : Mode) (text : List ℕ) (Fits : Look → Origin → List ℕ → Type 0) (a b : Look)
       → ((place : Origin) (rest : List ℕ) → Fits a place rest → Fits b place rest → a ≡ b)
       → Again s p mode text (Fits a) (λ status. a ≡ Refused status) → Again s p mode text (Fits b) (λ status. b ≡ Refused status) → a ≡ b
-  Again-unique s p mode text Fits a b same h k = go (nat_lt longest_name (length text)) (origin_of s p mode.create mode.views text) h k
+  Again-unique s p mode text Fits a b same h k = go (nat_lt longest_name (length text)) (origin_of s p mode.create text) h k
     where
       go : (t : Bool) (o : Option (Origin × List ℕ))
           → MatchBool t (a ≡ Refused NameTooLong) (MatchOption o (a ≡ Refused ObjectPathSyntaxBad) (λ at. Fits a at.0 at.1))
@@ -77,7 +77,7 @@ module _ {K T F I : Type 0} (g : Procedures K T F I) where
   looked_up s p mode zero place text = ended (next_of s mode zero (walked s place text mode.fold)) (λ target rest. Refused ReparseLimit)
   looked_up s p mode (suc n) place text =
       ended (next_of s mode (suc n) (walked s place text mode.fold))
-      (λ target rest. looked_again (nat_lt longest_name (length (substituted target rest))) (origin_of s p mode.create mode.views (substituted target rest)) (λ at. looked_up s p mode n at.0 at.1))
+      (λ target rest. looked_again (nat_lt longest_name (length (substituted target rest))) (origin_of s p mode.create (substituted target rest)) (λ at. looked_up s p mode n at.0 at.1))
 
   -- at most one thing is to be done at a stop
   pub next_unique : (s : State K T F I) (mode : Mode) (n : ℕ) (stop : Stop) (a b : Next) → IsNext g s mode n stop a → IsNext g s mode n stop b → a ≡ b
@@ -120,7 +120,7 @@ module _ {K T F I : Type 0} (g : Procedures K T F I) where
         stops,
         next_is s mode (suc n) place text stop sound dir stops,
         ended-Ends (next_of s mode (suc n) stop)
-            (λ target rest. looked_again (nat_lt longest_name (length (substituted target rest))) (origin_of s p mode.create mode.views (substituted target rest)) (λ at. looked_up s p mode n at.0 at.1))
+            (λ target rest. looked_again (nat_lt longest_name (length (substituted target rest))) (origin_of s p mode.create (substituted target rest)) (λ at. looked_up s p mode n at.0 at.1))
             (λ look target rest. Again s p mode (substituted target rest) (λ place' text'. Looks g s p mode n place' text' look) (λ status. look ≡ Refused status))
             (λ target rest. looked_again-Again s p mode (substituted target rest) (λ at. looked_up s p mode n at.0 at.1) (λ look place' text'. Looks g s p mode n place' text' look) sound
             (λ at at_directory at_rest. looked_up-Looks s p mode n at.0 at.1 sound at_directory at_rest) _ refl),
@@ -164,7 +164,7 @@ module _ {K T F I : Type 0} (g : Procedures K T F I) where
 
   -- what a name ends with, absolute or relative to the object of a root handle
   abbrev pub looked_up_name : State K T F I → ℕ → Mode → ℕ → Option ℕ → List ℕ → Look
-  looked_up_name s p mode n None name = looked_at s p mode n (origin_of s p mode.create mode.views name)
+  looked_up_name s p mode n None name = looked_at s p mode n (origin_of s p mode.create name)
   looked_up_name s p mode n (Some root) name = if begins_with_separator name then Refused ObjectPathSyntaxBad else looked_relative s p mode n root (body_of s root) name
 
   -- the object of a root handle, where there is one, is there
@@ -186,7 +186,7 @@ module _ {K T F I : Type 0} (g : Procedures K T F I) where
   -- in a sound state a name ends as computed
   pub looked_up_name-LooksUp : (s : State K T F I) (p : ℕ) (mode : Mode) (n : ℕ) (root : Option ℕ) (name : List ℕ)
       → IsSound s → IsSoundRoot s root → LooksUp g s p mode n root name (looked_up_name s p mode n root name)
-  looked_up_name-LooksUp s p mode n None name sound stands = go (origin_of s p mode.create mode.views name) (origin_is_directory s p mode.create mode.views name sound)
+  looked_up_name-LooksUp s p mode n None name sound stands = go (origin_of s p mode.create name) (origin_is_directory s p mode.create name sound)
     where
       go : (o : Option (Origin × List ℕ)) → IsSoundOrigin s o → MatchOption o (looked_at s p mode n o ≡ Refused ObjectPathSyntaxBad) (λ at. Looks g s p mode n at.0 at.1 (looked_at s p mode n o))
       go None fine = refl
@@ -214,7 +214,7 @@ module _ {K T F I : Type 0} (g : Procedures K T F I) where
   -- a name has at most one end
   pub looks_up_unique : (s : State K T F I) (p : ℕ) (mode : Mode) (n : ℕ) (root : Option ℕ) (name : List ℕ) (a b : Look)
       → LooksUp g s p mode n root name a → LooksUp g s p mode n root name b → a ≡ b
-  looks_up_unique s p mode n None name a b h k = go (origin_of s p mode.create mode.views name) h k
+  looks_up_unique s p mode n None name a b h k = go (origin_of s p mode.create name) h k
     where
       go : (o : Option (Origin × List ℕ)) → MatchOption o (a ≡ Refused ObjectPathSyntaxBad) (λ at. Looks g s p mode n at.0 at.1 a)
           → MatchOption o (b ≡ Refused ObjectPathSyntaxBad) (λ at. Looks g s p mode n at.0 at.1 b) → a ≡ b

@@ -85,6 +85,6 @@ module _ {K T F I : Type 0} (g : Procedures K T F I) (s : State K T F I) (p : �
   -- a link is to be followed: by what its target and the rest make
   pub looked_up-follow : (n : ℕ) (place : Origin) (text target rest : List ℕ) → next_of g s mode (suc n) (walked s place text mode.fold) ≡ Follow target rest
       → looked_up g s p mode (suc n) place text
-      ≡ looked_again (nat_lt longest_name (length (substituted target rest))) (origin_of s p mode.create mode.views (substituted target rest)) (λ at. looked_up g s p mode n at.0 at.1)
+      ≡ looked_again (nat_lt longest_name (length (substituted target rest))) (origin_of s p mode.create (substituted target rest)) (λ at. looked_up g s p mode n at.0 at.1)
   unfolding looked_up
   looked_up-follow n place text target rest e = rw e refl

@@ -113,16 +113,16 @@ module _ {K T F I : Type 0} where
   IsSoundOrigin s (Some at) = IsDirectory s (directory_at s at.0) × IsRest at.1
 
   -- so it is of each absolute text
-  pub origin_is_directory : (s : State K T F I) (p : ℕ) (create views : Bool) (text : List ℕ)
-      → IsSound s → IsSoundOrigin s (origin_of s p create views text)
-  origin_is_directory s p create views text sound =
-      go (bytes_eq text (codes "\\")) (views && bytes_eq text (codes "\\??")) (views && starts_with nat_eq text (codes "\\??\\")) refl (begins_with_separator text) refl
+  pub origin_is_directory : (s : State K T F I) (p : ℕ) (create : Bool) (text : List ℕ)
+      → IsSound s → IsSoundOrigin s (origin_of s p create text)
+  origin_is_directory s p create text sound =
+      go (bytes_eq text (codes "\\")) (bytes_eq text (codes "\\??")) (starts_with nat_eq text (codes "\\??\\")) refl (begins_with_separator text) refl
     where
       at_view : (t : Bool) → IsDirectory s (directory_at s (if t then InDirectory (local s p) else ViewOf p))
       at_view true = local_is_directory s p sound
       at_view false = local_is_directory s p sound
 
-      go : (is_root is_view below_view : Bool) → (views && starts_with nat_eq text (codes "\\??\\")) ≡ below_view → (is_absolute : Bool) → begins_with_separator text ≡ is_absolute
+      go : (is_root is_view below_view : Bool) → starts_with nat_eq text (codes "\\??\\") ≡ below_view → (is_absolute : Bool) → begins_with_separator text ≡ is_absolute
           → IsSoundOrigin s
           (if is_root then Some (InDirectory root_id, [])
           else if is_view then Some (ViewOf p, [])
@@ -131,6 +131,6 @@ module _ {K T F I : Type 0} where
           else None)
       go true is_view below_view e is_absolute f = (sound.root, tt)
       go false true below_view e is_absolute f = (local_is_directory s p sound, tt)
-      go false false true e is_absolute f = (at_view (create && is_one_component (drop 3 text)), IsRest-behind_view text (and_parts views (starts_with nat_eq text (codes "\\??\\")) e).1)
+      go false false true e is_absolute f = (at_view (create && is_one_component (drop 3 text)), IsRest-behind_view text e)
       go false false false e true f = (sound.root, IsRest-from_begins text f)
       go false false false e false f = tt

@@ -152,7 +152,7 @@ module _ {K T F I : Type 0} (g : Procedures K T F I) where
   creates_in_sound s t p (place.At root name) attrs making answer sound live h =
       with_root_sound s t p root answer
       (λ at. (look : Look) × LooksUp (without_parse g) s p (create_mode attrs) most_reparses at name look × Creates g s p attrs making look answer t) sound
-      (λ at does. creates_sound s t p attrs making does.0 answer sound live (usable_end g s p (create_mode attrs) refl most_reparses at name does.0 does.1) does.2) h
+      (λ at does. creates_sound s t p attrs making does.0 answer sound live (usable_end g s p (create_mode attrs) most_reparses at name does.0 does.1) does.2) h
   creates_in_sound s t p place.Unnamed attrs making answer sound live h = makes_sound s t p attrs making None answer sound live tt h
 
   creates_at_sound : (s t : State K T F I) (p : ℕ) (where_to : Place) (attrs : ℕ) (making : Making K) (answer : Answer)

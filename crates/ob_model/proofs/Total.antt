@@ -239,7 +239,7 @@ module _ {K T F I : Type 0} (g : Procedures K T F I) where
       looked : (at : Option ℕ) → MatchOption at (Unit {0}) (Stands s) → Has (Does at)
       looked at stands =
           let look = looks_up_total (without_parse g) s p (create_mode attrs) most_reparses at name sound stands in
-          let done = creates_total s p attrs making look.0 (usable_end g s p (create_mode attrs) refl most_reparses at name look.0 look.1) in
+          let done = creates_total s p attrs making look.0 (usable_end g s p (create_mode attrs) most_reparses at name look.0 look.1) in
           (done.0, done.1, (look.0, look.1, done.2))
   creates_in_total s p place.Unnamed attrs making sound = makes_total s p attrs making None
 
@@ -257,7 +257,7 @@ module _ {K T F I : Type 0} (g : Procedures K T F I) where
       looked : (at : Option ℕ) → MatchOption at (Unit {0}) (Stands s) → Has (Does at)
       looked at stands =
           let look = looks_up_total (without_parse g) s p (open_mode wanted attrs) most_reparses at name sound stands in
-          let done = opens_total s p attrs wanted look.0 (usable_end g s p (open_mode wanted attrs) refl most_reparses at name look.0 look.1) in
+          let done = opens_total s p attrs wanted look.0 (usable_end g s p (open_mode wanted attrs) most_reparses at name look.0 look.1) in
           (done.0, done.1, (look.0, look.1, done.2))
 
   turns_total : (s : State K T F I) (p handle : ℕ) (permanent : Bool) → IsSound s → Has (Turns g s p handle permanent)

@@ -48,7 +48,7 @@ is_fit (MakesObject kind args) = true
 
 -- how the name of a create is looked up: a link that the last component names is not followed
 abbrev pub create_mode : ℕ → Mode
-create_mode attrs = record { create = true; fold = has_flag case_insensitive_flag attrs; follow = false; views = false }
+create_mode attrs = record { create = true; fold = has_flag case_insensitive_flag attrs; follow = false }
 
 -- where what a create makes is to stand: at a name in a directory, or nowhere
 abbrev pub Spot : Type 0

@@ -79,16 +79,16 @@ row_in directory stamp name o = record { stamp = stamp; directory = directory; n
 -- a name is opened as it is written or with case folded, its last component is opened as a link, or
 -- an object of that name is created
 abbrev pub opens : Mode
-opens = record { create = false; fold = false; follow = true; views = true }
+opens = record { create = false; fold = false; follow = true }
 
 abbrev pub opens_folded : Mode
-opens_folded = record { create = false; fold = true; follow = true; views = true }
+opens_folded = record { create = false; fold = true; follow = true }
 
 abbrev pub opens_link : Mode
-opens_link = record { create = false; fold = false; follow = false; views = true }
+opens_link = record { create = false; fold = false; follow = false }
 
 abbrev pub creates : Mode
-creates = record { create = true; fold = false; follow = true; views = true }
+creates = record { create = true; fold = false; follow = true }
 
 -- process 1 looks an absolute name up with this end
 abbrev pub EndsAt : Numbers → Mode → List ℕ → Look → Type 0
@@ -257,17 +257,14 @@ LocalComesFirst =
 abbrev pub CreateIsLocal : Type 0
 CreateIsLocal =
     EndsAt with_local creates (codes "\\??\\D:") (Vacant 7 (codes "D:")) × EndsAt with_local creates (codes "\\??\\C:") (At 8)
-    × (origin_of with_local 1 true true (codes "\\??\\D:") ≡ Some (InDirectory 7, codes "\\D:"))
-    × (origin_of with_local 1 true true (codes "\\??\\D:\\x") ≡ Some (ViewOf 1, codes "\\D:\\x"))
+    × (origin_of with_local 1 true (codes "\\??\\D:") ≡ Some (InDirectory 7, codes "\\D:"))
+    × (origin_of with_local 1 true (codes "\\??\\D:\\x") ≡ Some (ViewOf 1, codes "\\D:\\x"))
 
--- without views `\??` is a name like another, of which the root directory has no entry
-abbrev pub NamesWithoutViews : Type 0
-NamesWithoutViews =
-    EndsAt with_local (record opens { views = false }) (codes "\\??\\C:") (Refused ObjectPathNotFound)
-    × EndsAt with_local (record opens { views = false }) (codes "\\??") (Refused ObjectNameNotFound)
-    × EndsAt with_local (record opens { views = false }) (codes "\\DosDevices\\C:") (Refused ObjectPathNotFound)
-    × EndsAt with_local (record creates { views = false }) (codes "\\??") (Refused ObjectNameInvalid)
-    × EndsAt with_local (record opens { views = false }) (codes "\\GLOBAL??\\C:") (At 9)
+-- `\??` itself is the local directory, and `\GLOBAL??` for a process that has none
+abbrev pub ViewIsLocal : Type 0
+ViewIsLocal =
+    EndsAt with_local opens (codes "\\??") (At 7) × LooksUp numbers with_local 2 opens most_reparses None (codes "\\??") (At global_id)
+    × EndsAt with_local opens (codes "\\DosDevices") (At 7) × EndsAt with_local creates (codes "\\??") (At 7)
 
 -- ---- what stays
 

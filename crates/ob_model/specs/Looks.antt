@@ -15,14 +15,12 @@ use Rattle.ob_model.specs.State.{State, root_id, body_of}
 use Rattle.ob_model.specs.Paths.{Origin, IsReach, IsMiss, origin_of, relative}
 use Rattle.ob_model.specs.Procedures.{Procedures}
 
--- how a name is looked up: for a create or an open; with case folded or not; following a link that
--- the last component names or not; and with `\??` as the process's view of the DOS device names, or,
--- in a build whose device maps have not come yet, as a name like another
+-- how a name is looked up: for a create or an open; with case folded or not; and following a link
+-- that the last component names or not
 pub record Mode : Type 0 where
   pub create : Bool
   pub fold : Bool
   pub follow : Bool
-  pub views : Bool
 
 -- what a lookup ends with: an object, a vacant place (its directory and its component), a parsing
 -- object with the rest for its parse and the reparses left, or a refusal
@@ -95,7 +93,7 @@ module _ {K T F I : Type 0} where
   abbrev pub Again : State K T F I → ℕ → Mode → List ℕ → (Origin → List ℕ → Type 0) → (Status → Type 0) → Type 0
   Again s p mode text goes_on is_refused =
       MatchBool (nat_lt longest_name (length text)) (is_refused NameTooLong)
-      (MatchOption (origin_of s p mode.create mode.views text) (is_refused ObjectPathSyntaxBad) (λ at. goes_on at.0 at.1))
+      (MatchOption (origin_of s p mode.create text) (is_refused ObjectPathSyntaxBad) (λ at. goes_on at.0 at.1))
 
 -- the lookup ends so where this is to be done next, given how a followed link ends it
 abbrev pub Ends : Next → (List ℕ → List ℕ → Type 0) → Look → Type 0
@@ -126,6 +124,6 @@ module _ {K T F I : Type 0} (g : Procedures K T F I) where
   -- else from the object of the root handle; a relative name doesn't begin with a separator
   abbrev pub LooksUp : State K T F I → ℕ → Mode → ℕ → (root : Option ℕ) → List ℕ → Look → Type 0
   LooksUp s p mode n None name look =
-      MatchOption (origin_of s p mode.create mode.views name) (look ≡ Refused ObjectPathSyntaxBad) (λ at. Looks s p mode n at.0 at.1 look)
+      MatchOption (origin_of s p mode.create name) (look ≡ Refused ObjectPathSyntaxBad) (λ at. Looks s p mode n at.0 at.1 look)
   LooksUp s p mode n (Some root) name look =
       MatchBool (begins_with_separator name) (look ≡ Refused ObjectPathSyntaxBad) (MatchOption (body_of s root) ⊥ (λ body. LooksFrom s p mode n root body name look))

@@ -42,7 +42,6 @@ open_mode wanted attrs = record {
   create = false;
   fold = has_flag case_insensitive_flag attrs;
   follow = not (is_link_wanted wanted || has_flag open_link_flag attrs);
-  views = false;
 }
 
 module _ {K T F I : Type 0} (g : Procedures K T F I) where

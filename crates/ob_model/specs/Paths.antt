@@ -90,14 +90,13 @@ module _ {K T F I : Type 0} where
       × (is_directory s d ≡ true) × (c ≡ next_component rest)
       × ((c ≡ []) ⊎ (entry s (place_behind place cs d) c fold ≡ None)) × (last ≡ bytes_eq (after_component rest) [])
 
-  -- where an absolute text begins, and what is walked from there. With views `\??` is the process's
-  -- view, but a create whose last component stands right behind it looks in the local directory
-  -- alone; without views `??` is a component as any other
-  abbrev pub origin_of : State K T F I → (p : ℕ) (create views : Bool) (text : List ℕ) → Option (Origin × List ℕ)
-  origin_of s p create views text =
+  -- where an absolute text begins, and what is walked from there. `\??` is the process's view, but a
+  -- create whose last component stands right behind it looks in the local directory alone
+  abbrev pub origin_of : State K T F I → (p : ℕ) (create : Bool) (text : List ℕ) → Option (Origin × List ℕ)
+  origin_of s p create text =
       if bytes_eq text (codes "\\") then Some (InDirectory root_id, [])
-      else if views && bytes_eq text (codes "\\??") then Some (ViewOf p, [])
-      else if views && starts_with nat_eq text (codes "\\??\\") then
+      else if bytes_eq text (codes "\\??") then Some (ViewOf p, [])
+      else if starts_with nat_eq text (codes "\\??\\") then
       Some (if create && is_one_component (drop 3 text) then InDirectory (local s p) else ViewOf p, drop 3 text)
       else if begins_with_separator text then Some (InDirectory root_id, text)
       else None

@@ -20,7 +20,7 @@ ghost use Rattle.ob_model.specs.Examples.{
   ChainOfLinks,
   LocalComesFirst,
   CreateIsLocal,
-  NamesWithoutViews,
+  ViewIsLocal,
   HoldsWithoutName,
   TemporaryGoes,
   PagesOfADirectory,
@@ -119,10 +119,9 @@ pub fn create_is_local()
     ensures { CreateIsLocal }
 {}
 
-/// Where `\??` is no view, it is a name that the root directory has no entry of, and `\DosDevices`
-/// leads to it.
-pub fn names_without_views()
-    ensures { NamesWithoutViews }
+/// `\??` itself is the local directory, and `\GLOBAL??` for a process that has none.
+pub fn view_is_local()
+    ensures { ViewIsLocal }
 {}
 
 /// A temporary directory that holds a held object's name loses its own name in settling, and stays.

@@ -59,7 +59,7 @@ fn laws_of_names_and_examples_are_called() {
     examples::chain_of_links();
     examples::local_comes_first();
     examples::create_is_local();
-    examples::names_without_views();
+    examples::view_is_local();
     examples::holds_without_name();
     examples::temporary_goes();
     examples::pages_of_a_directory();
