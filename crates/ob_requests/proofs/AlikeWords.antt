@@ -30,7 +30,7 @@ use Rattle.ob_model.proofs.AlikeSteps.{steps_stay, steps_lead, step_holds}
 use Rattle.ob_plain.specs.declared.plain.PlainKind.{PlainKind}
 use Rattle.ob_lines.specs.declared.handle.HandleForm.{HandleForm}
 use Rattle.ob_lines.specs.declared.request.Request.{Request}
-use Rattle.ob_lines.specs.declared.request.Request.TheVariants.{CreateDirectory, CreateLink, CreateObject, OpenDirectory, OpenLink, OpenObject, Close, QueryLink, QueryName, Duplicate, MakeTemporary, MakePermanent, NewProcess, ExitProcess}
+use Rattle.ob_lines.specs.declared.request.Request.TheVariants.{CreateDirectory, CreateLink, CreateObject, OpenDirectory, OpenLink, OpenObject, Close, QueryLink, QueryName, Duplicate, MakeTemporary, MakePermanent, SetDeviceMap, NewProcess, ExitProcess}
 use Rattle.ob_lines.specs.Parts.{offset_value}
 use Rattle.ob_requests.specs.Words.{Words, with_number, with_process, with_words, with_word, without_words, is_among, handed_on}
 use Rattle.ob_requests.specs.Commands.{handle_meant, is_success, given_handle, with_child, IsCommand, words_after}
@@ -369,6 +369,7 @@ module _ {T F I : Type 0} (g : Procedures PlainKind T F I) (s t u v : State Plai
         (sets_for (words.processes to) _ f (ap (receiver p) f) (ap (receiver p) e ∙ sym (before.processes to)) (λ q value closed. closed) word)
     done (MakeTemporary handle) f e h k = nothing _ f (λ q value closed. closed)
     done (MakePermanent handle) f e h k = nothing _ f (λ q value closed. closed)
+    done (SetDeviceMap handle) f e h k = nothing _ f (λ q value closed. closed)
     done (NewProcess inherit child) f e h k =
         begins s t u v p (receiver p c) a b (IsClosedBy p c) on hold same words others before
         (idle c (command.NewProcess inherit) f (λ q value closed. closed)) child inherit a.given b.given same on.inherited hold.told hold_too.told

@@ -1,15 +1,15 @@
 -- One table of several is written.
-use Rattle.std.proofs.Common.{◌≡◌, ℕ, ◌==◌, Bool, true, false, cond, List, [], ◌∷◌, Option, Some, None, sym, ap, ◌∙◌, refl, eqb-true, arith}
+use Rattle.std.proofs.Common.{◌≡◌, ℕ, ◌==◌, Bool, true, false, cond, List, [], ◌∷◌, Option, Some, sym, ap, ◌∙◌, refl, eqb-true, arith}
 use Rattle.std.specs.BTreeMap.{is_at}
 use Rattle.std.specs.Map.{lookup, set_value}
-use Rattle.std.specs.Option.{is_some, option_map_or}
+use Rattle.std.specs.Option.{option_map_or}
 use Rattle.std.specs.Ordering.{nat_cmp}
 use Rattle.std.specs.declared.vec.Vec.{Vec}
 use Rattle.std.specs.declared.alloc.Global.{Global}
 use Rattle.std.proofs.lemmas.Bool.{eq-eqb}
 use Rattle.indexmap.specs.IndexMap.{IndexMap}
 use Rattle.ob_model.proofs.Ids.{is_at-id}
-use Rattle.ob_requests.specs.Words.{Words, with_number, with_words, with_word}
+use Rattle.ob_requests.specs.Words.{Words, with_number, with_word}
 use Rattle.ob_requests.specs.Tables.{number_in, numbers_in, table_at}
 
 -- the words of these numbers

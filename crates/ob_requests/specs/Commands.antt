@@ -18,7 +18,7 @@ use Rattle.ob_lines.specs.declared.request.NameForm.TheVariants.{Absolute, Relat
 use Rattle.ob_lines.specs.declared.request.PlaceForm.{PlaceForm}
 use Rattle.ob_lines.specs.declared.request.PlaceForm.TheVariants.{Named, Unnamed}
 use Rattle.ob_lines.specs.declared.request.Request.{Request}
-use Rattle.ob_lines.specs.declared.request.Request.TheVariants.{CreateDirectory, CreateLink, CreateObject, OpenDirectory, OpenLink, OpenObject, Close, QueryLink, QueryName, Duplicate, MakeTemporary, MakePermanent, NewProcess, ExitProcess}
+use Rattle.ob_lines.specs.declared.request.Request.TheVariants.{CreateDirectory, CreateLink, CreateObject, OpenDirectory, OpenLink, OpenObject, Close, QueryLink, QueryName, Duplicate, MakeTemporary, MakePermanent, SetDeviceMap, NewProcess, ExitProcess}
 use Rattle.ob_lines.specs.Text.{Spells}
 use Rattle.ob_lines.specs.Parts.{offset_value, text_of}
 use Rattle.ob_lines.specs.declared.change.Change.{Change}
@@ -87,6 +87,7 @@ IsCommand (Duplicate handle to inherit word) words process c =
     c ≡ command.Duplicate (handle_meant handle (words.values process)) (words.processes to) inherit
 IsCommand (MakeTemporary handle) words process c = c ≡ command.MakeTemporary (handle_meant handle (words.values process))
 IsCommand (MakePermanent handle) words process c = c ≡ command.MakePermanent (handle_meant handle (words.values process))
+IsCommand (SetDeviceMap handle) words process c = c ≡ command.SetDeviceMap (handle_meant handle (words.values process))
 IsCommand (NewProcess inherit child) words process c = c ≡ command.NewProcess inherit
 IsCommand ExitProcess words process c = c ≡ command.ExitProcess
 

@@ -89,6 +89,10 @@ pub fn command_of(asker: &Asker<'_>, request: Request<&[u8]>) -> Asked
             let handle = handle_meant(asker, handle);
             Ok(Command::MakePermanent { handle })
         }
+        Request::SetDeviceMap { handle } => {
+            let handle = handle_meant(asker, handle);
+            Ok(Command::SetDeviceMap { handle })
+        }
         Request::NewProcess { inherit, .. } => Ok(Command::NewProcess { inherit }),
         Request::ExitProcess => Ok(Command::ExitProcess),
     }

@@ -66,6 +66,7 @@ begins (request.QueryName handle) word inherit e = cc
 begins (request.Duplicate handle to own w) word inherit e = cc
 begins (request.MakeTemporary handle) word inherit e = cc
 begins (request.MakePermanent handle) word inherit e = cc
+begins (request.SetDeviceMap handle) word inherit e = cc
 begins (request.NewProcess own child) word inherit e = cc
 begins request.ExitProcess word inherit e = cc
 

@@ -20,7 +20,7 @@ use Rattle.ob_model.specs.declared.reply.Reply.{Reply}
 use Rattle.ob_model.specs.declared.state.Held.{Held}
 use Rattle.ob_model.specs.declared.state.Wanted.{Wanted}
 use Rattle.ob_model.specs.declared.state.Wanted.TheVariants as wanted
-use Rattle.ob_model.specs.State.{State, is_live, held_of, body_of}
+use Rattle.ob_model.specs.State.{State, is_live, is_directory, held_of, body_of}
 use Rattle.ob_model.specs.Names.{longest_name}
 use Rattle.ob_model.specs.Looks.{Look, At, Vacant, Parse, Refused, LooksUp, most_reparses}
 use Rattle.ob_model.specs.Procedures.{Procedures, Reason, Opened, Created, Duplicated, without_parse}
@@ -33,6 +33,7 @@ use Rattle.ob_model.specs.Opens.{GivesHandle as GivesHandleAt, OpensAt, Opens, a
 use Rattle.ob_model.specs.Creates.{Making, MakesDirectory, MakesLink, MakesObject, is_fit, create_mode, type_made, Spot, room_refusals, make_refusal, body_made, created, dropped, Makes, Creates}
 use Rattle.ob_model.specs.Processes.{values_in, is_crowded, begun, ended}
 use Rattle.ob_model.specs.Permanence.{turned}
+use Rattle.ob_model.specs.Maps.{with_map}
 use Rattle.ob_model.specs.Naming.{TellsName, TellsTarget, target_of, path_text}
 use Rattle.ob_model.specs.Step.{WithHandle, WithRoot, CreatesIn, CreatesAt, OpensName, Step}
 use Rattle.ob_lines.specs.declared.handle.Offset.{Offset}
@@ -209,6 +210,11 @@ module _ {K T F I : Type 0} (g : Procedures K T F I) where
   step_gives s t (Start p (command.MakePermanent handle)) answer h =
       with_handle_gives s t p handle answer (λ x. (answer ≡ answers Success) × (t ≡ settle g (turned s x.object true)))
       (λ x does. subst GivesHandle (sym does.0) (omega arith)) h
+  step_gives s t (Start p (command.SetDeviceMap handle)) answer h =
+      with_handle_gives s t p handle answer
+      (λ x. Unless ((not (is_directory s x.object), ObjectTypeMismatch) ∷ []) s answer t ((answer ≡ answers Success) × (t ≡ settle g (with_map s p x.object))))
+      (λ x does. unless_gives ((not (is_directory s x.object), ObjectTypeMismatch) ∷ []) s t answer ((answer ≡ answers Success) × (t ≡ settle g (with_map s p x.object)))
+      (λ done. subst GivesHandle (sym done.0) (omega arith)) does) h
   step_gives s t (Start p (command.NewProcess inherit)) answer h =
       unless_gives ((not (is_live s p), ProcessGone) ∷ (is_crowded s p inherit, InsufficientResources) ∷ []) s t answer
       (let u = begun g s p inherit in (answer ≡ gives Success (Process s.next_process (values_in u s.next_process))) × (t ≡ settle g u))

@@ -18,7 +18,7 @@ use Rattle.ob_lines.specs.declared.form.Form.TheVariants.{Nothing, Stat, Asks}
 use Rattle.ob_lines.specs.declared.request.PlaceForm.{PlaceForm}
 use Rattle.ob_lines.specs.declared.request.PlaceForm.TheVariants.{Named, Unnamed}
 use Rattle.ob_lines.specs.declared.request.Request.{Request}
-use Rattle.ob_lines.specs.declared.request.Request.TheVariants.{CreateDirectory, CreateLink, CreateObject, OpenDirectory, OpenLink, OpenObject, Close, QueryLink, QueryName, Duplicate, MakeTemporary, MakePermanent, NewProcess, ExitProcess}
+use Rattle.ob_lines.specs.declared.request.Request.TheVariants.{CreateDirectory, CreateLink, CreateObject, OpenDirectory, OpenLink, OpenObject, Close, QueryLink, QueryName, Duplicate, MakeTemporary, MakePermanent, SetDeviceMap, NewProcess, ExitProcess}
 use Rattle.ob_lines.specs.Grammar.{HasPlaceText, HasTexts}
 use Rattle.ob_lines.specs.Script.{Forms}
 use Rattle.ob_lines.proofs.Scripted.{HaveTexts}
@@ -55,6 +55,7 @@ command_total (Duplicate handle to inherit word) words process text =
     (command.Duplicate (handle_meant handle (words.values process)) (words.processes to) inherit, refl)
 command_total (MakeTemporary handle) words process text = (command.MakeTemporary (handle_meant handle (words.values process)), refl)
 command_total (MakePermanent handle) words process text = (command.MakePermanent (handle_meant handle (words.values process)), refl)
+command_total (SetDeviceMap handle) words process text = (command.SetDeviceMap (handle_meant handle (words.values process)), refl)
 command_total (NewProcess inherit child) words process text = (command.NewProcess inherit, refl)
 command_total ExitProcess words process text = (command.ExitProcess, refl)
 

@@ -1,5 +1,5 @@
 -- Each slot's number is kept in turn.
-use Rattle.std.proofs.Common.{◌≡◌, ◌∙◌, refl, sym, ap, subst, arith, ◌+◌, length}
+use Rattle.std.proofs.Common.{◌∙◌, sym, ap, subst, arith, ◌+◌, length}
 use Rattle.ob_requests.proofs.Tables.{IsSwept, same_length, swept_stays, swept_goes, swept_all}
 use Rattle.ob_requests.proofs.table.keep.Goals.{then-not-test, else-not-test}
 use Rattle.ob_requests.proofs.table.keep.Goals as goal
