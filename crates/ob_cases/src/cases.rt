@@ -54,9 +54,9 @@ const CASES: [Case; 42] = [
         status: 0,
     },
     Case {
-        shows: b"the view of device names has no meaning of its own yet, by its name and behind the link to it",
-        script: b"p1 opendir \"\\??\" - =x\np1 dir \"\\??\" - =x\np1 opendir \"\\??\\C:\" - =x\np1 opendir \"\\DosDevices\" - =x\np1 opendir \"\\DosDevices\\C:\" - =x\np1 dir \"\\DosDevices\\C:\" - =x\np1 openlink \"\\DosDevices\" - =x\np1 target x\n",
-        prints: b"1: OBJECT_NAME_NOT_FOUND\n2: OBJECT_NAME_INVALID\n3: OBJECT_PATH_NOT_FOUND\n4: OBJECT_NAME_NOT_FOUND\n5: OBJECT_PATH_NOT_FOUND\n6: OBJECT_PATH_NOT_FOUND\n7: SUCCESS\n8: SUCCESS \"\\??\"\n",
+        shows: b"without a device map the view is the directory of global device names, by its name and behind the link to it",
+        script: b"p1 opendir \"\\??\" - =x\np1 name x\np1 opendir \"\\??\\C:\" - =x\np1 opendir \"\\DosDevices\" - =x\np1 name x\np1 opendir \"\\DosDevices\\C:\" - =x\np1 dir \"\\DosDevices\\C:\" - =c\np1 name c\np1 openlink \"\\DosDevices\" - =x\np1 target x\n",
+        prints: b"1: SUCCESS\n2: SUCCESS \"\\GLOBAL??\"\n3: OBJECT_NAME_NOT_FOUND\n4: SUCCESS\n5: SUCCESS \"\\GLOBAL??\"\n6: OBJECT_NAME_NOT_FOUND\n7: SUCCESS\n8: SUCCESS \"\\GLOBAL??\\C:\"\n9: SUCCESS\n10: SUCCESS \"\\??\"\n",
         status: 0,
     },
     Case {
@@ -216,9 +216,9 @@ const CASES: [Case; 42] = [
         status: 0,
     },
     Case {
-        shows: b"the root has no entry of two question marks, by whichever name",
+        shows: b"the root gets no entry of two question marks: by that name the view is there already",
         script: b"p1 dir \"\\??\" - =c\np1 opendir \"\\\" - =r\np1 dir r:\"??\" - =c\np1 link r:\"??\" - \"\\A\" =c\np1 dir \"\\A\" - =a\np1 dir a:\"??\" - =c\np1 name c\n",
-        prints: b"1: OBJECT_NAME_INVALID\n2: SUCCESS\n3: OBJECT_NAME_INVALID\n4: OBJECT_NAME_INVALID\n5: SUCCESS\n6: SUCCESS\n7: SUCCESS \"\\A\\??\"\n",
+        prints: b"1: OBJECT_NAME_COLLISION\n2: SUCCESS\n3: OBJECT_NAME_INVALID\n4: OBJECT_NAME_INVALID\n5: SUCCESS\n6: SUCCESS\n7: SUCCESS \"\\A\\??\"\n",
         status: 0,
     },
     Case {

@@ -5,6 +5,8 @@
 #[cfg(test)]
 mod cases;
 #[cfg(test)]
+mod maps;
+#[cfg(test)]
 mod permanence;
 #[cfg(test)]
 mod processes;

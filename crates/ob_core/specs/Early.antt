@@ -4,7 +4,7 @@ use Rattle.std.specs.Prelude.{ℕ, Bool, false, ◌||◌, not, nat_le, nat_lt, L
 use Rattle.std.specs.Option.{option_and_then}
 use Rattle.ob_base.specs.Handle.{key_of}
 use Rattle.ob_model.specs.declared.command.Command.{Command}
-use Rattle.ob_model.specs.declared.command.Command.TheVariants.{CreateDirectory, CreateLink, CreateObject, OpenDirectory, OpenLink, OpenObject, Close, QueryLink, QueryName, Duplicate, MakeTemporary, MakePermanent, NewProcess, ExitProcess}
+use Rattle.ob_model.specs.declared.command.Command.TheVariants.{CreateDirectory, CreateLink, CreateObject, OpenDirectory, OpenLink, OpenObject, Close, QueryLink, QueryName, Duplicate, MakeTemporary, MakePermanent, SetDeviceMap, NewProcess, ExitProcess}
 use Rattle.ob_model.specs.declared.command.Place.{Place}
 use Rattle.ob_model.specs.declared.command.Place.TheVariants.{At, Unnamed}
 use Rattle.ob_model.specs.Creates.{Making, MakesDirectory, MakesLink, MakesObject, is_fit}
@@ -28,6 +28,7 @@ TakesNoMemory (QueryName handle) = ⊥
 TakesNoMemory (Duplicate handle to inherit) = ⊥
 TakesNoMemory (MakeTemporary handle) = Unit {0}
 TakesNoMemory (MakePermanent handle) = Unit {0}
+TakesNoMemory (SetDeviceMap handle) = ⊥
 TakesNoMemory (NewProcess inherit) = ⊥
 TakesNoMemory ExitProcess = Unit {0}
 
@@ -81,5 +82,6 @@ module _ {K T F I : Type 0} where
   is_refused_early s p (Duplicate handle to inherit) = is_duplicate_refused s p handle to
   is_refused_early s p (MakeTemporary handle) = is_use_refused s p handle
   is_refused_early s p (MakePermanent handle) = is_use_refused s p handle
+  is_refused_early s p (SetDeviceMap handle) = is_use_refused s p handle
   is_refused_early s p (NewProcess inherit) = is_child_refused s p
   is_refused_early s p ExitProcess = not (is_live s p)

@@ -14,7 +14,7 @@ use ob_handles::HandleTable;
 use ob_model::Reply;
 use ob_objects::Store;
 use ob_processes::Processes;
-use ob_space::{Namespace, close_handle, held_of, is_live, settle_after_close};
+use ob_space::{Namespace, close_handle, held_of, is_live, settle_after_loss};
 use ob_types::TypeSet;
 
 /// Closes a handle of the caller. No memory is taken.
@@ -37,6 +37,6 @@ pub(crate) fn close<T: TypeSet, H: HandleTable>(
     };
     let object = held.object;
     close_handle(space, held);
-    settle_after_close(space, object);
+    settle_after_loss(space, object);
     status_alone(Status::Success)
 }

@@ -17,6 +17,7 @@ ghost use Rattle.ob_core.specs.Starting.{answer_of};
 
 use crate::closing::close;
 use crate::creating::create;
+use crate::device_maps::set_device_map;
 use crate::duplicating::duplicate;
 use crate::lives::{exit_process, new_process};
 use crate::making::{Making, link_to, object_of};
@@ -214,6 +215,7 @@ fn reply_to<T: TypeSet, H: HandleTable>(
         } => duplicate(space, process, *handle, *to, *inherit),
         Command::MakeTemporary { handle } => Ok(turn(space, process, *handle, false)),
         Command::MakePermanent { handle } => Ok(turn(space, process, *handle, true)),
+        Command::SetDeviceMap { handle } => set_device_map(space, process, *handle),
         Command::NewProcess { inherit } => Ok(new_process(space, process, *inherit)?),
         Command::ExitProcess => Ok(exit_process(space, process)),
     }

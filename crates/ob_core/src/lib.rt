@@ -12,6 +12,7 @@
 mod closing;
 mod commands;
 mod creating;
+mod device_maps;
 mod duplicating;
 mod lives;
 mod making;

@@ -12,8 +12,8 @@ pub close_handle-requires-clause-held : goal.close_handle-requires-clause-held
 close_handle-requires-clause-held g c κs within =
     found_itself (state_of g.row.T-Kind.Denot c.args.space.now) c.args.process (key_of c.args.handle) c.in-Some.held (sym c.in-Some.ensures)
 
-pub settle_after_close-requires-clause-kept : goal.settle_after_close-requires-clause-kept
-settle_after_close-requires-clause-kept g c κs within =
+pub settle_after_loss-requires-clause-kept : goal.settle_after_loss-requires-clause-kept
+settle_after_loss-requires-clause-kept g c κs within =
     closed_was_settled g.T.TypeSet.procedures (state_of g.row.T-Kind.Denot c.args.space.now) c.in-Some.held c.requires.sound
     (found_itself (state_of g.row.T-Kind.Denot c.args.space.now) c.args.process (key_of c.args.handle) c.in-Some.held (sym c.in-Some.ensures))
     (state_of g.row.T-Kind.Denot c.close_handle.new.space) c.requires.settled c.close_handle.ensures.closed
@@ -21,4 +21,4 @@ settle_after_close-requires-clause-kept g c κs within =
 pub returns-clause-step : goal.returns-clause-step
 returns-clause-step g c =
     closes g.T.TypeSet.procedures (state_of g.row.T-Kind.Denot c.args.space.now) _ c.args.process c.args.handle _ c.in-Some.held (sym c.is_live.ensures ∙ c.if-not-is_live.false) (sym c.in-Some.ensures)
-    (ap Done c.status_alone-2.ensures) (c.settle_after_close.ensures.settled ∙ ap (settle g.T.TypeSet.procedures) c.close_handle.ensures.closed)
+    (ap Done c.status_alone-2.ensures) (c.settle_after_loss.ensures.settled ∙ ap (settle g.T.TypeSet.procedures) c.close_handle.ensures.closed)
