@@ -40,6 +40,30 @@ FULL = b'p1 make Event "\\E" - "" =e\np1 name e+3\n' + OPENED * 65_535 + b"p1 cl
 FILLED = b"1: SUCCESS\n2: SUCCESS \"\\E\"\n" + b"".join(b"%d: SUCCESS\n" % n for n in range(3, 65_537))
 NO_MORE = b"65537: INSUFFICIENT_RESOURCES\n65538: SUCCESS\n65539: INVALID_HANDLE\n65540: SUCCESS\n"
 
+# a thousand nested directories, closed from the outermost one: each goes when the name in it does
+NESTED = b'p1 dir "\\d" - =d0\n' + b"".join(b'p1 dir d%d:"d" - =d%d\n' % (n - 1, n) for n in range(1, 1_000))
+UNNESTED = b"p1 name d999\n" + b"".join(b"p1 close d%d\n" % n for n in range(999)) + b"stat\np1 close d999\nstat\n"
+IN_NEST = b"".join(b"%d: SUCCESS\n" % n for n in range(1, 1_001)) + b'1001: SUCCESS "' + b"\\d" * 1_000 + b'"\n'
+OUT_OF_NEST = b"".join(b"%d: SUCCESS\n" % n for n in range(1_002, 2_001)) + (
+    b"2001: objects 8 handles 1 opens 0 closes 0 deletes 0\n2002: SUCCESS\n"
+    b"2003: objects 6 handles 0 opens 0 closes 0 deletes 0\n"
+)
+
+# a process that ends with a thousand temporary objects
+HOLDS = b"p1 new plain =q\n" + b"".join(b'q make Event "\\Sessions\\e%d" - "" =e%d\n' % (n, n) for n in range(1_000))
+ENDS = b"stat\nq exit\nstat\n"
+HELD = b"".join(b"%d: SUCCESS\n" % n for n in range(1, 1_002))
+ENDED = (
+    b"1002: objects 1006 handles 1000 opens 1000 closes 0 deletes 0\n1003: SUCCESS\n"
+    b"1004: objects 6 handles 0 opens 1000 closes 1000 deletes 1000\n"
+)
+
+# 32 links, of which the last one leads into the view of device names, and one link more before them
+LINKS = b"".join(b'p1 link "\\L%d" P "\\L%d" =l\n' % (n, n + 1) for n in range(32))
+VIEWED = b'p1 link "\\L32" P "\\??\\X" =l\np1 dir "\\M" P =m\np1 dir "\\M\\X" P =x\np1 map m\n'
+BEHIND = b'p1 opendir "\\L1" - =a\np1 name a\np1 opendir "\\L0" - =b\n'
+LINKED = b"".join(b"%d: SUCCESS\n" % n for n in range(1, 38)) + b'38: SUCCESS "\\M\\X"\n39: REPARSE_LIMIT\n'
+
 
 @dataclass(frozen=True)
 class Case:
@@ -68,6 +92,9 @@ CASES = [
     Case("words that are no text end with 2", (b"\xff",), 2, errors=NO_TEXT),
     Case("help that is asked for ends with 0", ("--help",), 0, HELP),
     Case("a process has 65,535 handles and no more", (), 0, FILLED + NO_MORE, script=FULL),
+    Case("a thousand nested directories go one by one", (), 0, IN_NEST + OUT_OF_NEST, script=NESTED + UNNESTED),
+    Case("a thousand objects go with their process", (), 0, HELD + ENDED, script=HOLDS + ENDS),
+    Case("a view is found behind 32 links, and not behind 33", (), 0, LINKED, script=LINKS + VIEWED + BEHIND),
 ]
 
 
