@@ -1,1 +1,2 @@
+pub mod Maps
 pub mod View

@@ -1,6 +1,8 @@
 //! Device maps: the directories of DOS device names that `\??` stands for, process by process.
 #![tactic(auto)]
 
+mod maps;
 mod view;
 
+pub use maps::Maps;
 pub use view::View;

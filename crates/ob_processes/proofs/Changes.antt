@@ -1,5 +1,5 @@
 -- What is left of the entries where a process or a handle comes or goes.
-use Rattle.std.proofs.Common.{◌≡◌, ◌∙◌, ℕ, ◌+◌, ◌<◌, ◌≤◌, ◌==◌, ◌&&◌, Bool, true, false, not, cond, List, [], ◌∷◌, ◌++◌, length, get_or, filter, Option, Some, All, refl, ap, sym, subst, arith, eqb-true, append_assoc}
+use Rattle.std.proofs.Common.{◌≡◌, ◌∙◌, ℕ, ◌+◌, ◌<◌, ◌≤◌, ◌==◌, ◌&&◌, Bool, true, false, not, cond, if◌then◌else◌, List, [], ◌∷◌, ◌++◌, length, get_or, filter, None, Some, All, refl, ap, sym, subst, arith, eqb-true, append_assoc}
 use Rattle.std.proofs.lemmas.List.{length-append, map-append}
 use Rattle.std.proofs.lemmas.List.Elements.{All-nil, All-cons, All-head, All-tail, All-push, All-filter, filter-append}
 use Rattle.std.proofs.lemmas.List.Kept.{AllPairs-filter}
@@ -13,35 +13,33 @@ use Rattle.ob_model.specs.declared.state.Process.{Process}
 use Rattle.ob_model.specs.Closing.{is_handle}
 use Rattle.ob_model.proofs.Finds.{filter_all}
 use Rattle.ob_model.proofs.Ids.{Differ, Differ-from_rising, is_at-id, insert_entry-last, remove_entry-id}
+use Rattle.ob_devmap.specs.Maps.{Directories, map_in, MapChanges}
 use Rattle.ob_handles.specs.Table.{without}
 use Rattle.ob_processes.specs.ByOrder.{by_order, OrdersRise}
-use Rattle.ob_processes.specs.Running.{Own, Entries, process_of_entry, processes_of, in_turn, handles_of, IsTableOf, IsRunning}
+use Rattle.ob_processes.specs.Running.{Entries, process_of_entry, processes_of, in_turn, handles_of, IsTableOf, IsRunning}
 use Rattle.ob_processes.proofs.ByOrder.{filter-by_order, by_order-All, by_order-last, by_order-length, OrdersRise-push}
 use Rattle.ob_processes.proofs.Entries.{at, handles_in, Table, is_of, others_behind, found_table, handles_at}
 
 -- the entries with something else under a number
-abbrev pub put : Entries → ℕ → Own → Entries
+abbrev pub put : Entries → ℕ → List Held → Entries
 put es p w = set_value (is_at (nat_cmp p)) es w
 
 -- ---- what is written under the number of a process
 
-processes_put : (p : ℕ) (es : Entries) (x w : Own) → at es p ≡ Some x → w.map ≡ x.map → processes_of (put es p w) ≡ processes_of es
-processes_put p [] x w found same = refl
-processes_put p (e ∷ es) x w found same = go (is_at (nat_cmp p) e.0) found (λ there. processes_put p es x w there same)
+processes_put : (maps : Directories) (p : ℕ) (es : Entries) (w : List Held) → processes_of maps (put es p w) ≡ processes_of maps es
+processes_put maps p [] w = refl
+processes_put maps p (e ∷ es) w = go (is_at (nat_cmp p) e.0) (processes_put maps p es w)
   where
-    go : (t : Bool) → cond t (Some e.1) (at es p) ≡ Some x → (at es p ≡ Some x → processes_of (put es p w) ≡ processes_of es)
-        → processes_of (cond t ((e.0, w) ∷ es) (e ∷ put es p w)) ≡ processes_of (e ∷ es)
-    go true here more =
-        let it : e.1 ≡ x = cc in
-        ap (λ m. record { number = e.0; map = m } ∷ processes_of es) (same ∙ ap (λ (y : Own). y.map) (sym it))
-    go false there more = ap (λ (ps : List Process). process_of_entry e ∷ ps) (more there)
+    go : (t : Bool) → processes_of maps (put es p w) ≡ processes_of maps es → processes_of maps (cond t ((e.0, w) ∷ es) (e ∷ put es p w)) ≡ processes_of maps (e ∷ es)
+    go true more = refl
+    go false more = ap (λ (ps : List Process). process_of_entry maps e ∷ ps) more
 
-tables_put : (p : ℕ) (es : Entries) (w : Own) → All Table es → IsTableOf p w.handles → All Table (put es p w)
+tables_put : (p : ℕ) (es : Entries) (w : List Held) → All Table es → IsTableOf p w → All Table (put es p w)
 tables_put p [] w tables here = tables
 tables_put p (e ∷ es) w tables here = go (is_at (nat_cmp p) e.0) (sym (is_at-id p e.0)) (tables_put p es w (All-tail Table e es tables) here)
   where
     go : (t : Bool) → (e.0 == p) ≡ t → All Table (put es p w) → All Table (cond t ((e.0, w) ∷ es) (e ∷ put es p w))
-    go true same more = All-cons Table (e.0, w) es (subst (λ n. IsTableOf n w.handles) (sym (eqb-true e.0 p same)) here) (All-tail Table e es tables)
+    go true same more = All-cons Table (e.0, w) es (subst (λ n. IsTableOf n w) (sym (eqb-true e.0 p same)) here) (All-tail Table e es tables)
     go false other more = All-cons Table e (put es p w) (All-head Table e es tables) more
 
 -- ---- a handle more
@@ -53,7 +51,7 @@ record Pushed (es new : Entries) (h : Held) : Type 0 where
   old : in_turn es ≡ before ++ behind
   now : in_turn new ≡ before ++ h ∷ behind
 
-turn_pushed : (p : ℕ) (es : Entries) (x w : Own) (h : Held) → at es p ≡ Some x → w.handles ≡ x.handles ++ h ∷ [] → Pushed es (put es p w) h
+turn_pushed : (p : ℕ) (es : Entries) (x w : List Held) (h : Held) → at es p ≡ Some x → w ≡ x ++ h ∷ [] → Pushed es (put es p w) h
 turn_pushed p [] x w h found pushed = cc
 turn_pushed p (e ∷ es) x w h found pushed = go (is_at (nat_cmp p) e.0) found (λ there. turn_pushed p es x w h there pushed)
   where
@@ -61,18 +59,18 @@ turn_pushed p (e ∷ es) x w h found pushed = go (is_at (nat_cmp p) e.0) found (
     go true here more =
         let it : e.1 ≡ x = cc in
         record {
-          before = e.1.handles;
+          before = e.1;
           behind = in_turn es;
           old = refl;
-          now = ap (λ hs. hs ++ in_turn es) (pushed ∙ ap (λ (y : Own). y.handles ++ h ∷ []) (sym it)) ∙ append_assoc e.1.handles (h ∷ []) (in_turn es);
+          now = ap (λ hs. hs ++ in_turn es) (pushed ∙ ap (λ y. y ++ h ∷ []) (sym it)) ∙ append_assoc e.1 (h ∷ []) (in_turn es);
         }
     go false there more =
         let rest = more there in
         record {
-          before = e.1.handles ++ rest.before;
+          before = e.1 ++ rest.before;
           behind = rest.behind;
-          old = ap (λ hs. e.1.handles ++ hs) rest.old ∙ sym (append_assoc e.1.handles rest.before rest.behind);
-          now = ap (λ hs. e.1.handles ++ hs) rest.now ∙ sym (append_assoc e.1.handles rest.before (h ∷ rest.behind));
+          old = ap (λ hs. e.1 ++ hs) rest.old ∙ sym (append_assoc e.1 rest.before rest.behind);
+          now = ap (λ hs. e.1 ++ hs) rest.now ∙ sym (append_assoc e.1 rest.before (h ∷ rest.behind));
         }
 
 All-parts : {X : Type 0} (P : X → Type 0) (xs ys : List X) → All P (xs ++ ys) → All P xs × All P ys
@@ -81,7 +79,7 @@ All-parts P (x ∷ xs) ys all =
     let rest = All-parts P xs ys (All-tail P x (xs ++ ys) all) in
     (All-cons P x xs (All-head P x (xs ++ ys) all) rest.0, rest.1)
 
-pub handles_pushed : (p : ℕ) (es : Entries) (x w : Own) (h : Held) → at es p ≡ Some x → w.handles ≡ x.handles ++ h ∷ []
+pub handles_pushed : (p : ℕ) (es : Entries) (x w : List Held) (h : Held) → at es p ≡ Some x → w ≡ x ++ h ∷ []
     → All (λ k. k.order < h.order) (handles_of es) → handles_of (put es p w) ≡ handles_of es ++ h ∷ []
 handles_pushed p es x w h found pushed newest =
     let is : Pushed es (put es p w) h = turn_pushed p es x w h found pushed in
@@ -101,13 +99,13 @@ filter_same p q (x ∷ xs) same =
 abbrev pub stays : ℕ → ℕ → Held → Bool
 stays p value h = not (is_handle p value h)
 
-turn_taken : (p value : ℕ) (es : Entries) (x w : Own) → Differ es → All Table es → at es p ≡ Some x → w.handles ≡ without x.handles value
+turn_taken : (p value : ℕ) (es : Entries) (x w : List Held) → Differ es → All Table es → at es p ≡ Some x → w ≡ without x value
     → in_turn (put es p w) ≡ filter (stays p value) (in_turn es)
 turn_taken p value [] x w differ tables found taken = refl
 turn_taken p value (e ∷ es) x w differ tables found taken =
     ap (λ t. in_turn (cond t ((e.0, w) ∷ es) (e ∷ put es p w))) (is_at-id p e.0)
     ∙ go (e.0 == p) refl (ap (λ t. cond t (Some e.1) (at es p)) (sym (is_at-id p e.0)) ∙ found) (λ there. turn_taken p value es x w differ.1 (All-tail Table e es tables) there taken)
-    ∙ sym (filter-append (stays p value) e.1.handles (in_turn es))
+    ∙ sym (filter-append (stays p value) e.1 (in_turn es))
   where
     table : Table e
     table = All-head Table e es tables
@@ -119,63 +117,68 @@ turn_taken p value (e ∷ es) x w differ tables found taken =
     of_value h own = ap (λ t. not (t && (h.value == value))) own
 
     go : (t : Bool) → (e.0 == p) ≡ t → cond t (Some e.1) (at es p) ≡ Some x → (at es p ≡ Some x → in_turn (put es p w) ≡ filter (stays p value) (in_turn es))
-        → in_turn (cond t ((e.0, w) ∷ es) (e ∷ put es p w)) ≡ filter (stays p value) e.1.handles ++ filter (stays p value) (in_turn es)
+        → in_turn (cond t ((e.0, w) ∷ es) (e ∷ put es p w)) ≡ filter (stays p value) e.1 ++ filter (stays p value) (in_turn es)
     go true same here more =
         let it : e.1 ≡ x = cc in
-        ap (λ hs. hs ++ in_turn es) (taken ∙ ap (λ (y : Own). without y.handles value) (sym it)
-        ∙ sym (filter_same (stays p value) (λ h. not (h.value == value)) e.1.handles
-        (λ k d below. of_value (get_or e.1.handles k d) (subst (λ n. ((get_or e.1.handles k d).process == n) ≡ true) (eqb-true e.0 p same) (table.own k d below)))))
-        ∙ ap (λ hs. filter (stays p value) e.1.handles ++ hs)
+        ap (λ hs. hs ++ in_turn es) (taken ∙ ap (λ (y : List Held). without y value) (sym it)
+        ∙ sym (filter_same (stays p value) (λ h. not (h.value == value)) e.1
+        (λ k d below. of_value (get_or e.1 k d) (subst (λ n. ((get_or e.1 k d).process == n) ≡ true) (eqb-true e.0 p same) (table.own k d below)))))
+        ∙ ap (λ hs. filter (stays p value) e.1 ++ hs)
         (sym (filter_all (stays p value) (in_turn es) (λ k d below. other_stays (get_or (in_turn es) k d) (others_behind p e es same differ tables k d below))))
     go false other there more =
         ap (λ hs. hs ++ in_turn (put es p w))
-        (sym (filter_all (stays p value) e.1.handles
-        (λ k d below. other_stays (get_or e.1.handles k d) (ap (λ n. n == p) (eqb-true (get_or e.1.handles k d).process e.0 (table.own k d below)) ∙ other))))
-        ∙ ap (λ hs. filter (stays p value) e.1.handles ++ hs) (more there)
+        (sym (filter_all (stays p value) e.1
+        (λ k d below. other_stays (get_or e.1 k d) (ap (λ n. n == p) (eqb-true (get_or e.1 k d).process e.0 (table.own k d below)) ∙ other))))
+        ∙ ap (λ hs. filter (stays p value) e.1 ++ hs) (more there)
 
-pub handles_taken : (p value : ℕ) (es : Entries) (x w : Own) → Differ es → All Table es → at es p ≡ Some x → w.handles ≡ without x.handles value
+pub handles_taken : (p value : ℕ) (es : Entries) (x w : List Held) → Differ es → All Table es → at es p ≡ Some x → w ≡ without x value
     → handles_of (put es p w) ≡ filter (stays p value) (handles_of es)
 handles_taken p value es x w differ tables found taken =
     ap by_order (turn_taken p value es x w differ tables found taken) ∙ sym (filter-by_order (stays p value) (in_turn es))
 
-turn_length : (p n : ℕ) (es : Entries) (x w : Own) → at es p ≡ Some x → length w.handles + n ≡ length x.handles → length (in_turn (put es p w)) + n ≡ length (in_turn es)
+turn_length : (p n : ℕ) (es : Entries) (x w : List Held) → at es p ≡ Some x → length w + n ≡ length x → length (in_turn (put es p w)) + n ≡ length (in_turn es)
 turn_length p n [] x w found fewer = cc
 turn_length p n (e ∷ es) x w found fewer = go (is_at (nat_cmp p) e.0) found (λ there. turn_length p n es x w there fewer)
   where
     go : (t : Bool) → cond t (Some e.1) (at es p) ≡ Some x → (at es p ≡ Some x → length (in_turn (put es p w)) + n ≡ length (in_turn es))
-        → length (in_turn (cond t ((e.0, w) ∷ es) (e ∷ put es p w))) + n ≡ length (e.1.handles ++ in_turn es)
+        → length (in_turn (cond t ((e.0, w) ∷ es) (e ∷ put es p w))) + n ≡ length (e.1 ++ in_turn es)
     go true here more =
         let it : e.1 ≡ x = cc in
-        let long : length e.1.handles ≡ length x.handles = ap (λ (y : Own). length y.handles) it in
-        omega (arith, fewer, long, length-append w.handles (in_turn es), length-append e.1.handles (in_turn es))
+        let long : length e.1 ≡ length x = ap (λ (y : List Held). length y) it in
+        omega (arith, fewer, long, length-append w (in_turn es), length-append e.1 (in_turn es))
     go false there more =
         let rest : length (in_turn (put es p w)) + n ≡ length (in_turn es) = more there in
-        omega (arith, rest, length-append e.1.handles (in_turn (put es p w)), length-append e.1.handles (in_turn es))
+        omega (arith, rest, length-append e.1 (in_turn (put es p w)), length-append e.1 (in_turn es))
 
 -- ---- a process more, and one less
 
-turn_started : (es : Entries) (p : ℕ) (m : Option ℕ) → in_turn (es ++ (p, record { map = m; handles = [] }) ∷ []) ≡ in_turn es
-turn_started [] p m = refl
-turn_started (e ∷ es) p m = ap (λ hs. e.1.handles ++ hs) (turn_started es p m)
+turn_started : (es : Entries) (p : ℕ) → in_turn (es ++ (p, []) ∷ []) ≡ in_turn es
+turn_started [] p = refl
+turn_started (e ∷ es) p = ap (λ hs. e.1 ++ hs) (turn_started es p)
 
 turn_ended : (p : ℕ) (es : Entries) → handles_in (at es p) ≡ [] → in_turn (remove_entry (is_at (nat_cmp p)) es) ≡ in_turn es
 turn_ended p [] empty = refl
 turn_ended p (e ∷ es) empty = go (is_at (nat_cmp p) e.0) empty (turn_ended p es)
   where
     go : (t : Bool) → handles_in (cond t (Some e.1) (at es p)) ≡ [] → (handles_in (at es p) ≡ [] → in_turn (remove_entry (is_at (nat_cmp p)) es) ≡ in_turn es)
-        → in_turn (cond t es (e ∷ remove_entry (is_at (nat_cmp p)) es)) ≡ e.1.handles ++ in_turn es
+        → in_turn (cond t es (e ∷ remove_entry (is_at (nat_cmp p)) es)) ≡ e.1 ++ in_turn es
     go true none more = ap (λ hs. hs ++ in_turn es) (sym none)
-    go false none more = ap (λ hs. e.1.handles ++ hs) (more none)
+    go false none more = ap (λ hs. e.1 ++ hs) (more none)
 
-processes_without : (p : ℕ) (es : Entries) → processes_of (filter (λ e. not (e.0 == p)) es) ≡ filter (λ x. not (x.number == p)) (processes_of es)
-processes_without p [] = refl
-processes_without p (e ∷ es) = go (e.0 == p) (processes_without p es)
+-- the others have their maps still
+processes_without : (maps left : Directories) (p : ℕ) (es : Entries) → MapChanges p None maps left
+    → processes_of left (filter (λ e. not (e.0 == p)) es) ≡ filter (λ x. not (x.number == p)) (processes_of maps es)
+processes_without maps left p [] cleared = refl
+processes_without maps left p (e ∷ es) cleared = go (e.0 == p) (cleared e.0) (processes_without maps left p es cleared)
   where
-    go : (t : Bool) → processes_of (filter (λ x. not (x.0 == p)) es) ≡ filter (λ x. not (x.number == p)) (processes_of es)
-        → processes_of (cond (not t) (e ∷ filter (λ x. not (x.0 == p)) es) (filter (λ x. not (x.0 == p)) es))
-        ≡ cond (not t) (process_of_entry e ∷ filter (λ x. not (x.number == p)) (processes_of es)) (filter (λ x. not (x.number == p)) (processes_of es))
-    go true more = more
-    go false more = ap (λ (ps : List Process). process_of_entry e ∷ ps) more
+    go : (t : Bool) → map_in left e.0 ≡ (if t then None else map_in maps e.0)
+        → processes_of left (filter (λ x. not (x.0 == p)) es) ≡ filter (λ x. not (x.number == p)) (processes_of maps es)
+        → processes_of left (cond (not t) (e ∷ filter (λ x. not (x.0 == p)) es) (filter (λ x. not (x.0 == p)) es))
+        ≡ cond (not t) (process_of_entry maps e ∷ filter (λ x. not (x.number == p)) (processes_of maps es)) (filter (λ x. not (x.number == p)) (processes_of maps es))
+    go true none more = more
+    go false same more =
+        ap (λ m. record { number = e.0; map = m } ∷ processes_of left (filter (λ x. not (x.0 == p)) es)) same
+        ∙ ap (λ (ps : List Process). process_of_entry maps e ∷ ps) more
 
 -- ---- what holds of the entries after a change
 
@@ -183,17 +186,17 @@ module _ (p kept : ℕ) (es : Entries) (is : IsRunning es kept) where
   differ : Differ es
   differ = Differ-from_rising es is.numbers
 
-  module _ (x : Own) (found : at es p ≡ Some x) where
+  module _ (x : List Held) (found : at es p ≡ Some x) where
     -- what holds of all handles holds of those of one process
-    pub all_found : (P : Held → Type 0) → All P (handles_of es) → All P x.handles
+    pub all_found : (P : Held → Type 0) → All P (handles_of es) → All P x
     all_found P all = subst (All P) (handles_at p es differ is.tables ∙ ap handles_in found) (All-filter (is_of p) P (handles_of es) all)
 
     -- what is written under the number of the process
-    module _ (new : Entries) (w : Own) (wrote : new ≡ put es p w) where
-      pub processes_written : w.map ≡ x.map → processes_of new ≡ processes_of es
-      processes_written same = ap processes_of wrote ∙ processes_put p es x w found same
+    module _ (new : Entries) (w : List Held) (wrote : new ≡ put es p w) where
+      pub processes_written : (maps : Directories) → processes_of maps new ≡ processes_of maps es
+      processes_written maps = ap (processes_of maps) wrote ∙ processes_put maps p es w
 
-      module _ (h : Held) (pushed : w.handles ≡ x.handles ++ h ∷ []) (newest : All (λ k. k.order < h.order) (handles_of es)) where
+      module _ (h : Held) (pushed : w ≡ x ++ h ∷ []) (newest : All (λ k. k.order < h.order) (handles_of es)) where
         pub handles_more : handles_of new ≡ handles_of es ++ h ∷ []
         handles_more = ap handles_of wrote ∙ handles_pushed p es x w h found pushed newest
 
@@ -206,20 +209,20 @@ module _ (p kept : ℕ) (es : Entries) (is : IsRunning es kept) where
           total = ap (λ n. n + 1) is.total ∙ sym (ap length handles_more ∙ length-append (handles_of es) (h ∷ []));
         }
           where
-            before : IsTableOf p x.handles
+            before : IsTableOf p x
             before = found_table p es x is.tables found
 
-            table : IsTableOf p (x.handles ++ h ∷ [])
+            table : IsTableOf p (x ++ h ∷ [])
             table = record {
-              own = All-push (λ k. (k.process == p) ≡ true) x.handles h before.own own;
-              rising = OrdersRise-push x.handles h before.rising (all_found (λ k. k.order < h.order) newest);
+              own = All-push (λ k. (k.process == p) ≡ true) x h before.own own;
+              rising = OrdersRise-push x h before.rising (all_found (λ k. k.order < h.order) newest);
             }
 
-      module _ (value : ℕ) (taken : w.handles ≡ without x.handles value) where
+      module _ (value : ℕ) (taken : w ≡ without x value) where
         pub handles_fewer : handles_of new ≡ filter (stays p value) (handles_of es)
         handles_fewer = ap handles_of wrote ∙ handles_taken p value es x w differ is.tables found taken
 
-        module _ (n : ℕ) (fewer : length w.handles + n ≡ length x.handles) where
+        module _ (n : ℕ) (fewer : length w + n ≡ length x) where
           lengths : length (handles_of new) + n ≡ kept
           lengths =
               ap (λ k. k + n) (ap (λ (es : Entries). length (handles_of es)) wrote ∙ by_order-length (in_turn (put es p w)))
@@ -237,30 +240,32 @@ module _ (p kept : ℕ) (es : Entries) (is : IsRunning es kept) where
             total = omega (arith, lengths, so_many);
           }
             where
-              before : IsTableOf p x.handles
+              before : IsTableOf p x
               before = found_table p es x is.tables found
 
-              table : IsTableOf p (without x.handles value)
+              table : IsTableOf p (without x value)
               table = record {
-                own = All-filter (λ h. not (h.value == value)) (λ k. (k.process == p) ≡ true) x.handles before.own;
-                rising = AllPairs-filter (λ a b. a.order < b.order) (λ h. not (h.value == value)) x.handles before.rising;
+                own = All-filter (λ h. not (h.value == value)) (λ k. (k.process == p) ≡ true) x before.own;
+                rising = AllPairs-filter (λ a b. a.order < b.order) (λ h. not (h.value == value)) x before.rising;
               }
 
   -- a process begins
-  module _ (new : Entries) (m : Option ℕ) (newest : All (λ e. e.0 < p) es) (put_in : new ≡ insert_entry nat_cmp es p (record { map = m; handles = [] })) where
-    begun : new ≡ es ++ (p, record { map = m; handles = [] }) ∷ []
-    begun = put_in ∙ insert_entry-last p (record { map = m; handles = [] }) es newest
+  module _ (new : Entries) (newest : All (λ e. e.0 < p) es) (put_in : new ≡ insert_entry nat_cmp es p []) where
+    pub begun : new ≡ es ++ (p, []) ∷ []
+    begun = put_in ∙ insert_entry-last p [] es newest
 
-    pub processes_begun : processes_of new ≡ processes_of es ++ record { number = p; map = m } ∷ []
-    processes_begun = ap processes_of begun ∙ map-append process_of_entry es ((p, record { map = m; handles = [] }) ∷ [])
+    pub processes_begun : (maps : Directories) → map_in maps p ≡ None → processes_of maps new ≡ processes_of maps es ++ record { number = p; map = None } ∷ []
+    processes_begun maps none =
+        ap (processes_of maps) begun ∙ map-append (process_of_entry maps) es ((p, []) ∷ [])
+        ∙ ap (λ m. processes_of maps es ++ record { number = p; map = m } ∷ []) none
 
     pub handles_begun : handles_of new ≡ handles_of es
-    handles_begun = ap handles_of begun ∙ ap by_order (turn_started es p m)
+    handles_begun = ap handles_of begun ∙ ap by_order (turn_started es p)
 
     pub running_begun : IsStrictlySortedBy nat_cmp (keys_of new) → IsRunning new kept
     running_begun numbers = record {
       numbers = numbers;
-      tables = subst (All Table) (sym begun) (All-push Table es (p, record { map = m; handles = [] }) is.tables
+      tables = subst (All Table) (sym begun) (All-push Table es (p, []) is.tables
           (record { own = All-nil (λ k. (k.process == p) ≡ true); rising = λ i j d before within. absurd (omega (arith, within)) }));
       rising = subst OrdersRise (sym handles_begun) is.rising;
       total = is.total ∙ ap length (sym handles_begun);
@@ -268,11 +273,11 @@ module _ (p kept : ℕ) (es : Entries) (is : IsRunning es kept) where
 
   -- a process without handles ends
   module _ (new : Entries) (empty : handles_in (at es p) ≡ []) (taken : new ≡ remove_entry (is_at (nat_cmp p)) es) where
-    others : new ≡ filter (λ e. not (e.0 == p)) es
+    pub others : new ≡ filter (λ e. not (e.0 == p)) es
     others = taken ∙ remove_entry-id p es differ
 
-    pub processes_ended : processes_of new ≡ filter (λ x. not (x.number == p)) (processes_of es)
-    processes_ended = ap processes_of others ∙ processes_without p es
+    pub processes_ended : (maps left : Directories) → MapChanges p None maps left → processes_of left new ≡ filter (λ x. not (x.number == p)) (processes_of maps es)
+    processes_ended maps left cleared = ap (processes_of left) others ∙ processes_without maps left p es cleared
 
     pub handles_ended : handles_of new ≡ handles_of es
     handles_ended = ap handles_of taken ∙ ap by_order (turn_ended p es empty)

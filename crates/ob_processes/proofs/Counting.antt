@@ -5,17 +5,15 @@ use Rattle.std.proofs.lemmas.List.{length-append}
 use Rattle.std.proofs.lemmas.List.Elements.{filter-append}
 use Rattle.std.proofs.lemmas.List.Sums.{length-filter, count_by-le-length}
 use Rattle.std.proofs.lemmas.List.Filters.{sum_by-filter_both}
-use Rattle.std.specs.BTreeMap.{is_at}
 use Rattle.std.specs.List.{AllPairs, list_any}
-use Rattle.std.specs.Map.{lookup}
-use Rattle.std.specs.Option.{unwrap_or, is_some}
-use Rattle.std.specs.Ordering.{nat_cmp}
+use Rattle.std.specs.Option.{is_some}
+use Rattle.ob_counts.specs.Counts.{Numbers, count_of, one_if, CountsOneMore, CountsOneLess}
 use Rattle.ob_model.specs.declared.state.Held.{Held}
 use Rattle.ob_model.proofs.Finds.{filter_none}
 use Rattle.ob_handles.proofs.Lists.{new_handle_is_taken_back}
 use Rattle.ob_handles.specs.Table.{IsUnused, without}
 use Rattle.ob_processes.specs.ByOrder.{OrdersRise}
-use Rattle.ob_processes.specs.Counts.{Numbers, count_of, one_if, CountsOneMore, CountsOneLess, Counts, IsCounted}
+use Rattle.ob_processes.specs.Counts.{Counts, IsCounted}
 use Rattle.ob_processes.proofs.ByOrder.{fewer_than_orders}
 use Rattle.ob_processes.proofs.Tables.{pushed_table, taken_table, taken_length}
 
@@ -177,8 +175,3 @@ holders here to (h ∷ hs) = go (here h) (to h) (holders here to hs)
     go true false more = more
     go false true more = one_more (length (filter (λ k. here k && to k) hs)) (length (filter to hs)) (fewer hs)
     go false false more = more
-
--- what is found is the count
-pub count_found : (inside now : Numbers) (key object count : ℕ) → inside ≡ now → key ≡ object → lookup (is_at (nat_cmp key)) inside ≡ Some count → count_of now object ≡ count
-count_found inside now key object count same is_object found =
-    ap (λ n. count_of n object) (sym same) ∙ ap (count_of inside) (sym is_object) ∙ ap (λ o. unwrap_or o 0) found

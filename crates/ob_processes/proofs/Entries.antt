@@ -11,22 +11,23 @@ use Rattle.ob_model.specs.declared.state.Held.{Held}
 use Rattle.ob_model.specs.declared.state.Process.{Process}
 use Rattle.ob_model.proofs.Finds.{filter_all, filter_none}
 use Rattle.ob_model.proofs.Ids.{Differ, is_at-id}
+use Rattle.ob_devmap.specs.Maps.{Directories}
 use Rattle.ob_processes.specs.ByOrder.{by_order, OrdersRise}
-use Rattle.ob_processes.specs.Running.{Own, Entries, process_of_entry, processes_of, in_turn, handles_of, IsTableOf}
+use Rattle.ob_processes.specs.Running.{Entries, process_of_entry, processes_of, in_turn, handles_of, IsTableOf}
 use Rattle.ob_processes.proofs.ByOrder.{filter-by_order, by_order-same, OrdersRise-Rises}
 
 -- what is under a number
-abbrev pub at : Entries → ℕ → Option Own
+abbrev pub at : Entries → ℕ → Option (List Held)
 at es p = lookup (is_at (nat_cmp p)) es
 
 -- the handles of what was found, and none where nothing was
-abbrev pub handles_in : Option Own → List Held
+abbrev pub handles_in : Option (List Held) → List Held
 handles_in None = []
-handles_in (Some x) = x.handles
+handles_in (Some x) = x
 
 -- an entry has the handles of its process
-abbrev pub Table : ℕ × Own → Type 0
-Table e = IsTableOf e.0 e.1.handles
+abbrev pub Table : ℕ × List Held → Type 0
+Table e = IsTableOf e.0 e.1
 
 -- the handle is of the process of this number
 abbrev pub is_of : ℕ → Held → Bool
@@ -56,46 +57,46 @@ find_both {X} p q xs = find_first (λ (x : X). p x && q x) xs ∙ ap (λ ys. sli
 
 -- ---- the handles of one process
 
-of_another : (p : ℕ) (e : ℕ × Own) → (e.0 == p) ≡ false → Table e → All (λ h. is_of p h ≡ false) e.1.handles
+of_another : (p : ℕ) (e : ℕ × List Held) → (e.0 == p) ≡ false → Table e → All (λ h. is_of p h ≡ false) e.1
 of_another p e other table =
-    All-weaker (λ (h : Held). (h.process == e.0) ≡ true) (λ h. is_of p h ≡ false) (λ h own. ap (λ n. n == p) (eqb-true h.process e.0 own) ∙ other) e.1.handles table.own
+    All-weaker (λ (h : Held). (h.process == e.0) ≡ true) (λ h. is_of p h ≡ false) (λ h own. ap (λ n. n == p) (eqb-true h.process e.0 own) ∙ other) e.1 table.own
 
-of_this : (p : ℕ) (e : ℕ × Own) → (e.0 == p) ≡ true → Table e → All (λ h. is_of p h ≡ true) e.1.handles
-of_this p e same table = subst (λ n. All (λ h. is_of n h ≡ true) e.1.handles) (eqb-true e.0 p same) table.own
+of_this : (p : ℕ) (e : ℕ × List Held) → (e.0 == p) ≡ true → Table e → All (λ h. is_of p h ≡ true) e.1
+of_this p e same table = subst (λ n. All (λ h. is_of n h ≡ true) e.1) (eqb-true e.0 p same) table.own
 
 -- none is of a process that isn't there
 pub others_in_turn : (p : ℕ) (es : Entries) → All (λ x. (x.0 == p) ≡ false) es → All Table es → All (λ h. is_of p h ≡ false) (in_turn es)
 others_in_turn p [] others tables = All-nil (λ h. is_of p h ≡ false)
 others_in_turn p (e ∷ es) others tables =
-    All-append (λ h. is_of p h ≡ false) e.1.handles (in_turn es)
-    (of_another p e (All-head (λ (x : ℕ × Own). (x.0 == p) ≡ false) e es others) (All-head Table e es tables))
-    (others_in_turn p es (All-tail (λ (x : ℕ × Own). (x.0 == p) ≡ false) e es others) (All-tail Table e es tables))
+    All-append (λ h. is_of p h ≡ false) e.1 (in_turn es)
+    (of_another p e (All-head (λ (x : ℕ × List Held). (x.0 == p) ≡ false) e es others) (All-head Table e es tables))
+    (others_in_turn p es (All-tail (λ (x : ℕ × List Held). (x.0 == p) ≡ false) e es others) (All-tail Table e es tables))
 
 -- those behind an entry are of other processes
-pub others_behind : (p : ℕ) (e : ℕ × Own) (es : Entries) → (e.0 == p) ≡ true → Differ (e ∷ es) → All Table (e ∷ es) → All (λ h. is_of p h ≡ false) (in_turn es)
+pub others_behind : (p : ℕ) (e : ℕ × List Held) (es : Entries) → (e.0 == p) ≡ true → Differ (e ∷ es) → All Table (e ∷ es) → All (λ h. is_of p h ≡ false) (in_turn es)
 others_behind p e es same differ tables =
-    others_in_turn p es (subst (λ n. All (λ (x : ℕ × Own). (x.0 == n) ≡ false) es) (eqb-true e.0 p same) differ.0) (All-tail Table e es tables)
+    others_in_turn p es (subst (λ n. All (λ (x : ℕ × List Held). (x.0 == n) ≡ false) es) (eqb-true e.0 p same) differ.0) (All-tail Table e es tables)
 
 turn_of : (p : ℕ) (es : Entries) → Differ es → All Table es → filter (is_of p) (in_turn es) ≡ handles_in (at es p)
 turn_of p [] differ tables = refl
 turn_of p (e ∷ es) differ tables =
-    filter-append (is_of p) e.1.handles (in_turn es) ∙ go (e.0 == p) refl (turn_of p es differ.1 (All-tail Table e es tables))
+    filter-append (is_of p) e.1 (in_turn es) ∙ go (e.0 == p) refl (turn_of p es differ.1 (All-tail Table e es tables))
     ∙ sym (ap (λ t. handles_in (cond t (Some e.1) (at es p))) (is_at-id p e.0))
   where
     go : (t : Bool) → (e.0 == p) ≡ t → filter (is_of p) (in_turn es) ≡ handles_in (at es p)
-        → filter (is_of p) e.1.handles ++ filter (is_of p) (in_turn es) ≡ handles_in (cond t (Some e.1) (at es p))
+        → filter (is_of p) e.1 ++ filter (is_of p) (in_turn es) ≡ handles_in (cond t (Some e.1) (at es p))
     go true same more =
-        ap (λ hs. hs ++ filter (is_of p) (in_turn es)) (filter_all (is_of p) e.1.handles (of_this p e same (All-head Table e es tables)))
-        ∙ ap (λ hs. e.1.handles ++ hs) (filter_none (is_of p) (in_turn es) (others_behind p e es same differ tables))
-        ∙ append-nil e.1.handles
+        ap (λ hs. hs ++ filter (is_of p) (in_turn es)) (filter_all (is_of p) e.1 (of_this p e same (All-head Table e es tables)))
+        ∙ ap (λ hs. e.1 ++ hs) (filter_none (is_of p) (in_turn es) (others_behind p e es same differ tables))
+        ∙ append-nil e.1
     go false other more =
-        ap (λ hs. hs ++ filter (is_of p) (in_turn es)) (filter_none (is_of p) e.1.handles (of_another p e other (All-head Table e es tables))) ∙ more
+        ap (λ hs. hs ++ filter (is_of p) (in_turn es)) (filter_none (is_of p) e.1 (of_another p e other (All-head Table e es tables))) ∙ more
 
 at_rises : (p : ℕ) (es : Entries) → All Table es → OrdersRise (handles_in (at es p))
 at_rises p es tables =
-    go (at es p) (All-lookup (λ (x : Own). OrdersRise x.handles) (is_at (nat_cmp p)) es (All-weaker Table (λ e. OrdersRise e.1.handles) (λ e table. table.rising) es tables))
+    go (at es p) (All-lookup (λ (x : List Held). OrdersRise x) (is_at (nat_cmp p)) es (All-weaker Table (λ e. OrdersRise e.1) (λ e table. table.rising) es tables))
   where
-    go : (o : Option Own) → IfSome o (λ x. OrdersRise x.handles) → OrdersRise (handles_in o)
+    go : (o : Option (List Held)) → IfSome o (λ x. OrdersRise x) → OrdersRise (handles_in o)
     go None rises = λ i j d before within. absurd (omega (arith, within))
     go (Some x) rises = rises
 
@@ -106,28 +107,28 @@ handles_at p es differ tables =
     ∙ by_order-same (handles_in (at es p)) (OrdersRise-Rises (handles_in (at es p)) (at_rises p es tables))
 
 -- what is found has the handles of its process
-pub found_table : (p : ℕ) (es : Entries) (x : Own) → All Table es → at es p ≡ Some x → IsTableOf p x.handles
+pub found_table : (p : ℕ) (es : Entries) (x : List Held) → All Table es → at es p ≡ Some x → IsTableOf p x
 found_table p [] x tables found = cc
 found_table p (e ∷ es) x tables found =
     go (e.0 == p) refl (ap (λ t. cond t (Some e.1) (at es p)) (sym (is_at-id p e.0)) ∙ found) (found_table p es x (All-tail Table e es tables))
   where
-    go : (t : Bool) → (e.0 == p) ≡ t → cond t (Some e.1) (at es p) ≡ Some x → (at es p ≡ Some x → IsTableOf p x.handles) → IsTableOf p x.handles
+    go : (t : Bool) → (e.0 == p) ≡ t → cond t (Some e.1) (at es p) ≡ Some x → (at es p ≡ Some x → IsTableOf p x) → IsTableOf p x
     go true same here more =
         let it : e.1 ≡ x = cc in
-        subst (λ (y : Own). IsTableOf p y.handles) it (subst (λ n. IsTableOf n e.1.handles) (eqb-true e.0 p same) (All-head Table e es tables))
+        subst (λ (y : List Held). IsTableOf p y) it (subst (λ n. IsTableOf n e.1) (eqb-true e.0 p same) (All-head Table e es tables))
     go false other there more = more there
 
 -- ---- one process
 
 -- what is under a number, as a process
-abbrev pub named : ℕ → Own → Process
-named p x = record { number = p; map = x.map }
+abbrev pub named : Directories → ℕ → List Held → Process
+named maps p x = process_of_entry maps (p, x)
 
-pub process_at : (p : ℕ) (es : Entries) → find (λ x. x.number == p) (processes_of es) ≡ option_map (named p) (at es p)
-process_at p [] = refl
-process_at p (e ∷ es) = go (e.0 == p) refl (process_at p es) ∙ sym (ap (λ t. option_map (named p) (cond t (Some e.1) (at es p))) (is_at-id p e.0))
+pub process_at : (maps : Directories) (p : ℕ) (es : Entries) → find (λ x. x.number == p) (processes_of maps es) ≡ option_map (named maps p) (at es p)
+process_at maps p [] = refl
+process_at maps p (e ∷ es) = go (e.0 == p) refl (process_at maps p es) ∙ sym (ap (λ t. option_map (named maps p) (cond t (Some e.1) (at es p))) (is_at-id p e.0))
   where
-    go : (t : Bool) → (e.0 == p) ≡ t → find (λ x. x.number == p) (processes_of es) ≡ option_map (named p) (at es p)
-        → cond t (Some (process_of_entry e)) (find (λ x. x.number == p) (processes_of es)) ≡ option_map (named p) (cond t (Some e.1) (at es p))
-    go true same more = ap (λ n. Some (named n e.1)) (eqb-true e.0 p same)
+    go : (t : Bool) → (e.0 == p) ≡ t → find (λ x. x.number == p) (processes_of maps es) ≡ option_map (named maps p) (at es p)
+        → cond t (Some (process_of_entry maps e)) (find (λ x. x.number == p) (processes_of maps es)) ≡ option_map (named maps p) (cond t (Some e.1) (at es p))
+    go true same more = ap (λ n. Some (named maps n e.1)) (eqb-true e.0 p same)
     go false other more = more

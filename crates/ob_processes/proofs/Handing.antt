@@ -1,5 +1,5 @@
 -- Handles that a process begins with: their values, their orders, and what is left without them.
-use Rattle.std.proofs.Common.{◌≡◌, ◌≢◌, ◌∙◌, ℕ, suc, ◌+◌, ◌<◌, ◌≤◌, ◌==◌, ◌&&◌, ◌||◌, Bool, true, false, not, cond, List, [], ◌∷◌, ◌++◌, length, filter, find, get_or, take, Option, None, Some, Result, Ok, Err, All, refl, ap, sym, subst, arith, eq-eqb}
+use Rattle.std.proofs.Common.{◌≡◌, ◌≢◌, ◌∙◌, ℕ, suc, ◌+◌, ◌<◌, ◌≤◌, ◌==◌, ◌&&◌, ◌||◌, Bool, true, false, not, cond, List, [], ◌∷◌, ◌++◌, length, filter, find, get_or, map, take, Option, None, Some, Result, Ok, Err, All, refl, ap, sym, subst, arith, eq-eqb}
 use Rattle.std.specs.Prelude.{AllPairs}
 use Rattle.std.specs.Result.{IfOk}
 use Rattle.std.specs.List.{list_any}
@@ -14,7 +14,7 @@ use Rattle.ob_model.specs.declared.state.Process.{Process}
 use Rattle.ob_model.specs.Closing.{is_handle}
 use Rattle.ob_model.proofs.Finds.{filter_all, filter_none}
 use Rattle.ob_processes.specs.Handed.{handed_on}
-use Rattle.ob_processes.specs.Running.{Running}
+use Rattle.ob_processes.specs.Running.{Running, with_map}
 use Rattle.ob_processes.proofs.Entries.{is_of}
 
 -- what holds of the list that was asked for holds of what was given
@@ -181,6 +181,15 @@ begun_back p map xs below =
     (filter_all (λ x. not (x.number == p)) xs (All-weaker (λ x. x.number < p) (λ x. not (x.number == p) ≡ true) (λ x less. ap not (ne_eqb x.number p (λ same. omega (arith, less, same)))) xs below))
     ∙ ap (λ b. xs ++ cond (not b) (record { number = p; map = map } ∷ []) []) (eq-eqb p p refl)
     ∙ append-nil xs
+
+-- and has the map that it is given
+pub begun_mapped : (p : ℕ) (m : Option ℕ) (xs : List Process) → All (λ x. x.number < p) xs
+    → map (with_map p m) (xs ++ record { number = p; map = None } ∷ []) ≡ xs ++ record { number = p; map = m } ∷ []
+begun_mapped p m [] below = ap (λ b. cond b (record { number = p; map = m }) (record { number = p; map = None }) ∷ []) (eq-eqb p p refl)
+begun_mapped p m (x ∷ xs) below =
+    ap (λ b. cond b (record x { map = m }) x ∷ map (with_map p m) (xs ++ record { number = p; map = None } ∷ []))
+    (ne_eqb x.number p (λ same. let less : x.number < p = All-head (λ (y : Process). y.number < p) x xs below in omega (arith, less, same)))
+    ∙ ap (λ ys. x ∷ ys) (begun_mapped p m xs (All-tail (λ y. y.number < p) x xs below))
 
 pub alike : (a b : Running) → a.processes ≡ b.processes → a.handles ≡ b.handles → a ≡ b
 alike a b processes handles = λ i. record { processes = processes i; handles = handles i }

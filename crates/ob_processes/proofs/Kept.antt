@@ -11,69 +11,68 @@ use Rattle.ob_model.specs.Closing.{is_handle}
 use Rattle.ob_model.proofs.Ids.{Differ-from_rising}
 use Rattle.ob_handles.proofs.Lists.{new_handle_is_taken_back}
 use Rattle.ob_handles.specs.Table.{IsUnused, without}
-use Rattle.ob_processes.specs.Counts.{Numbers, count_of, CountsOneMore, CountsOneLess, Counts, AreCounted}
-use Rattle.ob_processes.specs.Running.{Running, Own, Entries, handles_of, seen}
+use Rattle.ob_counts.specs.Counts.{Numbers, count_of, CountsOneMore, CountsOneLess}
+use Rattle.ob_devmap.specs.Maps.{Directories, MapChanges}
+use Rattle.ob_processes.specs.Counts.{Counts, AreKept}
+use Rattle.ob_processes.specs.Running.{Running, Entries, handles_of, seen}
 use Rattle.ob_processes.proofs.Entries.{at, handles_in, is_of, filter_both, handles_at}
 use Rattle.ob_processes.proofs.Counting.{counts_more, counts_fewer, counts_room, holders, taken_none}
-use Rattle.ob_processes.proofs.Changes.{put, stays, handles_more, handles_fewer, running_begun, handles_begun, running_ended, handles_ended}
+use Rattle.ob_processes.proofs.Changes.{put, stays, handles_more, handles_fewer, begun, running_begun, handles_begun, others, running_ended, handles_ended}
+use Rattle.ob_processes.proofs.Mapped.{mapped_put, mapped_begun, mapped_ended}
 use Rattle.ob_processes.proofs.Seen.{all_handles, in_found, handles_now, written_same}
 use Rattle.ob_processes.proofs.Written.{kept_more, kept_fewer}
 
 -- what was granted and taken back leaves the process as it was
-pub own_back : (x more w : Own) (h : Held) → IsUnused x.handles h.value → more ≡ record { map = x.map; handles = x.handles ++ h ∷ [] }
-    → w ≡ record { map = more.map; handles = without more.handles h.value } → w ≡ x
-own_back x more w h unused last taken =
-    let own : List Held → Own = λ hs. record { map = x.map; handles = hs } in
-    let less : Own → Own = λ y. record { map = y.map; handles = without y.handles h.value } in
-    taken ∙ ap less last ∙ ap own (new_handle_is_taken_back x.handles h unused)
+pub own_back : (x more w : List Held) (h : Held) → IsUnused x h.value → more ≡ x ++ h ∷ []
+    → w ≡ without more h.value → w ≡ x
+own_back x more w h unused last taken = taken ∙ ap (λ hs. without hs h.value) last ∙ new_handle_is_taken_back x h unused
 
-module _ (es : Entries) (kept : ℕ) (numbers : Numbers) (are : AreCounted es kept numbers) (now : Running) (same : seen es ≡ now) where
+module _ (maps : Directories) (es : Entries) (kept : ℕ) (numbers : Numbers) (are : AreKept maps es kept numbers) (now : Running) (same : seen maps es ≡ now) where
   -- there is room for one more of an object
   pub room : (order object : ℕ) → All (λ h. h.order < order) now.handles → count_of numbers object ≤ order
-  room order object newest = counts_room (handles_of es) numbers order object are.counts are.running.rising (all_handles es kept are.running now same (λ h. h.order < order) newest)
+  room order object newest = counts_room (handles_of es) numbers order object are.counts are.running.rising (all_handles maps es kept are.running now same (λ h. h.order < order) newest)
 
   pub count_seen : (object : ℕ) → count_of numbers object ≡ count_by (λ h. h.object == object) now.handles
-  count_seen object = are.counts object ∙ ap (count_by (λ h. h.object == object)) (handles_now es kept are.running now same)
+  count_seen object = are.counts object ∙ ap (count_by (λ h. h.object == object)) (handles_now maps es kept are.running now same)
 
   module _ (key p : ℕ) (is_p : key ≡ p) where
-    pub count_in_seen : (o : Option Own) → at es key ≡ o → (object : ℕ)
+    pub count_in_seen : (o : Option (List Held)) → at es key ≡ o → (object : ℕ)
         → count_by (λ h. h.object == object) (handles_in o) ≡ count_by (λ h. (h.process == p) && (h.object == object)) now.handles
     count_in_seen o found object =
         sym (length-filter (λ h. h.object == object) (handles_in o))
-        ∙ ap (λ hs. length (filter (λ h. h.object == object) hs)) (sym (in_found es kept are.running now same key p is_p o found))
+        ∙ ap (λ hs. length (filter (λ h. h.object == object) hs)) (sym (in_found maps es kept are.running now same key p is_p o found))
         ∙ ap length (sym (filter_both (is_of p) (λ h. h.object == object) now.handles))
         ∙ length-filter (λ h. (h.process == p) && (h.object == object)) now.handles
 
-    module _ (x : Own) (found : at es key ≡ Some x) (new : Entries) (w : Own) (wrote : new ≡ put es key w) where
-      pub counted_same : (after : Numbers) → w ≡ x → after ≡ numbers → AreCounted new kept after
+    module _ (x : List Held) (found : at es key ≡ Some x) (new : Entries) (w : List Held) (wrote : new ≡ put es key w) where
+      pub counted_same : (after : Numbers) → w ≡ x → after ≡ numbers → AreKept maps new kept after
       counted_same after unchanged equal =
-          subst (AreCounted new kept) (sym equal) (subst (λ n. AreCounted n kept numbers) (sym (written_same es new key x w found wrote unchanged)) are)
+          subst (AreKept maps new kept) (sym equal) (subst (λ n. AreKept maps n kept numbers) (sym (written_same es new key x w found wrote unchanged)) are)
 
-      pub counted_more : (h : Held) → w ≡ record { map = x.map; handles = x.handles ++ h ∷ [] } → All (λ k. k.order < h.order) now.handles → h.process ≡ p
-          → (after : Numbers) → CountsOneMore h.object numbers after → AreCounted new (kept + 1) after
+      pub counted_more : (h : Held) → w ≡ x ++ h ∷ [] → All (λ k. k.order < h.order) now.handles → h.process ≡ p
+          → (after : Numbers) → CountsOneMore h.object numbers after → AreKept maps new (kept + 1) after
       counted_more h last newest own after more = record {
-        running = kept_more es kept are.running now same key p is_p x found new w wrote h last newest own;
+        running = kept_more maps es kept are.running now same key p is_p x found new w wrote h last newest own;
+        mapped = mapped_put maps key es new w wrote are.mapped;
         counts = subst (Counts after) (sym all) (counts_more (handles_of es) numbers after h are.counts more);
       }
         where
           all : handles_of new ≡ handles_of es ++ h ∷ []
-          all = handles_more key kept es are.running x found new w wrote h (ap (λ (y : Own). y.handles) last) (all_handles es kept are.running now same (λ k. k.order < h.order) newest)
+          all = handles_more key kept es are.running x found new w wrote h last (all_handles maps es kept are.running now same (λ k. k.order < h.order) newest)
 
-      module _ (value : ℕ) (others : w ≡ record { map = x.map; handles = without x.handles value }) where
+      module _ (value : ℕ) (others : w ≡ without x value) where
         all_fewer : handles_of new ≡ filter (stays key value) (handles_of es)
-        all_fewer = handles_fewer key kept es are.running x found new w wrote value (ap (λ (y : Own). y.handles) others)
+        all_fewer = handles_fewer key kept es are.running x found new w wrote value others
 
         -- no handle has the value
-        pub counted_none : find (λ k. k.value == value) x.handles ≡ None → AreCounted new kept numbers
-        counted_none none = counted_same numbers (others ∙ ap own (taken_none x.handles value none)) refl
-          where
-            own : List Held → Own
-            own hs = record { map = x.map; handles = hs }
+        pub counted_none : find (λ k. k.value == value) x ≡ None → AreKept maps new kept numbers
+        counted_none none = counted_same numbers (others ∙ taken_none x value none) refl
 
-        pub counted_fewer : (h : Held) → filter (λ k. k.value == value) x.handles ≡ h ∷ [] → length w.handles + 1 ≡ length x.handles
-            → (left : ℕ) → left + 1 ≡ kept → (after : Numbers) → CountsOneLess h.object numbers after → AreCounted new left after
+        pub counted_fewer : (h : Held) → filter (λ k. k.value == value) x ≡ h ∷ [] → length w + 1 ≡ length x
+            → (left : ℕ) → left + 1 ≡ kept → (after : Numbers) → CountsOneLess h.object numbers after → AreKept maps new left after
         counted_fewer h one fewer left so_many after less = record {
-          running = kept_fewer es kept are.running now same key p is_p x found new w wrote value others 1 fewer left so_many;
+          running = kept_fewer maps es kept are.running now same key p is_p x found new w wrote value others 1 fewer left so_many;
+          mapped = mapped_put maps key es new w wrote are.mapped;
           counts = subst (Counts after) (sym all_fewer) (counts_fewer (is_handle key value) (handles_of es) numbers after h are.counts less of_all);
         }
           where
@@ -84,16 +83,18 @@ module _ (es : Entries) (kept : ℕ) (numbers : Numbers) (are : AreCounted es ke
                 ∙ one
 
   module _ (key : ℕ) (new : Entries) where
-    pub counted_begun : (m : Option ℕ) → All (λ e. e.0 < key) es → new ≡ insert_entry nat_cmp es key (record { map = m; handles = [] }) → IsStrictlySortedBy nat_cmp (keys_of new)
-        → AreCounted new kept numbers
-    counted_begun m newest put_in rising = record {
-      running = running_begun key kept es are.running new m newest put_in rising;
-      counts = subst (Counts numbers) (sym (handles_begun key kept es are.running new m newest put_in)) are.counts;
+    pub counted_begun : All (λ e. e.0 < key) es → new ≡ insert_entry nat_cmp es key [] → IsStrictlySortedBy nat_cmp (keys_of new) → AreKept maps new kept numbers
+    counted_begun newest put_in rising = record {
+      running = running_begun key kept es are.running new newest put_in rising;
+      mapped = mapped_begun maps key es new (begun key kept es are.running new newest put_in) are.mapped;
+      counts = subst (Counts numbers) (sym (handles_begun key kept es are.running new newest put_in)) are.counts;
     }
 
-    pub counted_ended : handles_in (at es key) ≡ [] → new ≡ remove_entry (is_at (nat_cmp key)) es → IsStrictlySortedBy nat_cmp (keys_of new) → AreCounted new kept numbers
-    counted_ended empty taken rising = record {
+    pub counted_ended : handles_in (at es key) ≡ [] → new ≡ remove_entry (is_at (nat_cmp key)) es → IsStrictlySortedBy nat_cmp (keys_of new)
+        → (left : Directories) → MapChanges key None maps left → AreKept left new kept numbers
+    counted_ended empty taken rising left cleared = record {
       running = running_ended key kept es are.running new empty taken rising;
+      mapped = mapped_ended maps left key es new (others key kept es are.running new empty taken) cleared are.mapped;
       counts = subst (Counts numbers) (sym (handles_ended key kept es are.running new empty taken)) are.counts;
     }
 

@@ -1,7 +1,7 @@
 -- What the calls of the map give, of the processes as they are seen.
 use Rattle.std.proofs.Common.{◌≡◌, ◌∙◌, ℕ, ◌<◌, ◌≤◌, ◌==◌, ◌&&◌, Bool, true, false, not, cond, List, [], ◌∷◌, length, filter, find, map, count_by, get_or, Option, None, Some, option_map, All, refl, ap, sym, subst, arith}
-use Rattle.std.proofs.lemmas.Bool.{false≢true}
-use Rattle.std.proofs.lemmas.List.Elements.{All-nil, All-cons, All-head, All-tail}
+use Rattle.std.proofs.lemmas.Bool.{false≢true, ne_eqb}
+use Rattle.std.proofs.lemmas.List.Elements.{All-nil, All-cons, All-head, All-tail, All-weaker}
 use Rattle.std.proofs.lemmas.List.Sums.{length-filter}
 use Rattle.std.proofs.lemmas.Map.Steps.{set_value_same}
 use Rattle.std.specs.BTreeMap.{is_at}
@@ -11,20 +11,17 @@ use Rattle.std.specs.Ordering.{nat_cmp}
 use Rattle.ob_model.specs.declared.state.Held.{Held}
 use Rattle.ob_model.specs.declared.state.Process.{Process}
 use Rattle.ob_model.specs.Closing.{is_handle}
-use Rattle.ob_model.proofs.Finds.{filter_all}
-use Rattle.ob_model.proofs.Ids.{Differ-from_rising}
-use Rattle.ob_processes.specs.Running.{Running, Own, Entries, processes_of, handles_of, seen, IsRunning}
+use Rattle.ob_model.proofs.Finds.{filter_all, find_none}
+use Rattle.ob_model.proofs.Ids.{Differ-from_rising, lookup-id}
+use Rattle.ob_devmap.specs.Maps.{Directories, map_in}
+use Rattle.ob_processes.specs.Running.{Running, Entries, process_of_entry, processes_of, OnlyLiveHaveMaps, handles_of, seen, IsRunning}
 use Rattle.ob_processes.proofs.ByOrder.{fewer_than_orders}
 use Rattle.ob_processes.proofs.Entries.{at, handles_in, is_of, named, find_first, find_both, handles_at, process_at}
 use Rattle.ob_processes.proofs.Changes.{put, stays}
 
-map_some : (p : ℕ) (o : Option Own) → is_some (option_map (named p) o) ≡ is_some o
-map_some p None = refl
-map_some p (Some x) = refl
-
-map_of_named : (p : ℕ) (o : Option Own) → option_and_then (λ x. x.map) (option_map (named p) o) ≡ option_and_then (λ x. x.map) o
-map_of_named p None = refl
-map_of_named p (Some x) = refl
+map_some : (maps : Directories) (p : ℕ) (o : Option (List Held)) → is_some (option_map (named maps p) o) ≡ is_some o
+map_some maps p None = refl
+map_some maps p (Some x) = refl
 
 -- where a test keeps nothing, nothing passes
 none_passes : {X : Type 0} (test : X → Bool) (xs : List X) → filter test xs ≡ [] → All (λ x. test x ≡ false) xs
@@ -43,11 +40,11 @@ all_before : {X Y : Type 0} (f : X → Y) (P : Y → Type 0) (xs : List X) → A
 all_before f P [] all = All-nil (λ x. P (f x))
 all_before f P (x ∷ xs) all = All-cons (λ y. P (f y)) x xs (All-head P (f x) (map f xs) all) (all_before f P xs (All-tail P (f x) (map f xs) all))
 
-module _ (es : Entries) (kept : ℕ) (is : IsRunning es kept) (now : Running) (same : seen es ≡ now) where
+module _ (maps : Directories) (es : Entries) (kept : ℕ) (is : IsRunning es kept) (now : Running) (same : seen maps es ≡ now) where
   pub handles_now : handles_of es ≡ now.handles
   handles_now = ap (λ r. r.handles) same
 
-  pub processes_now : processes_of es ≡ now.processes
+  pub processes_now : processes_of maps es ≡ now.processes
   processes_now = ap (λ r. r.processes) same
 
   pub all_handles : (P : Held → Type 0) → All P now.handles → All P (handles_of es)
@@ -68,16 +65,22 @@ module _ (es : Entries) (kept : ℕ) (is : IsRunning es kept) (now : Running) (s
 
     -- a process is above all, where its number is
     pub newest_key : All (λ x. x.number < p) now.processes → All (λ e. e.0 < key) es
-    newest_key newest = all_before (λ e. record { number = e.0; map = e.1.map }) (λ (x : Process). x.number < key) es
+    newest_key newest = all_before (λ e. process_of_entry maps e) (λ (x : Process). x.number < key) es
         (subst (All (λ (x : Process). x.number < key)) (sym processes_now) (subst (λ n. All (λ (x : Process). x.number < n) now.processes) (sym is_p) newest))
 
-    process_now : find (λ x. x.number == p) now.processes ≡ option_map (named p) (at es key)
-    process_now = ap (find (λ x. x.number == p)) (sym processes_now) ∙ process_at p es ∙ ap (λ n. option_map (named p) (at es n)) (sym is_p)
+    absent : All (λ x. x.number < p) now.processes → at es key ≡ None
+    absent newest =
+        lookup-id key es
+        ∙ ap (option_map (λ e. e.1)) (find_none (λ e. e.0 == key) es
+        (All-weaker (λ e. e.0 < key) (λ e. (e.0 == key) ≡ false) (λ e less. ne_eqb e.0 key (λ same. omega (arith, less, same))) es (newest_key newest)))
+
+    process_now : find (λ x. x.number == p) now.processes ≡ option_map (named maps p) (at es key)
+    process_now = ap (find (λ x. x.number == p)) (sym processes_now) ∙ process_at maps p es ∙ ap (λ n. option_map (named maps p) (at es n)) (sym is_p)
 
     pub empty_key : find (is_of p) now.handles ≡ None → handles_in (at es key) ≡ []
     empty_key none = empty_from_first (handles_in (at es key)) (ap (λ hs. slice_get hs 0) (sym of_now) ∙ sym (find_first (is_of p) now.handles) ∙ none)
 
-    module _ (o : Option Own) (found : at es key ≡ o) where
+    module _ (o : Option (List Held)) (found : at es key ≡ o) where
       pub in_found : filter (is_of p) now.handles ≡ handles_in o
       in_found = of_now ∙ ap handles_in found
 
@@ -91,10 +94,22 @@ module _ (es : Entries) (kept : ℕ) (is : IsRunning es kept) (now : Running) (s
       size_seen = ap length (sym in_found) ∙ length-filter (is_of p) now.handles
 
       pub live_seen : is_some o ≡ is_some (find (λ x. x.number == p) now.processes)
-      live_seen = sym (ap is_some process_now ∙ map_some p (at es key) ∙ ap is_some found)
+      live_seen = sym (ap is_some process_now ∙ map_some maps p (at es key) ∙ ap is_some found)
 
-      pub map_seen : option_and_then (λ x. x.map) o ≡ option_and_then (λ x. x.map) (find (λ x. x.number == p) now.processes)
-      map_seen = sym (ap (option_and_then (λ (x : Process). x.map)) process_now ∙ map_of_named p (at es key) ∙ ap (option_and_then (λ (x : Own). x.map)) found)
+    -- the map under the number is that of the process, since no other has one
+    pub map_seen : OnlyLiveHaveMaps maps es → map_in maps p ≡ option_and_then (λ x. x.map) (find (λ x. x.number == p) now.processes)
+    map_seen only = go (at es key) refl ∙ sym (ap (option_and_then (λ (x : Process). x.map)) process_now)
+      where
+        go : (o : Option (List Held)) → at es key ≡ o → map_in maps p ≡ option_and_then (λ x. x.map) (option_map (named maps p) o)
+        go None none = ap (map_in maps) (sym is_p) ∙ only key none
+        go (Some x) found = refl
+
+    -- a process above all has no map, and no handle
+    pub none_mapped : OnlyLiveHaveMaps maps es → All (λ x. x.number < p) now.processes → map_in maps key ≡ None
+    none_mapped only newest = only key (absent newest)
+
+    pub none_held : All (λ x. x.number < p) now.processes → find (is_of p) now.handles ≡ None
+    none_held newest = find_first (is_of p) now.handles ∙ ap (λ hs. slice_get hs 0) (in_found None (absent newest))
 
     pub not_live : at es key ≡ None → is_some (find (λ x. x.number == p) now.processes) ≡ true → ⊥
     not_live none live = false≢true (live_seen None none ∙ live)
@@ -106,5 +121,5 @@ module _ (es : Entries) (kept : ℕ) (is : IsRunning es kept) (now : Running) (s
         (λ k d below. ap (λ t. not (t && (get_or now.handles k d).value == value)) (none_passes (is_of p) now.handles (in_found None none) k d below)))
 
 -- what was written as it was
-pub written_same : (es new : Entries) (p : ℕ) (x w : Own) → at es p ≡ Some x → new ≡ put es p w → w ≡ x → new ≡ es
+pub written_same : (es new : Entries) (p : ℕ) (x w : List Held) → at es p ≡ Some x → new ≡ put es p w → w ≡ x → new ≡ es
 written_same es new p x w found wrote unchanged = wrote ∙ ap (put es p) unchanged ∙ set_value_same (is_at (nat_cmp p)) es x found

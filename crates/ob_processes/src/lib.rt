@@ -1,7 +1,6 @@
 //! The live processes, each with its device map and its handle table.
 #![tactic(auto)]
 
-mod counts;
 mod live;
 mod processes;
 

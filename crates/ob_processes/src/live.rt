@@ -10,83 +10,68 @@ ghost use Rattle.ob_model.specs.State.{greatest_number, most_handles};
 ghost use Rattle.ob_model.specs.Grants.{IsHandleValue};
 ghost use Rattle.ob_handles.specs.Table.{IsUnused, without};
 
-use crate::counts::Counts;
 use ob_base::{Fault, Handle, ObjId, Proc};
+use ob_counts::Counts;
 use ob_handles::HandleTable;
 use ob_model::Held;
 use std::alloc::{AllocError, Global};
 use std::marker::Model;
 
-/// What one live process has. A contract sees its map and its handles, in the order in which they were
-/// opened.
+/// What one live process has, beside its device map. A contract sees its handles, in the order in which
+/// they were opened.
 #[derive(Drop)]
 pub(crate) struct Live<H: HandleTable> {
-    map: Option<ObjId>,
     table: H,
     counts: Counts,
 }
 
 impl<H: HandleTable> Model for Live<H> {
-    ghost use Rattle.ob_processes.specs.Running.{Own};
+    ghost use Rattle.std.specs.Prelude.{List};
+    ghost use Rattle.ob_model.specs.declared.state.Held.{Held as AHandle};
     ghost use Rattle.ob_processes.specs.Counts.{IsCounted};
 
-    ghost Value = { Own };
+    ghost Value = { List AHandle };
 
-    ghost view = { λ live. record { map = live.map; handles = H.handles live.table } };
+    ghost view = { λ live. H.handles live.table };
 
     ghost invariant = { λ live. IsCounted (H.handles live.table) live.counts };
 }
 
 impl<H: HandleTable> Live<H> {
     /// A process without a handle. Takes no memory.
-    pub(crate) fn new(alloc: Global, map: Option<ObjId>) -> Live<H>
-        ensures { result ≡ record { map = map; handles = [] } }
+    pub(crate) fn new(alloc: Global) -> Live<H>
+        ensures { result ≡ [] }
     {
         Live {
-            map,
             table: H::new(alloc),
             counts: Counts::new(alloc),
         }
     }
 
-    /// The local directory of its device map, where it has a map.
-    pub(crate) fn map(&self) -> Option<ObjId>
-        ensures { result ≡ self.now.map }
-    {
-        self.map
-    }
-
-    /// Changes its device map.
-    pub(crate) fn set_map(&mut self, map: Option<ObjId>)
-        ensures { self.new ≡ record { map = map; handles = self.old.handles } }
-    {
-        self.map = map;
-    }
-
     /// How many handles it has.
     pub(crate) fn len(&self) -> usize
-        ensures { result ≡ length self.now.handles }
+        ensures { result ≡ length self.now }
     {
         self.table.len()
     }
 
     /// Its handle of a value, where it has one.
     pub(crate) fn get(&self, value: Handle) -> Option<Held>
-        ensures { result ≡ find (λ h. h.value == value) self.now.handles }
+        ensures { result ≡ find (λ h. h.value == value) self.now }
     {
         self.table.get(value)
     }
 
     /// Its handle that was opened before its others.
     pub(crate) fn oldest(&self) -> Option<Held>
-        ensures { result ≡ slice_get self.now.handles 0 }
+        ensures { result ≡ slice_get self.now 0 }
     {
         self.table.oldest()
     }
 
     /// Those of its handles that a child inherits.
     pub(crate) fn inheritable(&self, alloc: Global) -> Result<Vec<Held>, AllocError>
-        ensures list { IfOk result (λ list. list.items ≡ filter (λ h. h.inherit) self.now.handles) }
+        ensures list { IfOk result (λ list. list.items ≡ filter (λ h. h.inherit) self.now) }
         ensures values { IfOk result (λ list. All (λ h. IsHandleValue h.value) list.items) }
         ensures apart { IfOk result (λ list. AllPairs (λ a b. a.value ≢ b.value) list.items) }
     {
@@ -95,7 +80,7 @@ impl<H: HandleTable> Live<H> {
 
     /// How many of its handles lead to an object.
     pub(crate) fn count_of(&self, object: ObjId) -> usize
-        ensures { result ≡ count_by (λ h. h.object == object) self.now.handles }
+        ensures { result ≡ count_by (λ h. h.object == object) self.now }
     {
         self.counts.get(object)
     }
@@ -108,15 +93,12 @@ impl<H: HandleTable> Live<H> {
         inherit: bool,
         order: u64,
     ) -> Result<Handle, Fault>
-        requires newest { All (λ h. h.order < order) self.old.handles }
-        ensures unused { IfOk result (λ value. IsUnused self.old.handles value) }
-        ensures last { IfOk result (λ value. self.new ≡ record {
-          map = self.old.map;
-          handles = self.old.handles
-              ++ record { process = process; value = value; object = object; inherit = inherit; order = order } ∷ [];
-        }) }
-        ensures full { most_handles ≤ length self.old.handles → result ≡ Err (Refused InsufficientResources) }
-        ensures refused { IfErr result (λ fault. (fault ≡ Memory) ⊎ (most_handles ≤ length self.old.handles)) }
+        requires newest { All (λ h. h.order < order) self.old }
+        ensures unused { IfOk result (λ value. IsUnused self.old value) }
+        ensures last { IfOk result (λ value. self.new
+            ≡ self.old ++ record { process = process; value = value; object = object; inherit = inherit; order = order } ∷ []) }
+        ensures full { most_handles ≤ length self.old → result ≡ Err (Refused InsufficientResources) }
+        ensures refused { IfErr result (λ fault. (fault ≡ Memory) ⊎ (most_handles ≤ length self.old)) }
         ensures unchanged { OnErr result (self.new ≡ self.old) }
     {
         let value = self.table.grant(process, object, inherit, order)?;
@@ -130,10 +112,10 @@ impl<H: HandleTable> Live<H> {
     /// Opens a handle under a value that is given and unused. The order must be above those of its
     /// handles.
     pub(crate) fn put(&mut self, held: Held) -> Result<(), AllocError>
-        requires unused { IsUnused self.old.handles held.value }
-        requires newest { All (λ h. h.order < held.order) self.old.handles }
+        requires unused { IsUnused self.old held.value }
+        requires newest { All (λ h. h.order < held.order) self.old }
         requires number { held.order ≤ greatest_number }
-        ensures last { OnOk result (self.new ≡ record { map = self.old.map; handles = self.old.handles ++ held ∷ [] }) }
+        ensures last { OnOk result (self.new ≡ self.old ++ held ∷ []) }
         ensures unchanged { OnErr result (self.new ≡ self.old) }
     {
         let (value, object) = (held.value, held.object);
@@ -147,10 +129,10 @@ impl<H: HandleTable> Live<H> {
 
     /// Takes its handle of a value out, where it has one.
     pub(crate) fn take(&mut self, value: Handle) -> Option<Held>
-        ensures there { result ≡ find (λ h. h.value == value) self.old.handles }
-        ensures others { self.new ≡ record { map = self.old.map; handles = without self.old.handles value } }
-        ensures one { IfSome result (λ h. filter (λ k. k.value == value) self.old.handles ≡ h ∷ []) }
-        ensures fewer { length self.new.handles + (if is_some result then 1 else 0) ≡ length self.old.handles }
+        ensures there { result ≡ find (λ h. h.value == value) self.old }
+        ensures others { self.new ≡ without self.old value }
+        ensures one { IfSome result (λ h. filter (λ k. k.value == value) self.old ≡ h ∷ []) }
+        ensures fewer { length self.new + (if is_some result then 1 else 0) ≡ length self.old }
     {
         let taken = self.table.take(value)?;
         self.counts.lower(taken.object);

@@ -1,21 +1,22 @@
 //! The live processes.
 
-ghost use Rattle.std.specs.Prelude.{◌≡◌, ◌≢◌, ◌+◌, ◌<◌, ◌≤◌, ◌==◌, ◌&&◌, not, [], ◌∷◌, ◌++◌, None, Err, true, false};
+ghost use Rattle.std.specs.Prelude.{◌≡◌, ◌≢◌, ◌+◌, ◌<◌, ◌≤◌, ◌==◌, ◌&&◌, not, [], ◌∷◌, ◌++◌, None, Some, Err, true, false};
 ghost use Rattle.std.specs.Prelude.{◌⊎◌, length, filter, map, count_by, All, AllPairs, IfOk, IfErr, OnOk, OnErr};
 ghost use Rattle.std.specs.List.{find, list_any};
-ghost use Rattle.std.specs.Option.{is_some, option_and_then};
+ghost use Rattle.std.specs.Option.{is_some, option_and_then, option_map_or};
 ghost use Rattle.ob_base.specs.declared.fault.Fault.TheVariants.{Memory, Refused};
 ghost use Rattle.ob_base.specs.declared.status.Status.TheVariants.{InsufficientResources};
-ghost use Rattle.ob_model.specs.State.{greatest_number, most_handles};
+ghost use Rattle.ob_model.specs.State.{global_id, greatest_number, most_handles};
 ghost use Rattle.ob_model.specs.Grants.{IsHandleValue};
 ghost use Rattle.ob_model.specs.Closing.{is_handle};
 ghost use Rattle.ob_processes.specs.ByOrder.{OrdersRise};
 ghost use Rattle.ob_processes.specs.Handed.{handed_on};
 ghost use Rattle.ob_processes.specs.Running.{with_map};
 
-use crate::counts::Counts;
 use crate::live::Live;
 use ob_base::{Fault, Handle, ObjId, Proc};
+use ob_counts::Counts;
+use ob_devmap::{Maps, View};
 use ob_handles::HandleTable;
 use ob_model::Held;
 use std::alloc::{AllocError, Global};
@@ -36,19 +37,20 @@ use std::marker::Model;
 pub struct Processes<H: HandleTable> {
     alloc: Global,
     live: BTreeMap<u32, Live<H>>,
+    maps: Maps,
     total: usize,
     counts: Counts,
 }
 
 impl<H: HandleTable> Model for Processes<H> {
     ghost use Rattle.ob_processes.specs.Running.{Running, seen};
-    ghost use Rattle.ob_processes.specs.Counts.{AreCounted};
+    ghost use Rattle.ob_processes.specs.Counts.{AreKept};
 
     ghost Value = { Running };
 
-    ghost view = { λ all. seen all.live.entries };
+    ghost view = { λ all. seen all.maps all.live.entries };
 
-    ghost invariant = { λ all. AreCounted all.live.entries all.total all.counts };
+    ghost invariant = { λ all. AreKept all.maps all.live.entries all.total all.counts };
 }
 
 impl<H: HandleTable> Processes<H> {
@@ -58,6 +60,7 @@ impl<H: HandleTable> Processes<H> {
     {
         Processes {
             live: BTreeMap::new(alloc),
+            maps: Maps::new(alloc),
             alloc,
             total: 0,
             counts: Counts::new(alloc),
@@ -73,19 +76,40 @@ impl<H: HandleTable> Processes<H> {
         ensures handles { self.new.handles ≡ self.old.handles }
         ensures unchanged { OnErr result (self.new ≡ self.old) }
     {
-        let live = Live::new(self.alloc, map);
+        self.begin(process)?;
+        let Some(directory) = map else {
+            return Ok(());
+        };
+        if let Err(refused) = self.set_map(process, directory) {
+            self.end(process);
+            return Err(refused);
+        }
+        Ok(())
+    }
+
+    /// A process begins without a device map and without a handle.
+    fn begin(&mut self, process: Proc) -> Result<(), AllocError>
+        requires newest { All (λ x. x.number < process) self.old.processes }
+        ensures last { OnOk result (self.new.processes
+            ≡ self.old.processes ++ record { number = process; map = None } ∷ []) }
+        ensures handles { self.new.handles ≡ self.old.handles }
+        ensures empty { find (λ h. h.process == process) self.new.handles ≡ None }
+        ensures unchanged { OnErr result (self.new ≡ self.old) }
+    {
+        let live = Live::new(self.alloc);
         self.live.insert(process.0, live)?;
         Ok(())
     }
 
-    /// A process that has no handle is live no longer; where it isn't live nothing changes. Takes no
-    /// memory.
+    /// A process that has no handle is live no longer, and its device map goes with it; where it isn't
+    /// live nothing changes. Takes no memory.
     pub fn end(&mut self, process: Proc)
         requires empty { find (λ h. h.process == process) self.old.handles ≡ None }
         ensures others { self.new.processes ≡ filter (λ x. not (x.number == process)) self.old.processes }
         ensures handles { self.new.handles ≡ self.old.handles }
     {
         self.live.remove(&process.0);
+        self.maps.clear(process);
     }
 
     /// Whether a process is live. Takes no memory.
@@ -102,28 +126,41 @@ impl<H: HandleTable> Processes<H> {
         self.live.len()
     }
 
-    /// The local directory of a process's device map; `None` where it has no map or isn't live. Takes no
-    /// memory.
+    /// The directories that `\??` stands for to a process: that of its device map, where it is live and
+    /// has one, and `\GLOBAL??`. Takes no memory.
     ///
-    /// Source: Windows Internals, session namespace.
-    pub fn map_of(&self, process: Proc) -> Option<ObjId>
-        ensures { result ≡ option_and_then (λ x. x.map) (find (λ x. x.number == process) self.now.processes) }
+    /// Source: Windows Internals, Object Manager (session namespace, device maps).
+    pub fn view(&self, process: Proc) -> View
+        ensures local { result.local
+            ≡ option_and_then (λ x. x.map) (find (λ x. x.number == process) self.now.processes) }
+        ensures global { result.global ≡ global_id }
     {
-        self.live.get(&process.0)?.map()
+        self.maps.view(process)
     }
 
-    /// Gives a process another device map, or takes its map away; where it isn't live nothing changes.
-    /// Takes no memory.
+    /// Whether a process has this directory as its device map. Takes no memory.
     ///
-    /// Source: Windows Internals, session namespace.
-    pub fn set_map(&mut self, process: Proc, directory: Option<ObjId>)
-        ensures processes { self.new.processes ≡ map (with_map process directory) self.old.processes }
-        ensures handles { self.new.handles ≡ self.old.handles }
+    /// Source: Windows Internals, Object Manager (session namespace, device maps).
+    pub fn is_mapped(&self, directory: ObjId) -> bool
+        ensures { result ≡ list_any (λ x. option_map_or (λ d. d == directory) x.map false) self.now.processes }
     {
-        let Some(live) = self.live.get_mut(&process.0) else {
-            return;
-        };
-        live.set_map(directory);
+        self.maps.is_mapped(directory)
+    }
+
+    /// Gives a process a device map of this directory, in place of the one that it had; where it isn't
+    /// live nothing changes. Where memory is wanted nothing has changed.
+    ///
+    /// Source: Windows Internals, Object Manager (session namespace, device maps).
+    pub fn set_map(&mut self, process: Proc, directory: ObjId) -> Result<(), AllocError>
+        ensures processes { OnOk result (self.new.processes
+            ≡ map (with_map process (Some directory)) self.old.processes) }
+        ensures handles { self.new.handles ≡ self.old.handles }
+        ensures unchanged { OnErr result (self.new ≡ self.old) }
+    {
+        if self.live.contains_key(&process.0) {
+            self.maps.set(process, directory)?;
+        }
+        Ok(())
     }
 
     /// How many handles there are, of all processes. Takes no memory.

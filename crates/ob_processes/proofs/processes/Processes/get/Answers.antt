@@ -6,11 +6,11 @@ use Rattle.ob_processes.proofs.processes.Processes.get.Goals as goal
 pub returns-in_err-get : goal.returns-in_err-get
 returns-in_err-get g c =
     c.from_residual.ensures
-    ∙ get_seen c.self.inside.live.entries c.self.inside.total c.self.invariant.running c.args.self.now c.self.view_is c.process.inside.0 c.args.process c.process.view_is None
+    ∙ get_seen c.self.inside.maps c.self.inside.live.entries c.self.inside.total c.self.invariant.running c.args.self.now c.self.view_is c.process.inside.0 c.args.process c.process.view_is None
     (sym c.in_err-get.ensures.value) c.args.value
 
 pub returns : goal.returns
 returns g c =
     c.get-2.ensures
-    ∙ get_seen c.self.inside.live.entries c.self.inside.total c.self.invariant.running c.args.self.now c.self.view_is c.process.inside.0 c.args.process c.process.view_is
+    ∙ get_seen c.self.inside.maps c.self.inside.live.entries c.self.inside.total c.self.invariant.running c.args.self.now c.self.view_is c.process.inside.0 c.args.process c.process.view_is
     (Some c.in_ok-get.field-0.now) (sym c.in_ok-get.ensures.value) c.args.value

@@ -4,7 +4,7 @@ use Rattle.std.proofs.lemmas.Result.{err_from_is_err_and}
 use Rattle.std.specs.Option.{option_copied_mut}
 use Rattle.ob_base.specs.declared.fault.Fault.TheVariants.{Memory}
 use Rattle.ob_model.specs.State.{greatest_number, most_handles}
-use Rattle.ob_processes.specs.Counts.{count_of}
+use Rattle.ob_counts.specs.Counts.{count_of}
 use Rattle.ob_processes.proofs.Kept.{own_back, room, counted_same, counted_more}
 use Rattle.ob_processes.proofs.Seen.{not_live, few}
 use Rattle.ob_processes.proofs.Written.{all_of, size_of, get_of, seen_same, seen_more, processes_more}
@@ -12,22 +12,22 @@ use Rattle.ob_processes.proofs.processes.Processes.grant.Goals as goal
 
 pub unreachable-requires : goal.unreachable-requires
 unreachable-requires g c =
-    not_live c.self.inside.live.entries c.self.inside.total c.self.invariant.running c.args.self.now c.self.view_is c.process.inside.0 c.args.process c.process.view_is
+    not_live c.self.inside.maps c.self.inside.live.entries c.self.inside.total c.self.invariant.running c.args.self.now c.self.view_is c.process.inside.0 c.args.process c.process.view_is
     (sym c.get_mut.ensures.value ∙ ap option_copied_mut c.in_default.is) c.requires.live
 
 pub grant-requires-clause-newest : goal.grant-requires-clause-newest
-grant-requires-clause-newest g c _ _ = all_of c.self.inside.live.entries c.self.inside.total c.self.invariant.running c.args.self.now c.self.view_is c.process.inside.0 c.args.process c.process.view_is c.in-Some.live.now
+grant-requires-clause-newest g c _ _ = all_of c.self.inside.maps c.self.inside.live.entries c.self.inside.total c.self.invariant.running c.args.self.now c.self.view_is c.process.inside.0 c.args.process c.process.view_is c.in-Some.live.now
     (sym c.get_mut.ensures.value ∙ ap option_copied_mut c.in-Some.is) (λ h. h.order < c.args.order) c.requires.newest
 
 pub invariant_of-self : goal.invariant_of-self
-invariant_of-self g c = counted_same c.self.inside.live.entries c.self.inside.total c.self.inside.counts c.self.invariant c.args.self.now c.self.view_is c.process.inside.0 c.args.process c.process.view_is c.in-Some.live.now
+invariant_of-self g c = counted_same c.self.inside.maps c.self.inside.live.entries c.self.inside.total c.self.inside.counts c.self.invariant c.args.self.now c.self.view_is c.process.inside.0 c.args.process c.process.view_is c.in-Some.live.now
     (sym c.get_mut.ensures.value ∙ ap option_copied_mut c.in-Some.is)
     (c.get_mut.follows.lender c.grant.new.self).entries c.grant.new.self ((c.get_mut.follows.holds c.grant.new.self).0)
     c.self.inside.counts c.in_err-value.ensures.unchanged refl
 
 pub returns-in_err-value-clause-processes : goal.returns-in_err-value-clause-processes
 returns-in_err-value-clause-processes g c =
-    ap (λ r. r.processes) (seen_same c.self.inside.live.entries c.self.inside.total c.self.invariant.running c.args.self.now c.self.view_is c.process.inside.0 c.args.process c.process.view_is c.in-Some.live.now
+    ap (λ r. r.processes) (seen_same c.self.inside.maps c.self.inside.live.entries c.self.inside.total c.self.invariant.running c.args.self.now c.self.view_is c.process.inside.0 c.args.process c.process.view_is c.in-Some.live.now
     (sym c.get_mut.ensures.value ∙ ap option_copied_mut c.in-Some.is)
     (c.get_mut.follows.lender c.grant.new.self).entries c.grant.new.self ((c.get_mut.follows.holds c.grant.new.self).0)
     c.in_err-value.ensures.unchanged)
@@ -35,7 +35,7 @@ returns-in_err-value-clause-processes g c =
 pub returns-in_err-value-clause-unchanged : goal.returns-in_err-value-clause-unchanged
 returns-in_err-value-clause-unchanged g c =
     let p = err_from_is_err_and c.from_residual.result c.from_residual.ensures.1 in
-    rw p.1 (seen_same c.self.inside.live.entries c.self.inside.total c.self.invariant.running c.args.self.now c.self.view_is c.process.inside.0 c.args.process c.process.view_is c.in-Some.live.now
+    rw p.1 (seen_same c.self.inside.maps c.self.inside.live.entries c.self.inside.total c.self.invariant.running c.args.self.now c.self.view_is c.process.inside.0 c.args.process c.process.view_is c.in-Some.live.now
     (sym c.get_mut.ensures.value ∙ ap option_copied_mut c.in-Some.is)
     (c.get_mut.follows.lender c.grant.new.self).entries c.grant.new.self ((c.get_mut.follows.holds c.grant.new.self).0)
     c.in_err-value.ensures.unchanged)
@@ -44,11 +44,11 @@ pub add-requires : goal.add-requires
 add-requires g c =
     let number : c.args.order ≤ greatest_number = c.requires.number in
     let enough : count_of c.self.inside.counts c.args.object ≤ c.args.order =
-    room c.self.inside.live.entries c.self.inside.total c.self.inside.counts c.self.invariant c.args.self.now c.self.view_is c.args.order c.args.object c.requires.newest in
+    room c.self.inside.maps c.self.inside.live.entries c.self.inside.total c.self.inside.counts c.self.invariant c.args.self.now c.self.view_is c.args.order c.args.object c.requires.newest in
     record { room = omega (arith, enough, number) }
 
 pub invariant_of-self-in-Err : goal.invariant_of-self-in-Err
-invariant_of-self-in-Err g c = counted_same c.self.inside.live.entries c.self.inside.total c.self.inside.counts c.self.invariant c.args.self.now c.self.view_is c.process.inside.0 c.args.process c.process.view_is c.in-Some.live.now
+invariant_of-self-in-Err g c = counted_same c.self.inside.maps c.self.inside.live.entries c.self.inside.total c.self.inside.counts c.self.invariant c.args.self.now c.self.view_is c.process.inside.0 c.args.process c.process.view_is c.in-Some.live.now
     (sym c.get_mut.ensures.value ∙ ap option_copied_mut c.in-Some.is)
     (c.get_mut.follows.lender c.take.new.self).entries c.take.new.self ((c.get_mut.follows.holds c.take.new.self).0)
     c.add.new.self (own_back c.in-Some.live.now c.grant.new.self c.take.new.self
@@ -57,7 +57,7 @@ invariant_of-self-in-Err g c = counted_same c.self.inside.live.entries c.self.in
 
 pub returns-in-Err-clause-processes : goal.returns-in-Err-clause-processes
 returns-in-Err-clause-processes g c =
-    ap (λ r. r.processes) (seen_same c.self.inside.live.entries c.self.inside.total c.self.invariant.running c.args.self.now c.self.view_is c.process.inside.0 c.args.process c.process.view_is c.in-Some.live.now
+    ap (λ r. r.processes) (seen_same c.self.inside.maps c.self.inside.live.entries c.self.inside.total c.self.invariant.running c.args.self.now c.self.view_is c.process.inside.0 c.args.process c.process.view_is c.in-Some.live.now
     (sym c.get_mut.ensures.value ∙ ap option_copied_mut c.in-Some.is)
     (c.get_mut.follows.lender c.take.new.self).entries c.take.new.self ((c.get_mut.follows.holds c.take.new.self).0)
     (own_back c.in-Some.live.now c.grant.new.self c.take.new.self
@@ -66,7 +66,7 @@ returns-in-Err-clause-processes g c =
 
 pub returns-in-Err-clause-unchanged : goal.returns-in-Err-clause-unchanged
 returns-in-Err-clause-unchanged g c =
-    seen_same c.self.inside.live.entries c.self.inside.total c.self.invariant.running c.args.self.now c.self.view_is c.process.inside.0 c.args.process c.process.view_is c.in-Some.live.now
+    seen_same c.self.inside.maps c.self.inside.live.entries c.self.inside.total c.self.invariant.running c.args.self.now c.self.view_is c.process.inside.0 c.args.process c.process.view_is c.in-Some.live.now
     (sym c.get_mut.ensures.value ∙ ap option_copied_mut c.in-Some.is)
     (c.get_mut.follows.lender c.take.new.self).entries c.take.new.self ((c.get_mut.follows.holds c.take.new.self).0)
     (own_back c.in-Some.live.now c.grant.new.self c.take.new.self
@@ -74,24 +74,24 @@ returns-in-Err-clause-unchanged g c =
     c.in_ok-value.ensures.unused c.in_ok-value.ensures.last c.take.ensures.others)
 
 pub overflow_add-self : goal.overflow_add-self
-overflow_add-self g c = omega (arith, few c.self.inside.live.entries c.self.inside.total c.self.invariant.running c.args.self.now c.self.view_is c.args.order c.requires.newest)
+overflow_add-self g c = omega (arith, few c.self.inside.maps c.self.inside.live.entries c.self.inside.total c.self.invariant.running c.args.self.now c.self.view_is c.args.order c.requires.newest)
 
 pub invariant_of-self-2 : goal.invariant_of-self-2
-invariant_of-self-2 g c = counted_more c.self.inside.live.entries c.self.inside.total c.self.inside.counts c.self.invariant c.args.self.now c.self.view_is c.process.inside.0 c.args.process c.process.view_is c.in-Some.live.now
+invariant_of-self-2 g c = counted_more c.self.inside.maps c.self.inside.live.entries c.self.inside.total c.self.inside.counts c.self.invariant c.args.self.now c.self.view_is c.process.inside.0 c.args.process c.process.view_is c.in-Some.live.now
     (sym c.get_mut.ensures.value ∙ ap option_copied_mut c.in-Some.is)
     (c.get_mut.follows.lender c.grant.new.self).entries c.grant.new.self ((c.get_mut.follows.holds c.grant.new.self).0)
     (record { process = c.args.process; value = c.in_ok-value.value; object = c.args.object; inherit = c.args.inherit; order = c.args.order })
     c.in_ok-value.ensures.last c.requires.newest refl c.add.new.self c.in_default-add.ensures.counted
 
 pub returns-clause-last : goal.returns-clause-last
-returns-clause-last g c = seen_more c.self.inside.live.entries c.self.inside.total c.self.invariant.running c.args.self.now c.self.view_is c.process.inside.0 c.args.process c.process.view_is c.in-Some.live.now
+returns-clause-last g c = seen_more c.self.inside.maps c.self.inside.live.entries c.self.inside.total c.self.invariant.running c.args.self.now c.self.view_is c.process.inside.0 c.args.process c.process.view_is c.in-Some.live.now
     (sym c.get_mut.ensures.value ∙ ap option_copied_mut c.in-Some.is)
     (c.get_mut.follows.lender c.grant.new.self).entries c.grant.new.self ((c.get_mut.follows.holds c.grant.new.self).0)
     (record { process = c.args.process; value = c.in_ok-value.value; object = c.args.object; inherit = c.args.inherit; order = c.args.order })
     c.in_ok-value.ensures.last c.requires.newest
 
 pub returns-clause-processes : goal.returns-clause-processes
-returns-clause-processes g c = processes_more c.self.inside.live.entries c.self.inside.total c.self.invariant.running c.args.self.now c.self.view_is c.process.inside.0 c.args.process c.process.view_is c.in-Some.live.now
+returns-clause-processes g c = processes_more c.self.inside.maps c.self.inside.live.entries c.self.inside.total c.self.invariant.running c.args.self.now c.self.view_is c.process.inside.0 c.args.process c.process.view_is c.in-Some.live.now
     (sym c.get_mut.ensures.value ∙ ap option_copied_mut c.in-Some.is)
     (c.get_mut.follows.lender c.grant.new.self).entries c.grant.new.self ((c.get_mut.follows.holds c.grant.new.self).0)
     (record { process = c.args.process; value = c.in_ok-value.value; object = c.args.object; inherit = c.args.inherit; order = c.args.order })
@@ -100,25 +100,25 @@ returns-clause-processes g c = processes_more c.self.inside.live.entries c.self.
 pub returns-in_err-value-clause-full : goal.returns-in_err-value-clause-full
 returns-in_err-value-clause-full g c =
     let p = err_from_is_err_and c.from_residual.result c.from_residual.ensures.1 in
-    λ full. p.1 ∙ ap Err p.2 ∙ c.in_err-value.ensures.full (subst (λ n. most_handles ≤ n) (sym (size_of c.self.inside.live.entries c.self.inside.total c.self.invariant.running c.args.self.now c.self.view_is c.process.inside.0 c.args.process c.process.view_is c.in-Some.live.now
+    λ full. p.1 ∙ ap Err p.2 ∙ c.in_err-value.ensures.full (subst (λ n. most_handles ≤ n) (sym (size_of c.self.inside.maps c.self.inside.live.entries c.self.inside.total c.self.invariant.running c.args.self.now c.self.view_is c.process.inside.0 c.args.process c.process.view_is c.in-Some.live.now
     (sym c.get_mut.ensures.value ∙ ap option_copied_mut c.in-Some.is))) full)
 
 pub returns-in_err-value-clause-refused : goal.returns-in_err-value-clause-refused
 returns-in_err-value-clause-refused g c =
     let p = err_from_is_err_and c.from_residual.result c.from_residual.ensures.1 in
     rw (p.1, p.2)
-    (subst (λ n. (c.in_err-value.field-0.0 ≡ Memory) ⊎ (most_handles ≤ n)) (size_of c.self.inside.live.entries c.self.inside.total c.self.invariant.running c.args.self.now c.self.view_is c.process.inside.0 c.args.process c.process.view_is c.in-Some.live.now
+    (subst (λ n. (c.in_err-value.field-0.0 ≡ Memory) ⊎ (most_handles ≤ n)) (size_of c.self.inside.maps c.self.inside.live.entries c.self.inside.total c.self.invariant.running c.args.self.now c.self.view_is c.process.inside.0 c.args.process c.process.view_is c.in-Some.live.now
     (sym c.get_mut.ensures.value ∙ ap option_copied_mut c.in-Some.is)) c.in_err-value.ensures.refused)
 
 pub returns-in-Err-clause-full : goal.returns-in-Err-clause-full
 returns-in-Err-clause-full g c =
-    λ full. let one = c.in_ok-value.ensures.full (subst (λ n. most_handles ≤ n) (sym (size_of c.self.inside.live.entries c.self.inside.total c.self.invariant.running c.args.self.now c.self.view_is c.process.inside.0 c.args.process c.process.view_is c.in-Some.live.now
+    λ full. let one = c.in_ok-value.ensures.full (subst (λ n. most_handles ≤ n) (sym (size_of c.self.inside.maps c.self.inside.live.entries c.self.inside.total c.self.invariant.running c.args.self.now c.self.view_is c.process.inside.0 c.args.process c.process.view_is c.in-Some.live.now
     (sym c.get_mut.ensures.value ∙ ap option_copied_mut c.in-Some.is))) full) in cc
 
 pub returns-clause-unused : goal.returns-clause-unused
-returns-clause-unused g c = sym (get_of c.self.inside.live.entries c.self.inside.total c.self.invariant.running c.args.self.now c.self.view_is c.process.inside.0 c.args.process c.process.view_is c.in-Some.live.now
+returns-clause-unused g c = sym (get_of c.self.inside.maps c.self.inside.live.entries c.self.inside.total c.self.invariant.running c.args.self.now c.self.view_is c.process.inside.0 c.args.process c.process.view_is c.in-Some.live.now
     (sym c.get_mut.ensures.value ∙ ap option_copied_mut c.in-Some.is) c.in_ok-value.value) ∙ c.in_ok-value.ensures.unused.1
 
 pub returns-clause-full : goal.returns-clause-full
-returns-clause-full g c = λ full. c.in_ok-value.ensures.full (subst (λ n. most_handles ≤ n) (sym (size_of c.self.inside.live.entries c.self.inside.total c.self.invariant.running c.args.self.now c.self.view_is c.process.inside.0 c.args.process c.process.view_is c.in-Some.live.now
+returns-clause-full g c = λ full. c.in_ok-value.ensures.full (subst (λ n. most_handles ≤ n) (sym (size_of c.self.inside.maps c.self.inside.live.entries c.self.inside.total c.self.invariant.running c.args.self.now c.self.view_is c.process.inside.0 c.args.process c.process.view_is c.in-Some.live.now
     (sym c.get_mut.ensures.value ∙ ap option_copied_mut c.in-Some.is))) full)

@@ -13,7 +13,7 @@ pub returns-in-Some : goal.returns-in-Some
 returns-in-Some g c = record {
   list =
       subst (λ handles. IfOk c.inheritable.result (λ list. list.items ≡ filter (λ h. h.inherit) handles))
-      (sym (in_found c.self.inside.live.entries c.self.inside.total c.self.invariant.running c.args.self.now c.self.view_is c.process.inside.0 c.args.process c.process.view_is
+      (sym (in_found c.self.inside.maps c.self.inside.live.entries c.self.inside.total c.self.invariant.running c.args.self.now c.self.view_is c.process.inside.0 c.args.process c.process.view_is
       (Some c.in-Some.live.now) (sym c.in-Some.ensures.value)))
       c.inheritable.ensures.list;
   values = c.inheritable.ensures.values;
@@ -25,7 +25,7 @@ returns-in-None g c = record {
   list =
       c.new.ensures.items
       ∙ sym (ap (filter (λ h. h.inherit))
-      (in_found c.self.inside.live.entries c.self.inside.total c.self.invariant.running c.args.self.now c.self.view_is c.process.inside.0 c.args.process c.process.view_is None
+      (in_found c.self.inside.maps c.self.inside.live.entries c.self.inside.total c.self.invariant.running c.args.self.now c.self.view_is c.process.inside.0 c.args.process c.process.view_is None
       (sym c.in-None.ensures.value)));
   values = subst (All (λ (h : Held). IsHandleValue h.value)) (sym c.new.ensures.items) (All-nil (λ (h : Held). IsHandleValue h.value));
   apart = subst (AllPairs (λ (a : Held) b. a.value ≢ b.value)) (sym c.new.ensures.items) (λ i j d less within. absurd (omega (arith, within)));

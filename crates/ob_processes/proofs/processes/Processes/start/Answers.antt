@@ -1,30 +1,21 @@
--- A process of the greatest number comes last, and has no handle.
-use Rattle.std.proofs.Common.{◌∙◌, ◌++◌, [], ◌∷◌, ap}
-use Rattle.std.specs.BTreeMap.{insert_entry}
-use Rattle.std.specs.Ordering.{nat_cmp}
-use Rattle.ob_processes.proofs.Changes.{processes_begun, handles_begun}
-use Rattle.ob_processes.proofs.Seen.{newest_key, processes_now, handles_now}
-use Rattle.ob_processes.proofs.Kept.{counted_begun}
+-- A process begins without a map and gets it, or is taken away again.
+use Rattle.std.proofs.Common.{◌∙◌, ◌==◌, ◌++◌, ◌∷◌, [], None, Some, not, filter, map, ap, sym}
+use Rattle.ob_processes.specs.Running.{with_map}
+use Rattle.ob_processes.proofs.Handing.{begun_back, begun_mapped, alike}
 use Rattle.ob_processes.proofs.processes.Processes.start.Goals as goal
 
-pub invariant_of-self-2 : goal.invariant_of-self-2
-invariant_of-self-2 g c =
-    counted_begun c.self.inside.live.entries c.self.inside.total c.self.inside.counts c.self.invariant c.args.self.now c.self.view_is c.process.inside.0 c.insert.new.self.entries c.args.map
-    (newest_key c.self.inside.live.entries c.self.inside.total c.self.invariant.running c.args.self.now c.self.view_is c.process.inside.0 c.args.process c.process.view_is c.requires.newest)
-    (c.in_ok-insert.ensures.entries ∙ ap (insert_entry nat_cmp c.self.inside.live.entries c.process.inside.0) c.new-live.ensures)
-    c.insert.ensures.ordered
+pub returns-in-Err-clause-unchanged : goal.returns-in-Err-clause-unchanged
+returns-in-Err-clause-unchanged g c =
+    alike c.end.new.self c.args.self.now
+    (c.end.ensures.others
+    ∙ ap (λ r. filter (λ x. not (x.number == c.args.process)) r.processes) c.in-Err.ensures.unchanged
+    ∙ ap (filter (λ x. not (x.number == c.args.process))) c.in_ok-begin.ensures.last
+    ∙ begun_back c.args.process None c.args.self.now.processes c.requires.newest)
+    (c.end.ensures.handles ∙ c.set_map.ensures.handles ∙ c.begin.ensures.handles)
 
 pub returns-clause-last : goal.returns-clause-last
 returns-clause-last g c =
-    processes_begun c.process.inside.0 c.self.inside.total c.self.inside.live.entries c.self.invariant.running c.insert.new.self.entries c.args.map
-    (newest_key c.self.inside.live.entries c.self.inside.total c.self.invariant.running c.args.self.now c.self.view_is c.process.inside.0 c.args.process c.process.view_is c.requires.newest)
-    (c.in_ok-insert.ensures.entries ∙ ap (insert_entry nat_cmp c.self.inside.live.entries c.process.inside.0) c.new-live.ensures)
-    ∙ ap (λ ps. ps ++ record { number = c.process.inside.0; map = c.args.map } ∷ []) (processes_now c.self.inside.live.entries c.self.inside.total c.self.invariant.running c.args.self.now c.self.view_is)
-    ∙ ap (λ n. c.args.self.now.processes ++ record { number = n; map = c.args.map } ∷ []) c.process.view_is
-
-pub returns-clause-handles : goal.returns-clause-handles
-returns-clause-handles g c =
-    handles_begun c.process.inside.0 c.self.inside.total c.self.inside.live.entries c.self.invariant.running c.insert.new.self.entries c.args.map
-    (newest_key c.self.inside.live.entries c.self.inside.total c.self.invariant.running c.args.self.now c.self.view_is c.process.inside.0 c.args.process c.process.view_is c.requires.newest)
-    (c.in_ok-insert.ensures.entries ∙ ap (insert_entry nat_cmp c.self.inside.live.entries c.process.inside.0) c.new-live.ensures)
-    ∙ handles_now c.self.inside.live.entries c.self.inside.total c.self.invariant.running c.args.self.now c.self.view_is
+    c.in_default-set_map.ensures.processes
+    ∙ ap (map (with_map c.args.process (Some c.in-Some.directory))) c.in_ok-begin.ensures.last
+    ∙ begun_mapped c.args.process (Some c.in-Some.directory) c.args.self.now.processes c.requires.newest
+    ∙ ap (λ m. c.args.self.now.processes ++ record { number = c.args.process; map = m } ∷ []) (sym c.in-Some.is)
