@@ -1,5 +1,6 @@
 pub mod Seen
 pub mod Steps
+pub mod Starts
 pub mod Turns
 pub mod Onto
 pub mod Begins

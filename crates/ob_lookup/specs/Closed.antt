@@ -4,6 +4,8 @@
 use Rattle.std.specs.Prelude.{◌≡◌, ℕ, ◌<◌, [], All, IsSome, Option, None, MatchOption}
 use Rattle.ob_model.specs.State.{State, root_id}
 use Rattle.ob_model.specs.Sound.{IsSound}
+use Rattle.ob_devmap.specs.declared.view.View.{View}
+use Rattle.ob_devmap.specs.View.{IsViewOf}
 use Rattle.ob_dirs.specs.declared.entry.DirEntry.{DirEntry}
 use Rattle.ob_objects.specs.declared.object.StoredObject.{StoredObject}
 use Rattle.ob_objects.specs.Store.{Entries, IsStore, Shows, stored_at, directory_at, entries_in, rows_of}
@@ -19,9 +21,19 @@ module _ {F I : Type 0} where
   abbrev pub IsRootThere : Entries F I → Option ℕ → Type 0
   IsRootThere store root = MatchOption root (Unit {0}) (λ id. IsSome (stored_at store id))
 
+  -- The directories of a view are directories of the store.
+  pub record IsViewThere (store : Entries F I) (view : View) : Type 0 where
+    pub local : MatchOption view.local (Unit {0}) (λ id. IsSome (directory_at store id))
+    pub global : IsSome (directory_at store view.global)
+
 -- the store that a sound state shows is closed
 abbrev pub SoundIsClosed : (K T F I : Type 0) → Type 0
 SoundIsClosed K T F I = (s : State K T F I) (store : Entries F I) → Shows s store → IsSound s → IsClosed store
+
+-- and the directories of each process's view are there
+abbrev pub SoundHasViews : (K T F I : Type 0) → Type 0
+SoundHasViews K T F I =
+    (s : State K T F I) (store : Entries F I) (p : ℕ) (view : View) → Shows s store → IsSound s → IsViewOf s p view → IsViewThere store view
 
 module _ (F I : Type 0) where
   -- a closed store stays so with a further object, under a free id and with no entry in it

@@ -1,25 +1,29 @@
 -- A lookup of the code, in the words of the machine: what is done at a stop, and what it ends with.
 --
 -- Source: this profile.
-use Rattle.std.specs.Prelude.{◌≡◌, ℕ, zero, suc, ◌-◌, false, nat_lt, if◌then◌else◌, List, length, Option, MatchOption}
+use Rattle.std.specs.Prelude.{◌≡◌, ℕ, zero, suc, ◌-◌, nat_lt, if◌then◌else◌, List, length, Option, MatchOption}
 use Rattle.ob_base.specs.declared.status.Status.TheVariants.{ObjectPathSyntaxBad, NameTooLong, ReparseLimit}
 use Rattle.ob_model.specs.Names.{longest_name, substituted}
 use Rattle.ob_model.specs.State.{State}
-use Rattle.ob_model.specs.Paths.{Origin, origin_of}
+use Rattle.ob_model.specs.Paths.{origin_of}
 use Rattle.ob_model.specs.Procedures.{Procedures, without_parse}
 use Rattle.ob_model.specs.Looks as machine
+use Rattle.ob_devmap.specs.declared.view.View.{View}
+use Rattle.ob_devmap.specs.View.{IsViewOf}
 use Rattle.ob_objects.specs.Store.{Entries, Shows}
 use Rattle.ob_lookup.specs.declared.terms.Look.{Look}
 use Rattle.ob_lookup.specs.declared.terms.Look.TheVariants as look
 use Rattle.ob_lookup.specs.declared.terms.Mode.{Mode}
 use Rattle.ob_lookup.specs.declared.next.Next.{Next}
 use Rattle.ob_lookup.specs.declared.next.Next.TheVariants as next
+use Rattle.ob_lookup.specs.declared.start.Start.{Start}
 use Rattle.ob_lookup.specs.declared.walk.Stop.{Stop}
 use Rattle.ob_lookup.specs.declared.walk.Stop.TheVariants as stop
+use Rattle.ob_lookup.specs.Walk.{place_of, text_of}
 
--- the mode, in which `\??` is a name like another
+-- how a name is looked up
 abbrev pub mode_of : Mode → machine.Mode
-mode_of mode = record { create = mode.create; fold = mode.fold; follow = mode.follow; views = false }
+mode_of mode = record { create = mode.create; fold = mode.fold; follow = mode.follow }
 
 -- what a lookup ended with
 abbrev pub look_of : Look → machine.Look
@@ -72,7 +76,7 @@ module _ {K T F I : Type 0} (g : Procedures K T F I) where
   -- a text that a reparse made is looked up with this end, with n reparses left
   abbrev pub LooksAgain : State K T F I → ℕ → machine.Mode → ℕ → List ℕ → machine.Look → Type 0
   LooksAgain s p mode n text end =
-      MatchOption (origin_of s p mode.create mode.views text) (end ≡ machine.Refused ObjectPathSyntaxBad)
+      MatchOption (origin_of s p mode.create text) (end ≡ machine.Refused ObjectPathSyntaxBad)
       (λ at. machine.Looks g s p mode n at.0 at.1 end)
 
   -- from a turn the lookup ends so, with n reparses left before it
@@ -81,17 +85,20 @@ module _ {K T F I : Type 0} (g : Procedures K T F I) where
   Goes s p mode n (Restarted text) end = LooksAgain s p mode (n - 1) text end
 
   -- with no reparse left, a lookup from here has such an end
-  abbrev pub WalkMayWantMemory : Entries F I → machine.Mode → Origin → List ℕ → Type 0
-  WalkMayWantMemory store mode place text =
-      (s : State K T F I) (p : ℕ) → Shows s store → (end : machine.Look) × MayWantMemory end × machine.Looks (without_parse g) s p mode 0 place text end
+  abbrev pub WalkMayWantMemory : Entries F I → View → machine.Mode → Start → Type 0
+  WalkMayWantMemory store view mode start =
+      (s : State K T F I) (p : ℕ) → Shows s store → IsViewOf s p view
+      → (end : machine.Look) × MayWantMemory end × machine.Looks (without_parse g) s p mode 0 (place_of p start) (text_of start) end
 
-  -- what a name ends with then, in any state that shows the store, is such an end
-  abbrev pub NameMayWantMemory : Entries F I → machine.Mode → Option ℕ → List ℕ → Type 0
-  NameMayWantMemory store mode root name =
-      (s : State K T F I) (p : ℕ) (end : machine.Look) → Shows s store → machine.LooksUp (without_parse g) s p mode 0 root name end → MayWantMemory end
+  -- what a name ends with then, in any state that shows the store, for a process of this view, is such
+  -- an end
+  abbrev pub NameMayWantMemory : Entries F I → View → machine.Mode → Option ℕ → List ℕ → Type 0
+  NameMayWantMemory store view mode root name =
+      (s : State K T F I) (p : ℕ) (end : machine.Look) → Shows s store → IsViewOf s p view
+      → machine.LooksUp (without_parse g) s p mode 0 root name end → MayWantMemory end
 
-  -- a name is looked up with this end in every state that shows the store, for every process, where
-  -- no object parses
-  abbrev pub LooksUpIn : Entries F I → machine.Mode → ℕ → Option ℕ → List ℕ → machine.Look → Type 0
-  LooksUpIn store mode n root name end =
-      (s : State K T F I) (p : ℕ) → Shows s store → machine.LooksUp (without_parse g) s p mode n root name end
+  -- a name is looked up with this end in every state that shows the store, for every process of this
+  -- view, where no object parses
+  abbrev pub LooksUpIn : Entries F I → View → machine.Mode → ℕ → Option ℕ → List ℕ → machine.Look → Type 0
+  LooksUpIn store view mode n root name end =
+      (s : State K T F I) (p : ℕ) → Shows s store → IsViewOf s p view → machine.LooksUp (without_parse g) s p mode n root name end

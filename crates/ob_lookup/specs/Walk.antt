@@ -1,13 +1,23 @@
--- A walk of the code, in the words of the machine: where it begins, and where it stops.
+-- A walk of the code, in the words of the machine: where it begins, what a component names there, and
+-- where it stops.
 --
--- Source: this profile.
-use Rattle.std.specs.Prelude.{◌≡◌, ℕ, if◌then◌else◌, List, [], ◌∷◌, Option, None, Some, codes}
+-- Sources: Windows Internals, Object Manager (session namespace: the local DOS device directory is
+-- searched before `\GLOBAL??`); the rule on creates behind `\??` is this profile.
+use Rattle.std.specs.Prelude.{◌≡◌, ℕ, Bool, ◌&&◌, nat_eq, if◌then◌else◌, List, [], ◌∷◌, drop, Option, None, Some, codes}
+use Rattle.std.specs.List.{starts_with}
+use Rattle.std.specs.Option.{option_map, option_or, unwrap_or}
 use Rattle.std.specs.Str.{bytes_eq}
 use Rattle.ob_model.specs.declared.state.Body.TheVariants as model
 use Rattle.ob_model.specs.Names.{separator, begins_with_separator}
 use Rattle.ob_model.specs.State.{State, root_id, body_of}
-use Rattle.ob_model.specs.Paths.{Origin, InDirectory}
+use Rattle.ob_model.specs.Paths.{Origin, is_one_component}
+use Rattle.ob_model.specs.Paths as paths
 use Rattle.ob_model.specs.Looks as machine
+use Rattle.ob_devmap.specs.declared.view.View.{View}
+use Rattle.ob_dirs.specs.declared.entry.DirEntry.{DirEntry}
+use Rattle.ob_dirs.specs.Dir.{entry_found}
+use Rattle.ob_lookup.specs.declared.start.Place.{Place}
+use Rattle.ob_lookup.specs.declared.start.Place.TheVariants.{InDirectory, InView}
 use Rattle.ob_lookup.specs.declared.start.Start.{Start}
 use Rattle.ob_lookup.specs.declared.walk.Stop.{Stop}
 use Rattle.ob_lookup.specs.declared.walk.Stop.TheVariants.{Missed, Directory, Link, Other}
@@ -17,19 +27,56 @@ abbrev pub rest_of : Option (List ℕ) → List ℕ
 rest_of None = []
 rest_of (Some behind) = separator ∷ behind
 
--- where a walk begins, and the text that is walked from there
-abbrev pub place_of : Start → Origin
-place_of start = InDirectory start.directory
+-- a view's local directory: that of the device map, or the global one where there is no map
+abbrev pub local_of : View → ℕ
+local_of view = unwrap_or view.local view.global
+
+-- the directory that a place is
+abbrev pub directory_of : View → Place → ℕ
+directory_of view (InDirectory id) = id
+directory_of view InView = local_of view
+
+-- a place, where the view is that of this process
+abbrev pub origin_at : ℕ → Place → Origin
+origin_at p (InDirectory id) = paths.InDirectory id
+origin_at p InView = paths.ViewOf p
+
+-- where a walk of this process begins, and the text that is walked from there
+abbrev pub place_of : ℕ → Start → Origin
+place_of p start = origin_at p start.place
 
 abbrev pub text_of : Start → List ℕ
 text_of start = rest_of start.behind
 
--- where an absolute text begins, and what is walked from there, without views
-abbrev pub absolute_origin : List ℕ → Option (Origin × List ℕ)
-absolute_origin text =
-    if bytes_eq text (codes "\\") then Some (InDirectory root_id, [])
-    else if begins_with_separator text then Some (InDirectory root_id, text)
+-- where what stands behind `\??` begins, with its separator: in the view, but a create of one component
+-- in the local directory alone
+abbrev pub start_behind_view : View → ℕ → Bool → List ℕ → Origin × List ℕ
+start_behind_view view p create text =
+    (if create && is_one_component text then paths.InDirectory (local_of view) else paths.ViewOf p, text)
+
+-- where a text begins that names nothing in a view
+abbrev pub root_origin : List ℕ → Option (Origin × List ℕ)
+root_origin text =
+    if bytes_eq text (codes "\\") then Some (paths.InDirectory root_id, [])
+    else if begins_with_separator text then Some (paths.InDirectory root_id, text)
     else None
+
+-- where an absolute text begins, and what is walked from there, for the process of the view
+abbrev pub absolute_origin : View → ℕ → Bool → List ℕ → Option (Origin × List ℕ)
+absolute_origin view p create text =
+    if bytes_eq text (codes "\\??") then Some (paths.ViewOf p, [])
+    else if starts_with nat_eq text (codes "\\??\\") then Some (start_behind_view view p create (drop 3 text))
+    else root_origin text
+
+-- the object that a component names among the entries of a directory
+abbrev pub object_in : List DirEntry → List ℕ → Bool → Option ℕ
+object_in entries component fold = option_map (λ e. e.object) (entry_found entries component fold)
+
+-- the object that it names at a place whose directory has these entries, with those of the global
+-- directory: a view searches both
+abbrev pub object_at : Place → List DirEntry → List DirEntry → List ℕ → Bool → Option ℕ
+object_at (InDirectory id) entries global component fold = object_in entries component fold
+object_at InView entries global component fold = option_or (object_in entries component fold) (object_in global component fold)
 
 -- where a walk stopped
 abbrev pub stop_of : Stop → machine.Stop

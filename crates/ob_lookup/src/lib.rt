@@ -9,6 +9,6 @@ mod start;
 mod terms;
 mod walk;
 
-pub use closed::{closed_stays, sound_is_closed};
+pub use closed::{closed_stays, sound_has_views, sound_is_closed};
 pub use lookup::look;
 pub use terms::{Look, Mode};

@@ -4,9 +4,10 @@ ghost use Rattle.std.specs.Prelude.{◌≡◌, ◌<◌, ℕ, IsSome, IfOk, IfErr
 ghost use Rattle.ob_model.specs.State.{State};
 ghost use Rattle.ob_model.specs.Procedures.{without_parse};
 ghost use Rattle.ob_model.specs.Looks as machine;
+ghost use Rattle.ob_devmap.specs.View.{IsViewOf};
 ghost use Rattle.ob_objects.specs.Store.{Shows, directory_at};
-ghost use Rattle.ob_lookup.specs.Closed.{IsClosed, IsRootThere};
-ghost use Rattle.ob_lookup.specs.Walk.{place_of, text_of};
+ghost use Rattle.ob_lookup.specs.Closed.{IsClosed, IsRootThere, IsViewThere};
+ghost use Rattle.ob_lookup.specs.Walk.{directory_of, place_of, text_of};
 ghost use Rattle.ob_lookup.specs.Look.{mode_of, look_of, turn_of, IfAgain, LooksAgain, Goes, LooksUpIn, WalkMayWantMemory, NameMayWantMemory};
 
 use crate::next::{Next, at_stop};
@@ -14,13 +15,23 @@ use crate::start::{Start, absolute, begin};
 use crate::walk::walk;
 use crate::{Look, Mode};
 use ob_base::{Fault, ObjId, Status};
+use ob_devmap::View;
 use ob_names::Name;
 use ob_objects::Store;
 use ob_types::TypeSet;
 use std::alloc::Global;
 
 /// Looks a name up: an absolute one where `root` is none, else relative to the object `root`, which
-/// must be there. So must be the root directory, and each object that an entry names.
+/// must be there. So must be the root directory, the directories of the view, and each object that an
+/// entry names.
+///
+/// In an absolute name, and in a text that a link makes, `\??` is the view of the DOS device names.
+///
+/// - `\??` itself is its local directory, or the global one where there is no local one.
+/// - The component behind `\??\` is searched for in the local directory first, and then in the global
+///   one; those behind it are searched for where it leads.
+/// - A create of `\??\` and one component looks in the local directory alone, so that it may put a name
+///   there that is in the global one.
 ///
 /// The refusals:
 ///
@@ -34,39 +45,41 @@ use std::alloc::Global;
 /// - `ReparseLimit`: a reparse more than `budget` is wanted, however long what it makes.
 /// - `NameTooLong`: a target and what follows the link make more than 32,767 bytes.
 ///
-/// No object is asked to parse what follows it in a name, and `\??` is a name like another: parse
-/// procedures and device maps have not come yet.
+/// No object is asked to parse what follows it in a name: parse procedures have not come yet.
 ///
 /// The only fault is `Memory`, for a text that a link makes or for a vacant component. So there is none where
 /// no link is followed and no vacant place is found: where the name, looked up with no reparse left, ends at
 /// an object or in another refusal than `ReparseLimit`.
 ///
-/// Source: Windows Internals, Object Manager (object names, symbolic links); OBJECT_ATTRIBUTES
-/// structure (Windows Driver Kit). The refusals and their order are this profile.
+/// Source: Windows Internals, Object Manager (object names, symbolic links, session namespace);
+/// OBJECT_ATTRIBUTES structure (Windows Driver Kit). The refusals and their order, and the rule on creates
+/// behind `\??`, are this profile.
 pub fn look<T: TypeSet>(
     alloc: Global,
     store: &Store<T>,
+    view: View,
     root: Option<ObjId>,
     name: Name<'_>,
     mode: Mode,
     budget: u32,
 ) -> Result<Look, Fault>
     requires closed { IsClosed store.now }
+    requires view { IsViewThere store.now view }
     requires root { IsRootThere store.now root }
     ensures end { IfOk result (λ look.
-        LooksUpIn T.procedures store.now (mode_of mode) budget root name.entry (look_of look)) }
-    ensures wants { OnErr result (NameMayWantMemory T.procedures store.now (mode_of mode) root name.entry) }
+        LooksUpIn T.procedures store.now view (mode_of mode) budget root name.entry (look_of look)) }
+    ensures wants { OnErr result (NameMayWantMemory T.procedures store.now view (mode_of mode) root name.entry) }
     ensures memory { IfErr result (λ fault. fault ≡ Fault.Memory) }
 {
-    let start = match begin(store, root, name) {
+    let start = match begin(store, &view, root, name, mode) {
         Ok(start) => start,
         Err(status) => return Ok(Look::Refused(status)),
     };
     let mut left = budget;
-    let mut next = look_from(alloc, store, start, mode, left)?;
+    let mut next = look_from(alloc, store, &view, start, mode, left)?;
     while let Next::Again(text) = next {
         left -= 1;
-        next = look_again(alloc, store, text.as_name(), mode, left)?;
+        next = look_again(alloc, store, &view, text.as_name(), mode, left)?;
     }
     let Next::Over(look) = next else {
         unreachable!();
@@ -78,44 +91,47 @@ pub fn look<T: TypeSet>(
 fn look_from<T: TypeSet>(
     alloc: Global,
     store: &Store<T>,
+    view: &View,
     start: Start<'_>,
     mode: Mode,
     left: u32,
 ) -> Result<Next, Fault>
     requires closed { IsClosed store.now }
-    requires directory { IsSome (directory_at store.now start.directory) }
+    requires view { IsViewThere store.now view.now }
+    requires directory { IsSome (directory_at store.now (directory_of view.now start.place)) }
     ensures left { IfOk result (λ next. IfAgain next (0 < left)) }
     ensures goes { IfOk result (λ next.
-        (s : State T.Kind T T.Face T.Inner) (p : ℕ) (end : machine.Look) → Shows s store.now
+        (s : State T.Kind T T.Face T.Inner) (p : ℕ) (end : machine.Look) → Shows s store.now → IsViewOf s p view.now
         → Goes (without_parse T.procedures) s p (mode_of mode) left (turn_of next) end
-        → machine.Looks (without_parse T.procedures) s p (mode_of mode) left (place_of start.entry) (text_of start.entry) end) }
+        → machine.Looks (without_parse T.procedures) s p (mode_of mode) left (place_of p start.entry) (text_of start.entry) end) }
     ensures again { IfOk result (λ next. IfAgain next
-        (WalkMayWantMemory T.procedures store.now (mode_of mode) (place_of start.entry) (text_of start.entry))) }
-    ensures wants { OnErr result
-        (WalkMayWantMemory T.procedures store.now (mode_of mode) (place_of start.entry) (text_of start.entry)) }
+        (WalkMayWantMemory T.procedures store.now view.now (mode_of mode) start.entry)) }
+    ensures wants { OnErr result (WalkMayWantMemory T.procedures store.now view.now (mode_of mode) start.entry) }
     ensures memory { IfErr result (λ fault. fault ≡ Fault.Memory) }
 {
-    at_stop(alloc, walk(store, start, mode.fold), mode, left)
+    at_stop(alloc, walk(store, view, start, mode.fold), mode, left)
 }
 
 /// Looks up a text that a reparse made.
 fn look_again<T: TypeSet>(
     alloc: Global,
     store: &Store<T>,
+    view: &View,
     text: Name<'_>,
     mode: Mode,
     left: u32,
 ) -> Result<Next, Fault>
-    requires { IsClosed store.now }
+    requires closed { IsClosed store.now }
+    requires view { IsViewThere store.now view.now }
     ensures left { IfOk result (λ next. IfAgain next (0 < left)) }
     ensures goes { IfOk result (λ next.
-        (s : State T.Kind T T.Face T.Inner) (p : ℕ) (end : machine.Look) → Shows s store.now
+        (s : State T.Kind T T.Face T.Inner) (p : ℕ) (end : machine.Look) → Shows s store.now → IsViewOf s p view.now
         → Goes (without_parse T.procedures) s p (mode_of mode) left (turn_of next) end
         → LooksAgain (without_parse T.procedures) s p (mode_of mode) left text.entry end) }
     ensures memory { IfErr result (λ fault. fault ≡ Fault.Memory) }
 {
-    match absolute(text) {
-        Some(start) => look_from(alloc, store, start, mode, left),
+    match absolute(view, text, mode.create) {
+        Some(start) => look_from(alloc, store, view, start, mode, left),
         None => Ok(Next::Over(Look::Refused(Status::ObjectPathSyntaxBad))),
     }
 }

@@ -1,36 +1,114 @@
 //! Where a walk begins.
 
-ghost use Rattle.std.specs.Prelude.{◌≡◌, ℕ, false, IsSome, IfOk, MatchResult};
+ghost use Rattle.std.specs.Prelude.{◌≡◌, ◌∷◌, ℕ, IsSome, IfOk, MatchResult};
 ghost use Rattle.std.specs.Option.{option_map, is_some};
-ghost use Rattle.ob_model.specs.Names.{begins_with_separator};
+ghost use Rattle.ob_model.specs.Names.{separator, begins_with_separator};
 ghost use Rattle.ob_model.specs.State.{State};
 ghost use Rattle.ob_model.specs.Paths as paths;
 ghost use Rattle.ob_model.specs.Procedures.{without_parse};
 ghost use Rattle.ob_model.specs.Looks as machine;
+ghost use Rattle.ob_devmap.specs.View.{IsViewOf};
 ghost use Rattle.ob_objects.specs.Store.{Shows, directory_at};
-ghost use Rattle.ob_lookup.specs.Closed.{IsClosed, IsRootThere};
-ghost use Rattle.ob_lookup.specs.Walk.{place_of, text_of, absolute_origin};
+ghost use Rattle.ob_lookup.specs.Closed.{IsClosed, IsRootThere, IsViewThere};
+ghost use Rattle.ob_lookup.specs.Look.{mode_of};
+ghost use Rattle.ob_lookup.specs.Walk.{local_of, directory_of, place_of, text_of, start_behind_view, root_origin, absolute_origin};
 
+use crate::Mode;
 use ob_base::{ObjId, Status};
-use ob_names::Name;
+use ob_devmap::View;
+use ob_names::{Component, Name, first};
 use ob_objects::{Store, StoredBody};
 use ob_types::TypeSet;
 
 /// The root directory, which `\` names.
 pub(crate) const ROOT: ObjId = ObjId(1);
 
+/// A place at which a walk searches for a component.
+#[derive(Clone, Copy)]
+pub(crate) enum Place {
+    /// A directory.
+    InDirectory(ObjId),
+    /// The view of the DOS device names, which `\??` names: its local directory, and then its global
+    /// one.
+    InView,
+}
+
 /// Where a walk begins, and over what: nothing, or a separator and what stands behind it.
 #[derive(Drop)]
 pub(crate) struct Start<'a> {
-    /// The directory.
-    pub(crate) directory: ObjId,
+    /// The place.
+    pub(crate) place: Place,
     /// What stands behind the separator that the text begins with.
     pub(crate) behind: Option<Name<'a>>,
 }
 
-/// Where an absolute text begins: at the root; none where it begins with no separator.
-pub(crate) fn absolute<'a>(text: Name<'a>) -> Option<Start<'a>>
-    ensures { option_map (λ start. (place_of start, text_of start)) result ≡ absolute_origin text.entry }
+/// A view's local directory: that of the device map, or the global one where there is no map.
+fn local_of(view: &View) -> ObjId
+    ensures { result ≡ local_of view.now }
+{
+    view.local.unwrap_or(view.global)
+}
+
+/// The directory that a place is, a view being its local one.
+pub(crate) fn directory_of(view: &View, place: &Place) -> ObjId
+    ensures { result ≡ directory_of view.now place.now }
+{
+    match place {
+        Place::InDirectory(id) => *id,
+        Place::InView => local_of(view),
+    }
+}
+
+/// Where an absolute text begins: in the view where it is `\??` or begins with `\??\`, else at the root;
+/// none where it begins with no separator.
+pub(crate) fn absolute<'a>(view: &View, text: Name<'a>, create: bool) -> Option<Start<'a>>
+    ensures { (p : ℕ) → option_map (λ start. (place_of p start, text_of start)) result
+        ≡ absolute_origin view.now p create text.entry }
+{
+    let bytes = text.as_slice();
+    if bytes == b"\\??".as_slice() {
+        return Some(Start {
+            place: Place::InView,
+            behind: None,
+        });
+    }
+    match bytes.strip_prefix(b"\\??\\".as_slice()) {
+        Some(behind) => Some(behind_view(view, Name::new(behind), create)),
+        None => from_root(text),
+    }
+}
+
+/// Where a text begins that stands behind `\??\`: in the view, but a create whose last component it is
+/// looks in the local directory alone.
+fn behind_view<'a>(view: &View, behind: Name<'a>, create: bool) -> Start<'a>
+    ensures { (p : ℕ) → (place_of p result, text_of result)
+        ≡ start_behind_view view.now p create (separator ∷ behind.entry) }
+{
+    let place = if create && is_one_component(behind.as_slice()) {
+        Place::InDirectory(local_of(view))
+    } else {
+        Place::InView
+    };
+    Start {
+        place,
+        behind: Some(behind),
+    }
+}
+
+/// Whether what stands behind a separator is one component.
+fn is_one_component(behind: &[u8]) -> bool
+    ensures { result ≡ paths.is_one_component (separator ∷ behind.now) }
+{
+    match first(behind) {
+        Component::One { rest, .. } => rest.is_empty(),
+        Component::Empty => false,
+    }
+}
+
+/// Where a text begins that names nothing in a view: at the root; none where it begins with no
+/// separator.
+fn from_root<'a>(text: Name<'a>) -> Option<Start<'a>>
+    ensures { (p : ℕ) → option_map (λ start. (place_of p start, text_of start)) result ≡ root_origin text.entry }
 {
     let (byte, behind) = text.as_slice().split_first()?;
     if *byte != b'\\' {
@@ -42,29 +120,32 @@ pub(crate) fn absolute<'a>(text: Name<'a>) -> Option<Start<'a>>
         Some(Name::new(behind))
     };
     Some(Start {
-        directory: ROOT,
+        place: Place::InDirectory(ROOT),
         behind,
     })
 }
 
-/// Where a name begins: at the root where it is absolute, else at the object of the root handle,
-/// which must be a directory. No object is asked to parse a name yet.
+/// Where a name begins: where the absolute name does, else at the object of the root handle, which must
+/// be a directory. No object is asked to parse a name yet.
 pub(crate) fn begin<'a, T: TypeSet>(
     store: &Store<T>,
+    view: &View,
     root: Option<ObjId>,
     name: Name<'a>,
+    mode: Mode,
 ) -> Result<Start<'a>, Status>
     requires closed { IsClosed store.now }
+    requires view { IsViewThere store.now view.now }
     requires root { IsRootThere store.now root }
-    ensures directory { IfOk result (λ start. IsSome (directory_at store.now start.directory)) }
-    ensures begins { (s : State T.Kind T T.Face T.Inner) (p : ℕ) (mode : machine.Mode) (n : ℕ) (end : machine.Look)
-        → Shows s store.now → mode.views ≡ false → MatchResult result
-        (λ start. machine.Looks (without_parse T.procedures) s p mode n (place_of start) (text_of start) end
-        → machine.LooksUp (without_parse T.procedures) s p mode n root name.entry end)
-        (λ status. machine.LooksUp (without_parse T.procedures) s p mode n root name.entry (machine.Refused status)) }
+    ensures directory { IfOk result (λ start. IsSome (directory_at store.now (directory_of view.now start.place))) }
+    ensures begins { (s : State T.Kind T T.Face T.Inner) (p : ℕ) (n : ℕ) (end : machine.Look)
+        → Shows s store.now → IsViewOf s p view.now → MatchResult result
+        (λ start. machine.Looks (without_parse T.procedures) s p (mode_of mode) n (place_of p start) (text_of start) end
+        → machine.LooksUp (without_parse T.procedures) s p (mode_of mode) n root name.entry end)
+        (λ status. machine.LooksUp (without_parse T.procedures) s p (mode_of mode) n root name.entry (machine.Refused status)) }
 {
     let Some(id) = root else {
-        return absolute(name).ok_or(Status::ObjectPathSyntaxBad);
+        return absolute(view, name, mode.create).ok_or(Status::ObjectPathSyntaxBad);
     };
     if begins_with_separator(name.as_slice()) {
         return Err(Status::ObjectPathSyntaxBad);
@@ -84,14 +165,18 @@ fn begins_with_separator(text: &[u8]) -> bool
 
 /// Where a name relative to a directory begins.
 fn relative<'a>(directory: ObjId, name: Name<'a>) -> Start<'a>
-    ensures { (place_of result, text_of result) ≡ paths.relative directory name.entry }
+    ensures directory { result.place ≡ Place.InDirectory directory }
+    ensures begins { (p : ℕ) → (place_of p result, text_of result) ≡ paths.relative directory name.entry }
 {
     let behind = if name.as_slice().is_empty() {
         None
     } else {
         Some(name)
     };
-    Start { directory, behind }
+    Start {
+        place: Place::InDirectory(directory),
+        behind,
+    }
 }
 
 /// Whether an object is a directory.

@@ -5,13 +5,14 @@ ghost use Rattle.std.specs.Option.{option_copied, option_map};
 ghost use Rattle.ob_model.specs.Names.{IsRest};
 ghost use Rattle.ob_model.specs.State.{State};
 ghost use Rattle.ob_model.specs.Looks.{IsStop};
-ghost use Rattle.ob_dirs.specs.Dir.{entry_found};
-ghost use Rattle.ob_objects.specs.Store.{IsStore, Shows, stored_at, directory_at};
-ghost use Rattle.ob_lookup.specs.Closed.{IsClosed};
-ghost use Rattle.ob_lookup.specs.Walk.{rest_of, place_of, text_of, stop_of, Meets};
+ghost use Rattle.ob_devmap.specs.View.{IsViewOf};
+ghost use Rattle.ob_objects.specs.Store.{IsStore, Shows, stored_at, directory_at, entries_at};
+ghost use Rattle.ob_lookup.specs.Closed.{IsClosed, IsViewThere};
+ghost use Rattle.ob_lookup.specs.Walk.{rest_of, directory_of, object_in, object_at, place_of, text_of, stop_of, Meets};
 
-use crate::start::Start;
+use crate::start::{Place, Start, directory_of};
 use ob_base::ObjId;
+use ob_devmap::View;
 use ob_dirs::Dir;
 use ob_names::{Component, Name, first};
 use ob_objects::{Store, StoredBody};
@@ -48,35 +49,41 @@ pub(crate) enum Stop<'a> {
     },
 }
 
-/// Walks a text from a directory.
-pub(crate) fn walk<'a, T: TypeSet>(store: &'a Store<T>, start: Start<'a>, fold: bool) -> Stop<'a>
+/// Walks a text from a place. A view is searched for the first component alone.
+pub(crate) fn walk<'a, T: TypeSet>(
+    store: &'a Store<T>,
+    view: &View,
+    start: Start<'a>,
+    fold: bool,
+) -> Stop<'a>
     requires closed { IsClosed store.now }
-    requires directory { IsSome (directory_at store.now start.directory) }
-    ensures stop { (s : State T.Kind T T.Face T.Inner) → Shows s store.now
-        → IsStop s (place_of start.entry) (text_of start.entry) fold (stop_of result) }
+    requires view { IsViewThere store.now view.now }
+    requires directory { IsSome (directory_at store.now (directory_of view.now start.place)) }
+    ensures stop { (s : State T.Kind T T.Face T.Inner) (p : ℕ) → Shows s store.now → IsViewOf s p view.now
+        → IsStop s (place_of p start.entry) (text_of start.entry) fold (stop_of result) }
     ensures meets { (s : State T.Kind T T.Face T.Inner) → Shows s store.now → Meets s result }
 {
-    let mut id = start.directory;
-    let mut dir = directory(store, id);
+    let mut place = start.place;
+    let mut dir = directory(store, directory_of(view, &place));
     let mut left = start.behind;
     while let Some(behind) = left {
         let Component::One { name, rest } = first(behind.as_slice()) else {
             return Stop::Missed {
-                directory: id,
+                directory: directory_of(view, &place),
                 component: Name::new(&[]),
                 last: behind.as_slice().is_empty(),
             };
         };
-        let Some(object) = named_in(dir, name, fold) else {
+        let Some(object) = named_at(store, view, &place, dir, name, fold) else {
             return Stop::Missed {
-                directory: id,
+                directory: directory_of(view, &place),
                 component: Name::new(name),
                 last: rest.is_empty(),
             };
         };
         match body(store, object) {
             StoredBody::Directory(next) => {
-                id = object;
+                place = Place::InDirectory(object);
                 dir = next;
                 left = behind_separator(Name::new(rest));
             }
@@ -95,12 +102,34 @@ pub(crate) fn walk<'a, T: TypeSet>(store: &'a Store<T>, start: Start<'a>, fold: 
             }
         }
     }
-    Stop::Directory(id)
+    Stop::Directory(directory_of(view, &place))
+}
+
+/// The object that a component names at a place, whose directory has these entries: where they don't
+/// have it, a view is searched for it in its global directory too.
+fn named_at<T: TypeSet>(
+    store: &Store<T>,
+    view: &View,
+    place: &Place,
+    dir: &Dir,
+    component: &[u8],
+    fold: bool,
+) -> Option<ObjId>
+    requires { IsSome (directory_at store.now view.now.global) }
+    ensures { result ≡ object_at place.now dir.now (entries_at store.now view.now.global) component.now fold }
+{
+    let named = named_in(dir, component, fold);
+    match place {
+        Place::InView if named.is_none() => {
+            named_in(directory(store, view.global), component, fold)
+        }
+        _ => named,
+    }
 }
 
 /// The object that a component names in a directory.
 fn named_in(dir: &Dir, component: &[u8], fold: bool) -> Option<ObjId>
-    ensures { result ≡ option_map (λ e. e.object) (entry_found dir.now component.now fold) }
+    ensures { result ≡ object_in dir.now component.now fold }
 {
     dir.find(component, fold).map(|(_, object)| object)
 }

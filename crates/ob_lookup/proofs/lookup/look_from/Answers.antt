@@ -13,22 +13,22 @@ returns-clause-left g c =
 pub returns-clause-goes : goal.returns-clause-goes
 returns-clause-goes g c =
     if_ok _ _ c.at_stop.result
-    (λ next turn s p end shows goes.
-    looks_by_turn g.T.TypeSet.procedures s p (mode_of c.args.mode) c.args.left (place_of c.args.start) (text_of c.args.start) c.walk.result end
-    (c.walk.ensures.stop s shows) (c.walk.ensures.meets s shows)
+    (λ next turn s p end shows of goes.
+    looks_by_turn g.T.TypeSet.procedures s p (mode_of c.args.mode) c.args.left (place_of p c.args.start) (text_of c.args.start) c.walk.result end
+    (c.walk.ensures.stop s p shows of) (c.walk.ensures.meets s shows)
     (subst (λ (t : Turn). Goes (without_parse g.T.TypeSet.procedures) s p (mode_of c.args.mode) c.args.left t end) turn goes)) c.at_stop.ensures.turn
 
 pub returns-clause-again : goal.returns-clause-again
 returns-clause-again g c =
     if_ok _ _ c.at_stop.result
     (λ next turn. if_again next _ _
-    (λ wants s p shows.
-    wants_by_turn g.T.TypeSet.procedures s p (mode_of c.args.mode) (place_of c.args.start) (text_of c.args.start) c.walk.result (c.walk.ensures.stop s shows) (c.walk.ensures.meets s shows) wants)
+    (λ wants s p shows of.
+    wants_by_turn g.T.TypeSet.procedures s p (mode_of c.args.mode) (place_of p c.args.start) (text_of c.args.start) c.walk.result (c.walk.ensures.stop s p shows of) (c.walk.ensures.meets s shows) wants)
     (again_wants next c.args.left (next_at (mode_of c.args.mode) c.walk.result) turn)) c.at_stop.ensures.turn
 
 pub returns-clause-wants : goal.returns-clause-wants
 returns-clause-wants g c =
     on_err _ _ c.at_stop.result
-    (λ wants s p shows.
-    wants_by_turn g.T.TypeSet.procedures s p (mode_of c.args.mode) (place_of c.args.start) (text_of c.args.start) c.walk.result (c.walk.ensures.stop s shows) (c.walk.ensures.meets s shows) wants)
+    (λ wants s p shows of.
+    wants_by_turn g.T.TypeSet.procedures s p (mode_of c.args.mode) (place_of p c.args.start) (text_of c.args.start) c.walk.result (c.walk.ensures.stop s p shows of) (c.walk.ensures.meets s shows) wants)
     c.at_stop.ensures.wants
