@@ -123,10 +123,13 @@ module _ {K T F I : Type 0} (s : State K T F I) (p d : ℕ) where
     -- an object stays as it did, where it isn't the map that goes
     still_alive : (o : ℕ) → option_map_or (λ n. n == o) (map_of s p) false ≡ false → is_alive s o ≡ true → is_alive (with_map s p d) o ≡ true
     still_alive o other =
-        imply_or (o == root_id) (o == root_id) _ _ (λ h. h)
-        (imply_or (has_handle s o) (has_handle s o) _ _ (λ h. h)
-        (imply_or (is_pinned s o) (is_pinned s o) _ _ (λ h. h)
-        (imply_or (is_mapped s o) (is_mapped (with_map s p d) o) _ _ (mapped_still o other) (λ h. h))))
+        imply_or (((o == root_id) || has_handle s o || is_pinned s o || is_mapped s o) || (is_permanent s o && has_name s o))
+        (((o == root_id) || has_handle s o || is_pinned s o || is_mapped (with_map s p d) o) || (is_permanent s o && has_name s o)) (holds_kept s o) (holds_kept s o)
+        (imply_or ((o == root_id) || has_handle s o || is_pinned s o || is_mapped s o) ((o == root_id) || has_handle s o || is_pinned s o || is_mapped (with_map s p d) o)
+        (is_permanent s o && has_name s o) (is_permanent s o && has_name s o)
+        (imply_or ((o == root_id) || has_handle s o || is_pinned s o) ((o == root_id) || has_handle s o || is_pinned s o) (is_mapped s o) (is_mapped (with_map s p d) o) (λ h. h) (mapped_still o other))
+        (λ h. h))
+        (λ h. h)
 
     -- where the process had no map, nothing goes
     pub nothing_goes : map_of s p ≡ None → IsSettled (with_map s p d)
@@ -161,14 +164,21 @@ module _ {K T F I : Type 0} (s : State K T F I) (p d : ℕ) where
       alive_still o alive = go (m == o) refl
         where
           go : (b : Bool) → (m == o) ≡ b → is_alive u o ≡ true
-          go true same = ap (λ b. (o == root_id) || (b || (is_pinned u o || (is_mapped u o || ((is_permanent u o && has_name u o) || holds_kept u o))))) (held_itself o same) ∙ or_true (o == root_id)
+          go true same =
+              ap (λ b. (o == root_id) || b || is_pinned u o || is_mapped u o || (is_permanent u o && has_name u o) || holds_kept u o) (held_itself o same)
+              ∙ ap (λ b. b || is_pinned u o || is_mapped u o || (is_permanent u o && has_name u o) || holds_kept u o) (or_true (o == root_id))
           go false other =
-              imply_or (o == root_id) (o == root_id) _ _ (λ h. h)
-              (imply_or (has_handle s o) (has_handle u o) _ _ (held_still o)
-              (imply_or (is_pinned s o) (is_pinned s o) _ _ (λ h. h)
-              (imply_or (is_mapped s o) (is_mapped u o) _ _ (mapped_still o (ap (λ (n : Option ℕ). option_map_or (λ x. x == o) n false) had ∙ other))
-              (imply_or (is_permanent s o && has_name s o) (is_permanent s o && has_name s o) _ _ (λ h. h) (holds_still o s.rows)))))
-              alive
+              imply_or ((o == root_id) || has_handle s o || is_pinned s o || is_mapped s o || (is_permanent s o && has_name s o))
+              ((o == root_id) || has_handle u o || is_pinned s o || is_mapped u o || (is_permanent s o && has_name s o)) (holds_kept s o) (holds_kept u o)
+              (imply_or ((o == root_id) || has_handle s o || is_pinned s o || is_mapped s o) ((o == root_id) || has_handle u o || is_pinned s o || is_mapped u o)
+              (is_permanent s o && has_name s o) (is_permanent s o && has_name s o)
+              (imply_or ((o == root_id) || has_handle s o || is_pinned s o) ((o == root_id) || has_handle u o || is_pinned s o) (is_mapped s o) (is_mapped u o)
+              (imply_or ((o == root_id) || has_handle s o) ((o == root_id) || has_handle u o) (is_pinned s o) (is_pinned s o)
+              (imply_or (o == root_id) (o == root_id) (has_handle s o) (has_handle u o) (λ h. h) (held_still o))
+              (λ h. h))
+              (mapped_still o (ap (λ (n : Option ℕ). option_map_or (λ x. x == o) n false) had ∙ other)))
+              (λ h. h))
+              (holds_still o s.rows) alive
 
       pub was_mapped : IsSettled u
       was_mapped = record {

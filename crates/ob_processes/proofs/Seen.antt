@@ -5,7 +5,13 @@ use Rattle.std.proofs.lemmas.List.Elements.{All-nil, All-cons, All-head, All-tai
 use Rattle.std.proofs.lemmas.List.Sums.{length-filter}
 use Rattle.std.proofs.lemmas.Map.Steps.{set_value_same}
 use Rattle.std.specs.BTreeMap.{is_at}
-use Rattle.std.specs.List.{slice_get}
+use Rattle.std.proofs.lemmas.List.Kept.{AllPairs-cons}
+use Rattle.std.proofs.lemmas.Bool.Decides.{nat_tests}
+use Rattle.std.proofs.lemmas.Map.Keys.{sorted_head, sorted_tail}
+use Rattle.std.specs.declared.cmp.Ordering.TheVariants.{Less}
+use Rattle.std.specs.List.{slice_get, AllByRecursion, AllPairs}
+use Rattle.std.specs.List.Sorted.{IsStrictlySortedBy}
+use Rattle.std.specs.Map.{keys_of}
 use Rattle.std.specs.Option.{is_some, option_and_then}
 use Rattle.std.specs.Ordering.{nat_cmp}
 use Rattle.ob_model.specs.declared.state.Held.{Held}
@@ -123,3 +129,18 @@ module _ (maps : Directories) (es : Entries) (kept : ℕ) (is : IsRunning es kep
 -- what was written as it was
 pub written_same : (es new : Entries) (p : ℕ) (x w : List Held) → at es p ≡ Some x → new ≡ put es p w → w ≡ x → new ≡ es
 written_same es new p x w found wrote unchanged = wrote ∙ ap (put es p) unchanged ∙ set_value_same (is_at (nat_cmp p)) es x found
+
+-- the numbers of processes rise, as those of their entries
+greater_behind : (maps : Directories) (number : ℕ) (es : Entries) → AllByRecursion (λ k. nat_cmp number k ≡ Less) (keys_of es) → All (λ x. number < x.number) (processes_of maps es)
+greater_behind maps number [] behind = All-nil (λ x. number < x.number)
+greater_behind maps number (e ∷ es) behind =
+    All-cons (λ x. number < x.number) (process_of_entry maps e) (processes_of maps es) (less e.0 behind.0) (greater_behind maps number es behind.1)
+  where
+    less : (k : ℕ) → nat_cmp number k ≡ Less → number < k
+    less k e = grind (arith, nat_tests)
+
+pub numbers_rise : (maps : Directories) (es : Entries) → IsStrictlySortedBy nat_cmp (keys_of es) → AllPairs (λ a b. a.number < b.number) (processes_of maps es)
+numbers_rise maps [] sorted = λ i j d less within. absurd (omega (arith, within))
+numbers_rise maps (e ∷ es) sorted =
+    AllPairs-cons (λ a b. a.number < b.number) (process_of_entry maps e) (processes_of maps es)
+    (greater_behind maps e.0 es (sorted_head nat_cmp e.0 (keys_of es) sorted)) (numbers_rise maps es (sorted_tail nat_cmp e.0 (keys_of es) sorted))

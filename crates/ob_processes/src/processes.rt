@@ -134,6 +134,9 @@ impl<H: HandleTable> Processes<H> {
         ensures local { result.local
             ≡ option_and_then (λ x. x.map) (find (λ x. x.number == process) self.now.processes) }
         ensures global { result.global ≡ global_id }
+
+        // What holds of the live processes.
+        ensures rising { AllPairs (λ a b. a.number < b.number) self.now.processes }
     {
         self.maps.view(process)
     }

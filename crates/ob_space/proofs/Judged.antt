@@ -117,6 +117,11 @@ kept_there : (t k d : Bool) → (t ≡ true → (k || d) ≡ true) → (t && (k 
 kept_there true k d h = done_left k d (h refl)
 kept_there false k d h = refl
 
+insert_false : (a b c d e : Bool) → (a || b || c || d || e) ≡ (a || b || false || c || d || e)
+insert_false true b c d e = refl
+insert_false false true c d e = refl
+insert_false false false c d e = refl
+
 last_false : (a b : Bool) → (a || b) ≡ false → b ≡ false
 last_false true b h = cc
 last_false false b h = h
@@ -299,6 +304,7 @@ module _ {K T F I : Type 0} (g : Procedures K T F I) (s : State K T F I) where
       held_same =
           (λ i. (id == root_id) || handle_same i || mapped_same i || (permanent_same i && list_any (λ r. r.object == id) (rows_next i)) || list_any (λ r. r.directory == id) (rows_next i))
           ∙ (λ i. (id == root_id) || has_handle s id || is_mapped s id || named (is_permanent s id) refl i || holds i)
+          ∙ insert_false (id == root_id) (has_handle s id) (is_mapped s id) (is_permanent s id && has_name s id) (holds_kept s id)
           ∙ (λ i. (id == root_id) || has_handle s id || sym unpinned i || is_mapped s id || (is_permanent s id && has_name s id) || holds_kept s id)
         where
           named : (b : Bool) → is_permanent s id ≡ b → (b && list_any (λ r. r.object == id) (filter (λ r. is_kept s r || not (next r.object)) s.rows)) ≡ (b && has_name s id)

@@ -52,10 +52,10 @@ module _ {F I : Type 0} (store : Entries F I) (is : IsStore store) (id : ℕ) wh
   pub none_gone : place_at store id ≡ None → rows_of store ≡ filter (λ r. not (r.object == id)) (rows_of store)
   none_gone none = sym (filter_all (λ r. not (r.object == id)) (rows_of store) (λ k d below. ap not (no_name store is id none k d below)))
 
-second_false : (a b c : Bool) → (a || b || c) ≡ false → b ≡ false
-second_false true b c h = cc
-second_false false true c h = cc
-second_false false false c h = refl
+second_false : (a b c d e : Bool) → (a || b || c || d || e) ≡ false → b ≡ false
+second_false true b c d e h = cc
+second_false false true c d e h = cc
+second_false false false c d e h = refl
 
 module _ (K : Type 0) {T F I : Type 0} (g : Procedures K T F I) (a : Namespace T (Entries F I) Running) (id : ℕ) where
   -- ---- one object is deleted
@@ -100,7 +100,7 @@ module _ (K : Type 0) {T F I : Type 0} (g : Procedures K T F I) (a : Namespace T
         go (Some x) e =
             all_found (IsIdleUnheld idle a.processes.handles) (λ o. o.id == id) (objects_of store) (object_of_stored id x)
             (subst (All (IsIdleUnheld idle a.processes.handles)) (sym objects) unheld) (found_is_stored store id ∙ ap (option_map (object_of_stored id)) e)
-            (second_false (id == root_id) (is_held a.processes.handles id) _ up)
+            (second_false (id == root_id) (is_held a.processes.handles id) _ _ _ up)
 
 -- ---- the walk over all objects, and the two after a close
 
