@@ -11,6 +11,7 @@ fn laws_hold_at_a_concrete_set() {
     laws::look_is_total::<u8, u16, u32, u64>();
     laws::name_look_is_unique::<u8, u16, u32, u64>();
     laws::name_look_is_total::<u8, u16, u32, u64>();
+    laws::paths_name_their_objects::<u8, u16, u32, u64>();
     laws::objects_stand_in_order::<u32, u64>();
     laws::settle_is_idempotent::<u8, u16, u32, u64>();
     laws::root_stays::<u8, u16, u32, u64>();
