@@ -62,6 +62,8 @@ fn laws_of_names_and_examples_are_called() {
     examples::create_is_local();
     examples::names_without_views();
     examples::holds_without_name();
+    examples::map_holds_its_directory();
+    examples::paths_of_objects();
     examples::temporary_goes();
     examples::pages_of_a_directory();
     examples::more_entries_are_left();
