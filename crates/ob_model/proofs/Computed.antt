@@ -12,8 +12,10 @@ use Rattle.ob_model.specs.Procedures.{Procedures}
 use Rattle.ob_model.specs.Looks.{Look, Mode, LooksUp}
 use Rattle.ob_model.specs.declared.state.Row.{Row}
 use Rattle.ob_model.specs.declared.state.Held.{Held}
+use Rattle.ob_model.specs.Names.{IsComponent}
 use Rattle.ob_model.specs.Closing.{is_handle}
 use Rattle.ob_model.specs.Sound.{IsSound, IsDirectory, HasSoundMap, is_barred}
+use Rattle.ob_model.proofs.Places.{is_component, IsComponent-from_test, do_stand_apart, stand_apart}
 use Rattle.ob_model.proofs.Soundness.{Rise, pairs_rise}
 use Rattle.ob_model.proofs.Lookup.{looked_up_name, looked_up_name-LooksUp}
 
@@ -54,12 +56,16 @@ module _ {K T F I : Type 0} where
   is_map_sound s None = true
   is_map_sound s (Some d) = is_directory s d
 
+  -- a test of where rows stand, and under which names
+  abbrev pub are_placed : State K T F I → Bool
+  are_placed s = list_all (λ r. is_directory s r.directory) s.rows && (list_all (λ r. is_component r.name) s.rows && do_stand_apart s.rows)
+
   -- a test of the pending opens, of the stamps, of the names in the root and of the processes of handles
   abbrev pub is_orderly : State K T F I → Bool
   is_orderly s =
       list_all (λ x. is_some (object_of s x.object)) s.pending && (do_rise s.rows && (list_all (λ r. nat_lt r.stamp s.next_stamp) s.rows
       && (list_all (λ r. not (is_barred r.directory r.name)) s.rows && (list_all (λ h. is_live s h.process) s.handles
-      && (list_all (λ x. nat_lt x.number s.next_process) s.processes && do_differ s.handles)))))
+      && (list_all (λ x. nat_lt x.number s.next_process) s.processes && (do_differ s.handles && are_placed s))))))
 
   -- a test of whether a state is sound
   abbrev pub is_sound : State K T F I → Bool
@@ -92,13 +98,18 @@ module _ {K T F I : Type 0} where
       let plain = list_all (λ r. not (is_barred r.directory r.name)) s.rows in
       let live = list_all (λ h. is_live s h.process) s.handles in
       let numbered = list_all (λ x. nat_lt x.number s.next_process) s.processes in
-      let distinct = do_differ s.handles in
+      let distinct = do_differ s.handles && are_placed s in
+      let inside = list_all (λ r. is_directory s r.directory) s.rows in
+      let named = list_all (λ r. is_component r.name) s.rows in
       let eighth = and_parts pending (rising && (stamped && (plain && (live && (numbered && distinct))))) seventh.1 in
       let ninth = and_parts rising (stamped && (plain && (live && (numbered && distinct)))) eighth.1 in
       let tenth = and_parts stamped (plain && (live && (numbered && distinct))) ninth.1 in
       let eleventh = and_parts plain (live && (numbered && distinct)) tenth.1 in
       let twelfth = and_parts live (numbered && distinct) eleventh.1 in
       let thirteenth = and_parts numbered distinct twelfth.1 in
+      let fourteenth = and_parts (do_differ s.handles) (are_placed s) thirteenth.1 in
+      let fifteenth = and_parts inside (named && do_stand_apart s.rows) fourteenth.1 in
+      let sixteenth = and_parts named (do_stand_apart s.rows) fifteenth.1 in
       record {
         root = first.0;
         global = second.0;
@@ -110,10 +121,13 @@ module _ {K T F I : Type 0} where
         pending = AllPass-from_list_all (λ x. is_some (object_of s x.object)) s.pending eighth.0;
         rising = pairs_rise s.rows (rise s.rows ninth.0);
         stamped = All-weaker (λ r. nat_lt r.stamp s.next_stamp ≡ true) (λ r. r.stamp < s.next_stamp) (λ r e. less r.stamp s.next_stamp e) s.rows (AllPass-from_list_all (λ r. nat_lt r.stamp s.next_stamp) s.rows tenth.0);
+        inside = AllPass-from_list_all (λ r. is_directory s r.directory) s.rows fifteenth.0;
+        named = All-weaker (λ r. is_component r.name ≡ true) (λ r. IsComponent r.name) (λ r e. IsComponent-from_test r.name e) s.rows (AllPass-from_list_all (λ r. is_component r.name) s.rows sixteenth.0);
+        apart = stand_apart s.rows sixteenth.1;
         plain = All-weaker (λ r. not (is_barred r.directory r.name) ≡ true) (λ r. is_barred r.directory r.name ≡ false) (λ r e. is_false (is_barred r.directory r.name) e) s.rows (AllPass-from_list_all (λ r. not (is_barred r.directory r.name)) s.rows eleventh.0);
         live = AllPass-from_list_all (λ h. is_live s h.process) s.handles twelfth.0;
         numbered = All-weaker (λ x. nat_lt x.number s.next_process ≡ true) (λ x. x.number < s.next_process) (λ x e. less x.number s.next_process e) s.processes (AllPass-from_list_all (λ x. nat_lt x.number s.next_process) s.processes thirteenth.0);
-        distinct = differ s.handles thirteenth.1;
+        distinct = differ s.handles fourteenth.0;
       }
 
 module _ {K T F I : Type 0} (g : Procedures K T F I) (s : State K T F I) (sound : is_sound s ≡ true) (p : ℕ) (mode : Mode) (n : ℕ) where

@@ -1,10 +1,11 @@
 -- The row of least stamp among some, and what is found in a directory.
-use Rattle.std.proofs.Common.{◌≡◌, ℕ, zero, suc, ◌≤◌, Bool, true, false, nat_le, cond, List, [], ◌∷◌, filter, All, Contains, Option, None, Some, MatchOption, refl, arith, leb-true, leb-false}
+use Rattle.std.proofs.Common.{◌≡◌, ℕ, zero, suc, ◌≤◌, Bool, true, false, nat_le, cond, List, [], ◌∷◌, filter, All, Contains, Option, None, Some, MatchOption, refl, subst, arith, leb-true, leb-false}
 use Rattle.std.proofs.lemmas.List.Elements.{All-nil, All-cons, All-weaker}
 use Rattle.ob_model.specs.declared.state.Row.{Row}
 use Rattle.ob_model.specs.Paths.{earlier, earliest, is_match, found}
 use Rattle.ob_model.specs.State.{State}
 use Rattle.ob_model.specs.Laws.{IsFoundRow}
+use Rattle.ob_model.proofs.Places.{unmatched_with_case}
 
 -- one of the rows that a test keeps, and its stamp is the least of theirs
 pub record IsEarliest (keeps : Row → Bool) (rows : List Row) (r : Row) : Type 0 where
@@ -73,3 +74,9 @@ module _ {K T F I : Type 0} where
           → MatchOption o (All (λ q. is_match d c fold q ≡ false) s.rows) (IsFoundRow s d c fold)
       go None h = h
       go (Some r) h = record { stands = h.stands; matches = h.matches; least = h.least }
+
+  -- where nothing is found, with or without case, no row matches with case
+  pub unmatched : (s : State K T F I) (d : ℕ) (c : List ℕ) (fold : Bool) → found s d c fold ≡ None → All (λ r. is_match d c false r ≡ false) s.rows
+  unmatched s d c fold none =
+      All-weaker (λ r. is_match d c fold r ≡ false) (λ r. is_match d c false r ≡ false) (λ r other. unmatched_with_case fold d c r other) s.rows
+      (subst (λ (o : Option Row). MatchOption o (All (λ r. is_match d c fold r ≡ false) s.rows) (IsFoundRow s d c fold)) none (found_least s d c fold))

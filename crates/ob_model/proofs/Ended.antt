@@ -116,6 +116,9 @@ module _ {K T F I : Type 0} where
     pending = sound.pending;
     rising = sound.rising;
     stamped = sound.stamped;
+    inside = sound.inside;
+    named = sound.named;
+    apart = sound.apart;
     plain = sound.plain;
     live = All-weaker (λ h. is_live s h.process ≡ true) (λ h. is_live (with_child s p) h.process ≡ true) (λ h live. live_with_child s p h.process live) s.handles sound.live;
     numbered = All-push (λ x. x.number < s.next_process + 1) s.processes _
@@ -140,6 +143,9 @@ module _ {K T F I : Type 0} where
     pending = sound.pending;
     rising = sound.rising;
     stamped = sound.stamped;
+    inside = sound.inside;
+    named = sound.named;
+    apart = sound.apart;
     plain = sound.plain;
     live = sound.live;
     numbered = sound.numbered;
@@ -159,6 +165,9 @@ module _ {K T F I : Type 0} where
     pending = sound.pending;
     rising = sound.rising;
     stamped = sound.stamped;
+    inside = sound.inside;
+    named = sound.named;
+    apart = sound.apart;
     plain = sound.plain;
     live = λ k d within. stays (get_or s.handles k d).process (apart k d within) (sound.live k d within);
     numbered = All-filter (λ x. not (x.number == p)) (λ x. x.number < s.next_process) s.processes sound.numbered;

@@ -9,10 +9,12 @@ pub mod Finds
 pub mod InOrder
 pub mod Splits
 pub mod Earliest
+pub mod Places
 pub mod Settled
 pub mod Soundness
 pub mod Turned
 pub mod Maps
+pub mod VacantNames
 pub mod Steps
 pub mod Vacant
 pub mod Ids
@@ -25,6 +27,7 @@ pub mod Total
 pub mod Runs
 pub mod Alone
 pub mod Unvalued
+pub mod WaysUp
 pub mod AlikeHandles
 pub mod AlikeLeads
 pub mod AlikeHeld

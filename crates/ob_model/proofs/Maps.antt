@@ -107,6 +107,9 @@ module _ {K T F I : Type 0} where
     pending = sound.pending;
     rising = sound.rising;
     stamped = sound.stamped;
+    inside = sound.inside;
+    named = sound.named;
+    apart = sound.apart;
     plain = sound.plain;
     live = All-weaker (λ h. is_live s h.process ≡ true) (λ h. is_live (with_map s p d) h.process ≡ true) (λ h live. live_mapped s p d h.process ∙ live) s.handles sound.live;
     numbered = All-map (λ x. x.number < s.next_process) (with_own_map p (Some d)) s.processes

@@ -1,5 +1,5 @@
 -- Every list of events has a run, and a run is made of steps.
-use Rattle.std.proofs.Common.{◌≡◌, ℕ, ◌+◌, List, [], ◌∷◌, map, refl, sym, ap}
+use Rattle.std.proofs.Common.{◌≡◌, ℕ, ◌+◌, List, [], ◌∷◌, map, refl, sym, ap, subst}
 use Rattle.ob_model.specs.declared.reply.Event.{Event}
 use Rattle.ob_model.specs.State.{State}
 use Rattle.ob_model.specs.Opening.{opening}
@@ -24,6 +24,14 @@ module _ {K T F I : Type 0} (g : Procedures K T F I) where
   pub run_total : (first : T) (asked : List (ℕ × Event K))
       → (entries : List (Entry K)) × (t : State K T F I) × (map (λ e. (e.seat, e.event)) entries ≡ asked) × Run g first entries t
   run_total first asked = run_from_total (opening first) 0 asked (opening_sound first)
+
+  -- a run from a sound state leads to a sound one
+  run_from_sound : (s : State K T F I) (n : ℕ) (entries : List (Entry K)) (t : State K T F I) → IsSound s → RunFrom g s n entries t → IsSound t
+  run_from_sound s n [] t sound run = subst IsSound (sym run) sound
+  run_from_sound s n (e ∷ es) t sound run = run_from_sound run.0 (n + 1) es t (step_sound g s run.0 e.event e.answer sound run.2) run.3
+
+  pub run_sound : (first : T) (entries : List (Entry K)) (t : State K T F I) → Run g first entries t → IsSound t
+  run_sound first entries t run = run_from_sound (opening first) 0 entries t (opening_sound first) run
 
   -- a run, step by step
   pub run_passed : (s : State K T F I) (n : ℕ) (entries : List (Entry K)) (t : State K T F I) → RunFrom g s n entries t

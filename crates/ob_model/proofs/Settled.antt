@@ -40,6 +40,14 @@ alive_fifth false false false true e f h = refl
 alive_fifth false false false false true f h = refl
 alive_fifth false false false false false f h = cc
 
+alive_sixth : (a b c d e f : Bool) → f ≡ true → (a || b || c || d || e || f) ≡ true
+alive_sixth true b c d e f h = refl
+alive_sixth false true c d e f h = refl
+alive_sixth false false true d e f h = refl
+alive_sixth false false false true e f h = refl
+alive_sixth false false false false true f h = refl
+alive_sixth false false false false false f h = h
+
 -- two states agree on these tests, but for the last two, which pass where they passed before
 alive_again : (a b c d e f e' f' : Bool) → (e ≡ true → e' ≡ true) → (f ≡ true → f' ≡ true) → (a || b || c || d || e || f) ≡ true → (a || b || c || d || e' || f') ≡ true
 alive_again true b c d e f e' f' fifth sixth h = refl
@@ -82,6 +90,16 @@ module _ {K T F I : Type 0} where
   alive_from_name s o permanent named =
       alive_fifth (o == root_id) (has_handle s o) (is_pinned s o) (is_mapped s o) (is_permanent s o && has_name s o) (holds_kept s o)
       (and_from (is_permanent s o) (has_name s o) permanent named)
+
+  -- a directory in which a name stays is alive
+  pub alive_from_held_name : (s : State K T F I) (o : ℕ) → holds_kept s o ≡ true → is_alive s o ≡ true
+  alive_from_held_name s o h = alive_sixth (o == root_id) (has_handle s o) (is_pinned s o) (is_mapped s o) (is_permanent s o && has_name s o) (holds_kept s o) h
+
+  -- as is each row's that stays
+  pub rows_are_held : (s : State K T F I) → All (λ r. is_kept s r ≡ true → holds_kept s r.directory ≡ true) s.rows
+  rows_are_held s k d within = λ kept.
+      let r = get_or s.rows k d in
+      list_any_at (λ q. (q.directory == r.directory) && is_kept s q) s.rows k d within (and_from (r.directory == r.directory) (is_kept s r) (eq-eqb r.directory r.directory refl) kept)
 
   -- each row's object has a name
   pub rows_are_names : (s : State K T F I) → All (λ r. has_name s r.object ≡ true) s.rows

@@ -23,14 +23,17 @@ use Rattle.ob_model.specs.Refusals.{gives, IsRefused}
 use Rattle.ob_model.specs.State.{State, root_id, global_id, object_of, is_directory, is_directory_body, is_live, held_of}
 use Rattle.ob_model.specs.Opening.{opening}
 use Rattle.ob_model.specs.Procedures.{Procedures, Reason, Created}
-use Rattle.ob_model.specs.Settle.{is_kept, is_alive, has_name, is_mapped, deleted_one, settle}
+use Rattle.ob_model.specs.Settle.{is_kept, is_alive, has_name, is_mapped, holds_kept, deleted_one, settle}
 use Rattle.ob_model.specs.Grants.{Asked, Grants, opened_body, opened_set, opened_object, with_open, with_handle}
 use Rattle.ob_model.specs.Closing.{is_handle, closed_body, closed_object, closed_handle}
 use Rattle.ob_model.specs.Creates.{Spot, new_rows, with_object, with_row, created, dropped}
+use Rattle.ob_model.specs.Names.{IsComponent}
+use Rattle.ob_model.specs.Paths.{is_match}
 use Rattle.ob_model.specs.Sound.{IsSound, IsDirectory, Stands, HasSoundMap, is_barred}
 use Rattle.ob_model.proofs.Finds.{find-map, not_found, All-kept}
 use Rattle.ob_model.proofs.InOrder.{newest_is_free, in_order-All, in_order-find}
-use Rattle.ob_model.proofs.Settled.{is_directory-settle, stands-settle, alive_from_handle, alive_from_pin, alive_from_map, alive_from_row, rows_are_names}
+use Rattle.ob_model.proofs.Places.{IsComponent-from_test, stand_apart, IsPlace}
+use Rattle.ob_model.proofs.Settled.{is_directory-settle, stands-settle, alive_from_handle, alive_from_pin, alive_from_map, alive_from_held_name, alive_from_row, rows_are_names, rows_are_held}
 
 -- whether what is found is a directory
 abbrev pub is_directory_object : {F I : Type 0} → Option (Object F I) → Bool
@@ -201,6 +204,10 @@ module _ {K T F I : Type 0} where
         pending = All-nil (λ x. Stands s x.object);
         rising = pairs_rise s.rows (omega arith, (omega arith, (omega arith, (omega arith, tt))));
         stamped = All-from_recursion (λ r. r.stamp < s.next_stamp) s.rows (omega arith, (omega arith, (omega arith, (omega arith, (omega arith, tt)))));
+        inside = All-from_recursion (λ r. IsDirectory s r.directory) s.rows (refl, (refl, (refl, (refl, (refl, tt)))));
+        named = All-from_recursion (λ r. IsComponent r.name) s.rows
+            (IsComponent-from_test _ refl, (IsComponent-from_test _ refl, (IsComponent-from_test _ refl, (IsComponent-from_test _ refl, (IsComponent-from_test _ refl, tt)))));
+        apart = stand_apart s.rows refl;
         plain = All-from_recursion (λ r. is_barred r.directory r.name ≡ false) s.rows (refl, (refl, (refl, (refl, (refl, tt)))));
         live = All-nil (λ h. is_live s h.process ≡ true);
         numbered = All-from_recursion (λ x. x.number < s.next_process) s.processes (omega arith, tt);
@@ -228,6 +235,9 @@ module _ {K T F I : Type 0} where
 
   pub sound_rows : (s t : State K T F I) → ((o : ℕ) → Stands s o → Stands t o) → (xs : List Row) → All (λ r. Stands s r.object) xs → All (λ r. Stands t r.object) xs
   sound_rows s t stays xs each = All-weaker (λ r. Stands s r.object) (λ r. Stands t r.object) (λ r h. stays r.object h) xs each
+
+  pub sound_inside : (s t : State K T F I) → ((o : ℕ) → IsDirectory s o → IsDirectory t o) → (xs : List Row) → All (λ r. IsDirectory s r.directory) xs → All (λ r. IsDirectory t r.directory) xs
+  sound_inside s t stays xs each = All-weaker (λ r. IsDirectory s r.directory) (λ r. IsDirectory t r.directory) (λ r h. stays r.directory h) xs each
 
   pub sound_pending : (s t : State K T F I) → ((o : ℕ) → Stands s o → Stands t o) → (xs : List (Pending K)) → All (λ x. Stands s x.object) xs → All (λ x. Stands t x.object) xs
   sound_pending s t stays xs each = All-weaker (λ x. Stands s x.object) (λ x. Stands t x.object) (λ x k. stays x.object k) xs each
@@ -262,16 +272,18 @@ module _ {K T F I : Type 0} where
         pending = sound_pending s t stays s.pending sound.pending;
         rising = sound.rising;
         stamped = sound.stamped;
+        inside = sound_inside s t (λ o h. is_directory-with_object s body permanent exclusive o sound.drawn h) s.rows sound.inside;
+        named = sound.named;
+        apart = sound.apart;
         plain = sound.plain;
         live = sound.live;
         numbered = sound.numbered;
         distinct = sound.distinct;
       }
 
-  -- the row of an object that stands, at a place that isn't barred in a directory made before it, leaves a
-  -- sound state
+  -- the row of an object that stands, at a place in a directory made before it, leaves a sound state
   row_sound : (s : State K T F I) (spot : Spot) (o : ℕ)
-      → IsSound s → Stands s o → MatchOption spot (Unit {0}) (λ at. (at.0 < o) × (is_barred at.0 at.1 ≡ false)) → IsSound (with_row s spot o)
+      → IsSound s → Stands s o → MatchOption spot (Unit {0}) (λ at. (at.0 < o) × IsPlace s at) → IsSound (with_row s spot o)
   row_sound s spot o sound stands inside = record {
     root = sound.root;
     global = sound.global;
@@ -285,19 +297,35 @@ module _ {K T F I : Type 0} where
     stamped = All-append (λ r. r.stamp < s.next_stamp + length (new_rows spot s.next_stamp o)) s.rows (new_rows spot s.next_stamp o)
         (All-weaker (λ r. r.stamp < s.next_stamp) (λ r. r.stamp < s.next_stamp + length (new_rows spot s.next_stamp o)) (λ r less. omega (arith, less)) s.rows sound.stamped)
         (drawn spot);
+    inside = All-append (λ r. IsDirectory s r.directory) s.rows (new_rows spot s.next_stamp o) sound.inside (stand_inside spot inside);
+    named = All-append (λ r. IsComponent r.name) s.rows (new_rows spot s.next_stamp o) sound.named (have_names spot inside);
+    apart = alone spot inside;
     plain = All-append (λ r. is_barred r.directory r.name ≡ false) s.rows (new_rows spot s.next_stamp o) sound.plain (fit spot inside);
     live = sound.live;
     numbered = sound.numbered;
     distinct = sound.distinct;
   }
     where
-      below : (spot : Spot) → MatchOption spot (Unit {0}) (λ at. (at.0 < o) × (is_barred at.0 at.1 ≡ false)) → All (λ r. r.directory < r.object) (new_rows spot s.next_stamp o)
+      below : (spot : Spot) → MatchOption spot (Unit {0}) (λ at. (at.0 < o) × IsPlace s at) → All (λ r. r.directory < r.object) (new_rows spot s.next_stamp o)
       below None h = All-nil (λ r. r.directory < r.object)
       below (Some at) h = All-push (λ r. r.directory < r.object) [] _ (All-nil (λ r. r.directory < r.object)) h.0
 
-      fit : (spot : Spot) → MatchOption spot (Unit {0}) (λ at. (at.0 < o) × (is_barred at.0 at.1 ≡ false)) → All (λ r. is_barred r.directory r.name ≡ false) (new_rows spot s.next_stamp o)
+      fit : (spot : Spot) → MatchOption spot (Unit {0}) (λ at. (at.0 < o) × IsPlace s at) → All (λ r. is_barred r.directory r.name ≡ false) (new_rows spot s.next_stamp o)
       fit None h = All-nil (λ r. is_barred r.directory r.name ≡ false)
-      fit (Some at) h = All-push (λ r. is_barred r.directory r.name ≡ false) [] _ (All-nil (λ r. is_barred r.directory r.name ≡ false)) h.1
+      fit (Some at) h = All-push (λ r. is_barred r.directory r.name ≡ false) [] _ (All-nil (λ r. is_barred r.directory r.name ≡ false)) h.1.1
+
+      stand_inside : (spot : Spot) → MatchOption spot (Unit {0}) (λ at. (at.0 < o) × IsPlace s at) → All (λ r. IsDirectory s r.directory) (new_rows spot s.next_stamp o)
+      stand_inside None h = All-nil (λ r. IsDirectory s r.directory)
+      stand_inside (Some at) h = All-push (λ r. IsDirectory s r.directory) [] _ (All-nil (λ r. IsDirectory s r.directory)) h.1.0
+
+      have_names : (spot : Spot) → MatchOption spot (Unit {0}) (λ at. (at.0 < o) × IsPlace s at) → All (λ r. IsComponent r.name) (new_rows spot s.next_stamp o)
+      have_names None h = All-nil (λ r. IsComponent r.name)
+      have_names (Some at) h = All-push (λ r. IsComponent r.name) [] _ (All-nil (λ r. IsComponent r.name)) h.1.2
+
+      alone : (spot : Spot) → MatchOption spot (Unit {0}) (λ at. (at.0 < o) × IsPlace s at)
+          → AllPairs (λ a b. is_match b.directory b.name false a ≡ false) (s.rows ++ new_rows spot s.next_stamp o)
+      alone None h = subst (λ (rows : List Row). AllPairs (λ a b. is_match b.directory b.name false a ≡ false) rows) (sym (append-nil s.rows)) sound.apart
+      alone (Some at) h = all_pairs_push (λ a b. is_match b.directory b.name false a ≡ false) s.rows _ sound.apart h.1.3
 
       last : (spot : Spot) → AllPairs (λ a b. a.stamp < b.stamp) (s.rows ++ new_rows spot s.next_stamp o)
       last None = subst (λ (rows : List Row). AllPairs (λ a b. a.stamp < b.stamp) rows) (sym (append-nil s.rows)) sound.rising
@@ -324,6 +352,9 @@ module _ {K T F I : Type 0} where
     pending = sound.pending;
     rising = sound.rising;
     stamped = sound.stamped;
+    inside = sound.inside;
+    named = sound.named;
+    apart = sound.apart;
     plain = sound.plain;
     live = sound.live;
     numbered = sound.numbered;
@@ -344,6 +375,9 @@ module _ {K T F I : Type 0} where
     pending = sound.pending;
     rising = sound.rising;
     stamped = sound.stamped;
+    inside = sound.inside;
+    named = sound.named;
+    apart = sound.apart;
     plain = sound.plain;
     live = All-push (λ h. is_live s h.process ≡ true) s.handles _ sound.live live;
     numbered = sound.numbered;
@@ -387,6 +421,11 @@ module _ {K T F I : Type 0} (g : Procedures K T F I) where
         (sound.pending k d within);
     rising = AllPairs-filter (λ a b. a.stamp < b.stamp) (is_kept s) s.rows sound.rising;
     stamped = All-filter (is_kept s) (λ r. r.stamp < s.next_stamp) s.rows sound.stamped;
+    inside = All-kept (is_kept s) (λ r. IsDirectory s r.directory × (is_kept s r ≡ true → holds_kept s r.directory ≡ true)) (λ r. IsDirectory (settle g s) r.directory)
+        (λ r kept h. is_directory-settle g s r.directory (alive_from_held_name s r.directory (h.1 kept)) ∙ h.0) s.rows
+        (λ k d within. (sound.inside k d within, rows_are_held s k d within));
+    named = All-filter (is_kept s) (λ r. IsComponent r.name) s.rows sound.named;
+    apart = AllPairs-filter (λ a b. is_match b.directory b.name false a ≡ false) (is_kept s) s.rows sound.apart;
     plain = All-filter (is_kept s) (λ r. is_barred r.directory r.name ≡ false) s.rows sound.plain;
     live = sound.live;
     numbered = sound.numbered;
@@ -409,6 +448,9 @@ module _ {K T F I : Type 0} (g : Procedures K T F I) where
         pending = sound_pending s t stays s.pending sound.pending;
         rising = sound.rising;
         stamped = sound.stamped;
+        inside = sound_inside s t (λ m h. is_directory-opened g s o m reason ∙ h) s.rows sound.inside;
+        named = sound.named;
+        apart = sound.apart;
         plain = sound.plain;
         live = sound.live;
         numbered = sound.numbered;
@@ -446,16 +488,18 @@ module _ {K T F I : Type 0} (g : Procedures K T F I) where
         pending = sound_pending s t stays s.pending sound.pending;
         rising = sound.rising;
         stamped = sound.stamped;
+        inside = sound_inside s t (λ m k. is_directory-closed g s h m ∙ k) s.rows sound.inside;
+        named = sound.named;
+        apart = sound.apart;
         plain = sound.plain;
         live = All-filter (λ x. not (is_handle h.process h.value x)) (λ x. is_live s x.process ≡ true) s.handles sound.live;
         numbered = sound.numbered;
         distinct = AllPairs-filter (λ a b. is_handle a.process a.value b ≡ false) (λ x. not (is_handle h.process h.value x)) s.handles sound.distinct;
       }
 
-  -- a create of a live process, at a place that isn't barred in a directory or without a name, leaves a
-  -- sound state
+  -- a create of a live process, at a place or without a name, leaves a sound state
   pub created_sound : (s : State K T F I) (p : ℕ) (spot : Spot) (body : Body F I) (attrs value : ℕ)
-      → IsSound s → is_live s p ≡ true → held_of s p value ≡ None → MatchOption spot (Unit {0}) (λ at. IsDirectory s at.0 × (is_barred at.0 at.1 ≡ false)) → IsSound (created g s p spot body attrs value)
+      → IsSound s → is_live s p ≡ true → held_of s p value ≡ None → MatchOption spot (Unit {0}) (IsPlace s) → IsSound (created g s p spot body attrs value)
   created_sound s p spot body attrs value sound live free inside =
       let opened = record s { set = opened_set g s.set body Created } in
       let left = opened_body g s.set body Created in
@@ -464,12 +508,20 @@ module _ {K T F I : Type 0} (g : Procedures K T F I) where
       let there = with_object opened left permanent exclusive in
       let stands : Stands there s.next_id = new_stands opened left permanent exclusive sound.drawn in
       handle_sound (with_row there spot s.next_id) p value s.next_id _
-      (row_sound there spot s.next_id (object_sound opened left permanent exclusive (set_sound s (opened_set g s.set body Created) s.next_id (omega arith) sound)) stands (below spot inside)) live free stands
+      (row_sound there spot s.next_id (object_sound opened left permanent exclusive (set_sound s (opened_set g s.set body Created) s.next_id (omega arith) sound)) stands (below permanent exclusive spot inside)) live free stands
     where
-      below : (spot : Spot) → MatchOption spot (Unit {0}) (λ at. IsDirectory s at.0 × (is_barred at.0 at.1 ≡ false))
-          → MatchOption spot (Unit {0}) (λ at. (at.0 < s.next_id) × (is_barred at.0 at.1 ≡ false))
-      below None h = tt
-      below (Some at) h = (stands_drawn s.next_id s.objects at.0 sound.drawn (stands_from_is_directory s at.0 h.0), h.1)
+      opened : State K T F I
+      opened = record s { set = opened_set g s.set body Created }
+
+      there : Bool → Bool → State K T F I
+      there permanent exclusive = with_object opened (opened_body g s.set body Created) permanent exclusive
+
+      below : (permanent exclusive : Bool) (spot : Spot) → MatchOption spot (Unit {0}) (IsPlace s) → MatchOption spot (Unit {0}) (λ at. (at.0 < s.next_id) × IsPlace (there permanent exclusive) at)
+      below permanent exclusive None h = tt
+      below permanent exclusive (Some at) h = (
+        stands_drawn s.next_id s.objects at.0 sound.drawn (stands_from_is_directory s at.0 h.0),
+        (is_directory-with_object opened (opened_body g s.set body Created) permanent exclusive at.0 sound.drawn h.0, h.1, h.2, h.3),
+      )
 
   -- and so does one whose object the set refuses to open
   pub dropped_sound : (s : State K T F I) (body : Body F I) → IsSound s → IsSound (dropped g s body)

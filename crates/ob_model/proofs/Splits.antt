@@ -4,7 +4,7 @@ use Rattle.std.proofs.lemmas.List.Elements.{All-head, All-tail}
 use Rattle.ob_model.specs.Names.{separator, joined, IsComponent, IsRest, IsSplit, ends_in_separator, substituted}
 
 -- bytes that are no separators and end before a rest are determined by what they make together
-first_unique : (c d rest others : List ℕ) → All (λ b. b ≢ separator) c → All (λ b. b ≢ separator) d → IsRest rest → IsRest others
+pub first_unique : (c d rest others : List ℕ) → All (λ b. b ≢ separator) c → All (λ b. b ≢ separator) d → IsRest rest → IsRest others
     → c ++ rest ≡ d ++ others → (c ≡ d) × (rest ≡ others)
 first_unique [] [] rest others inner inner' bounded bounded' e = (refl, e)
 first_unique [] (y ∷ d) [] others inner inner' bounded bounded' e = cc

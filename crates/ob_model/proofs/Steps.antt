@@ -32,8 +32,11 @@ use Rattle.ob_model.specs.Creates.{Making, MakesDirectory, MakesLink, MakesObjec
 use Rattle.ob_model.specs.Naming.{TellsName, TellsTarget}
 use Rattle.ob_model.specs.Processes.{values_in, is_crowded, begun, ended}
 use Rattle.ob_model.specs.Step.{WithHandle, WithRoot, CreatesIn, CreatesAt, OpensName, Turns, SetsMap, Step}
-use Rattle.ob_model.specs.Sound.{IsSound, IsDirectory, Stands, is_barred}
+use Rattle.ob_model.specs.Sound.{IsSound, Stands}
 use Rattle.ob_model.proofs.Vacant.{IsUsableEnd, usable_end}
+use Rattle.ob_model.proofs.VacantNames.{HasComponent, vacant_name}
+use Rattle.ob_model.proofs.Places.{IsPlace}
+use Rattle.ob_model.proofs.Earliest.{unmatched}
 use Rattle.ob_model.proofs.Soundness.{settled_sound, created_sound, dropped_sound, gives_handle_sound, closed_sound}
 use Rattle.ob_model.proofs.Turned.{turned_sound}
 use Rattle.ob_model.proofs.Maps.{mapped_sound}
@@ -115,7 +118,7 @@ module _ {K T F I : Type 0} (g : Procedures K T F I) where
   opens_sound s t p attrs wanted (At o) answer sound live h = opens_at_sound s t p attrs wanted Success o answer sound live h
 
   makes_sound : (s t : State K T F I) (p attrs : ℕ) (making : Making K) (spot : Spot) (answer : Answer)
-      → IsSound s → is_live s p ≡ true → MatchOption spot (Unit {0}) (λ at. IsDirectory s at.0 × (is_barred at.0 at.1 ≡ false)) → Makes g s p attrs making spot answer t → IsSound t
+      → IsSound s → is_live s p ≡ true → MatchOption spot (Unit {0}) (IsPlace s) → Makes g s p attrs making spot answer t → IsSound t
   makes_sound s t p attrs making spot answer sound live inside h =
       unless_sound (room_refusals s p spot) s t answer _ sound (λ e. go (make_refusal g making)) h
     where
@@ -137,22 +140,25 @@ module _ {K T F I : Type 0} (g : Procedures K T F I) where
       go (Some k) h = refused_sound s t (TypeRefused k) answer sound h
 
   creates_sound : (s t : State K T F I) (p attrs : ℕ) (making : Making K) (look : Look) (answer : Answer)
-      → IsSound s → is_live s p ≡ true → IsUsableEnd s (create_mode attrs) look → Creates g s p attrs making look answer t → IsSound t
-  creates_sound s t p attrs making (Refused status) answer sound live usable h = refused_sound s t status answer sound h
-  creates_sound s t p attrs making (At o) answer sound live usable h = go (has_flag open_if_flag attrs) h
+      → IsSound s → is_live s p ≡ true → IsUsableEnd s (create_mode attrs) look → HasComponent look → Creates g s p attrs making look answer t → IsSound t
+  creates_sound s t p attrs making (Refused status) answer sound live usable has h = refused_sound s t status answer sound h
+  creates_sound s t p attrs making (At o) answer sound live usable has h = go (has_flag open_if_flag attrs) h
     where
       go : (opens : Bool) → MatchBool opens (OpensAt g s p attrs (type_made making) ObjectNameExists o answer t) (IsRefused s ObjectNameCollision answer t) → IsSound t
       go true h = opens_at_sound s t p attrs (type_made making) ObjectNameExists o answer sound live h
       go false h = refused_sound s t ObjectNameCollision answer sound h
-  creates_sound s t p attrs making (Parse o rest n) answer sound live usable h = absurd h
-  creates_sound s t p attrs making (Vacant d c) answer sound live usable h = makes_sound s t p attrs making (Some (d, c)) answer sound live (usable.1, usable.3) h
+  creates_sound s t p attrs making (Parse o rest n) answer sound live usable has h = absurd h
+  creates_sound s t p attrs making (Vacant d c) answer sound live usable has h =
+      makes_sound s t p attrs making (Some (d, c)) answer sound live (usable.1, usable.3, has, unmatched s d c (create_mode attrs).fold usable.2) h
 
   creates_in_sound : (s t : State K T F I) (p : ℕ) (where_to : Place) (attrs : ℕ) (making : Making K) (answer : Answer)
       → IsSound s → is_live s p ≡ true → CreatesIn g s p where_to attrs making answer t → IsSound t
   creates_in_sound s t p (place.At root name) attrs making answer sound live h =
       with_root_sound s t p root answer
       (λ at. (look : Look) × LooksUp (without_parse g) s p (create_mode attrs) most_reparses at name look × Creates g s p attrs making look answer t) sound
-      (λ at does. creates_sound s t p attrs making does.0 answer sound live (usable_end g s p (create_mode attrs) most_reparses at name does.0 does.1) does.2) h
+      (λ at does.
+      creates_sound s t p attrs making does.0 answer sound live (usable_end g s p (create_mode attrs) most_reparses at name does.0 does.1)
+      (vacant_name (without_parse g) s p (create_mode attrs) most_reparses at name does.0 does.1) does.2) h
   creates_in_sound s t p place.Unnamed attrs making answer sound live h = makes_sound s t p attrs making None answer sound live tt h
 
   creates_at_sound : (s t : State K T F I) (p : ℕ) (where_to : Place) (attrs : ℕ) (making : Making K) (answer : Answer)

@@ -7,7 +7,7 @@ use Rattle.ob_model.specs.State.{State, root_id, global_id, object_of, is_direct
 use Rattle.ob_model.specs.Settle.{is_permanent, has_name}
 use Rattle.ob_model.specs.Permanence.{turned_object, with_permanence, turned}
 use Rattle.ob_model.specs.Sound.{IsSound, Stands}
-use Rattle.ob_model.proofs.Soundness.{is_directory-map, stands-map, drawn_map, sound_maps, sound_rows, sound_handles, sound_pending}
+use Rattle.ob_model.proofs.Soundness.{is_directory-map, stands-map, drawn_map, sound_maps, sound_rows, sound_inside, sound_handles, sound_pending}
 
 -- an object keeps its number, whether it is a directory, and whether it is exclusive
 module _ {F I : Type 0} (o : ℕ) (permanent : Bool) where
@@ -72,6 +72,9 @@ module _ {K T F I : Type 0} where
         pending = sound_pending s t stays s.pending sound.pending;
         rising = sound.rising;
         stamped = sound.stamped;
+        inside = sound_inside s t (λ m k. directory m ∙ k) s.rows sound.inside;
+        named = sound.named;
+        apart = sound.apart;
         plain = sound.plain;
         live = sound.live;
         numbered = sound.numbered;

@@ -24,6 +24,8 @@ use Rattle.ob_model.specs.Looks.{Look, At, Vacant, Parse, Refused, Mode, most_re
 use Rattle.ob_model.specs.Settle.{settle, has_name}
 use Rattle.ob_model.specs.Closing.{closed_handle}
 use Rattle.ob_model.specs.Permanence.{turned}
+use Rattle.ob_model.specs.Maps.{map_of, with_map}
+use Rattle.ob_model.specs.Naming.{IsWayUp, path_text}
 use Rattle.ob_model.specs.Enumeration.{Shown, enumerated}
 use Rattle.ob_model.specs.Refusals.{gives, answers}
 use Rattle.ob_model.specs.Creates.{created, dropped}
@@ -372,6 +374,24 @@ MadePermanentStays =
     let left = settle numbers (closed_handle numbers made (handle_to 8 8 2)) in
     (object_of left 8 ≡ Some (standing 8 Directory)) × (has_name left 8 ≡ true) × (turned with_three_held 9 true ≡ with_three_held)
     × (turned (turned with_three_held 1 false) 1 true ≡ turned with_three_held 1 false)
+
+-- ---- device maps
+
+-- the directory of a map stays without a name and without a handle, and goes when the process sets another map
+abbrev pub MapHoldsItsDirectory : Type 0
+MapHoldsItsDirectory =
+    let mapped = settle numbers (with_map with_three_held 1 9) in
+    let left = settle numbers (closed_handle numbers mapped (handle_to 9 12 3)) in
+    let other = settle numbers (with_map left 1 8) in
+    (map_of mapped 1 ≡ Some 9) × (object_of left 9 ≡ Some (temporary 9)) × (map_of other 1 ≡ Some 8) × (object_of other 9 ≡ None)
+
+-- ---- paths of objects
+
+-- the path of `\Device\Tape` has the names of the way up from it, the last of them first; the root's is `\`
+abbrev pub PathsOfObjects : Type 0
+PathsOfObjects =
+    IsWayUp with_three_held 8 (codes "Tape" ∷ codes "Device" ∷ []) × (path_text (codes "Tape" ∷ codes "Device" ∷ []) ≡ codes "\\Device\\Tape")
+    × IsWayUp with_three_held 1 [] × (path_text [] ≡ codes "\\")
 
 -- ---- parse runs
 

@@ -1,6 +1,6 @@
 -- What shows that the definitions say what they should: the statements of the law functions in
 -- src/laws.rt, which prove them.
-use Rattle.std.specs.Prelude.{◌≡◌, ◌≢◌, ℕ, ◌+◌, ◌<◌, ◌≤◌, Bool, true, false, ◌&&◌, ◌||◌, ◌==◌, List, [], ◌∷◌, ◌++◌, length, map, All, AllPairs, Contains, Option, Some, MatchOption, if◌then◌else◌}
+use Rattle.std.specs.Prelude.{◌≡◌, ◌≢◌, ℕ, ◌+◌, ◌<◌, ◌≤◌, Bool, true, false, ◌&&◌, ◌||◌, ◌==◌, List, [], ◌∷◌, ◌++◌, length, map, All, AllPairs, Contains, Option, None, Some, MatchOption, if◌then◌else◌}
 use Rattle.std.specs.List.{find}
 use Rattle.std.specs.Option.{option_and_then}
 use Rattle.ob_base.specs.declared.status.Status.TheVariants.{Success}
@@ -10,23 +10,25 @@ use Rattle.ob_model.specs.declared.state.Held.{Held}
 use Rattle.ob_model.specs.declared.state.Object.{Object}
 use Rattle.ob_model.specs.declared.state.Row.{Row}
 use Rattle.ob_model.specs.declared.reply.Answer.{Answer}
+use Rattle.ob_model.specs.declared.reply.Given.TheVariants.{Text}
 use Rattle.ob_model.specs.declared.reply.Event.{Event}
 use Rattle.ob_model.specs.declared.reply.Event.TheVariants.{Start}
 use Rattle.ob_model.specs.declared.command.Command.{Command}
-use Rattle.ob_model.specs.declared.command.Command.TheVariants.{SetDeviceMap}
+use Rattle.ob_model.specs.declared.command.Command.TheVariants.{QueryName, SetDeviceMap}
 use Rattle.ob_model.specs.Names.{separator, joined, IsRest, IsSplit, substituted, ends_in_separator, begins_with_separator}
 use Rattle.ob_model.specs.State.{State, root_id, insert_object, object_of, is_directory, process_of, is_live, held_of}
 use Rattle.ob_model.specs.Opening.{opening}
 use Rattle.ob_model.specs.Paths.{Origin, found, is_match, IsPath, directory_at}
 use Rattle.ob_model.specs.Procedures.{Procedures, Reason}
-use Rattle.ob_model.specs.Looks.{Look, Mode, Looks, LooksUp}
+use Rattle.ob_model.specs.Looks.{Look, At, Mode, Looks, LooksUp}
 use Rattle.ob_model.specs.Settle.{IsSettled, settle, is_permanent, has_handle, has_name}
 use Rattle.ob_model.specs.Closing.{is_handle, closed_handle}
 use Rattle.ob_model.specs.Permanence.{turned}
 use Rattle.ob_model.specs.Maps.{map_of}
-use Rattle.ob_model.specs.Refusals.{answers}
+use Rattle.ob_model.specs.Refusals.{answers, gives}
 use Rattle.ob_model.specs.Grants.{with_open, with_handle}
 use Rattle.ob_model.specs.Creates.{Spot, created}
+use Rattle.ob_model.specs.Naming.{IsWayUp, path_text}
 use Rattle.ob_model.specs.Sound.{IsSound, IsDirectory, Stands}
 use Rattle.ob_model.specs.Exclusive.{AreAlone}
 use Rattle.ob_model.specs.Alike.{AreAlike, AreAlikeCommands, AreAlikeAnswers, LeadOn, HoldOn, IsClosedBy, receiver}
@@ -96,6 +98,11 @@ without_order h = (h.value, h.object, h.inherit)
 abbrev pub handed_on : Held → ℕ × ℕ × Bool
 handed_on h = (h.value, h.object, true)
 
+-- how a name is looked up as it is: with case, and as a create does, so that a link that the last component
+-- names is not followed
+abbrev pub as_it_is : Mode
+as_it_is = record { create = true; fold = false; follow = false }
+
 module _ (K T F I : Type 0) where
   -- found is the row of least stamp among those whose names are equal, and none where there is none
   abbrev pub FoundIsLeast : Type 0
@@ -133,6 +140,21 @@ module _ (K T F I : Type 0) where
   NameLookIsTotal =
       (g : Procedures K T F I) (s : State K T F I) (p : ℕ) (mode : Mode) (n : ℕ) (root : Option ℕ) (name : List ℕ)
       → IsSound s → MatchOption root (Unit {0}) (Stands s) → (look : Look) × LooksUp g s p mode n root name look
+
+  -- in a sound state the path of an object, looked up as it is by any process, with any number of reparses
+  -- left, ends at the object
+  abbrev pub PathsNameTheirObjects : Type 0
+  PathsNameTheirObjects =
+      (g : Procedures K T F I) (s : State K T F I) (o : ℕ) (cs : List (List ℕ)) (p n : ℕ)
+      → IsSound s → IsWayUp s o cs → LooksUp g s p as_it_is n None (path_text cs) (At o)
+
+  -- so in each state of a run the text that a query of a path answers, where it isn't empty, ends at the
+  -- object of the handle
+  abbrev pub AnswersNameTheirObjects : Type 0
+  AnswersNameTheirObjects =
+      (g : Procedures K T F I) (first : T) (entries : List (Entry K)) (s t : State K T F I) (p handle : ℕ) (text : List ℕ) (q n : ℕ)
+      → Run g first entries s → Step g s (Start p (QueryName handle)) (gives Success (Text text)) t → text ≢ []
+      → (h : Held) × (option_and_then (held_of s p) (key_of handle) ≡ Some h) × LooksUp g s q as_it_is n None text (At h.object)
 
   -- settling a settled state changes nothing
   abbrev pub SettleIsIdempotent : Type 0

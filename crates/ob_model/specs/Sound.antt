@@ -5,6 +5,8 @@ use Rattle.std.specs.Prelude.{◌≡◌, true, false, Bool, ◌&&◌, ◌==◌, 
 use Rattle.std.specs.Str.{bytes_eq}
 use Rattle.std.specs.Option.{is_some}
 use Rattle.ob_model.specs.declared.state.Process.{Process}
+use Rattle.ob_model.specs.Names.{IsComponent}
+use Rattle.ob_model.specs.Paths.{is_match}
 use Rattle.ob_model.specs.Closing.{is_handle}
 use Rattle.ob_model.specs.State.{State, root_id, global_id, object_of, is_directory, is_live}
 
@@ -28,8 +30,9 @@ module _ {K T F I : Type 0} where
   -- The root and `\GLOBAL??` are directories, so are all map directories, each row names an object
   -- that is there, and so does each handle and each pending open. The number of each object was drawn,
   -- and a row's directory was made before its object, so that each way up ends. Rows rise by stamps that
-  -- were drawn, no row of the root is called `??`, the process of each handle is live, and has no two
-  -- handles of one value. The number of each process was drawn.
+  -- were drawn; each stands in a directory, its name is a component, no row has the name, with case, of an
+  -- earlier one of its directory, and none of the root is called `??`. The process of each handle is live,
+  -- and has no two handles of one value. The number of each process was drawn.
   pub record IsSound (s : State K T F I) : Type 0 where
     pub root : IsDirectory s root_id
     pub global : IsDirectory s global_id
@@ -41,6 +44,9 @@ module _ {K T F I : Type 0} where
     pub pending : All (λ x. Stands s x.object) s.pending
     pub rising : AllPairs (λ a b. a.stamp < b.stamp) s.rows
     pub stamped : All (λ r. r.stamp < s.next_stamp) s.rows
+    pub inside : All (λ r. IsDirectory s r.directory) s.rows
+    pub named : All (λ r. IsComponent r.name) s.rows
+    pub apart : AllPairs (λ a b. is_match b.directory b.name false a ≡ false) s.rows
     pub plain : All (λ r. is_barred r.directory r.name ≡ false) s.rows
     pub live : All (λ h. is_live s h.process ≡ true) s.handles
     pub numbered : All (λ x. x.number < s.next_process) s.processes

@@ -28,6 +28,8 @@ ghost use Rattle.ob_model.specs.Examples.{
   PageBehindARowThatWent,
   MadeTemporaryGoes,
   MadePermanentStays,
+  MapHoldsItsDirectory,
+  PathsOfObjects,
   ParseRunsEnd,
   CallsOfMadeAndClosed,
   CallsOfTwoCloses,
@@ -161,6 +163,17 @@ pub fn made_temporary_goes()
 /// name isn't made permanent.
 pub fn made_permanent_stays()
     ensures { MadePermanentStays }
+{}
+
+/// The directory of a process's map stays without a name and without a handle, and goes when the process sets
+/// another map.
+pub fn map_holds_its_directory()
+    ensures { MapHoldsItsDirectory }
+{}
+
+/// The path of an object has the names of the way up from it, the last of them first; the root's is `\`.
+pub fn paths_of_objects()
+    ensures { PathsOfObjects }
 {}
 
 /// A parse run ends with what is made once its rest is used up, in two steps here; with a refusal or a

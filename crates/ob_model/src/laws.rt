@@ -22,6 +22,8 @@ ghost use Rattle.ob_model.specs.Laws.{
   LookIsTotal,
   NameLookIsUnique,
   NameLookIsTotal,
+  PathsNameTheirObjects,
+  AnswersNameTheirObjects,
   SettleIsIdempotent,
   RootStays,
   HeldStays,
@@ -117,6 +119,14 @@ pub fn name_look_is_unique<K, T, F, I>()
 /// root handle, if any, is there.
 pub fn name_look_is_total<K, T, F, I>()
     ensures { NameLookIsTotal K T F I }
+{}
+
+/// The path of an object, which is the names on the way from it up to the root, names it: looked up as it is,
+/// absolute and with case, it ends at the object, a link too, for every process and with any number of reparses
+/// left. So does each text that a query of a path answers in a run, but for the empty one.
+pub fn paths_name_their_objects<K, T, F, I>()
+    ensures paths { PathsNameTheirObjects K T F I }
+    ensures answers { AnswersNameTheirObjects K T F I }
 {}
 
 /// An object more stands in order of numbers: it is the last where its number is the greatest; and where its

@@ -11,6 +11,7 @@ fn laws_hold_at_a_concrete_set() {
     laws::look_is_total::<u8, u16, u32, u64>();
     laws::name_look_is_unique::<u8, u16, u32, u64>();
     laws::name_look_is_total::<u8, u16, u32, u64>();
+    laws::paths_name_their_objects::<u8, u16, u32, u64>();
     laws::objects_stand_in_order::<u32, u64>();
     laws::settle_is_idempotent::<u8, u16, u32, u64>();
     laws::root_stays::<u8, u16, u32, u64>();
@@ -61,6 +62,8 @@ fn laws_of_names_and_examples_are_called() {
     examples::create_is_local();
     examples::view_is_local();
     examples::holds_without_name();
+    examples::map_holds_its_directory();
+    examples::paths_of_objects();
     examples::temporary_goes();
     examples::pages_of_a_directory();
     examples::more_entries_are_left();
