@@ -329,7 +329,7 @@ module _ {K T F I : Type 0} (g : Procedures K T F I) (s : State K T F I) where
           none_inside : is_alive s id ≡ false → filter (λ r. not (r.directory == id)) (without_names t id).rows ≡ (without_names t id).rows
           none_inside goes =
               filter_all (λ r. not (r.directory == id)) (without_names t id).rows
-              (λ k d below. ap not (none_passes (λ r. r.directory == id) (without_names t id).rows (last_false ((id == root_id) || (id == global_id) || has_handle (without_names t id) id || (is_permanent (without_names t id) id && has_name (without_names t id) id))
+              (λ k d below. ap not (none_passes (λ r. r.directory == id) (without_names t id).rows (last_false ((id == root_id) || has_handle (without_names t id) id || is_mapped (without_names t id) id || (is_permanent (without_names t id) id && has_name (without_names t id) id))
               (list_any (λ r. r.directory == id) (without_names t id).rows) (held_same ∙ goes)) k d below))
 
           deletes : is_alive s id ≡ false → (x : Option (Object F I)) → find (λ y. y.id == id) t.objects ≡ x
