@@ -124,7 +124,7 @@ fn begin_with<T: TypeSet, H: HandleTable>(
 {
     let mut values = Vec::with_capacity(space.alloc, inherited.len())?;
     let (child, order) = (Proc(space.next_process), space.next_order);
-    let map = space.processes.map_of(parent);
+    let map = space.processes.view(parent).local;
     space.processes.start_with(child, map, inherited, order)?;
     space.next_process += 1;
     space.next_order += inherited.len() as u64;

@@ -1,11 +1,13 @@
-//! Tests of directories, of the store of objects, of the table of handles and of the live processes, by
-//! their public functions. The crate holds tests alone, since a crate with tests is proved twice.
+//! Tests of directories, of the store of objects, of device maps, of the table of handles and of the live
+//! processes, by their public functions. The crate holds tests alone, since a crate with tests is proved twice.
 #![tactic(auto)]
 
 #[cfg(test)]
 mod directories;
 #[cfg(test)]
 mod handles;
+#[cfg(test)]
+mod maps;
 #[cfg(test)]
 mod objects;
 #[cfg(test)]

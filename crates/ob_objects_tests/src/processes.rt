@@ -92,6 +92,28 @@ fn a_process_ends_without_handles(rt: HostRuntime) -> Result<(), Fail> {
     let mut all = two_processes(rt.alloc())?;
     all.end(PARENT);
     assert!(rt; !all.is_live(PARENT) && all.is_live(CHILD) && all.count() == 1);
-    assert!(rt; all.map_of(PARENT).is_none() && all.map_of(CHILD) == Some(DIRECTORY));
+    assert!(rt; local_maps(&all) == (None, Some(DIRECTORY)));
+    all.end(CHILD);
+    assert!(rt; local_maps(&all) == (None, None) && !all.is_mapped(DIRECTORY));
+    Ok(())
+}
+
+// The directories of the device maps of the parent and of the child.
+fn local_maps(all: &Processes<OpenTable>) -> (Option<ObjId>, Option<ObjId>) {
+    (all.view(PARENT).local, all.view(CHILD).local)
+}
+
+#[test]
+fn a_process_gets_a_map_in_place_of_its_own(rt: HostRuntime) -> Result<(), Fail> {
+    let mut all = two_processes(rt.alloc())?;
+    let (other, none) = (ObjId(8), Proc(3));
+    assert!(rt; local_maps(&all) == (None, Some(DIRECTORY)) && all.is_mapped(DIRECTORY));
+    all.set_map(PARENT, DIRECTORY)?;
+    all.set_map(CHILD, other)?;
+    assert!(rt; local_maps(&all) == (Some(DIRECTORY), Some(other)) && all.is_mapped(DIRECTORY));
+    all.set_map(PARENT, other)?;
+    all.set_map(none, DIRECTORY)?;
+    assert!(rt; local_maps(&all) == (Some(other), Some(other)) && all.is_mapped(other));
+    assert!(rt; all.view(none).local.is_none() && !all.is_mapped(DIRECTORY));
     Ok(())
 }

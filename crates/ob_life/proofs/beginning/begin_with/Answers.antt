@@ -15,7 +15,7 @@ loop-held-init g c =
     let all = c.args.inherited.now in
     record {
       state =
-          started g.T.TypeSet.procedures s c.args.parent c.requires.sound all c.requires.apart c.map_of-map.result _ c.map_of-map.ensures
+          started g.T.TypeSet.procedures s c.args.parent c.requires.sound all c.requires.apart c.view-map.result.local _ c.view-map.ensures.local
           (λ i. record s { handles = c.in_ok-start_with.ensures.handles i; processes = c.in_ok-start_with.ensures.last i; next_process = s.next_process + 1; next_order = s.next_order + length all });
       values = c.in_ok-values.ensures.items ∙ sym (no_values g.T.TypeSet.procedures s c.args.parent c.requires.sound all c.requires.apart);
       child = search rules;
