@@ -2,6 +2,7 @@ pub mod Closed
 pub mod Judged
 pub mod Made
 pub mod Mapped
+pub mod Opened
 pub mod Queries
 pub mod Stepping
 pub mod Turned

@@ -1,9 +1,9 @@
 -- A device map that is set, put together of what its parts ensure.
 use Rattle.std.proofs.Common.{◌≡◌, ◌∙◌, ℕ, suc, ◌<◌, ◌≤◌, ◌==◌, ◌&&◌, ◌||◌, Bool, true, false, not, cond, List, [], ◌∷◌, ◌++◌, find, get_or, map, length, All, refl, ap, sym, subst, arith, eqb-true, eq-eqb}
-use Rattle.std.specs.Prelude.{Option, None, Some, MatchOption}
+use Rattle.std.specs.Prelude.{Option, None, Some, option_map, MatchOption}
 use Rattle.std.specs.List.{list_any, AllPairs}
 use Rattle.std.specs.Option.{option_and_then, option_map_or}
-use Rattle.std.proofs.lemmas.Bool.{false≢true}
+use Rattle.std.proofs.lemmas.Bool.{ne_eqb}
 use Rattle.std.proofs.lemmas.List.Elements.{All-map}
 use Rattle.std.proofs.lemmas.List.Folds.{list_any-append}
 use Rattle.ob_base.specs.Handle.{key_of}
@@ -12,14 +12,20 @@ use Rattle.ob_model.specs.declared.reply.Answer.{Answer}
 use Rattle.ob_model.specs.declared.state.Held.{Held}
 use Rattle.ob_model.specs.declared.state.Process.{Process}
 use Rattle.ob_model.specs.declared.state.Row.{Row}
-use Rattle.ob_model.specs.State.{State, root_id, global_id, is_live, is_directory, held_of, process_of}
+use Rattle.ob_model.specs.declared.state.Object.{Object}
+use Rattle.ob_model.specs.State.{State, root_id, global_id, is_live, is_directory, is_directory_body, object_of, held_of, process_of}
 use Rattle.ob_model.specs.Grants.{first_refusal}
 use Rattle.ob_model.specs.Maps.{with_own_map, map_of, with_map}
 use Rattle.ob_model.specs.Procedures.{Procedures}
 use Rattle.ob_model.specs.Refusals.{IsRefused, Unless, answers}
 use Rattle.ob_model.specs.Settle.{IsSettled, settle, has_handle, has_name, is_kept, is_alive, is_permanent, is_pinned, is_mapped, holds_kept}
 use Rattle.ob_model.specs.Step.{SetsMap}
+use Rattle.ob_model.proofs.Finds.{find_none}
 use Rattle.ob_model.proofs.Staying.{settled_itself}
+use Rattle.ob_objects.specs.Store.{Entries}
+use Rattle.ob_processes.specs.Running.{Running}
+use Rattle.ob_space.specs.declared.space.Namespace.{Namespace}
+use Rattle.ob_space.specs.Namespace.{state_of}
 use Rattle.ob_space.specs.Orderly.{IsOrderly}
 use Rattle.ob_space.specs.Settling.{with_handle_to}
 use Rattle.ob_core.proofs.Stepping.{is_done}
@@ -35,23 +41,10 @@ number_stays p m x = elim (x.number == p) as (λ b. (cond b (record x { map = m 
 
 -- behind a process of this number, by rising numbers, there is no other
 none_behind : (p : ℕ) (x : Process) (ps : List Process) → AllPairs (λ a b. a.number < b.number) (x ∷ ps) → x.number ≡ p → find (λ y. y.number == p) ps ≡ None
-none_behind p x [] rising same = refl
-none_behind p x (y ∷ ps) rising same = go (y.number == p) refl
-  where
-    go : (b : Bool) → (y.number == p) ≡ b → cond b (Some y) (find (λ z. z.number == p) ps) ≡ None
-    go true e =
-        let here : y.number ≡ p = eqb-true y.number p e in
-        let less : x.number < y.number = rising 0 1 x (omega arith) (omega arith) in
-        absurd (omega (arith, here, less, same))
-    go false e =
-        none_behind p x ps
-        (λ i j d less below. drop_second i j d less below) same
-      where
-        drop_second : (i j : ℕ) (d : Process) → i < j → j < length (x ∷ ps) → (get_or (x ∷ ps) i d).number < (get_or (x ∷ ps) j d).number
-        drop_second 0 0 d less below = omega (arith, less)
-        drop_second 0 (suc j) d less below = rising 0 (suc (suc j)) d (omega arith) (omega (arith, below))
-        drop_second (suc i) 0 d less below = omega (arith, less)
-        drop_second (suc i) (suc j) d less below = rising (suc (suc i)) (suc (suc j)) d (omega (arith, less)) (omega (arith, below))
+none_behind p x ps rising same =
+    find_none (λ y. y.number == p) ps
+    (λ k d below. ne_eqb (get_or ps k d).number p
+    (λ equal. let less : x.number < (get_or ps k d).number = rising 0 (suc k) d (omega arith) (omega (arith, below)) in absurd (omega (arith, less, equal, same))))
 
 or_true : (b : Bool) → (b || true) ≡ true
 or_true true = refl
@@ -66,26 +59,25 @@ map_stays : (p o d : ℕ) (ps : List Process) → AllPairs (λ a b. a.number < b
     → option_map_or (λ n. n == o) (option_and_then (λ x. x.map) (find (λ x. x.number == p) ps)) false ≡ false → list_any (has_map o) ps ≡ true
     → list_any (has_map o) (map (with_own_map p (Some d)) ps) ≡ true
 map_stays p o d [] rising other some = some
-map_stays p o d (x ∷ ps) rising other some = go (x.number == p) refl other some
+map_stays p o d (x ∷ ps) rising other some =
+    go (x.number == p) refl other some (map_stays p o d ps (λ i j e less below. rising (suc i) (suc j) e (omega (arith, less)) (omega (arith, below))))
   where
-    behind : AllPairs (λ a b. a.number < b.number) ps
-    behind i j e less below = rising (suc i) (suc j) e (omega (arith, less)) (omega (arith, below))
-
     go : (b : Bool) → (x.number == p) ≡ b
         → option_map_or (λ n. n == o) (option_and_then (λ y. y.map) (cond b (Some x) (find (λ y. y.number == p) ps))) false ≡ false
         → (has_map o x || list_any (has_map o) ps) ≡ true
+        → (option_map_or (λ n. n == o) (option_and_then (λ y. y.map) (find (λ y. y.number == p) ps)) false ≡ false → list_any (has_map o) ps ≡ true
+        → list_any (has_map o) (map (with_own_map p (Some d)) ps) ≡ true)
         → (has_map o (cond b (record x { map = Some d }) x) || list_any (has_map o) (map (with_own_map p (Some d)) ps)) ≡ true
-    go true e old any =
+    go true e old any rest =
         ap (λ b. (d == o) || b)
-        (map_stays p o d ps behind
-        (ap (λ (f : Option Process). option_map_or (λ n. n == o) (option_and_then (λ y. y.map) f) false) (none_behind p x ps rising (eqb-true x.number p e)))
+        (rest (ap (λ (f : Option Process). option_map_or (λ n. n == o) (option_and_then (λ y. y.map) f) false) (none_behind p x ps rising (eqb-true x.number p e)))
         (sym (ap (λ b. b || list_any (has_map o) ps) old) ∙ any))
         ∙ or_true (d == o)
-    go false e old any = either (has_map o x) any
+    go false e old any rest = either (has_map o x) any
       where
         either : (b : Bool) → (b || list_any (has_map o) ps) ≡ true → (b || list_any (has_map o) (map (with_own_map p (Some d)) ps)) ≡ true
         either true h = refl
-        either false h = map_stays p o d ps behind old h
+        either false h = rest old h
 
 -- ---- settled states
 
@@ -154,10 +146,12 @@ module _ {K T F I : Type 0} (s : State K T F I) (p d : ℕ) where
 
       holds_still : (o : ℕ) (rows : List Row) → list_any (λ r. (r.directory == o) && is_kept s r) rows ≡ true → list_any (λ r. (r.directory == o) && is_kept u r) rows ≡ true
       holds_still o [] h = h
-      holds_still o (r ∷ rs) = imply_or _ _ _ _ (both (r.directory == o)) (holds_still o rs)
+      holds_still o (r ∷ rs) h =
+          imply_or ((r.directory == o) && is_kept s r) ((r.directory == o) && is_kept u r) (list_any (λ x. (x.directory == o) && is_kept s x) rs) (list_any (λ x. (x.directory == o) && is_kept u x) rs)
+          (both (r.directory == o)) (holds_still o rs) h
         where
           both : (b : Bool) → (b && is_kept s r) ≡ true → (b && is_kept u r) ≡ true
-          both true = kept_still r
+          both true h = kept_still r h
           both false h = h
 
       alive_still : (o : ℕ) → is_alive s o ≡ true → is_alive u o ≡ true
@@ -185,6 +179,21 @@ module _ {K T F I : Type 0} (s : State K T F I) (p d : ℕ) where
         names = λ k e below. kept_still (get_or s.rows k e) (settled.names k e below);
         objects = λ k e below. alive_still (get_or s.objects k e).id (settled.objects k e below);
       }
+
+-- ---- the parts
+
+-- the processes with another map are the state with it
+pub stored_mapped : (K : Type 0) {T F I : Type 0} (a : Namespace T (Entries F I) Running) (now : Running) (p d : ℕ) → now.processes ≡ map (with_own_map p (Some d)) a.processes.processes
+    → now.handles ≡ a.processes.handles → state_of K (record a { processes = now }) ≡ with_map (state_of K a) p d
+stored_mapped K a now p d processes handles = λ i. record (state_of K a) { processes = processes i; handles = handles i }
+
+-- an object is a directory where it is found to be one
+pub directory_found : {K T F I : Type 0} (s : State K T F I) (o : ℕ) → option_map_or (λ x. is_directory_body x.body) (object_of s o) false ≡ is_directory s o
+directory_found {K} {T} {F} {I} s o = go (object_of s o)
+  where
+    go : (x : Option (Object F I)) → option_map_or (λ y. is_directory_body y.body) x false ≡ option_map_or is_directory_body (option_map (λ y. y.body) x) false
+    go None = refl
+    go (Some x) = refl
 
 -- ---- the step
 
