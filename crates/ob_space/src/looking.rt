@@ -5,14 +5,16 @@ ghost use Rattle.ob_base.specs.declared.Fault.TheVariants.{Memory};
 ghost use Rattle.ob_model.specs.Looks as machine;
 ghost use Rattle.ob_model.specs.Procedures.{without_parse};
 ghost use Rattle.ob_model.specs.Sound.{IsSound};
+ghost use Rattle.ob_devmap.specs.View.{IsViewOf};
 ghost use Rattle.ob_lookup.specs.Look.{mode_of, look_of};
 ghost use Rattle.ob_space.specs.Looking.{IsRoot, IsUsable};
 ghost use Rattle.ob_space.specs.Namespace.{state_of};
 
-use crate::space::Namespace;
+use crate::space::{GLOBAL, Namespace};
 use ob_base::{Fault, ObjId, Proc};
+use ob_devmap::View;
 use ob_handles::HandleTable;
-use ob_lookup::{Look, Mode, look, sound_is_closed};
+use ob_lookup::{Look, Mode, look, sound_has_views, sound_is_closed};
 use ob_names::Name;
 use ob_objects::{Store, laws};
 use ob_processes::Processes;
@@ -23,12 +25,14 @@ const MOST_REPARSES: u32 = 32;
 
 /// Looks a name up, relative to the object of a root handle of the process, where one is given, and
 /// follows links, with at most 32 reparses: to an object, a vacant place, or the status of a refusal.
+/// `\??` is what the process sees of the DOS device names.
 ///
 /// It asks that the state is sound, so that every name in it leads somewhere, and that the root object
 /// is there. A vacant place is told only to a create, and then a name may be put there. Nothing is
 /// changed. The only fault is want of memory.
 ///
-/// Source: Windows Internals, Object Manager (object names, symbolic links); the limit is this profile.
+/// Source: Windows Internals, Object Manager (object names, symbolic links, session namespace); the limit
+/// is this profile.
 pub fn look_up<T: TypeSet, H: HandleTable>(
     space: &Namespace<T, Store<T>, Processes<H>>,
     process: Proc,
@@ -45,6 +49,29 @@ pub fn look_up<T: TypeSet, H: HandleTable>(
     ensures memory { IfErr result (λ fault. fault ≡ Memory) }
 {
     sound_is_closed::<T::Kind, T, T::Face, T::Inner>();
+    sound_has_views::<T::Kind, T, T::Face, T::Inner>();
     laws::stored_is_the_object::<T::Kind, T, T::Face, T::Inner>();
-    look(space.alloc, &space.store, root, name, mode, MOST_REPARSES)
+    let view = view_of(space, process);
+    look(
+        space.alloc,
+        &space.store,
+        view,
+        root,
+        name,
+        mode,
+        MOST_REPARSES,
+    )
+}
+
+/// What a process sees of the DOS device names.
+fn view_of<T: TypeSet, H: HandleTable>(
+    space: &Namespace<T, Store<T>, Processes<H>>,
+    process: Proc,
+) -> View
+    ensures { IsViewOf (state_of T.Kind space.now) process result }
+{
+    View {
+        local: space.processes.map_of(process),
+        global: GLOBAL,
+    }
 }

@@ -17,9 +17,13 @@ look-requires-clause-root g c κs within =
     let s = state_of g.row.T-Kind.Denot c.args.space.now in
     root_there s c.args.space.now.store (c.stored_is_the_object.ensures s c.args.space.now.store (record { objects = refl; rows = refl })) c.args.root c.requires.root
 
+pub look-requires-clause-view : goal.look-requires-clause-view
+look-requires-clause-view g c κs within =
+    c.sound_has_views.ensures (state_of g.row.T-Kind.Denot c.args.space.now) c.args.space.now.store c.args.process c.view_of-view.result (record { objects = refl; rows = refl }) c.requires.sound c.view_of-view.ensures
+
 pub returns-clause-usable : goal.returns-clause-usable
 returns-clause-usable g c =
     let s = state_of g.row.T-Kind.Denot c.args.space.now in
     IfOk-map _ _ c.look.result (λ look told.
     usable s (mode_of c.args.mode) (look_of look)
-    (usable_end g.T.TypeSet.procedures s c.args.process (mode_of c.args.mode) refl most_reparses c.args.root c.args.name (look_of look) (told s c.args.process (record { objects = refl; rows = refl })))) c.look.ensures.end
+    (usable_end g.T.TypeSet.procedures s c.args.process (mode_of c.args.mode) most_reparses c.args.root c.args.name (look_of look) (told s c.args.process (record { objects = refl; rows = refl }) c.view_of-view.ensures))) c.look.ensures.end
