@@ -151,10 +151,6 @@ named_at_stands store view place.InView entries component fold object is closed 
     go None e h = named_stands store view.global (entries_at store view.global) component fold object is closed (entries_there store view.global there.global) h
     go (Some x) e h = named_stands store (local_of view) entries component fold object is closed stored (h ∙ e)
 
--- the root of a closed store is a directory
-pub root_there : {F I : Type 0} (store : Entries F I) (id : ℕ) → IsClosed store → id ≡ root_id → IsSome (directory_at store id)
-root_there store id closed is_root = subst (λ (k : ℕ). IsSome (directory_at store k)) (sym is_root) closed.root
-
 -- a directory of a state is one of the store that it shows
 pub directory_stored : {K T F I : Type 0} (s : State K T F I) (store : Entries F I) → Shows s store → (id : ℕ) → is_directory s id ≡ true → IsSome (directory_at store id)
 directory_stored {F = F} {I = I} s store shows id dir = go (stored_at store id) (sym (ap (λ (o : Option (Body F I)). option_map_or is_directory_body o false) (body_shown s store shows id)) ∙ dir)

@@ -2,6 +2,7 @@
 //! byte long, so that nothing of the code under test is used.
 
 use ob_base::Status;
+use ob_devmap::View;
 use ob_lookup::Mode;
 use std::alloc::Global;
 use std::test::Fail;
@@ -38,24 +39,70 @@ enum Turn {
     Follows(&'static [u8]),
 }
 
+// Where a text begins: a directory, another one that is searched for its first component too, and how many of
+// its bytes are behind.
+#[derive(Drop)]
+struct Begin {
+    directory: u64,
+    second: Option<u64>,
+    at: usize,
+}
+
+// Where a text begins that begins with a separator. Of a create `\??\a` is five bytes long.
+fn begin_of(view: &View, create: bool, text: &[u8]) -> Begin {
+    let local = match view.local {
+        Some(local) => local.0,
+        None => view.global.0,
+    };
+    if text.len() == 3 && text.starts_with(b"\\??") {
+        return Begin {
+            directory: local,
+            second: None,
+            at: 3,
+        };
+    }
+    if text.starts_with(b"\\??\\") {
+        let is_local_alone = create && text.len() == 5 && text.last() != Some(&b'\\');
+        return Begin {
+            directory: local,
+            second: if is_local_alone {
+                None
+            } else {
+                Some(view.global.0)
+            },
+            at: 3,
+        };
+    }
+    Begin {
+        directory: 1,
+        second: None,
+        at: if text.len() == 1 { 1 } else { 0 },
+    }
+}
+
 // What an absolute name ends with.
 pub(crate) fn search(
     alloc: Global,
     rows: &[PlainRow],
+    view: &View,
     mode: Mode,
     name: &[u8],
     budget: u32,
 ) -> Result<End<'static>, Fail> {
     let mut left = budget;
-    let mut directory = 1;
     let mut text = name.to_vec(alloc)?;
-    let mut at = 0usize;
+    let Begin {
+        mut directory,
+        mut second,
+        mut at,
+    } = begin_of(view, mode.create, name);
     for _ in 0..64 {
         let rest = text.as_slice().get(at..).unwrap_or(&[]);
-        match next_turn(rows, mode, directory, rest) {
+        match next_turn(rows, mode, directory, second, rest) {
             Turn::Ends(end) => return Ok(end),
             Turn::Enters(next) => {
                 directory = next;
+                second = None;
                 at = at.saturating_add(2);
             }
             Turn::Follows(target) => {
@@ -67,8 +114,10 @@ pub(crate) fn search(
                 }
                 let made = joined(alloc, target, rest.get(2..).unwrap_or(&[]))?;
                 left -= 1;
-                directory = 1;
-                at = if made.len() == 1 { 1 } else { 0 };
+                let begin = begin_of(view, mode.create, made.as_slice());
+                directory = begin.directory;
+                second = begin.second;
+                at = begin.at;
                 text = made;
             }
         }
@@ -86,21 +135,37 @@ fn joined(alloc: Global, target: &[u8], rest: &[u8]) -> Result<Vec<u8>, Fail> {
     Ok(made)
 }
 
-// What comes of the next component in a directory.
-fn next_turn(rows: &[PlainRow], mode: Mode, directory: u64, rest: &[u8]) -> Turn {
+// What comes of the next component in a directory, and in a second one.
+fn next_turn(
+    rows: &[PlainRow],
+    mode: Mode,
+    directory: u64,
+    second: Option<u64>,
+    rest: &[u8],
+) -> Turn {
     let (name, more) = match rest {
         [] => return Turn::Ends(End::At(directory)),
         [_] | [_, b'\\', ..] => return Turn::Ends(End::Refused(Status::ObjectNameInvalid)),
         [_, name, more @ ..] => (*name, !more.is_empty()),
     };
-    let named = rows.iter().find(|row| row.directory == directory
-        && is_same(row.name, name, mode.fold));
+    let local = find(rows, mode, directory, name);
+    let named = match second {
+        Some(second) if local.is_none() => find(rows, mode, second, name),
+        _ => local,
+    };
     match named {
-        Some(row) => at_row(*row, mode, more),
+        Some(row) => at_row(row, mode, more),
         None if more => Turn::Ends(End::Refused(Status::ObjectPathNotFound)),
         None if mode.create => Turn::Ends(End::Vacant(directory, spelled(name))),
         None => Turn::Ends(End::Refused(Status::ObjectNameNotFound)),
     }
+}
+
+// The first row of a name in a directory.
+fn find(rows: &[PlainRow], mode: Mode, directory: u64, name: u8) -> Option<PlainRow> {
+    rows.iter()
+        .find(|row| row.directory == directory && is_same(row.name, name, mode.fold))
+        .copied()
 }
 
 // What comes of a component that names an object.

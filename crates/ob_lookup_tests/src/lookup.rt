@@ -4,10 +4,11 @@ ghost use Rattle.std.specs.Prelude.{◌≡◌, ◌<◌, [], IfOk};
 ghost use Rattle.ob_objects.specs.Store.{entries_in};
 
 use crate::flat_rows::{End, Kind, PlainRow, search};
-use crate::space::Space;
+use crate::space::{Space, has_view};
 use ob_base::{ObjId, Status};
+use ob_devmap::View;
 use ob_dirs::Dir;
-use ob_lookup::{Look, Mode, closed_stays, look, sound_is_closed};
+use ob_lookup::{Look, Mode, closed_stays, look, sound_has_views, sound_is_closed};
 use ob_names::{Name, NameBuf};
 use ob_objects::StoredBody;
 use ob_plain::{PlainFace, PlainInner, PlainKind, Standard};
@@ -19,6 +20,12 @@ use std::test::Fail;
 type Body = StoredBody<PlainFace, PlainInner>;
 
 const ROOT: ObjId = ObjId(1);
+
+// A view of the root directory alone.
+const PLAIN: View = View {
+    local: None,
+    global: ROOT,
+};
 
 const OPEN: Mode = Mode {
     create: false,
@@ -109,16 +116,21 @@ fn small(alloc: Global) -> Result<Space, Fail> {
     Ok(space)
 }
 
-// Whether a name ends so, where at most so many reparses are made.
+// Whether a name ends so for a process of this view, where at most so many reparses are made.
 fn ends_within(
     alloc: Global,
     space: &Space,
+    view: &View,
     mode: Mode,
     budget: u32,
     name: &[u8],
     end: End<'_>,
 ) -> Result<bool, Fail> {
-    let found = look(alloc, space.store(), None, Name::read(name)?, mode, budget)?;
+    let store = space.store();
+    if !has_view(store, view) {
+        return Err(Fail::from("no directory of the view"));
+    }
+    let found = look(alloc, store, *view, None, Name::read(name)?, mode, budget)?;
     Ok(is_end(&found, end))
 }
 
@@ -129,7 +141,7 @@ fn ends_so(
     name: &[u8],
     end: End<'_>,
 ) -> Result<bool, Fail> {
-    ends_within(alloc, space, mode, 32, name, end)
+    ends_within(alloc, space, &PLAIN, mode, 32, name, end)
 }
 
 // How absolute names are looked up in the small namespace, and what they end with.
@@ -153,7 +165,7 @@ const ABSOLUTE: [(Mode, &'static [u8], End<'static>); 18] = [
         End::Refused(Status::ObjectNameNotFound),
     ),
     (CREATE, b"\\Device\\Gone", End::Vacant(2, b"Gone")),
-    (CREATE, b"\\??", End::Refused(Status::ObjectNameInvalid)),
+    (CREATE, b"\\??C:", End::Vacant(1, b"??C:")),
     (CREATE, b"\\Device\\??", End::Vacant(2, b"??")),
     (
         OPEN,
@@ -179,22 +191,34 @@ fn absolute_names(rt: HostRuntime) -> Result<(), Fail> {
 }
 
 // Names relative to an object of the small namespace, and what they end with.
-const RELATIVE: [(u64, &'static [u8], End<'static>); 7] = [
-    (2, b"Disk", End::At(3)),
-    (2, b"", End::At(2)),
-    (1, b"Device\\Disk", End::At(3)),
-    (2, b"Device", End::Refused(Status::ObjectNameNotFound)),
-    (2, b"\\Device", End::Refused(Status::ObjectPathSyntaxBad)),
-    (3, b"", End::Refused(Status::ObjectTypeMismatch)),
-    (4, b"Disk", End::Refused(Status::ObjectTypeMismatch)),
+const RELATIVE: [(u64, Mode, &'static [u8], End<'static>); 9] = [
+    (2, OPEN, b"Disk", End::At(3)),
+    (2, OPEN, b"", End::At(2)),
+    (1, OPEN, b"Device\\Disk", End::At(3)),
+    (2, OPEN, b"Device", End::Refused(Status::ObjectNameNotFound)),
+    (
+        2,
+        OPEN,
+        b"\\Device",
+        End::Refused(Status::ObjectPathSyntaxBad),
+    ),
+    (3, OPEN, b"", End::Refused(Status::ObjectTypeMismatch)),
+    (4, OPEN, b"Disk", End::Refused(Status::ObjectTypeMismatch)),
+    (
+        1,
+        OPEN,
+        b"??\\Device",
+        End::Refused(Status::ObjectPathNotFound),
+    ),
+    (1, CREATE, b"??", End::Refused(Status::ObjectNameInvalid)),
 ];
 
 #[test]
 fn relative_names(rt: HostRuntime) -> Result<(), Fail> {
     let space = small(rt.alloc())?;
-    for &(root, name, end) in &RELATIVE {
+    for &(root, mode, name, end) in &RELATIVE {
         assert!(rt;
-            ends_from(rt.alloc(), &space, ObjId(root), name, end)?,
+            ends_from(rt.alloc(), &space, ObjId(root), mode, name, end)?,
             "at {root} {name:?}"
         );
     }
@@ -206,6 +230,7 @@ fn ends_from(
     alloc: Global,
     space: &Space,
     root: ObjId,
+    mode: Mode,
     name: &[u8],
     end: End<'_>,
 ) -> Result<bool, Fail> {
@@ -213,7 +238,7 @@ fn ends_from(
     let Some(_) = store.get(root) else {
         return Err(Fail::from("no root object"));
     };
-    let found = look(alloc, store, Some(root), Name::read(name)?, OPEN, 32)?;
+    let found = look(alloc, store, PLAIN, Some(root), Name::read(name)?, mode, 32)?;
     Ok(is_end(&found, end))
 }
 
@@ -245,32 +270,190 @@ fn links(rt: HostRuntime) -> Result<(), Fail> {
     Ok(())
 }
 
-// A chain of links, `\0` to `\P`, each to the one before it, the first of which leads to `\Device`, which is 2.
-fn chain(alloc: Global) -> Result<Space, Fail> {
+// A chain of links, `\0` to `\P`, each to the one before it, the first of which leads to this target. `\Device`
+// is 2.
+fn chain(alloc: Global, target: &[u8]) -> Result<Space, Fail> {
     let mut space = Space::new(alloc)?;
     space.add(alloc, ROOT, b"Device", body(alloc, Kind::Directory)?)?;
-    space.add(alloc, ROOT, b"0", link(alloc, b"\\Device")?)?;
+    space.add(alloc, ROOT, b"0", link(alloc, target)?)?;
     for k in b'1'..=b'P' {
         space.add(alloc, ROOT, &[k], link(alloc, &[b'\\', k - 1])?)?;
     }
     Ok(space)
 }
 
-// Names of the chain, and what they end with.
-const CHAINED: [(&'static [u8], End<'static>); 2] = [
-    (b"\\O", End::At(2)),
-    (b"\\P", End::Refused(Status::ReparseLimit)),
+// A view whose local directory is `\Device`.
+const OF_DEVICE: View = View {
+    local: Some(ObjId(2)),
+    global: ROOT,
+};
+
+// Names of chains, what the first link of each leads to, and what they end with. Behind 32 links `\??` is the
+// view as it is without one.
+const CHAINED: [(&'static [u8], Mode, &'static [u8], End<'static>); 6] = [
+    (b"\\Device", OPEN, b"\\O", End::At(2)),
+    (
+        b"\\Device",
+        OPEN,
+        b"\\P",
+        End::Refused(Status::ReparseLimit),
+    ),
+    (b"\\??", OPEN, b"\\O", End::At(2)),
+    (b"\\??", OPEN, b"\\P", End::Refused(Status::ReparseLimit)),
+    (b"\\??", OPEN, b"\\O\\Device", End::At(2)),
+    (b"\\??", CREATE, b"\\O\\Device", End::Vacant(2, b"Device")),
 ];
 
 #[test]
 fn chains_of_links(rt: HostRuntime) -> Result<(), Fail> {
-    let space = chain(rt.alloc())?;
-    for &(name, end) in &CHAINED {
+    let alloc = rt.alloc();
+    for &(target, mode, name, end) in &CHAINED {
+        let space = chain(alloc, target)?;
         assert!(rt;
-            ends_so(rt.alloc(), &space, OPEN, name, end)?,
-            "at {name:?}"
+            ends_within(alloc, &space, &OF_DEVICE, mode, 32, name, end)?,
+            "at {target:?} {name:?}"
         );
     }
+    Ok(())
+}
+
+// The objects of a namespace with device names, from 2 on: `\GLOBAL??` is 2, a process's local directory 3.
+// `C:` is 4 locally and 5 globally, and `D:` is 6 globally alone. `\DosDevices` leads to `\??`, and `\Drive`
+// behind that to `D:`. `e:` is local, `E:` and `f:` are global.
+const DEVICE_NAMES: [(u64, &'static [u8], Kind); 13] = [
+    (1, b"GLOBAL??", Kind::Directory),
+    (1, b"Local", Kind::Directory),
+    (3, b"C:", Kind::Directory),
+    (2, b"C:", Kind::Directory),
+    (2, b"D:", Kind::Directory),
+    (4, b"x", Kind::Event),
+    (6, b"y", Kind::Event),
+    (1, b"DosDevices", Kind::Link(b"\\??")),
+    (1, b"Drive", Kind::Link(b"\\DosDevices\\D:")),
+    (3, b"e:", Kind::Event),
+    (2, b"E:", Kind::Event),
+    (2, b"f:", Kind::Event),
+    (5, b"z", Kind::Event),
+];
+
+fn device_names(alloc: Global) -> Result<Space, Fail> {
+    let mut space = Space::new(alloc)?;
+    for (directory, name, kind) in DEVICE_NAMES {
+        space.add(alloc, ObjId(directory), name, body(alloc, kind)?)?;
+    }
+    Ok(space)
+}
+
+// The view of a process with a map, and of one without.
+const MAPPED: View = View {
+    local: Some(ObjId(3)),
+    global: ObjId(2),
+};
+
+const UNMAPPED: View = View {
+    local: None,
+    global: ObjId(2),
+};
+
+// Names as a process with a map looks them up, and what they end with.
+const MAPPED_NAMES: [(Mode, &'static [u8], End<'static>); 31] = [
+    (OPEN, b"\\??", End::At(3)),
+    (OPEN, b"\\??\\C:", End::At(4)),
+    (OPEN, b"\\??\\D:", End::At(6)),
+    (OPEN, b"\\GLOBAL??\\C:", End::At(5)),
+    (OPEN, b"\\??\\C:\\x", End::At(7)),
+    (OPEN, b"\\??\\D:\\y", End::At(8)),
+    (
+        OPEN,
+        b"\\??\\C:\\z",
+        End::Refused(Status::ObjectNameNotFound),
+    ),
+    (
+        OPEN,
+        b"\\??\\C:\\D:",
+        End::Refused(Status::ObjectNameNotFound),
+    ),
+    (OPEN, b"\\??\\G:", End::Refused(Status::ObjectNameNotFound)),
+    (
+        OPEN,
+        b"\\??\\G:\\x",
+        End::Refused(Status::ObjectPathNotFound),
+    ),
+    (OPEN, b"\\??\\", End::Refused(Status::ObjectNameInvalid)),
+    (OPEN, b"\\??\\\\C:", End::Refused(Status::ObjectNameInvalid)),
+    (OPEN, b"\\??C:", End::Refused(Status::ObjectNameNotFound)),
+    (CREATE, b"\\??", End::At(3)),
+    (CREATE, b"\\??\\C:", End::At(4)),
+    (CREATE, b"\\??\\D:", End::Vacant(3, b"D:")),
+    (CREATE, b"\\??\\D:\\new", End::Vacant(6, b"new")),
+    (
+        CREATE,
+        b"\\??\\G:\\new",
+        End::Refused(Status::ObjectPathNotFound),
+    ),
+    (
+        CREATE,
+        b"\\??\\D:\\",
+        End::Refused(Status::ObjectNameInvalid),
+    ),
+    (OPEN, b"\\DosDevices", End::At(3)),
+    (OPEN_LINK, b"\\DosDevices", End::At(9)),
+    (OPEN, b"\\DosDevices\\C:\\x", End::At(7)),
+    (CREATE, b"\\DosDevices\\D:", End::Vacant(3, b"D:")),
+    (OPEN, b"\\Drive", End::At(6)),
+    (OPEN, b"\\Drive\\y", End::At(8)),
+    (CREATE, b"\\Drive", End::At(10)),
+    (CREATE, b"\\Drive\\new", End::Vacant(6, b"new")),
+    (OPEN, b"\\??\\E:", End::At(12)),
+    (OPEN_FOLDED, b"\\??\\E:", End::At(11)),
+    (OPEN_FOLDED, b"\\??\\F:", End::At(13)),
+    (OPEN_FOLDED, b"\\dosdevices\\c:", End::At(4)),
+];
+
+// Names as a process without a map looks them up, and what they end with.
+const UNMAPPED_NAMES: [(Mode, &'static [u8], End<'static>); 8] = [
+    (OPEN, b"\\??", End::At(2)),
+    (OPEN, b"\\??\\C:", End::At(5)),
+    (OPEN, b"\\??\\C:\\z", End::At(14)),
+    (OPEN, b"\\DosDevices\\C:", End::At(5)),
+    (OPEN, b"\\??\\e:", End::Refused(Status::ObjectNameNotFound)),
+    (OPEN_FOLDED, b"\\??\\e:", End::At(12)),
+    (CREATE, b"\\??\\D:", End::At(6)),
+    (CREATE, b"\\??\\G:", End::Vacant(2, b"G:")),
+];
+
+#[test]
+fn views(rt: HostRuntime) -> Result<(), Fail> {
+    let alloc = rt.alloc();
+    let space = device_names(alloc)?;
+    for &(mode, name, end) in &MAPPED_NAMES {
+        assert!(rt;
+            ends_within(alloc, &space, &MAPPED, mode, 32, name, end)?,
+            "at {name:?} with a map"
+        );
+    }
+    for &(mode, name, end) in &UNMAPPED_NAMES {
+        assert!(rt;
+            ends_within(alloc, &space, &UNMAPPED, mode, 32, name, end)?,
+            "at {name:?} without a map"
+        );
+    }
+    Ok(())
+}
+
+#[test]
+fn views_of_missing_directories(rt: HostRuntime) -> Result<(), Fail> {
+    let space = device_names(rt.alloc())?;
+    assert!(rt; has_view(space.store(), &MAPPED));
+    assert!(rt;
+        !has_view(
+            space.store(),
+            &View {
+                local: Some(ObjId(7)),
+                global: ROOT
+            }
+        )
+    );
     Ok(())
 }
 
@@ -298,7 +481,7 @@ fn the_limit_is_told_before_the_length(rt: HostRuntime) -> Result<(), Fail> {
     let space = long_link(alloc)?;
     for &(name, budget, end) in &LONG {
         assert!(rt;
-            ends_within(alloc, &space, OPEN, budget, name, end)?,
+            ends_within(alloc, &space, &PLAIN, OPEN, budget, name, end)?,
             "at {name:?} within {budget}"
         );
     }
@@ -308,15 +491,18 @@ fn the_limit_is_told_before_the_length(rt: HostRuntime) -> Result<(), Fail> {
 #[test]
 fn laws_hold_at_a_concrete_set(_rt: HostRuntime) {
     sound_is_closed::<u8, u16, u32, u64>();
+    sound_has_views::<u8, u16, u32, u64>();
     closed_stays::<u32, u64>();
 }
 
 // The names, the kinds and the links of the namespaces below, and what is looked up in them.
 const NAMES: [u8; 3] = [b'a', b'A', b'b'];
 
-const TARGETS: [&[u8]; 5] = [b"\\a", b"\\b\\", b"\\A\\a", b"b", b"\\"];
+const TARGETS: [&[u8]; 7] = [
+    b"\\a", b"\\b\\", b"\\A\\a", b"b", b"\\", b"\\??", b"\\??\\a",
+];
 
-const LOOKED_UP: [&[u8]; 8] = [
+const LOOKED_UP: [&[u8]; 12] = [
     b"\\a",
     b"\\b",
     b"\\A\\a",
@@ -325,6 +511,10 @@ const LOOKED_UP: [&[u8]; 8] = [
     b"\\b\\A\\",
     b"\\a\\\\b",
     b"\\b\\a\\b",
+    b"\\??",
+    b"\\??\\a",
+    b"\\??\\b\\a",
+    b"\\??\\A\\",
 ];
 
 // The digit of a number at a place, in a base above 0.
@@ -364,7 +554,7 @@ fn numbered(alloc: Global, number: u64, rows: &mut Vec<PlainRow>) -> Result<Spac
         if has_row(rows.as_slice(), directory.0, name) {
             continue;
         }
-        let target = TARGETS[(digit(number, k + 2, 5)) as usize];
+        let target = TARGETS[(digit(number, k + 2, 7)) as usize];
         let kind = kind_of(digit(number, k, 7), target);
         let id = space.add(alloc, directory, &[name], body(alloc, kind)?)?;
         rows.push(PlainRow {
@@ -380,6 +570,25 @@ fn numbered(alloc: Global, number: u64, rows: &mut Vec<PlainRow>) -> Result<Spac
     Ok(space)
 }
 
+// The view of a namespace: its first directory below the root is the global one, and a later one the local one.
+fn view_of(rows: &[PlainRow]) -> View {
+    let mut global = 1;
+    let mut local = None;
+    for row in rows {
+        if matches!(row.kind, Kind::Directory) {
+            if global == 1 {
+                global = row.object;
+            } else {
+                local = Some(ObjId(row.object));
+            }
+        }
+    }
+    View {
+        local,
+        global: ObjId(global),
+    }
+}
+
 // Whether a lookup and the plain search end alike, where at most three reparses are made.
 fn ends_alike(
     alloc: Global,
@@ -388,8 +597,9 @@ fn ends_alike(
     mode: Mode,
     name: &[u8],
 ) -> Result<bool, Fail> {
-    let end = search(alloc, rows, mode, name, 3)?;
-    ends_within(alloc, space, mode, 3, name, end)
+    let view = view_of(rows);
+    let end = search(alloc, rows, &view, mode, name, 3)?;
+    ends_within(alloc, space, &view, mode, 3, name, end)
 }
 
 // The first name that a lookup and the plain search don't end alike for in the namespace of a number.

@@ -3,10 +3,11 @@
 ghost use Rattle.std.specs.Prelude.{◌≡◌, ◌≢◌, ◌<◌, ◌+◌, ◌^◌, ◌-◌, [], All, IsSome, IsTrue};
 ghost use Rattle.std.specs.Option.{option_copied};
 ghost use Rattle.ob_objects.specs.Store.{directory_at, entries_at, entries_in, IsStore};
-ghost use Rattle.ob_lookup.specs.Closed.{IsClosed};
+ghost use Rattle.ob_lookup.specs.Closed.{IsClosed, IsViewThere};
 ghost use Rattle.ob_lookup_tests.specs.Space.{IsSpace};
 
 use ob_base::{Fault, ObjId};
+use ob_devmap::View;
 use ob_dirs::Dir;
 use ob_names::{Name, NameBuf};
 use ob_objects::{Store, StoredBody, StoredObject};
@@ -82,6 +83,17 @@ fn temporary(body: StoredBody<PlainFace, PlainInner>) -> StoredObject<PlainFace,
         exclusive: false,
         body,
     }
+}
+
+// Whether the directories of a view are there.
+pub(crate) fn has_view(store: &Store<Standard>, view: &View) -> bool
+    ensures { IsTrue result → IsViewThere store.now view.now }
+{
+    let has_local = match view.local {
+        Some(local) => dir_of(store, local).is_some(),
+        None => true,
+    };
+    has_local && dir_of(store, view.global).is_some()
 }
 
 // Whether a directory is there and has no entry of this spelling.

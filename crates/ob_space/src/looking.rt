@@ -50,5 +50,13 @@ pub fn look_up<T: TypeSet, H: HandleTable>(
     laws::stored_is_the_object::<T::Kind, T, T::Face, T::Inner>();
     sound_has_views::<T::Kind, T, T::Face, T::Inner>();
     let view = space.processes.view(process);
-    look(space.alloc, &space.store, view, root, name, mode, MOST_REPARSES)
+    look(
+        space.alloc,
+        &space.store,
+        view,
+        root,
+        name,
+        mode,
+        MOST_REPARSES,
+    )
 }
