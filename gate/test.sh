@@ -34,5 +34,10 @@ wait "$beside"
 cat "$logs/wrong_bodies"
 part program gate/program.py crates/ntns/out/ntns
 for name in ci wrong_bodies program; do count "$name"; done
+
+# a run is long, and only its end may be on record: what failed is named once more there
+if [ "$failed" -ne 0 ]; then
+    cat "$logs/ci" "$logs/wrong_bodies" "$logs/program" | grep -E '(^|[^0-9])error|[Ff]ailed|FAILED|not refused|not proved|refused:' | tail -n 100
+fi
 echo "$passed passed, $failed failed"
 [ "$failed" -eq 0 ]

@@ -15,7 +15,7 @@ refusal, and reported with the edit's name:
 - its proof file cites a name that the edit takes away: then nothing is said of the body's meaning;
 - there is no verdict, since the edit does not compile, or does not apply, or the crate itself isn't proved.
 
-    gate/wrong_bodies.py [--jobs N] [--fresh] [--list] [CRATE..]
+    gate/wrong_bodies.py [--jobs N] [--fresh] [--list] [CRATE | CRATE/EDIT ..]
 
 The last line is 'N passed, M failed'. The exit status is 0 where none failed, else 1.
 """
@@ -474,11 +474,14 @@ def run_all(trial, jobs):
                 running.pop(ended)(ended.result())
 
 
-def gather(crates):
-    """The edits of each crate, and the faults of those that can't be tried."""
+def gather(asked):
+    """The edits that are asked for, by crate or one by one, and the faults of those that can't be tried."""
     edits, faults = {}, {}
-    for crate in crates:
-        for path in sorted((ROOT / "crates" / crate / "wrong").glob("*")):
+    for crate, name in (label.split("/") if "/" in label else (label, "*") for label in asked):
+        paths = sorted((ROOT / "crates" / crate / "wrong").glob(f"{name}.edit" if name != "*" else name))
+        if not paths and name != "*":
+            faults[f"{crate}/{name}"] = "there is no such edit"
+        for path in paths:
             try:
                 if path.suffix != ".edit":
                     raise Unfit("it is no edit")
@@ -490,26 +493,26 @@ def gather(crates):
 
 def main():
     parser = argparse.ArgumentParser(description="Tries the wrong bodies in crates/NAME/wrong/.")
-    parser.add_argument("crates", nargs="*", metavar="CRATE")
+    parser.add_argument("asked", nargs="*", metavar="CRATE | CRATE/EDIT")
     parser.add_argument("--jobs", type=int, default=os.cpu_count() or 1, metavar="N")
     parser.add_argument("--fresh", action="store_true", help="use nothing of what earlier checks left in out/")
     parser.add_argument("--list", action="store_true", help="list the edits and their functions, and try none")
-    asked = parser.parse_args()
+    words = parser.parse_args()
     listed = crates_listed()
-    unknown = [name for name in asked.crates if name not in listed]
+    unknown = [label for label in words.asked if label.count("/") > 1 or label.split("/")[0] not in listed]
     if unknown:
         parser.error(f"no crate of crates.txt: {' '.join(unknown)}")
-    edits, faults = gather(asked.crates or listed)
+    edits, faults = gather(words.asked or listed)
     count = sum(len(own) for own in edits.values()) + len(faults)
-    if asked.list:
+    if words.list:
         for own in edits.values():
             for edit in own:
                 print(f"{edit.label}: {edit.function.path}")
     else:
         with tempfile.TemporaryDirectory(prefix="wrong-bodies-") as name:
             trial = Trial(edits, Path(name))
-            copied(trial.needed, trial.base, asked.fresh)
-            run_all(trial, max(1, asked.jobs))
+            copied(trial.needed, trial.base, words.fresh)
+            run_all(trial, max(1, words.jobs))
             faults.update(trial.faults)
     for label, fault in sorted(faults.items()):
         print(f"wrong bodies: {label}: not refused: {fault}")

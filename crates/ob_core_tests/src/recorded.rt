@@ -63,6 +63,47 @@ fn play(alloc: Global, room: usize) -> Result<Recording, Fault> {
     Ok(core)
 }
 
+// How many events a process makes before it exits.
+const EVENTS: u64 = 1_000;
+
+// A process makes as many nameless events, and exits.
+fn make_and_exit(alloc: Global) -> Result<Recording, Fault> {
+    let set = Recorder::new(alloc, Plain, 5_000)?;
+    let mut core: Recording = Core::new(alloc, set)?;
+    let make = Command::CreateObject {
+        place: Place::Unnamed,
+        attrs: 0,
+        kind: PlainKind::Event,
+        args: Bytes::from_slice(alloc, b"")?,
+    };
+    for _ in 0..EVENTS {
+        reply(&mut core, &make)?;
+    }
+    reply(&mut core, &Command::ExitProcess)?;
+    Ok(core)
+}
+
+// The call at a place of the list: the events are opened in turn, closed in turn, and deleted from the last
+// one back.
+fn call_at(place: u64) -> Call {
+    if place < EVENTS {
+        Call {
+            serial: place + 1,
+            what: CallKind::Opened(Reason::Created),
+        }
+    } else if place < 2 * EVENTS {
+        Call {
+            serial: place - EVENTS + 1,
+            what: closed(0),
+        }
+    } else {
+        Call {
+            serial: (3 * EVENTS).saturating_sub(place),
+            what: CallKind::Deleted,
+        }
+    }
+}
+
 fn closed(left: u32) -> CallKind {
     CallKind::Closed {
         process_left: left,
@@ -94,6 +135,19 @@ fn calls_of_a_namespace_are_recorded(rt: HostRuntime) -> Result<(), Fail> {
                 "{call:?}"
             );
         }
+    }
+    Ok(())
+}
+
+#[test]
+fn an_exit_closes_in_the_order_of_opening_and_deletes_from_the_last_back(
+    rt: HostRuntime,
+) -> Result<(), Fail> {
+    let core = make_and_exit(rt.alloc())?;
+    let calls = core.set().calls();
+    assert_eq!(rt; calls.len(), 3_000);
+    for (place, call) in calls.iter().enumerate() {
+        assert!(rt; *call == call_at(place as u64), "{call:?}");
     }
     Ok(())
 }
