@@ -1,5 +1,5 @@
 -- A device map that is set, put together of what its parts ensure.
-use Rattle.std.proofs.Common.{◌≡◌, ◌∙◌, ℕ, suc, ◌<◌, ◌≤◌, ◌==◌, ◌&&◌, ◌||◌, Bool, true, false, not, cond, List, [], ◌∷◌, ◌++◌, find, get_or, map, length, All, refl, ap, sym, subst, arith, eqb-true, eq-eqb}
+use Rattle.std.proofs.Common.{◌≡◌, ◌∙◌, ℕ, suc, ◌<◌, ◌≤◌, ◌==◌, ◌&&◌, ◌||◌, Bool, true, false, not, cond, List, [], ◌∷◌, find, get_or, map, length, refl, ap, sym, subst, arith, eqb-true}
 use Rattle.std.specs.Prelude.{Option, None, Some, option_map, MatchOption}
 use Rattle.std.specs.List.{list_any, AllPairs}
 use Rattle.std.specs.Option.{option_and_then, option_map_or}
@@ -13,7 +13,7 @@ use Rattle.ob_model.specs.declared.state.Held.{Held}
 use Rattle.ob_model.specs.declared.state.Process.{Process}
 use Rattle.ob_model.specs.declared.state.Row.{Row}
 use Rattle.ob_model.specs.declared.state.Object.{Object}
-use Rattle.ob_model.specs.State.{State, root_id, global_id, is_live, is_directory, is_directory_body, object_of, held_of, process_of}
+use Rattle.ob_model.specs.State.{State, root_id, global_id, is_live, is_directory, is_directory_body, object_of, held_of}
 use Rattle.ob_model.specs.Grants.{first_refusal}
 use Rattle.ob_model.specs.Maps.{with_own_map, map_of, with_map}
 use Rattle.ob_model.specs.Procedures.{Procedures}
@@ -21,7 +21,6 @@ use Rattle.ob_model.specs.Refusals.{IsRefused, Unless, answers}
 use Rattle.ob_model.specs.Settle.{IsSettled, settle, has_handle, has_name, is_kept, is_alive, is_permanent, is_pinned, is_mapped, holds_kept}
 use Rattle.ob_model.specs.Step.{SetsMap}
 use Rattle.ob_model.proofs.Finds.{find_none}
-use Rattle.ob_model.proofs.Staying.{settled_itself}
 use Rattle.ob_objects.specs.Store.{Entries}
 use Rattle.ob_processes.specs.Running.{Running}
 use Rattle.ob_space.specs.declared.space.Namespace.{Namespace}

@@ -1,12 +1,11 @@
 -- What holds of the opening state.
-use Rattle.std.proofs.Common.{◌≡◌, ℕ, ◌<◌, List, [], ◌∷◌, All, refl, arith}
+use Rattle.std.proofs.Common.{ℕ, ◌<◌, List, [], ◌∷◌, All, refl, arith}
 use Rattle.std.specs.List.{AllPairs}
 use Rattle.std.proofs.lemmas.List.Elements.{All-nil, All-cons, All-weaker, All-from_recursion}
 use Rattle.std.proofs.lemmas.List.Kept.{AllPairs-cons}
 use Rattle.ob_model.specs.declared.state.Held.{Held}
 use Rattle.ob_model.specs.declared.state.Object.{Object}
-use Rattle.ob_model.specs.declared.state.Body.TheVariants.{Directory, Link}
-use Rattle.ob_model.specs.Opening.{opening, standing}
+use Rattle.ob_model.specs.Opening.{opening}
 use Rattle.ob_model.specs.State.{State}
 use Rattle.ob_model.proofs.Soundness.{opening_sound}
 use Rattle.ob_model.proofs.Staying.{opening_settled}

@@ -1,5 +1,5 @@
 -- An object that is made permanent or temporary, put together of what its parts ensure.
-use Rattle.std.proofs.Common.{◌≡◌, ◌∙◌, ℕ, ◌<◌, ◌==◌, ◌&&◌, ◌||◌, Bool, true, false, not, cond, if◌then◌else◌, List, [], ◌∷◌, find, get_or, refl, ap, sym, subst, eqb-true, eq-eqb}
+use Rattle.std.proofs.Common.{◌≡◌, ◌∙◌, ℕ, ◌<◌, ◌==◌, ◌&&◌, ◌||◌, Bool, true, false, not, cond, if◌then◌else◌, List, [], ◌∷◌, find, get_or, refl, ap, sym, subst, eq-eqb}
 use Rattle.std.specs.Prelude.{Option, None, Some, MatchOption}
 use Rattle.std.specs.List.{list_any}
 use Rattle.std.specs.Option.{option_and_then, option_map, is_some}

@@ -17,7 +17,6 @@ use Rattle.ob_model.specs.Processes.{most_processes, handles_in, values_in, inhe
 use Rattle.ob_model.specs.Sound.{IsSound}
 use Rattle.ob_model.proofs.Ended.{live_numbered}
 use Rattle.ob_model.proofs.Finds.{filter_all, filter_none}
-use Rattle.ob_model.proofs.SoundPaths.{find_of}
 use Rattle.ob_processes.specs.Handed.{handed_on}
 use Rattle.ob_processes.proofs.Handing.{other_values, passed, others_before}
 use Rattle.ob_space.specs.Orderly.{IsOrderly}

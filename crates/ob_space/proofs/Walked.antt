@@ -13,7 +13,7 @@ use Rattle.ob_model.specs.declared.state.Held.{Held}
 use Rattle.ob_model.specs.declared.state.Object.{Object}
 use Rattle.ob_model.specs.Procedures.{Procedures}
 use Rattle.ob_model.specs.Sound.{Stands}
-use Rattle.ob_model.specs.State.{State, root_id, global_id}
+use Rattle.ob_model.specs.State.{State, root_id}
 use Rattle.ob_model.specs.Settle.{is_kept, is_alive, is_permanent, has_handle, has_name, is_pinned, is_mapped, holds_kept, deleted_one, settle, IsSettled}
 use Rattle.ob_model.proofs.Finds.{filter_all}
 use Rattle.ob_model.proofs.Soundness.{stands_drawn}

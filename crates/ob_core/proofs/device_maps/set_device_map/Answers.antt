@@ -1,5 +1,5 @@
 -- The map is set, and what its old directory held up goes; where there was no map, nothing does.
-use Rattle.std.proofs.Common.{◌≡◌, ◌∙◌, None, Some, ap, sym, subst}
+use Rattle.std.proofs.Common.{◌≡◌, ◌∙◌, ap, sym, subst}
 use Rattle.ob_model.specs.declared.reply.Answer.TheVariants.{Done}
 use Rattle.ob_model.specs.Maps.{with_map}
 use Rattle.ob_model.specs.Settle.{IsSettled, settle}

@@ -1,5 +1,5 @@
 -- The parts are those of the opening state, which is one that a core may have.
-use Rattle.std.proofs.Common.{◌≡◌, ◌∙◌, ◌++◌, ◌∷◌, [], None, ap, sym, subst}
+use Rattle.std.proofs.Common.{◌∙◌, ◌++◌, ◌∷◌, [], None, ap, sym, subst}
 use Rattle.ob_model.specs.Opening.{opening}
 use Rattle.ob_objects.specs.Store.{objects_of, rows_of}
 use Rattle.ob_core.specs.Kept.{IsCore}
