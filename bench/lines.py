@@ -83,6 +83,22 @@ def links(count):
     return HELD + chain + f'p1 link "\\L{count}" - "\\Device\\Bench" =l{count}\n'
 
 
+def mapped():
+    """A device map whose directory has the directory `Mine`; `Shared` stands in the global one, and `Plain` elsewhere."""
+    paths = ("\\Device\\Bench\\Mine", "\\GLOBAL??\\Shared", "\\Device\\Plain")
+    return HELD + "p1 map held\n" + "".join(f'p1 dir "{path}" - =d{n}\n' for n, path in enumerate(paths))
+
+
+def views(program):
+    """Opens behind `\\??`, each of which is to take at most twice what one of as many names takes elsewhere."""
+    for where, path in (
+        ("elsewhere", "\\Device\\Plain"),
+        ("found in the local directory", "\\??\\Mine"),
+        ("found in the global directory", "\\??\\Shared"),
+    ):
+        a_line(program, f'an open of "{path}" and its close, {where}', mapped(), OPEN.format(path), 20_000)
+
+
 def main():
     if len(sys.argv) != 2:
         sys.exit("usage: bench/lines.py PROGRAM")
@@ -122,6 +138,7 @@ def main():
     for count in (1, 32):
         title = f"an open and its close, through a chain of {count} links"
         a_line(program, title, links(count), OPEN.format("\\L1"), 20_000)
+    views(program)
 
 
 if __name__ == "__main__":
