@@ -30,6 +30,7 @@ import tempfile
 import time
 from concurrent.futures import FIRST_COMPLETED, ThreadPoolExecutor, wait
 from dataclasses import dataclass, field
+from functools import cache
 from pathlib import Path
 
 ROOT = Path(__file__).resolve().parent.parent
@@ -336,6 +337,7 @@ def check(crate, edits, base, folder):
     return verdicts(output), output
 
 
+@cache
 def crates_listed():
     """The crates of crates.txt, each with those that it names."""
     listed = {}
@@ -451,12 +453,14 @@ class Trial:
                 fault = f"it can't be checked: {next((line for line in lines if 'error' in line), lines[-1])}"
             if fault == "again" and len(batch) > 1:
                 again.append([edit])
-            elif fault == "again":
-                self.faults[edit.label] = f"{edit.function.path} is not proved for what it calls alone"
-            elif fault is not None:
-                self.faults[edit.label] = fault
-            else:
+                continue
+            if fault == "again":
+                fault = f"{edit.function.path} is not proved for what it calls alone"
+            if fault is None:
                 del self.faults[edit.label]
+                continue
+            self.faults[edit.label] = fault
+            print(f"wrong bodies: {edit.label}: not refused: {fault}", flush=True)
         self.to_try += again
 
 
