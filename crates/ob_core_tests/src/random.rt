@@ -1,4 +1,5 @@
-//! Random commands of a dozen processes, beside a plain model of the namespace over flat lists.
+//! Random commands of a dozen processes, some of which have device maps, beside a plain model of the
+//! namespace over flat lists.
 
 ghost use Rattle.std.specs.Prelude.{◌<◌};
 
@@ -7,6 +8,8 @@ use ob_core::{Bytes, Command, Core, Given, OpenTable, Place, Reply, Started};
 use ob_plain::{Counting, Plain, PlainKind, Standard};
 use std::alloc::{AllocError, Global};
 use std::test::Fail;
+
+type Namespace = Core<Standard, OpenTable>;
 
 const INHERIT: u32 = 0x2;
 
@@ -17,26 +20,67 @@ const EXCLUSIVE: u32 = 0x20;
 // The flags of creates and opens, one of which is unlawful.
 const FLAGS: [u32; 8] = [0, 0, INHERIT, INHERIT, PERMANENT, EXCLUSIVE, 0x30, 0x22];
 
-// The events that commands name.
-const NAMES: [&[u8]; 4] = [b"\\A", b"\\B", b"\\C", b"\\D"];
+// The numbers of directories: the root, `\GLOBAL??`, and the two that processes have as their maps.
+const ROOT: u32 = 0;
 
-// What a process asks for: names are places in NAMES, and values are those of handles.
+const GLOBAL: u32 = 1;
+
+const FIRST: u32 = 2;
+
+const SECOND: u32 = 3;
+
+// The last components of names. The directory FIRST is `\2`, and SECOND is `\3`.
+const LETTERS: [u8; 5] = [b'A', b'B', b'C', b'2', b'3'];
+
+// What stands before the last component of a name.
+#[derive(Clone, Copy)]
+enum Way {
+    Root,
+    Global,
+    First,
+    Second,
+    View,
+    Link,
+}
+
+const WAYS: [Way; 8] = [
+    Way::Root,
+    Way::Root,
+    Way::Global,
+    Way::First,
+    Way::Second,
+    Way::View,
+    Way::View,
+    Way::Link,
+];
+
+// A name that commands have.
+#[derive(Clone, Copy)]
+struct Path {
+    way: Way,
+    letter: u8,
+}
+
+// What a process asks for: values are those of handles.
 #[derive(Clone, Copy)]
 enum Ask {
-    Make { name: usize, attrs: u32 },
-    Open { name: usize, attrs: u32 },
+    Make { path: Path, attrs: u32 },
+    Open { path: Path, attrs: u32 },
     Close { value: u32 },
+    Map { value: u32 },
     Turn { value: u32, permanent: bool },
     Duplicate { value: u32, to: u32, inherit: bool },
     Begin { inherit: bool },
     Exit,
 }
 
-// An event that is there: its name, and how it was made.
+// An event that is there, or one of the two directories: the directory where it stands, the component
+// that names it there, and how it was made.
 #[derive(Clone, Copy)]
 struct Event {
     number: u32,
-    name: usize,
+    place: u32,
+    letter: u8,
     permanent: bool,
     exclusive: bool,
 }
@@ -50,13 +94,20 @@ struct Open {
     inherit: bool,
 }
 
+// A live process, and the directory of its map, which is GLOBAL where it has no map.
+#[derive(Clone, Copy)]
+struct Live {
+    number: u32,
+    map: u32,
+}
+
 // The model: flat lists, searched from their beginning.
 #[derive(Drop)]
 struct Model {
     alloc: Global,
     events: Vec<Event>,
     handles: Vec<Open>,
-    processes: Vec<u32>,
+    processes: Vec<Live>,
     last_event: u32,
     last_process: u32,
 }
@@ -83,13 +134,16 @@ impl Dice {
 impl Model {
     fn new(alloc: Global) -> Result<Model, AllocError> {
         let mut processes = Vec::new(alloc);
-        processes.push(1)?;
+        processes.push(Live {
+            number: 1,
+            map: GLOBAL,
+        })?;
         Ok(Model {
             alloc,
             events: Vec::new(alloc),
             handles: Vec::new(alloc),
             processes,
-            last_event: 0,
+            last_event: GLOBAL,
             last_process: 1,
         })
     }
@@ -107,11 +161,41 @@ impl Model {
     }
 
     fn is_live(&self, process: u32) -> bool {
-        self.processes.iter().any(|live| *live == process)
+        self.processes.iter().any(|live| live.number == process)
     }
 
-    fn named(&self, name: usize) -> Option<Event> {
-        self.events.iter().find(|event| event.name == name).copied()
+    // The directory of the map of a process, or GLOBAL.
+    fn map(&self, process: u32) -> u32 {
+        let mut processes = self.processes.iter();
+        let live = processes.find(|live| live.number == process);
+        live.map_or(GLOBAL, |live| live.map)
+    }
+
+    // The directory where a process makes what it names this way.
+    fn place(&self, process: u32, way: Way) -> u32 {
+        match way {
+            Way::Root => ROOT,
+            Way::Global => GLOBAL,
+            Way::First => FIRST,
+            Way::Second => SECOND,
+            Way::View | Way::Link => self.map(process),
+        }
+    }
+
+    // What stands in a directory under a component.
+    fn at(&self, place: u32, letter: u8) -> Option<Event> {
+        let mut events = self.events.iter();
+        let here = |event: &&Event| event.place == place && event.letter == letter;
+        events.find(here).copied()
+    }
+
+    // What a process finds by a name.
+    fn found(&self, process: u32, path: Path) -> Option<Event> {
+        let first = self.at(self.place(process, path.way), path.letter);
+        match path.way {
+            Way::View | Way::Link if first.is_none() => self.at(GLOBAL, path.letter),
+            _ => first,
+        }
     }
 
     fn numbered(&self, number: u32) -> Option<Event> {
@@ -144,8 +228,9 @@ impl Model {
             return Status::ProcessGone;
         }
         match ask {
-            Ask::Make { name, attrs } => self.make_status(name, attrs),
-            Ask::Open { name, attrs } => self.open_status(process, name, attrs),
+            Ask::Make { path, attrs } => self.make_status(process, path, attrs),
+            Ask::Open { path, attrs } => self.open_status(process, path, attrs),
+            Ask::Map { value } => self.map_status(process, value),
             Ask::Close { value } | Ask::Turn { value, .. } => match self.own(process, value) {
                 Some(_) => Status::Success,
                 None => Status::InvalidHandle,
@@ -157,22 +242,22 @@ impl Model {
         }
     }
 
-    fn make_status(&self, name: usize, attrs: u32) -> Status {
+    fn make_status(&self, process: u32, path: Path, attrs: u32) -> Status {
         if is_unlawful(attrs) {
             return Status::InvalidParameter;
         }
-        match self.named(name) {
+        match self.at(self.place(process, path.way), path.letter) {
             Some(_) => Status::ObjectNameCollision,
             None => Status::Success,
         }
     }
 
-    fn open_status(&self, process: u32, name: usize, attrs: u32) -> Status {
+    fn open_status(&self, process: u32, path: Path, attrs: u32) -> Status {
         if is_unlawful(attrs) {
             return Status::InvalidParameter;
         }
         let (inherit, exclusive) = (attrs & INHERIT != 0, attrs & EXCLUSIVE != 0);
-        match self.named(name) {
+        match self.found(process, path) {
             Some(event) => self.grants(process, event, inherit, exclusive),
             None => Status::ObjectNameNotFound,
         }
@@ -191,12 +276,20 @@ impl Model {
         }
     }
 
+    fn map_status(&self, process: u32, value: u32) -> Status {
+        match self.own(process, value) {
+            Some(open) if is_directory(open) => Status::Success,
+            Some(_) => Status::ObjectTypeMismatch,
+            None => Status::InvalidHandle,
+        }
+    }
+
     // What a command that succeeded leaves, where it gave this.
     fn change(&mut self, process: u32, ask: Ask, given: &Given) -> Result<bool, AllocError> {
         match ask {
-            Ask::Make { name, attrs } => self.make(process, name, attrs, given),
-            Ask::Open { name, attrs } => {
-                let event = self.named(name).map_or(0, |event| event.number);
+            Ask::Make { path, attrs } => self.make(process, path, attrs, given),
+            Ask::Open { path, attrs } => {
+                let event = self.found(process, path).map_or(0, |event| event.number);
                 self.hold(process, event, attrs & INHERIT != 0, given)
             }
             Ask::Close { value } => {
@@ -206,35 +299,47 @@ impl Model {
                 Ok(true)
             }
             Ask::Turn { value, permanent } => {
-                let event = self.own(process, value).map_or(0, |open| open.event);
+                let event = self.event(process, value);
                 self.turn(event, permanent);
                 Ok(true)
             }
+            Ask::Map { value } => {
+                let map = self.event(process, value);
+                self.set_map(process, map);
+                Ok(true)
+            }
             Ask::Duplicate { value, to, inherit } => {
-                let event = self.own(process, value).map_or(0, |open| open.event);
+                let event = self.event(process, value);
                 self.hold(to, event, inherit, given)
             }
             Ask::Begin { inherit } => self.begin(process, inherit, given),
             Ask::Exit => {
                 self.handles.retain(|open| open.process != process);
-                self.processes.retain(|live| *live != process);
+                self.processes.retain(|live| live.number != process);
                 self.settle();
                 Ok(true)
             }
         }
     }
 
+    // The number of what a handle of a process leads to.
+    fn event(&self, process: u32, value: u32) -> u32 {
+        self.own(process, value).map_or(0, |open| open.event)
+    }
+
     fn make(
         &mut self,
         process: u32,
-        name: usize,
+        path: Path,
         attrs: u32,
         given: &Given,
     ) -> Result<bool, AllocError> {
         self.last_event = self.last_event.wrapping_add(1);
+        let place = self.place(process, path.way);
         self.events.push(Event {
             number: self.last_event,
-            name,
+            place,
+            letter: path.letter,
             permanent: attrs & PERMANENT != 0,
             exclusive: attrs & EXCLUSIVE != 0,
         })?;
@@ -267,7 +372,8 @@ impl Model {
             return Ok(false);
         };
         self.last_process = self.last_process.wrapping_add(1);
-        self.processes.push(child.0)?;
+        let (number, map) = (child.0, self.map(process));
+        self.processes.push(Live { number, map })?;
         let inherited = self.inherited(process, inherit, child.0)?;
         let mut both = inherited.iter().zip(values.as_slice());
         let same = both.all(|(open, value)| open.value == *value);
@@ -301,6 +407,15 @@ impl Model {
         }
     }
 
+    // The directory of a number is the map of a process.
+    fn set_map(&mut self, process: u32, map: u32) {
+        for live in self.processes.iter_mut() {
+            if live.number == process {
+                live.map = map;
+            }
+        }
+    }
+
     // Events that are temporary and have no handle go.
     fn settle(&mut self) {
         let Model {
@@ -318,50 +433,86 @@ fn is_unlawful(attrs: u32) -> bool {
     attrs & INHERIT != 0 && attrs & EXCLUSIVE != 0
 }
 
-// The next command, and the process that asks: one that lives, or now and then any.
-fn next(dice: &mut Dice, model: &Model) -> (u32, Ask) {
+// Whether a handle leads to a directory.
+fn is_directory(open: Open) -> bool {
+    open.event == FIRST || open.event == SECOND
+}
+
+// The value of a handle, mostly one that is there.
+fn any_value(dice: &mut Dice, model: &Model) -> u32 {
+    let place = dice.below(model.handles.len() as u64 + 1) as usize;
+    model.handles.get(place).map_or(0, |open| open.value.0)
+}
+
+// A process that lives, or now and then any number.
+fn any_process(dice: &mut Dice, model: &Model) -> u32 {
     let living = dice.below(model.processes.len() as u64 + 1) as usize;
     let any = dice.below(14) as u32;
-    let process = model.processes.get(living).copied().unwrap_or(any);
-    let (name, attrs) = (dice.below(4) as usize, FLAGS[dice.below(8) as usize]);
-    let place = dice.below(model.handles.len() as u64 + 1) as usize;
-    let held = model.handles.get(place);
-    let value = held.map_or(0, |open| open.value.0);
+    model.processes.get(living).map_or(any, |live| live.number)
+}
+
+fn any_path(dice: &mut Dice) -> Path {
+    let way = WAYS[dice.below(8) as usize];
+    let letter = LETTERS[dice.below(5) as usize];
+    Path { way, letter }
+}
+
+// What a process asks for next. The directories of maps stay permanent.
+fn next(dice: &mut Dice, model: &Model, process: u32) -> Ask {
+    let (path, attrs) = (any_path(dice), FLAGS[dice.below(8) as usize]);
+    let value = any_value(dice, model);
     let (to, inherit) = (dice.below(14) as u32, dice.below(2) == 0);
     let many = model.processes.len();
-    let permanent = inherit;
-    let ask = match dice.below(18) {
-        0..=3 => Ask::Make { name, attrs },
-        4..=8 => Ask::Open { name, attrs },
+    let permanent = inherit || model.own(process, value).is_some_and(is_directory);
+    match dice.below(21) {
+        0..=3 => Ask::Make { path, attrs },
+        4..=8 => Ask::Open { path, attrs },
         9..=11 => Ask::Close { value },
         12..=13 => Ask::Duplicate { value, to, inherit },
         14..=15 => Ask::Turn { value, permanent },
-        16 if many > 1 => Ask::Exit,
+        16..=18 => Ask::Map { value },
+        19 if many > 1 => Ask::Exit,
         _ if many < 12 => Ask::Begin { inherit },
         _ => Ask::Exit,
-    };
-    (process, ask)
+    }
 }
 
-fn named(alloc: Global, name: usize) -> Result<Bytes, AllocError> {
-    let name = NAMES.get(name).copied().unwrap_or(b"\\");
-    Bytes::from_slice(alloc, name)
+fn before(way: Way) -> &'static [u8] {
+    match way {
+        Way::Root => b"\\",
+        Way::Global => b"\\GLOBAL??\\",
+        Way::First => b"\\2\\",
+        Way::Second => b"\\3\\",
+        Way::View => b"\\??\\",
+        Way::Link => b"\\DosDevices\\",
+    }
+}
+
+fn text(alloc: Global, path: Path) -> Result<Bytes, AllocError> {
+    let mut text = Vec::new(alloc);
+    text.extend_from_slice(before(path.way))?;
+    text.push(path.letter)?;
+    Ok(Bytes::new(text))
+}
+
+fn place(alloc: Global, path: Path) -> Result<Place, AllocError> {
+    Ok(Place::At {
+        root: None,
+        name: text(alloc, path)?,
+    })
 }
 
 fn command(alloc: Global, ask: Ask) -> Result<Command<PlainKind>, AllocError> {
     match ask {
-        Ask::Make { name, attrs } => Ok(Command::CreateObject {
-            place: Place::At {
-                root: None,
-                name: named(alloc, name)?,
-            },
+        Ask::Make { path, attrs } => Ok(Command::CreateObject {
+            place: place(alloc, path)?,
             attrs,
             kind: PlainKind::Event,
             args: Bytes::new(Vec::new(alloc)),
         }),
-        Ask::Open { name, attrs } => Ok(Command::OpenObject {
+        Ask::Open { path, attrs } => Ok(Command::OpenObject {
             root: None,
-            name: named(alloc, name)?,
+            name: text(alloc, path)?,
             attrs,
             want: None,
         }),
@@ -375,6 +526,9 @@ fn command(alloc: Global, ask: Ask) -> Result<Command<PlainKind>, AllocError> {
                 false => Command::MakeTemporary { handle },
             })
         }
+        Ask::Map { value } => Ok(Command::SetDeviceMap {
+            handle: Handle(value),
+        }),
         Ask::Duplicate { value, to, inherit } => Ok(Command::Duplicate {
             handle: Handle(value),
             to: Proc(to),
@@ -385,18 +539,42 @@ fn command(alloc: Global, ask: Ask) -> Result<Command<PlainKind>, AllocError> {
     }
 }
 
+// Whether a command gets what the model says, and leaves as much as in the model.
+fn is_agreed(
+    core: &mut Namespace,
+    model: &mut Model,
+    process: u32,
+    ask: Ask,
+    command: &Command<PlainKind>,
+) -> Result<bool, Fail> {
+    let Started::Done(reply) = core.start(Proc(process), command)?;
+    let agrees = model.agrees(process, ask, &reply)?;
+    let sizes = (core.objects(), core.handles());
+    Ok(agrees && sizes == (model.events.len().wrapping_add(6), model.handles.len()))
+}
+
+// The first process makes a directory of maps.
+fn is_built(core: &mut Namespace, model: &mut Model, letter: u8) -> Result<bool, Fail> {
+    let (way, attrs) = (Way::Root, PERMANENT | INHERIT);
+    let path = Path { way, letter };
+    let place = place(model.alloc, path)?;
+    let command = Command::CreateDirectory { place, attrs };
+    is_agreed(core, model, 1, Ask::Make { path, attrs }, &command)
+}
+
 // How many of so many random commands get what the model says, up to the first that doesn't.
 fn agreed(alloc: Global, state: u64, count: u32) -> Result<u32, Fail> {
-    let mut core: Core<Standard, OpenTable> = Core::new(alloc, Counting::new(Plain))?;
+    let mut core: Namespace = Core::new(alloc, Counting::new(Plain))?;
     let mut model = Model::new(alloc)?;
     let mut dice = Dice { state };
+    if !is_built(&mut core, &mut model, b'2')? || !is_built(&mut core, &mut model, b'3')? {
+        return Ok(0);
+    }
     for done in 0..count {
-        let (process, ask) = next(&mut dice, &model);
+        let process = any_process(&mut dice, &model);
+        let ask = next(&mut dice, &model, process);
         let command = command(alloc, ask)?;
-        let Started::Done(reply) = core.start(Proc(process), &command)?;
-        let agrees = model.agrees(process, ask, &reply)?;
-        let sizes = (core.objects(), core.handles());
-        if !agrees || sizes != (model.events.len().wrapping_add(6), model.handles.len()) {
+        if !is_agreed(&mut core, &mut model, process, ask, &command)? {
             return Ok(done);
         }
     }
