@@ -11,6 +11,4 @@ mod permanence;
 #[cfg(test)]
 mod processes;
 #[cfg(test)]
-mod random;
-#[cfg(test)]
 mod recorded;

@@ -1,0 +1,7 @@
+//! Random commands of many processes, beside a plain model of the namespace. The crate holds tests alone,
+//! since a crate with tests is proved twice; it stands beside the other tests of the namespace, so that both
+//! are proved at once.
+#![tactic(auto)]
+
+#[cfg(test)]
+mod random;
