@@ -71,6 +71,16 @@ def temporaries(count):
     return HELD + "".join(f'p1 make Event none - "" =e{n}\n' for n in range(count))
 
 
+def others(count):
+    """So many temporary events without names, held by other processes, at most 60,000 by one."""
+    lines = []
+    for n in range(count):
+        if n % 60_000 == 0:
+            lines.append(f"p1 new plain =h{n // 60_000}\n")
+        lines.append(f'h{n // 60_000} make Event none - "" =t\n')
+    return "".join(lines)
+
+
 def deep(count):
     """The event `D` three directories deep, beside so many permanent ones."""
     path = '\\Device\\Bench\\In\\D'
@@ -123,6 +133,9 @@ def main():
         a_line(program, f"a child of {count:,} inherited handles, and its exit", held(count, "I"), child, 200)
     for count in (10, 10_000):
         a_line(program, f"a child without handles, and its exit, {count:,} objects there", spread(count), child, 200)
+    for count in (10, 100_000):
+        title = f"a child of 10 inherited handles, and its exit, {count:,} objects held by another"
+        a_line(program, title, others(count) + held(10, "I"), child, 200)
     made = 'p1 make Event "\\T" - "" =t\np1 close t\n'
     for count in (10, 1_000, 100_000):
         a_line(program, f"a temporary event made and closed, {count:,} permanent ones there", spread(count), made, 20_000)

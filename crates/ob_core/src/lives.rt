@@ -16,7 +16,7 @@ use ob_life::{begin_child, end_process};
 use ob_model::Reply;
 use ob_objects::Store;
 use ob_processes::Processes;
-use ob_space::{Namespace, is_live, settle};
+use ob_space::{Namespace, is_live, settle_after_end};
 use ob_types::TypeSet;
 use std::alloc::AllocError;
 
@@ -52,7 +52,7 @@ pub(crate) fn new_process<T: TypeSet, H: HandleTable>(
 
 /// Ends the caller: its handles are closed in the order in which they were opened, it is live no
 /// longer, and what doesn't stay goes. The one refusal is `ProcessGone`, where it isn't live. No memory
-/// is taken.
+/// is taken, and a time that grows with the handles of the process, times the logarithm of all.
 ///
 /// Source: Windows Internals, Processes (what the end of a process closes); the order of the closes is
 /// this profile.
@@ -61,14 +61,14 @@ pub(crate) fn exit_process<T: TypeSet, H: HandleTable>(
     process: Proc,
 ) -> Reply
     requires orderly { IsOrderly T.idle (state_of T.Kind space.old) }
+    requires settled { IsSettled (state_of T.Kind space.old) }
     requires sound { IsSound (state_of T.Kind space.old) }
     ensures orderly { IsOrderly T.idle (state_of T.Kind space.new) }
     ensures step { Exits T.procedures (state_of T.Kind space.old) process (Done result) (state_of T.Kind space.new) }
 {
-    if !is_live(space, process) {
+    let Some(ended) = end_process(space, process) else {
         return status_alone(Status::ProcessGone);
-    }
-    end_process(space, process);
-    settle(space);
+    };
+    settle_after_end(space, &ended.touched, ended.map);
     status_alone(Status::Success)
 }

@@ -1,1 +1,3 @@
 mod Found
+mod Listed
+mod Lowered

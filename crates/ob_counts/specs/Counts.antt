@@ -1,10 +1,10 @@
 -- Counts that are kept under the numbers of objects.
 --
 -- Source: this profile.
-use Rattle.std.specs.Prelude.{◌≡◌, ℕ, ◌+◌, ◌-◌, ◌==◌, if◌then◌else◌, List}
+use Rattle.std.specs.Prelude.{◌≡◌, ℕ, ◌+◌, ◌-◌, ◌<◌, ◌≤◌, ◌==◌, Bool, true, if◌then◌else◌, List, Option, None, Some}
 use Rattle.std.specs.BTreeMap.{is_at}
 use Rattle.std.specs.Map.{lookup}
-use Rattle.std.specs.Option.{unwrap_or}
+use Rattle.std.specs.Option.{unwrap_or, is_some}
 use Rattle.std.specs.Ordering.{nat_cmp}
 
 -- counts under the numbers of objects
@@ -25,3 +25,24 @@ CountsOneMore object old new = (other : ℕ) → count_of new other ≡ count_of
 
 abbrev pub CountsOneLess : ℕ → Numbers → Numbers → Type 0
 CountsOneLess object old new = (other : ℕ) → count_of new other ≡ count_of old other - one_if object other
+
+-- the count of one object is less by so many, and each count by another one of the object
+abbrev pub CountsLessBy : ℕ → ℕ → Numbers → Numbers → Type 0
+CountsLessBy object less old new = (other : ℕ) → count_of new other ≡ count_of old other - (if other == object then less else 0)
+
+abbrev pub CountsLessByAll : Numbers → Numbers → Numbers → Type 0
+CountsLessByAll others old new = (object : ℕ) → count_of new object ≡ count_of old object - count_of others object
+
+-- an object is listed, be its count 0 or more
+abbrev pub is_listed : Numbers → ℕ → Bool
+is_listed numbers object = is_some (lookup (is_at (nat_cmp object)) numbers)
+
+-- the same objects are listed
+abbrev pub ListsTheSame : Numbers → Numbers → Type 0
+ListsTheSame old new = (object : ℕ) → is_listed new object ≡ is_listed old object
+
+-- the greatest object that is listed below a bound; none where no lesser one is
+abbrev pub IsLastListed : ℕ → Numbers → Option ℕ → Type 0
+IsLastListed bound numbers None = (object : ℕ) → is_listed numbers object ≡ true → bound ≤ object
+IsLastListed bound numbers (Some last) =
+    (is_listed numbers last ≡ true) × (last < bound) × ((object : ℕ) → is_listed numbers object ≡ true → object < bound → object ≤ last)

@@ -2,8 +2,9 @@
 
 ghost use Rattle.std.specs.Prelude.{◌≡◌, ◌≤◌, [], OnOk, OnErr};
 ghost use Rattle.ob_model.specs.State.{greatest_number};
-ghost use Rattle.ob_counts.specs.Counts.{count_of, CountsOneMore, CountsOneLess};
+ghost use Rattle.ob_counts.specs.Counts.{count_of, CountsOneMore, CountsOneLess, CountsLessBy, CountsLessByAll};
 
+use crate::touched::Touched;
 use ob_base::ObjId;
 use std::alloc::{AllocError, Global};
 use std::collections::BTreeMap;
@@ -64,10 +65,36 @@ impl Counts {
     pub fn lower(&mut self, object: ObjId)
         ensures counted { CountsOneLess object self.old self.new }
     {
-        if self.get(object) == 1 {
+        self.lower_by(object, 1);
+    }
+
+    /// Counts so many less of an object, and none where there are fewer. Takes no memory.
+    fn lower_by(&mut self, object: ObjId, less: usize)
+        ensures counted { CountsLessBy object less self.old self.new }
+    {
+        if self.get(object) <= less {
             self.numbers.remove(&object.0);
         } else if let Some(count) = self.numbers.get_mut(&object.0) {
-            *count -= 1;
+            *count -= less;
+        }
+    }
+
+    /// Counts of each object as many less as are counted there, and none where there are fewer. Takes
+    /// no memory, and a time that grows with the objects that are listed there.
+    pub fn lower_all(&mut self, others: &Touched)
+        ensures counted { CountsLessByAll others.now self.old self.new }
+    {
+        for (object, less) in others.numbers.iter() {
+            self.lower_by(ObjId(*object), *less);
+        }
+    }
+
+    /// The same counts, of which each stays listed when it is lowered. Takes no memory.
+    pub fn into_touched(self) -> Touched
+        ensures { result ≡ self }
+    {
+        Touched {
+            numbers: self.numbers,
         }
     }
 }

@@ -2,5 +2,7 @@
 #![tactic(auto)]
 
 mod counts;
+mod touched;
 
 pub use counts::Counts;
+pub use touched::Touched;

@@ -1,37 +1,68 @@
 //! The end of a process.
 
-ghost use Rattle.std.specs.Prelude.{◌≡◌};
+ghost use Rattle.std.specs.Prelude.{◌≡◌, true, false, IfSome, MatchOption};
+ghost use Rattle.ob_counts.specs.Counts.{is_listed};
+ghost use Rattle.ob_model.specs.State.{is_live};
 ghost use Rattle.ob_model.specs.Processes.{ended};
+ghost use Rattle.ob_model.specs.Settle.{IsSettled};
 ghost use Rattle.ob_model.specs.Sound.{IsSound};
 ghost use Rattle.ob_space.specs.Namespace.{state_of};
 ghost use Rattle.ob_space.specs.Orderly.{IsOrderly};
+ghost use Rattle.ob_space.specs.Settling.{StaysBut};
 
-use ob_base::Proc;
+use ob_base::{ObjId, Proc};
+use ob_counts::Touched;
 use ob_handles::HandleTable;
 use ob_objects::Store;
 use ob_processes::Processes;
-use ob_space::{Namespace, close_handle};
+use ob_space::Namespace;
 use ob_types::TypeSet;
 
+/// What a process that has ended leaves to be settled.
+#[derive(Drop)]
+pub struct Ended {
+    /// The objects that its handles led to.
+    pub touched: Touched,
+    /// The directory of its device map, where it had one.
+    pub map: Option<ObjId>,
+}
+
 /// Closes all handles of a process, in the order in which they were opened, each with the counts of
-/// those that are left after it; then the process is live no longer. Where it isn't live nothing
-/// changes. Nothing settles yet. No memory is taken.
+/// those that are left after it; the process is live no longer. It gives what can go now; `None` where
+/// the process isn't live, and then nothing changes. Nothing settles yet. No memory is taken.
 ///
-/// It asks that the state is orderly and sound, and leaves an orderly state.
+/// It asks that the state is orderly, sound and settled, and leaves an orderly state, in which nothing
+/// but what it gives can go, and directories by the names that they hold. It takes a time that grows
+/// with the handles of the process, times the logarithm of all.
 ///
 /// Source: Windows Internals, Processes (what the end of a process closes); the order of the closes is
 /// this profile.
 pub fn end_process<T: TypeSet, H: HandleTable>(
     space: &mut Namespace<T, Store<T>, Processes<H>>,
     process: Proc,
-)
+) -> Option<Ended>
     requires orderly { IsOrderly T.idle (state_of T.Kind space.old) }
     requires sound { IsSound (state_of T.Kind space.old) }
+    requires settled { IsSettled (state_of T.Kind space.old) }
     ensures orderly { IsOrderly T.idle (state_of T.Kind space.new) }
     ensures ended { state_of T.Kind space.new ≡ ended T.procedures (state_of T.Kind space.old) process }
+    ensures live { MatchOption result ((is_live (state_of T.Kind space.old) process ≡ false) × (state_of T.Kind space.new ≡ state_of T.Kind space.old))
+        (λ _. is_live (state_of T.Kind space.old) process ≡ true) }
+    ensures left { IfSome result (λ left. StaysBut (state_of T.Kind space.new) (is_listed left.touched) left.map) }
 {
-    while let Some(held) = space.processes.oldest(process) {
-        close_handle(space, held);
+    ob_types::laws::closed_idle::<T>();
+    let map = space.processes.view(process).local;
+    let mut ending = space.processes.end(process)?;
+    while let Some(held) = ending.next() {
+        let process_left = ending.count_of(held.object);
+        let system_left = process_left + space.processes.count_of(held.object);
+        space.store.close(
+            held.object,
+            &mut space.set,
+            process_left as u32,
+            system_left as u32,
+        );
     }
-    space.processes.end(process);
+    let touched = ending.into_touched();
+    Some(Ended { touched, map })
 }

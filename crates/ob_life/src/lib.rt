@@ -9,4 +9,4 @@ mod beginning;
 mod ending;
 
 pub use beginning::{Child, begin_child};
-pub use ending::end_process;
+pub use ending::{Ended, end_process};

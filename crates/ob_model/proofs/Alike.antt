@@ -11,12 +11,14 @@ use Rattle.ob_base.specs.Handle.{key_of}
 use Rattle.ob_model.specs.declared.command.Place.{Place}
 use Rattle.ob_model.specs.declared.command.Place.TheVariants as place
 use Rattle.ob_model.specs.declared.reply.Answer.{Answer}
+use Rattle.ob_model.specs.declared.reply.Answer.TheVariants.{Ticket}
 use Rattle.ob_model.specs.declared.reply.Given.TheVariants.{Handle, Text, Process}
 use Rattle.ob_model.specs.declared.state.Held.{Held}
 use Rattle.ob_model.specs.declared.state.Body.{Body}
 use Rattle.ob_model.specs.declared.state.Wanted.{Wanted}
 use Rattle.ob_model.specs.Names.{longest_name}
-use Rattle.ob_model.specs.State.{State, is_live, is_directory, held_of, body_of}
+use Rattle.ob_model.specs.State.{State, is_live, is_directory, is_store_full, held_of, body_of}
+use Rattle.ob_model.specs.PendingOpens.{with_pending}
 use Rattle.ob_model.specs.Looks.{Look, At, Vacant, Parse, Refused, Mode, LooksUp, most_reparses}
 use Rattle.ob_model.specs.Procedures.{Procedures, Reason, Opened, Created, Duplicated, without_parse}
 use Rattle.ob_model.specs.Settle.{settle}
@@ -275,7 +277,18 @@ module _ {K T F I : Type 0} (g : Procedures K T F I) (s t : State K T F I) (alik
   opens_alike : (attrs : ℕ) (wanted : Wanted K) (look : Look) → Opens g s r attrs wanted look a u → Opens g t r attrs wanted look b v → EndAlike
   opens_alike attrs wanted (Refused status) h k = refused_alike status h k
   opens_alike attrs wanted (Vacant d c) h k = absurd h
-  opens_alike attrs wanted (Parse o rest n) h k = absurd h
+  opens_alike attrs wanted (Parse o rest n) h k =
+      unless_alike ((is_store_full s, InsufficientResources) ∷ []) ((is_store_full t, InsufficientResources) ∷ []) (Waits s a u) (Waits t b v)
+      (ap (λ x. (is_store_full x, InsufficientResources) ∷ []) alike)
+      (λ h k.
+      ends_alike (Ticket s.next_id) (Ticket t.next_id) (settle g (with_pending s r attrs wanted o rest n)) (settle g (with_pending t r attrs wanted o rest n)) h.0 h.1 k.0 k.1
+      (ap (λ x. Ticket x.next_id) alike)
+      (settle_alike g (with_pending s r attrs wanted o rest n) (with_pending t r attrs wanted o rest n) (ap (λ x. with_pending x r attrs wanted o rest n) alike))
+      (same_lead (Ticket s.next_id) (Ticket t.next_id) (settle g (with_pending s r attrs wanted o rest n)) (settle g (with_pending t r attrs wanted o rest n)) refl refl refl refl)
+      (same_hold (Ticket s.next_id) (settle g (with_pending s r attrs wanted o rest n)) refl refl refl)) h k
+    where
+      Waits : State K T F I → Answer → State K T F I → Type 0
+      Waits x answer end = (answer ≡ Ticket x.next_id) × (end ≡ settle g (with_pending x r attrs wanted o rest n))
   opens_alike attrs wanted (At o) h k = opens_at_alike attrs wanted Success o h k
 
   -- what is made where there is room for it

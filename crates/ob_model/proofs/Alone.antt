@@ -1,5 +1,5 @@
 -- In every state of a run the handles of an exclusive object are in one process, and none is inherited.
-use Rattle.std.proofs.Common.{◌≡◌, ◌∙◌, ℕ, ◌+◌, ◌<◌, ◌==◌, Bool, true, false, ◌&&◌, not, if◌then◌else◌, List, [], ◌∷◌, ◌++◌, length, get_or, find, filter, All, Option, None, Some, option_map, refl, ap, sym, subst, arith, eq-eqb, eqb-true}
+use Rattle.std.proofs.Common.{◌≢◌, cond, ◌≡◌, ◌∙◌, ℕ, ◌+◌, ◌<◌, ◌==◌, Bool, true, false, ◌&&◌, not, if◌then◌else◌, List, [], ◌∷◌, ◌++◌, length, get_or, find, filter, All, Option, None, Some, option_map, refl, ap, sym, subst, arith, eq-eqb, eqb-true, MatchOption}
 use Rattle.std.specs.Prelude.{AllPairs}
 use Rattle.std.specs.List.{list_any}
 use Rattle.std.specs.Option.{option_map_or, option_or, is_some}
@@ -9,16 +9,16 @@ use Rattle.std.proofs.lemmas.List.Folds.{list_any_at}
 use Rattle.std.proofs.lemmas.List.Kept.{AllPairs-filter}
 use Rattle.std.proofs.lemmas.List.Quantifiers.{all_pairs_push}
 use Rattle.ob_base.specs.declared.status.Status.{Status}
-use Rattle.ob_base.specs.declared.status.Status.TheVariants.{InvalidParameter, AccessDenied, InsufficientResources}
+use Rattle.ob_base.specs.declared.status.Status.TheVariants.{InvalidParameter, AccessDenied, InsufficientResources, ProcessGone}
 use Rattle.ob_base.specs.Attrs.{has_flag, inherit_flag, permanent_flag, exclusive_flag, are_flags, are_lawful}
 use Rattle.ob_model.specs.declared.reply.Answer.{Answer}
 use Rattle.ob_model.specs.declared.reply.Event.{Event}
 use Rattle.ob_model.specs.declared.state.Body.{Body}
 use Rattle.ob_model.specs.declared.state.Held.{Held}
 use Rattle.ob_model.specs.declared.state.Object.{Object}
-use Rattle.ob_model.specs.State.{State, object_of, handle_count, handle_count_in}
+use Rattle.ob_model.specs.State.{State, is_live, object_of, handle_count, handle_count_in}
 use Rattle.ob_model.specs.Opening.{opening}
-use Rattle.ob_model.specs.Procedures.{Procedures, Reason, Created, Inherited}
+use Rattle.ob_model.specs.Procedures.{Procedures, ParseOutcome, EndsItself, EndsMade, EndsReparse, EndsRefused, Reason, Created, Inherited}
 use Rattle.ob_model.specs.Settle.{settle}
 use Rattle.ob_model.specs.Grants.{Asked, first_refusal, is_exclusive, has_other_holder, is_table_full, grant_refusal, open_refusal, opened_object, opened_body, with_open, with_handle}
 use Rattle.ob_model.specs.Closing.{is_handle, without_handle, closed_body, closed_object, closed_handle}
@@ -26,7 +26,7 @@ use Rattle.ob_model.specs.Permanence.{turned_object, with_permanence, turned}
 use Rattle.ob_model.specs.Maps.{with_map}
 use Rattle.ob_model.specs.Creates.{Spot, created}
 use Rattle.ob_model.specs.Processes.{handles_in, inherited_from, with_child, without_process, inherits_one, inherits, begun, closed_in_turn, ended}
-use Rattle.ob_model.specs.Sound.{IsSound}
+use Rattle.ob_model.specs.Sound.{IsSound, Stands}
 use Rattle.ob_model.specs.Exclusive.{AreAlone}
 use Rattle.ob_model.specs.Step.{Step}
 use Rattle.ob_model.specs.Run.{Entry, RunFrom, Run}
@@ -35,7 +35,12 @@ use Rattle.ob_model.proofs.Settled.{object_of-settle, alive_from_handle}
 use Rattle.ob_model.proofs.Soundness.{find_id-map, opened_object-id, opened_object-is_directory, closed_object-id, closed_object-is_directory, stands_drawn, opening_sound}
 use Rattle.ob_model.proofs.Turned.{turned_object-id, turned_object-is_directory, turned_object-exclusive, turned_either}
 use Rattle.ob_model.proofs.Steps.{step_sound}
-use Rattle.ob_model.proofs.Leads.{step_leads}
+use Rattle.ob_model.specs.declared.reply.Event.TheVariants.{Start, Resume, Abandon}
+use Rattle.ob_model.specs.declared.state.Pending.{Pending}
+use Rattle.ob_model.specs.PendingOpens.{pending_of, with_pending, without_pending, with_instance}
+use Rattle.ob_model.specs.Parses.{parsed_state, Resumes, Abandons}
+use Rattle.ob_model.proofs.PendingSound.{parsed_sound, HasTicket, has_ticket}
+use Rattle.ob_model.proofs.Leads.{Came, started, judged, came_leads}
 
 -- where nothing passes, no element does
 none_of : {X : Type 0} (test : X → Bool) (xs : List X) → list_any test xs ≡ false → All (λ x. test x ≡ false) xs
@@ -44,6 +49,15 @@ none_of test xs none = λ k d within. go k d within (test (get_or xs k d)) refl
     go : (k : ℕ) (d : _) → k < length xs → (t : Bool) → test (get_or xs k d) ≡ t → t ≡ false
     go k d within true e = absurd (false≢true (sym none ∙ list_any_at test xs k d within e))
     go k d within false e = refl
+
+-- no object stands under a number that none has
+none_stands : {F I : Type 0} (n : ℕ) (xs : List (Object F I)) → All (λ y. y.id ≢ n) xs → is_some (find (λ x. x.id == n) xs) ≡ true → ⊥
+none_stands n [] free h = absurd (false≢true h)
+none_stands {F} {I} n (x ∷ xs) free h = go (x.id == n) refl h (none_stands n xs (All-tail (λ y. y.id ≢ n) x xs free))
+  where
+    go : (b : Bool) → (x.id == n) ≡ b → is_some (cond b (Some x) (find (λ y. y.id == n) xs)) ≡ true → (is_some (find (λ y. y.id == n) xs) ≡ true → ⊥) → ⊥
+    go true e h rest = All-head (λ y. y.id ≢ n) x xs free (eqb-true x.id n e)
+    go false e h rest = rest h
 
 -- whether what is found is exclusive
 abbrev exclusive_found : {F I : Type 0} → Option (Object F I) → Bool
@@ -261,17 +275,56 @@ module _ {K T F I : Type 0} (g : Procedures K T F I) where
       let u = closed_in_turn g s (handles_in s p) in
       agreeing u (without_process u p) refl (λ k d within. refl) (closed_in_turn_alone s (handles_in s p) is)
 
-  -- a step leaves it so, and so does a run
-  step_alone : (s t : State K T F I) (event : Event K) (answer : Answer) → IsSound s → AreAlone s → Step g s event answer t → AreAlone t
-  step_alone s t event answer sound is h =
-      step_leads g s AreAlone is (λ body. agreeing s _ refl (λ k d within. refl) is)
+  -- a start leaves it so, and so does what a parse leads to
+  came_alone : (s t : State K T F I) → IsSound s → AreAlone s → Came g s t → AreAlone t
+  came_alone s t sound is came =
+      came_leads g s AreAlone is (λ body. agreeing s _ refl (λ k d within. refl) is)
       (λ p value o asked reason e. settled_alone (with_handle (with_open g s o reason) p value o asked.inherit) (granted_alone s p value o asked reason is e))
       (λ p spot body attrs value lawful. settled_alone (created g s p spot body attrs value) (created_alone s p spot body attrs value sound is lawful))
       (λ x. settled_alone (closed_handle g s x) (closed_alone s x is))
       (λ o permanent. settled_alone (turned s o permanent) (turned_alone s o permanent is))
       (λ p m. settled_alone (with_map s p m) (agreeing s (with_map s p m) refl (λ k d within. refl) is))
       (λ p inherit. settled_alone (begun g s p inherit) (begun_alone s p inherit is))
-      (λ p. settled_alone (ended g s p) (ended_alone s p is)) t event answer h
+      (λ p. settled_alone (ended g s p) (ended_alone s p is))
+      (λ p attrs wanted o rest n. settled_alone (with_pending s p attrs wanted o rest n) (agreeing s (with_pending s p attrs wanted o rest n) refl (λ k d within. refl) is)) t came
+
+  -- so does the end of a pending open: an object under a ticket isn't exclusive, and no handle leads to it yet
+  instance_alone : (s : State K T F I) (ticket : ℕ) (face : F) (inner : I) → All (λ y. y.id ≢ ticket) s.objects → All (λ h. Stands s h.object) s.handles
+      → AreAlone s → AreAlone (with_instance s ticket face inner)
+  instance_alone s ticket face inner free stand is =
+      agreeing s (with_instance s ticket face inner) refl
+      (λ k d within.
+      ap exclusive_found
+      (in_order-others (λ x. x.id) (λ x. x.id == (get_or s.handles k d).object) _ s.objects
+      (ne_eqb ticket (get_or s.handles k d).object (other (get_or s.handles k d).object (stand k d within))))) is
+    where
+      other : (o : ℕ) → Stands s o → ticket ≢ o
+      other o stands = λ same. none_stands ticket s.objects free (subst (Stands s) (sym same) stands)
+
+  parsed_alone : (s : State K T F I) (x : Pending K) (outcome : Option (ParseOutcome F I)) → IsSound s → HasTicket s x → AreAlone s → AreAlone (parsed_state s x.ticket outcome)
+  parsed_alone s x None sound ticket is = agreeing s (without_pending s x.ticket) refl (λ k d within. refl) is
+  parsed_alone s x (Some EndsItself) sound ticket is = agreeing s (without_pending s x.ticket) refl (λ k d within. refl) is
+  parsed_alone s x (Some (EndsReparse text)) sound ticket is = agreeing s (without_pending s x.ticket) refl (λ k d within. refl) is
+  parsed_alone s x (Some (EndsRefused k)) sound ticket is = agreeing s (without_pending s x.ticket) refl (λ k d within. refl) is
+  parsed_alone s x (Some (EndsMade face inner)) sound ticket is =
+      instance_alone (without_pending s x.ticket) x.ticket face inner ticket.0 sound.handles (agreeing s (without_pending s x.ticket) refl (λ k d within. refl) is)
+
+  -- a step leaves it so, and so does a run
+  step_alone : (s t : State K T F I) (event : Event K) (answer : Answer) → IsSound s → AreAlone s → Step g s event answer t → AreAlone t
+  step_alone s t (Start p command) answer sound is h = came_alone s t sound is (started p command answer h)
+  step_alone s t (Resume ticket parse) answer sound is h = go (pending_of s ticket) (has_ticket s ticket sound) h.2
+    where
+      go : (found : Option (Pending K)) → MatchOption found (Unit {0}) (HasTicket s) → MatchOption found ⊥ (λ x. Resumes g s x h.0 answer t) → AreAlone t
+      go None has does = absurd does
+      go (Some x) has does =
+          subst AreAlone (sym does.2)
+          (settled_alone does.0
+          (came_alone (parsed_state s x.ticket h.0) does.0 (parsed_sound s x.ticket h.0 has.0 has.1 sound) (parsed_alone s x h.0 sound has is) (judged ((not (is_live s x.process), ProcessGone) ∷ []) x h.0 answer does.1)))
+  step_alone s t (Abandon ticket parse) answer sound is h = go (pending_of s ticket) (has_ticket s ticket sound) h.2
+    where
+      go : (found : Option (Pending K)) → MatchOption found (Unit {0}) (HasTicket s) → MatchOption found ⊥ (λ x. Abandons g s x h.0 answer t) → AreAlone t
+      go None has does = absurd does
+      go (Some x) has does = subst AreAlone (sym does.1) (settled_alone (parsed_state s x.ticket h.0) (parsed_alone s x h.0 sound has is))
 
   run_from_alone : (s : State K T F I) (n : ℕ) (entries : List (Entry K)) (t : State K T F I) → IsSound s → AreAlone s → RunFrom g s n entries t → AreAlone t
   run_from_alone s n [] t sound is run = subst AreAlone (sym run) is

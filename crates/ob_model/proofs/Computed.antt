@@ -1,20 +1,21 @@
 -- In a concrete state: that it is sound, by a test, and what a name ends with, by computing it.
-use Rattle.std.proofs.Common.{◌≡◌, ℕ, ◌<◌, nat_lt, arith, ◌&&◌, not, Bool, true, false, List, [], ◌∷◌, refl, Option, None, Some, MatchOption, is_some, subst}
+use Rattle.std.proofs.Common.{◌≡◌, ◌≢◌, All, ℕ, ◌<◌, nat_lt, arith, ◌&&◌, not, Bool, true, false, List, [], ◌∷◌, refl, Option, None, Some, MatchOption, is_some, subst}
 use Rattle.std.specs.List.{list_all}
 use Rattle.std.specs.Prelude.{AllPairs}
 use Rattle.std.proofs.lemmas.List.Kept.{AllPairs-cons}
 use Rattle.std.proofs.lemmas.Bool.{and_parts}
 use Rattle.std.proofs.lemmas.Bool.Decides.{nat_tests}
 use Rattle.std.proofs.lemmas.List.Sums.{AllPass-from_list_all}
-use Rattle.std.proofs.lemmas.List.Elements.{All-weaker}
+use Rattle.std.proofs.lemmas.List.Elements.{All-nil, All-weaker}
 use Rattle.ob_model.specs.State.{State, root_id, global_id, object_of, is_directory, is_live}
 use Rattle.ob_model.specs.Procedures.{Procedures}
 use Rattle.ob_model.specs.Looks.{Look, Mode, LooksUp}
 use Rattle.ob_model.specs.declared.state.Row.{Row}
 use Rattle.ob_model.specs.declared.state.Held.{Held}
+use Rattle.ob_model.specs.declared.state.Pending.{Pending}
 use Rattle.ob_model.specs.Names.{IsComponent}
 use Rattle.ob_model.specs.Closing.{is_handle}
-use Rattle.ob_model.specs.Sound.{IsSound, IsDirectory, HasSoundMap, is_barred}
+use Rattle.ob_model.specs.Sound.{IsSound, IsDirectory, Stands, HasSoundMap, is_barred}
 use Rattle.ob_model.proofs.Places.{is_component, IsComponent-from_test, do_stand_apart, stand_apart}
 use Rattle.ob_model.proofs.Soundness.{Rise, pairs_rise}
 use Rattle.ob_model.proofs.Lookup.{looked_up_name, looked_up_name-LooksUp}
@@ -51,6 +52,19 @@ differ (h ∷ hs) e =
     (AllPass-from_list_all (λ x. not (is_handle h.process h.value x)) hs parts.0))
     (differ hs parts.1)
 
+-- no open is pending
+abbrev pub none_pending : {K : Type 0} → List (Pending K) → Bool
+none_pending [] = true
+none_pending (x ∷ xs) = false
+
+all_of_none : {K : Type 0} (P : Pending K → Type 0) (xs : List (Pending K)) → none_pending xs ≡ true → All P xs
+all_of_none P [] h = All-nil P
+all_of_none P (x ∷ xs) h = cc
+
+pairs_of_none : {K : Type 0} (P : Pending K → Pending K → Type 0) (xs : List (Pending K)) → none_pending xs ≡ true → AllPairs P xs
+pairs_of_none P [] h = λ i j d less within. absurd (omega (arith, within))
+pairs_of_none P (x ∷ xs) h = cc
+
 module _ {K T F I : Type 0} where
   abbrev pub is_map_sound : State K T F I → Option ℕ → Bool
   is_map_sound s None = true
@@ -63,7 +77,7 @@ module _ {K T F I : Type 0} where
   -- a test of the pending opens, of the stamps, of the names in the root and of the processes of handles
   abbrev pub is_orderly : State K T F I → Bool
   is_orderly s =
-      list_all (λ x. is_some (object_of s x.object)) s.pending && (do_rise s.rows && (list_all (λ r. nat_lt r.stamp s.next_stamp) s.rows
+      none_pending s.pending && (do_rise s.rows && (list_all (λ r. nat_lt r.stamp s.next_stamp) s.rows
       && (list_all (λ r. not (is_barred r.directory r.name)) s.rows && (list_all (λ h. is_live s h.process) s.handles
       && (list_all (λ x. nat_lt x.number s.next_process) s.processes && (do_differ s.handles && are_placed s))))))
 
@@ -92,7 +106,7 @@ module _ {K T F I : Type 0} where
       let fifth = and_parts handles (drawn && (descending && is_orderly s)) fourth.1 in
       let sixth = and_parts drawn (descending && is_orderly s) fifth.1 in
       let seventh = and_parts descending (is_orderly s) sixth.1 in
-      let pending = list_all (λ x. is_some (object_of s x.object)) s.pending in
+      let pending = none_pending s.pending in
       let rising = do_rise s.rows in
       let stamped = list_all (λ r. nat_lt r.stamp s.next_stamp) s.rows in
       let plain = list_all (λ r. not (is_barred r.directory r.name)) s.rows in
@@ -118,7 +132,10 @@ module _ {K T F I : Type 0} where
         handles = AllPass-from_list_all (λ h. is_some (object_of s h.object)) s.handles fifth.0;
         drawn = All-weaker (λ x. nat_lt x.id s.next_id ≡ true) (λ x. x.id < s.next_id) (λ x e. less x.id s.next_id e) s.objects (AllPass-from_list_all (λ x. nat_lt x.id s.next_id) s.objects sixth.0);
         descending = All-weaker (λ r. nat_lt r.directory r.object ≡ true) (λ r. r.directory < r.object) (λ r e. less r.directory r.object e) s.rows (AllPass-from_list_all (λ r. nat_lt r.directory r.object) s.rows seventh.0);
-        pending = AllPass-from_list_all (λ x. is_some (object_of s x.object)) s.pending eighth.0;
+        pending = all_of_none (λ x. Stands s x.object) s.pending eighth.0;
+        ticketed = all_of_none (λ x. x.ticket < s.next_id) s.pending eighth.0;
+        reserved = all_of_none (λ x. All (λ y. y.id ≢ x.ticket) s.objects) s.pending eighth.0;
+        awaited = pairs_of_none (λ a b. a.ticket < b.ticket) s.pending eighth.0;
         rising = pairs_rise s.rows (rise s.rows ninth.0);
         stamped = All-weaker (λ r. nat_lt r.stamp s.next_stamp ≡ true) (λ r. r.stamp < s.next_stamp) (λ r e. less r.stamp s.next_stamp e) s.rows (AllPass-from_list_all (λ r. nat_lt r.stamp s.next_stamp) s.rows tenth.0);
         inside = AllPass-from_list_all (λ r. is_directory s r.directory) s.rows fifteenth.0;

@@ -114,6 +114,9 @@ module _ {K T F I : Type 0} where
     drawn = sound.drawn;
     descending = sound.descending;
     pending = sound.pending;
+    ticketed = sound.ticketed;
+    reserved = sound.reserved;
+    awaited = sound.awaited;
     rising = sound.rising;
     stamped = sound.stamped;
     inside = sound.inside;
@@ -141,6 +144,9 @@ module _ {K T F I : Type 0} where
     drawn = sound.drawn;
     descending = sound.descending;
     pending = sound.pending;
+    ticketed = sound.ticketed;
+    reserved = sound.reserved;
+    awaited = sound.awaited;
     rising = sound.rising;
     stamped = sound.stamped;
     inside = sound.inside;
@@ -163,6 +169,9 @@ module _ {K T F I : Type 0} where
     drawn = sound.drawn;
     descending = sound.descending;
     pending = sound.pending;
+    ticketed = sound.ticketed;
+    reserved = sound.reserved;
+    awaited = sound.awaited;
     rising = sound.rising;
     stamped = sound.stamped;
     inside = sound.inside;

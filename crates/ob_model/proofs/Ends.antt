@@ -1,9 +1,9 @@
 -- A step with its answer leads to one state alone.
-use Rattle.std.proofs.Common.{◌≡◌, ℕ, ◌+◌, Bool, true, false, not, List, [], ◌∷◌, Option, None, Some, Result, Ok, Err, MatchOption, MatchResult, ap, ◌∙◌, sym, subst}
+use Rattle.std.proofs.Common.{◌≡◌, ℕ, zero, suc, ◌+◌, Bool, true, false, not, List, [], ◌∷◌, Option, None, Some, Result, Ok, Err, MatchOption, MatchResult, ap, ◌∙◌, sym, subst}
 use Rattle.std.specs.Prelude.{MatchBool}
 use Rattle.std.specs.Option.{option_and_then}
 use Rattle.ob_base.specs.declared.status.Status.{Status}
-use Rattle.ob_base.specs.declared.status.Status.TheVariants.{Success, InvalidHandle, InsufficientResources, ObjectTypeMismatch, ObjectNameExists, ObjectNameCollision, ProcessGone, TypeRefused}
+use Rattle.ob_base.specs.declared.status.Status.TheVariants.{NoMemory, Success, InvalidHandle, InsufficientResources, ObjectTypeMismatch, ObjectNameExists, ObjectNameCollision, ProcessGone, TypeRefused}
 use Rattle.ob_base.specs.Attrs.{has_flag, open_if_flag}
 use Rattle.ob_base.specs.Handle.{key_of}
 use Rattle.ob_model.specs.declared.command.Place.{Place}
@@ -11,16 +11,19 @@ use Rattle.ob_model.specs.declared.command.Place.TheVariants as place
 use Rattle.ob_model.specs.declared.command.Command.TheVariants.{CreateDirectory, CreateLink, CreateObject, OpenDirectory, OpenLink, OpenObject, Close, QueryLink, QueryName, Duplicate, MakeTemporary, MakePermanent, SetDeviceMap, NewProcess, ExitProcess}
 use Rattle.ob_model.specs.declared.reply.Answer.{Answer}
 use Rattle.ob_model.specs.declared.reply.Event.{Event}
-use Rattle.ob_model.specs.declared.reply.Event.TheVariants.{Start}
-use Rattle.ob_model.specs.declared.reply.Answer.TheVariants.{Done}
+use Rattle.ob_model.specs.declared.reply.Event.TheVariants.{Start, Resume, Abandon}
+use Rattle.ob_model.specs.declared.reply.Answer.TheVariants.{Done, Ticket}
 use Rattle.ob_model.specs.declared.reply.Given.{Given}
 use Rattle.ob_model.specs.declared.reply.Given.TheVariants.{Handle, Nothing, Process}
+use Rattle.ob_model.specs.declared.reply.ParseRun.{ParseRun}
+use Rattle.ob_model.specs.declared.reply.ParseRun.TheVariants as run
 use Rattle.ob_model.specs.declared.state.Held.{Held}
+use Rattle.ob_model.specs.declared.state.Pending.{Pending}
 use Rattle.ob_model.specs.declared.state.Wanted.{Wanted}
 use Rattle.ob_model.specs.declared.state.Wanted.TheVariants as wanted
-use Rattle.ob_model.specs.State.{State, is_live, is_directory, held_of}
-use Rattle.ob_model.specs.Looks.{Look, At, Vacant, Parse, Refused, LooksUp, most_reparses}
-use Rattle.ob_model.specs.Procedures.{Procedures, Reason, Opened, Created, Duplicated, without_parse}
+use Rattle.ob_model.specs.State.{State, is_live, is_directory, is_store_full, held_of}
+use Rattle.ob_model.specs.Looks.{Mode, Look, At, Vacant, Parse, Refused, Looks, LooksUp, most_reparses}
+use Rattle.ob_model.specs.Procedures.{Procedures, ParseOutcome, EndsItself, EndsMade, EndsReparse, EndsRefused, ParseEnds, Reason, Opened, Created, Duplicated, without_parse}
 use Rattle.ob_model.specs.Settle.{settle}
 use Rattle.ob_model.specs.Grants.{first_refusal, Grants, IsFreeValue, Asked, open_refusal_of, with_handle, with_open}
 use Rattle.ob_model.specs.Closing.{closed_handle}
@@ -28,13 +31,16 @@ use Rattle.ob_model.specs.Permanence.{turned}
 use Rattle.ob_model.specs.Maps.{with_map}
 use Rattle.ob_model.specs.Types.{is_wanted_at}
 use Rattle.ob_model.specs.Refusals.{gives, answers, IsRefused, Unless, create_refusals, open_refusals}
+use Rattle.ob_model.specs.PendingOpens.{face_of, pending_of, with_pending}
+use Rattle.ob_model.specs.Parses.{parsed_state, IsParsed, IsBrought, LooksAgain, EndsOpen, Resumes, Abandons}
 use Rattle.ob_model.specs.Opens.{GivesHandle, OpensAt, Opens, asked_by, type_wanted, open_mode}
 use Rattle.ob_model.specs.Creates.{Making, MakesDirectory, MakesLink, MakesObject, is_fit, create_mode, type_made, Spot, room_refusals, make_refusal, body_made, created, dropped, Makes, Creates}
 use Rattle.ob_model.specs.Naming.{TellsName, TellsTarget}
 use Rattle.ob_model.specs.Processes.{values_in, is_crowded, begun, ended}
 use Rattle.ob_model.specs.Step.{WithHandle, WithRoot, CreatesIn, CreatesAt, OpensName, Turns, SetsMap, Step}
 use Rattle.ob_model.specs.Run.{Entry, RunFrom}
-use Rattle.ob_model.proofs.Lookup.{looks_up_unique}
+use Rattle.ob_model.proofs.Lookup.{Again-unique, looks_unique, looks_up_unique}
+use Rattle.ob_model.proofs.ParseRuns.{parse_unique}
 
 module _ {K T F I : Type 0} where
   -- a step that is refused leaves the state
@@ -77,6 +83,7 @@ module _ {K T F I : Type 0} where
 -- what an answer gives
 abbrev given_in : Answer → Given
 given_in (Done reply) = reply.given
+given_in (Ticket number) = Nothing
 
 -- an answer gives one handle
 one_handle : (status other : Status) (v w : ℕ) (answer : Answer) → answer ≡ gives status (Handle v) → answer ≡ gives other (Handle w) → v ≡ w
@@ -117,7 +124,9 @@ module _ {K T F I : Type 0} (g : Procedures K T F I) where
       → Opens g s p attrs wanted look answer t → Opens g s p attrs wanted look answer u → t ≡ u
   opens_end s t u p attrs wanted (Refused status) answer h k = refused_end s t u status status answer h k
   opens_end s t u p attrs wanted (Vacant d c) answer h k = absurd h
-  opens_end s t u p attrs wanted (Parse o rest n) answer h k = absurd h
+  opens_end s t u p attrs wanted (Parse o rest n) answer h k =
+      unless_end ((is_store_full s, InsufficientResources) ∷ []) s t u answer ((answer ≡ Ticket s.next_id) × (t ≡ settle g (with_pending s p attrs wanted o rest n)))
+      ((answer ≡ Ticket s.next_id) × (u ≡ settle g (with_pending s p attrs wanted o rest n))) (λ a b. a.1 ∙ sym b.1) h k
   opens_end s t u p attrs wanted (At o) answer h k = opens_at_end s t u p attrs wanted Success o answer h k
 
   makes_end : (s t u : State K T F I) (p attrs : ℕ) (making : Making K) (spot : Spot) (answer : Answer)
@@ -202,6 +211,58 @@ module _ {K T F I : Type 0} (g : Procedures K T F I) where
       Sets : State K T F I → Held → Type 0
       Sets end x = Unless ((not (is_directory s x.object), ObjectTypeMismatch) ∷ []) s answer end ((answer ≡ answers Success) × (end ≡ settle g (with_map s p x.object)))
 
+  -- ---- the end of a pending open
+
+  -- one thing is brought of its parse
+  parsed_unique : (s : State K T F I) (x : Pending K) (parse : ParseRun) (a b : Option (ParseOutcome F I)) → IsParsed g s x parse a → IsParsed g s x parse b → a ≡ b
+  parsed_unique s x run.Unrun a b h k = h ∙ sym k
+  parsed_unique s x run.NoMemory a b h k = h ∙ sym k
+  parsed_unique s x run.Ran None b h k = absurd h
+  parsed_unique s x run.Ran (Some a) None h k = absurd k
+  parsed_unique s x run.Ran (Some a) (Some b) h k = go (face_of s x.object) h k
+    where
+      go : (face : Option F) → MatchOption face ⊥ (λ f. ParseEnds g f x.rest a) → MatchOption face ⊥ (λ f. ParseEnds g f x.rest b) → Some a ≡ Some b
+      go None h k = absurd h
+      go (Some face) h k = ap (λ (outcome : ParseOutcome F I). Some outcome) (parse_unique g h k)
+
+  brought_for : (s : State K T F I) (parse : ParseRun) (found : Option (Pending K)) (a b : Option (ParseOutcome F I))
+      → MatchOption found ⊥ (λ x. IsParsed g s x parse a) → MatchOption found ⊥ (λ x. IsParsed g s x parse b) → a ≡ b
+  brought_for s parse None a b h k = absurd h
+  brought_for s parse (Some x) a b h k = parsed_unique s x parse a b h k
+
+  brought_unique : (s : State K T F I) (event : Event K) (a b : Option (ParseOutcome F I)) → IsBrought g s event a → IsBrought g s event b → a ≡ b
+  brought_unique s (Start p command) a b h k = h ∙ sym k
+  brought_unique s (Resume ticket run.Unrun) a b h k = absurd h
+  brought_unique s (Resume ticket run.Ran) a b h k = brought_for s run.Ran (pending_of s ticket) a b h k
+  brought_unique s (Resume ticket run.NoMemory) a b h k = brought_for s run.NoMemory (pending_of s ticket) a b h k
+  brought_unique s (Abandon ticket parse) a b h k = brought_for s parse (pending_of s ticket) a b h k
+
+  -- a text that is looked up again has one end
+  again_unique : (s : State K T F I) (p : ℕ) (mode : Mode) (n : ℕ) (text : List ℕ) (a b : Look) → LooksAgain g s p mode n text a → LooksAgain g s p mode n text b → a ≡ b
+  again_unique s p mode zero text a b h k = h ∙ sym k
+  again_unique s p mode (suc n) text a b h k =
+      Again-unique s p mode text (λ look place rest. Looks g s p mode n place rest look) a b (λ place rest h' k'. looks_unique g s p mode n place rest a b h' k') h k
+
+  -- what a parse leads to
+  ends_open_end : (s t u : State K T F I) (x : Pending K) (outcome : Option (ParseOutcome F I)) (answer : Answer)
+      → EndsOpen g s x outcome answer t → EndsOpen g s x outcome answer u → t ≡ u
+  ends_open_end s t u x None answer h k = refused_end s t u NoMemory NoMemory answer h k
+  ends_open_end s t u x (Some EndsItself) answer h k = opens_at_end s t u x.process x.attrs x.wanted Success x.object answer h k
+  ends_open_end s t u x (Some (EndsMade face inner)) answer h k = opens_at_end s t u x.process x.attrs x.wanted Success x.ticket answer h k
+  ends_open_end s t u x (Some (EndsReparse text)) answer h k =
+      let same : k.0 ≡ h.0 = again_unique s x.process (open_mode x.wanted x.attrs) x.left text k.0 h.0 k.1 h.1 in
+      opens_end s t u x.process x.attrs x.wanted h.0 answer h.2 (subst (λ look. Opens g s x.process x.attrs x.wanted look answer u) same k.2)
+  ends_open_end s t u x (Some (EndsRefused n)) answer h k = refused_end s t u (TypeRefused n) (TypeRefused n) answer h k
+
+  resumes_end : (s t u : State K T F I) (x : Pending K) (outcome : Option (ParseOutcome F I)) (answer : Answer) → Resumes g s x outcome answer t → Resumes g s x outcome answer u → t ≡ u
+  resumes_end s t u x outcome answer h k =
+      let v = parsed_state s x.ticket outcome in
+      h.2
+      ∙ ap (settle g)
+      (unless_end ((not (is_live s x.process), ProcessGone) ∷ []) v h.0 k.0 answer (EndsOpen g v x outcome answer h.0) (EndsOpen g v x outcome answer k.0)
+      (ends_open_end v h.0 k.0 x outcome answer) h.1 k.1)
+      ∙ sym k.2
+
   -- a step with its answer leads to one state alone
   pub step_end : (s t u : State K T F I) (event : Event K) (answer : Answer) → Step g s event answer t → Step g s event answer u → t ≡ u
   step_end s t u (Start p (CreateDirectory where_to attrs)) answer h k = creates_at_end s t u p where_to attrs MakesDirectory answer h k
@@ -240,6 +301,20 @@ module _ {K T F I : Type 0} (g : Procedures K T F I) where
   step_end s t u (Start p ExitProcess) answer h k =
       unless_end ((not (is_live s p), ProcessGone) ∷ []) s t u answer ((answer ≡ answers Success) × (t ≡ settle g (ended g s p)))
       ((answer ≡ answers Success) × (u ≡ settle g (ended g s p))) (λ a b. a.1 ∙ sym b.1) h k
+  step_end s t u (Resume ticket parse) answer h k =
+      let same : k.0 ≡ h.0 = brought_unique s (Resume ticket parse) k.0 h.0 k.1 h.1 in
+      go (pending_of s ticket) h.2 (subst (λ (outcome : Option (ParseOutcome F I)). MatchOption (pending_of s ticket) ⊥ (λ x. Resumes g s x outcome answer u)) same k.2)
+    where
+      go : (found : Option (Pending K)) → MatchOption found ⊥ (λ x. Resumes g s x h.0 answer t) → MatchOption found ⊥ (λ x. Resumes g s x h.0 answer u) → t ≡ u
+      go None h k = absurd h
+      go (Some x) does also = resumes_end s t u x h.0 answer does also
+  step_end s t u (Abandon ticket parse) answer h k =
+      let same : k.0 ≡ h.0 = brought_unique s (Abandon ticket parse) k.0 h.0 k.1 h.1 in
+      go (pending_of s ticket) h.2 (subst (λ (outcome : Option (ParseOutcome F I)). MatchOption (pending_of s ticket) ⊥ (λ x. Abandons g s x outcome answer u)) same k.2)
+    where
+      go : (found : Option (Pending K)) → MatchOption found ⊥ (λ x. Abandons g s x h.0 answer t) → MatchOption found ⊥ (λ x. Abandons g s x h.0 answer u) → t ≡ u
+      go None h k = absurd h
+      go (Some x) does also = does.1 ∙ sym also.1
 
   -- and so does a list of entries, from one state
   pub run_end : (s : State K T F I) (n : ℕ) (entries : List (Entry K)) (t u : State K T F I) → RunFrom g s n entries t → RunFrom g s n entries u → t ≡ u

@@ -1,27 +1,29 @@
--- What a step leads to: the state as it was, one whose new object was dropped, or one that settled after a
+-- What a start leads to: the state as it was, one whose new object was dropped, or one that settled after a
 -- handle was granted, an object made, a handle closed, an object made permanent or temporary, a device map
--- set, or a process begun or ended.
+-- set, a process begun or ended, or an open begun that is pending; and what the end of a pending open leads to.
 use Rattle.std.proofs.Common.{◌≡◌, ℕ, Bool, true, false, ◌||◌, not, refl, List, [], ◌∷◌, Option, None, Some, Result, Ok, Err, MatchOption, MatchResult, sym, subst}
 use Rattle.std.specs.Prelude.{MatchBool}
 use Rattle.std.specs.Option.{option_and_then}
 use Rattle.ob_base.specs.declared.status.Status.{Status}
-use Rattle.ob_base.specs.declared.status.Status.TheVariants.{Success, InvalidHandle, InvalidParameter, InsufficientResources, ObjectTypeMismatch, ObjectNameExists, ObjectNameCollision, ProcessGone, TypeRefused}
+use Rattle.ob_base.specs.declared.status.Status.TheVariants.{NoMemory, Success, InvalidHandle, InvalidParameter, InsufficientResources, ObjectTypeMismatch, ObjectNameExists, ObjectNameCollision, ProcessGone, TypeRefused}
 use Rattle.ob_base.specs.Attrs.{has_flag, open_if_flag, are_lawful}
 use Rattle.ob_base.specs.Handle.{key_of}
 use Rattle.ob_model.specs.declared.command.Place.{Place}
 use Rattle.ob_model.specs.declared.command.Place.TheVariants as place
 use Rattle.ob_model.specs.declared.command.Command.TheVariants.{CreateDirectory, CreateLink, CreateObject, OpenDirectory, OpenLink, OpenObject, Close, QueryLink, QueryName, Duplicate, MakeTemporary, MakePermanent, SetDeviceMap, NewProcess, ExitProcess}
+use Rattle.ob_model.specs.declared.command.Command.{Command}
 use Rattle.ob_model.specs.declared.reply.Answer.{Answer}
-use Rattle.ob_model.specs.declared.reply.Event.{Event}
+use Rattle.ob_model.specs.declared.reply.Answer.TheVariants.{Ticket}
 use Rattle.ob_model.specs.declared.reply.Event.TheVariants.{Start}
 use Rattle.ob_model.specs.declared.reply.Given.TheVariants.{Handle, Process}
 use Rattle.ob_model.specs.declared.state.Held.{Held}
 use Rattle.ob_model.specs.declared.state.Body.{Body}
+use Rattle.ob_model.specs.declared.state.Pending.{Pending}
 use Rattle.ob_model.specs.declared.state.Wanted.{Wanted}
 use Rattle.ob_model.specs.declared.state.Wanted.TheVariants as wanted
-use Rattle.ob_model.specs.State.{State, is_live, is_directory, held_of}
+use Rattle.ob_model.specs.State.{State, is_live, is_directory, is_store_full, held_of}
 use Rattle.ob_model.specs.Looks.{Look, At, Vacant, Parse, Refused, LooksUp, most_reparses}
-use Rattle.ob_model.specs.Procedures.{Procedures, Reason, Opened, Created, Duplicated, without_parse}
+use Rattle.ob_model.specs.Procedures.{Procedures, ParseOutcome, EndsItself, EndsMade, EndsReparse, EndsRefused, Reason, Opened, Created, Duplicated, without_parse}
 use Rattle.ob_model.specs.Settle.{settle}
 use Rattle.ob_model.specs.Grants.{Asked, first_refusal, Grants, grant_refusal, IsFreeValue, open_refusal_of, with_open, with_handle}
 use Rattle.ob_model.specs.Closing.{closed_handle}
@@ -29,6 +31,8 @@ use Rattle.ob_model.specs.Permanence.{turned}
 use Rattle.ob_model.specs.Maps.{with_map}
 use Rattle.ob_model.specs.Types.{is_wanted_at}
 use Rattle.ob_model.specs.Refusals.{gives, answers, IsRefused, Unless, name_refusals, create_refusals, open_refusals}
+use Rattle.ob_model.specs.PendingOpens.{with_pending}
+use Rattle.ob_model.specs.Parses.{EndsOpen}
 use Rattle.ob_model.specs.Opens.{GivesHandle, OpensAt, Opens, asked_by, type_wanted, open_mode}
 use Rattle.ob_model.specs.Creates.{Making, MakesDirectory, MakesLink, MakesObject, is_fit, create_mode, type_made, Spot, room_refusals, make_refusal, body_made, created, dropped, Makes, Creates}
 use Rattle.ob_model.specs.Naming.{TellsName, TellsTarget}
@@ -50,6 +54,11 @@ lawful_to_create true fit place.Unnamed attrs e = go (are_lawful attrs) e
     go true e = refl
     go false e = cc
 
+-- how a state comes from one: by a start, or by what a parse leads to in the state in which it is judged
+pub data Came {K T F I : Type 0} (g : Procedures K T F I) (s t : State K T F I) : Type 0 where
+  started : (p : ℕ) (command : Command K) (answer : Answer) → Step g s (Start p command) answer t → Came g s t
+  judged : (refusals : List (Bool × Status)) (x : Pending K) (outcome : Option (ParseOutcome F I)) (answer : Answer) → Unless refusals s answer t (EndsOpen g s x outcome answer t) → Came g s t
+
 module _ {K T F I : Type 0} (g : Procedures K T F I) (s : State K T F I) (P : State K T F I → Type 0) (same : P s)
     (drops : (body : Body F I) → P (dropped g s body))
     (grants : (p value o : ℕ) (asked : Asked) (reason : Reason) → grant_refusal g s p o asked reason ≡ None → P (settle g (with_handle (with_open g s o reason) p value o asked.inherit)))
@@ -58,7 +67,8 @@ module _ {K T F I : Type 0} (g : Procedures K T F I) (s : State K T F I) (P : St
     (turns : (o : ℕ) (permanent : Bool) → P (settle g (turned s o permanent)))
     (sets_map : (p d : ℕ) → P (settle g (with_map s p d)))
     (begins : (p : ℕ) (inherit : Bool) → P (settle g (begun g s p inherit)))
-    (ends : (p : ℕ) → P (settle g (ended g s p))) where
+    (ends : (p : ℕ) → P (settle g (ended g s p)))
+    (waits : (p attrs : ℕ) (wanted : Wanted K) (o : ℕ) (rest : List ℕ) (n : ℕ) → P (settle g (with_pending s p attrs wanted o rest n))) where
   -- a step that is refused leaves the state
   refused_leads : (t : State K T F I) (status : Status) (answer : Answer) → IsRefused s status answer t → P t
   refused_leads t status answer h = subst P (sym h.1) same
@@ -108,7 +118,9 @@ module _ {K T F I : Type 0} (g : Procedures K T F I) (s : State K T F I) (P : St
   opens_leads : (t : State K T F I) (p attrs : ℕ) (wanted : Wanted K) (look : Look) (answer : Answer) → Opens g s p attrs wanted look answer t → P t
   opens_leads t p attrs wanted (Refused status) answer h = refused_leads t status answer h
   opens_leads t p attrs wanted (Vacant d c) answer h = absurd h
-  opens_leads t p attrs wanted (Parse o rest n) answer h = absurd h
+  opens_leads t p attrs wanted (Parse o rest n) answer h =
+      unless_leads ((is_store_full s, InsufficientResources) ∷ []) t answer ((answer ≡ Ticket s.next_id) × (t ≡ settle g (with_pending s p attrs wanted o rest n)))
+      (λ e does. subst P (sym does.1) (waits p attrs wanted o rest n)) h
   opens_leads t p attrs wanted (At o) answer h = opens_at_leads t p attrs wanted Success o answer h
 
   makes_leads : (t : State K T F I) (p attrs : ℕ) (making : Making K) (spot : Spot) (answer : Answer) → are_lawful attrs ≡ true → Makes g s p attrs making spot answer t → P t
@@ -172,21 +184,21 @@ module _ {K T F I : Type 0} (g : Procedures K T F I) (s : State K T F I) (P : St
       unless_leads ((not (is_directory s x.object), ObjectTypeMismatch) ∷ []) t answer ((answer ≡ answers Success) × (t ≡ settle g (with_map s p x.object)))
       (λ e does. subst P (sym does.1) (sets_map p x.object))) h
 
-  -- a step leads there
-  pub step_leads : (t : State K T F I) (event : Event K) (answer : Answer) → Step g s event answer t → P t
-  step_leads t (Start p (CreateDirectory where_to attrs)) answer h = creates_at_leads t p where_to attrs MakesDirectory answer h
-  step_leads t (Start p (CreateLink where_to attrs target)) answer h = creates_at_leads t p where_to attrs (MakesLink target) answer h
-  step_leads t (Start p (CreateObject where_to attrs kind args)) answer h = creates_at_leads t p where_to attrs (MakesObject kind args) answer h
-  step_leads t (Start p (OpenDirectory root name attrs)) answer h = opens_name_leads t p root name attrs wanted.Directory answer h
-  step_leads t (Start p (OpenLink root name attrs)) answer h = opens_name_leads t p root name attrs wanted.Link answer h
-  step_leads t (Start p (OpenObject root name attrs want)) answer h = opens_name_leads t p root name attrs (type_wanted want) answer h
-  step_leads t (Start p (Close handle)) answer h =
+  -- a start leads there
+  start_leads : (t : State K T F I) (p : ℕ) (command : Command K) (answer : Answer) → Step g s (Start p command) answer t → P t
+  start_leads t p (CreateDirectory where_to attrs) answer h = creates_at_leads t p where_to attrs MakesDirectory answer h
+  start_leads t p (CreateLink where_to attrs target) answer h = creates_at_leads t p where_to attrs (MakesLink target) answer h
+  start_leads t p (CreateObject where_to attrs kind args) answer h = creates_at_leads t p where_to attrs (MakesObject kind args) answer h
+  start_leads t p (OpenDirectory root name attrs) answer h = opens_name_leads t p root name attrs wanted.Directory answer h
+  start_leads t p (OpenLink root name attrs) answer h = opens_name_leads t p root name attrs wanted.Link answer h
+  start_leads t p (OpenObject root name attrs want) answer h = opens_name_leads t p root name attrs (type_wanted want) answer h
+  start_leads t p (Close handle) answer h =
       with_handle_leads t p handle answer (λ x. (answer ≡ answers Success) × (t ≡ settle g (closed_handle g s x))) (λ x does. subst P (sym does.1) (closes x)) h
-  step_leads t (Start p (QueryLink handle)) answer h =
+  start_leads t p (QueryLink handle) answer h =
       with_handle_leads t p handle answer (λ x. TellsTarget s x.object answer × (t ≡ s)) (λ x does. subst P (sym does.1) same) h
-  step_leads t (Start p (QueryName handle)) answer h =
+  start_leads t p (QueryName handle) answer h =
       with_handle_leads t p handle answer (λ x. TellsName s x.object answer × (t ≡ s)) (λ x does. subst P (sym does.1) same) h
-  step_leads t (Start p (Duplicate handle to inherit)) answer h =
+  start_leads t p (Duplicate handle to inherit) answer h =
       unless_leads ((not (is_live s p), ProcessGone) ∷ (not (is_live s to), ProcessGone) ∷ []) t answer
       (MatchOption (option_and_then (held_of s p) (key_of handle)) (IsRefused s InvalidHandle answer t) Given) (λ e. go (option_and_then (held_of s p) (key_of handle))) h
     where
@@ -196,13 +208,27 @@ module _ {K T F I : Type 0} (g : Procedures K T F I) (s : State K T F I) (P : St
       go : (o : Option Held) → MatchOption o (IsRefused s InvalidHandle answer t) Given → P t
       go None h = refused_leads t InvalidHandle answer h
       go (Some x) h = granted_or_refused_leads t h.1 to x.object (record { inherit = inherit; exclusive = false }) Duplicated Success answer h.0 h.2 h.3
-  step_leads t (Start p (MakeTemporary handle)) answer h = turns_leads t p handle false answer h
-  step_leads t (Start p (MakePermanent handle)) answer h = turns_leads t p handle true answer h
-  step_leads t (Start p (SetDeviceMap handle)) answer h = sets_map_leads t p handle answer h
-  step_leads t (Start p (NewProcess inherit)) answer h =
+  start_leads t p (MakeTemporary handle) answer h = turns_leads t p handle false answer h
+  start_leads t p (MakePermanent handle) answer h = turns_leads t p handle true answer h
+  start_leads t p (SetDeviceMap handle) answer h = sets_map_leads t p handle answer h
+  start_leads t p (NewProcess inherit) answer h =
       unless_leads ((not (is_live s p), ProcessGone) ∷ (is_crowded s p inherit, InsufficientResources) ∷ []) t answer
       (let u = begun g s p inherit in (answer ≡ gives Success (Process s.next_process (values_in u s.next_process))) × (t ≡ settle g u))
       (λ e does. subst P (sym does.1) (begins p inherit)) h
-  step_leads t (Start p ExitProcess) answer h =
+  start_leads t p ExitProcess answer h =
       unless_leads ((not (is_live s p), ProcessGone) ∷ []) t answer ((answer ≡ answers Success) × (t ≡ settle g (ended g s p)))
       (λ e does. subst P (sym does.1) (ends p)) h
+
+  -- what a parse leads to, in the state in which it is judged
+  ends_open_leads : (t : State K T F I) (x : Pending K) (outcome : Option (ParseOutcome F I)) (answer : Answer) → EndsOpen g s x outcome answer t → P t
+  ends_open_leads t x None answer h = refused_leads t NoMemory answer h
+  ends_open_leads t x (Some EndsItself) answer h = opens_at_leads t x.process x.attrs x.wanted Success x.object answer h
+  ends_open_leads t x (Some (EndsMade face inner)) answer h = opens_at_leads t x.process x.attrs x.wanted Success x.ticket answer h
+  ends_open_leads t x (Some (EndsReparse text)) answer h = opens_leads t x.process x.attrs x.wanted h.0 answer h.2
+  ends_open_leads t x (Some (EndsRefused k)) answer h = refused_leads t (TypeRefused k) answer h
+
+  -- a start, or the end of a pending open in the state in which it is judged, leads there
+  pub came_leads : (t : State K T F I) → Came g s t → P t
+  came_leads t (started p command answer h) = start_leads t p command answer h
+  came_leads t (judged refusals x outcome answer h) =
+      unless_leads refusals t answer (EndsOpen g s x outcome answer t) (λ e does. ends_open_leads t x outcome answer does) h

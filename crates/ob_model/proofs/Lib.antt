@@ -15,6 +15,9 @@ pub mod Soundness
 pub mod Turned
 pub mod Maps
 pub mod VacantNames
+pub mod ParseRuns
+pub mod OpenEnds
+pub mod PendingSound
 pub mod Steps
 pub mod Vacant
 pub mod Ids
@@ -23,6 +26,7 @@ pub mod Ended
 pub mod Leads
 pub mod Staying
 pub mod Free
+pub mod Replies
 pub mod Total
 pub mod Runs
 pub mod Alone

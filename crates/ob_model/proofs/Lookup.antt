@@ -8,6 +8,7 @@ use Rattle.ob_model.specs.declared.state.Body.{Body}
 use Rattle.ob_model.specs.Names.{longest_name, substituted, begins_with_separator, IsRest}
 use Rattle.ob_model.specs.State.{State, body_of, is_directory, is_directory_body}
 use Rattle.ob_model.specs.Paths.{Origin, directory_at, origin_of, relative}
+use Rattle.ob_model.specs.Parses.{LooksAgain}
 use Rattle.ob_model.specs.Procedures.{Procedures}
 use Rattle.ob_model.specs.Looks.{Look, At, Parse, Refused, Mode, Stop, Missed, Reached, Next, Over, Follow, at_miss, at_body, IsNext, IsStop, Again, Ends, Looks, LooksFrom, LooksUp}
 use Rattle.ob_model.specs.Sound.{IsSound, IsDirectory, Stands}
@@ -49,7 +50,7 @@ module _ {K T F I : Type 0} where
       go false None fine e = e
       go false (Some at) fine e = subst (λ (x : Look). Fits x at.0 at.1) (sym e) (fits at fine.0 fine.1)
 
-  Again-unique : (s : State K T F I) (p : ℕ) (mode : Mode) (text : List ℕ) (Fits : Look → Origin → List ℕ → Type 0) (a b : Look)
+  pub Again-unique : (s : State K T F I) (p : ℕ) (mode : Mode) (text : List ℕ) (Fits : Look → Origin → List ℕ → Type 0) (a b : Look)
       → ((place : Origin) (rest : List ℕ) → Fits a place rest → Fits b place rest → a ≡ b)
       → Again s p mode text (Fits a) (λ status. a ≡ Refused status) → Again s p mode text (Fits b) (λ status. b ≡ Refused status) → a ≡ b
   Again-unique s p mode text Fits a b same h k = go (nat_lt longest_name (length text)) (origin_of s p mode.create text) h k
@@ -147,6 +148,15 @@ module _ {K T F I : Type 0} (g : Procedures K T F I) where
   pub looks_total : (s : State K T F I) (p : ℕ) (mode : Mode) (n : ℕ) (place : Origin) (text : List ℕ)
       → IsSound s → IsDirectory s (directory_at s place) → IsRest text → (look : Look) × Looks g s p mode n place text look
   looks_total s p mode n place text sound dir bounded = (looked_up s p mode n place text, looked_up-Looks s p mode n place text sound dir bounded)
+
+  -- a text that is looked up again has an end
+  pub looks_again_total : (s : State K T F I) (p : ℕ) (mode : Mode) (n : ℕ) (text : List ℕ) → IsSound s → (look : Look) × LooksAgain g s p mode n text look
+  looks_again_total s p mode zero text sound = (Refused ReparseLimit, refl)
+  looks_again_total s p mode (suc n) text sound = (
+    looked_again (nat_lt longest_name (length text)) (origin_of s p mode.create text) (λ at. looked_up s p mode n at.0 at.1),
+    looked_again-Again s p mode text (λ at. looked_up s p mode n at.0 at.1) (λ look place' text'. Looks g s p mode n place' text' look) sound
+        (λ at at_directory at_rest. looked_up-Looks s p mode n at.0 at.1 sound at_directory at_rest) _ refl,
+  )
 
   -- what a name relative to an object of this body is looked up with
   abbrev pub looked_from : State K T F I → ℕ → Mode → ℕ → ℕ → Body F I → List ℕ → Look

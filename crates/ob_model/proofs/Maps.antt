@@ -9,7 +9,7 @@ use Rattle.ob_base.specs.Handle.{key_of}
 use Rattle.ob_base.specs.declared.status.Status.{Status}
 use Rattle.ob_base.specs.declared.status.Status.TheVariants.{Success, InvalidHandle, ObjectTypeMismatch, ProcessGone}
 use Rattle.ob_model.specs.declared.reply.Answer.{Answer}
-use Rattle.ob_model.specs.declared.reply.Answer.TheVariants.{Done}
+use Rattle.ob_model.specs.declared.reply.Answer.TheVariants.{Done, Ticket}
 use Rattle.ob_model.specs.declared.state.Held.{Held}
 use Rattle.ob_model.specs.declared.state.Process.{Process}
 use Rattle.ob_model.specs.State.{State, global_id, object_of, is_directory, is_live, process_of, held_of}
@@ -105,6 +105,9 @@ module _ {K T F I : Type 0} where
     drawn = sound.drawn;
     descending = sound.descending;
     pending = sound.pending;
+    ticketed = sound.ticketed;
+    reserved = sound.reserved;
+    awaited = sound.awaited;
     rising = sound.rising;
     stamped = sound.stamped;
     inside = sound.inside;
@@ -145,6 +148,7 @@ module _ {K T F I : Type 0} where
 -- the status of an answer
 abbrev status_of : Answer → Status
 status_of (Done reply) = reply.status
+status_of (Ticket number) = Success
 
 module _ {K T F I : Type 0} (g : Procedures K T F I) where
   -- what is inherited leaves the processes

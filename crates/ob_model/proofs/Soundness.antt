@@ -1,6 +1,6 @@
 -- The opening state is sound, and what keeps a state so: settling, a new object, an open with its
 -- grant, and a close.
-use Rattle.std.proofs.Common.{◌≡◌, ℕ, ◌<◌, ◌≤◌, ◌+◌, ◌==◌, Bool, true, false, ◌&&◌, not, cond, if◌then◌else◌, List, [], ◌∷◌, ◌++◌, append-nil, length, get_or, map, find, All, Option, None, Some, MatchOption, Result, Ok, Err, MatchResult, option_map, is_some, refl, ap, ◌∙◌, sym, subst, arith, eq-eqb, eqb-true}
+use Rattle.std.proofs.Common.{◌≡◌, ◌≢◌, ℕ, ◌<◌, ◌≤◌, ◌+◌, ◌==◌, Bool, true, false, ◌&&◌, not, cond, if◌then◌else◌, List, [], ◌∷◌, ◌++◌, append-nil, length, get_or, map, find, All, Option, None, Some, MatchOption, Result, Ok, Err, MatchResult, option_map, is_some, refl, ap, ◌∙◌, sym, subst, arith, eq-eqb, eqb-true}
 use Rattle.std.specs.List.{list_any, AllPairs}
 use Rattle.std.specs.Option.{option_map_or, option_or}
 use Rattle.std.proofs.lemmas.Bool.{or_right}
@@ -67,12 +67,16 @@ pairs_rise (r ∷ []) rise = λ i j d less within. absurd (omega (arith, less, w
 pairs_rise (r ∷ q ∷ rows) rise = AllPairs-cons (λ a b. a.stamp < b.stamp) r (q ∷ rows) (all_above r.stamp q rows rise.0 rise.1) (pairs_rise (q ∷ rows) rise.1)
 
 -- numbers below one are below a greater one
-drawn_more : {F I : Type 0} (n m : ℕ) (xs : List (Object F I)) → n ≤ m → All (λ x. x.id < n) xs → All (λ x. x.id < m) xs
+pub drawn_more : {F I : Type 0} (n m : ℕ) (xs : List (Object F I)) → n ≤ m → All (λ x. x.id < n) xs → All (λ x. x.id < m) xs
 drawn_more n m xs later all = All-weaker (λ x. x.id < n) (λ x. x.id < m) (λ x less. omega (arith, less, later)) xs all
 
 -- and stay so where a change leaves the numbers
 pub drawn_map : {F I : Type 0} (f : Object F I → Object F I) → ((x : Object F I) → (f x).id ≡ x.id) → (n : ℕ) (xs : List (Object F I)) → All (λ x. x.id < n) xs → All (λ x. x.id < n) (map f xs)
 drawn_map f same n xs all = All-map (λ x. x.id < n) f xs (λ k d within. subst (λ (i : ℕ). i < n) (sym (same (get_or xs k d))) (all k d within))
+
+-- a number that no object has stays so where a change leaves the numbers
+pub reserved_map : {F I : Type 0} (f : Object F I → Object F I) → ((x : Object F I) → (f x).id ≡ x.id) → (n : ℕ) (xs : List (Object F I)) → All (λ x. x.id ≢ n) xs → All (λ x. x.id ≢ n) (map f xs)
+reserved_map f same n xs all = All-map (λ x. x.id ≢ n) f xs (λ k d within. subst (λ (i : ℕ). i ≢ n) (sym (same (get_or xs k d))) (all k d within))
 
 -- what stands among objects whose numbers are below one has such a number
 pub stands_drawn : {F I : Type 0} (n : ℕ) (xs : List (Object F I)) (o : ℕ) → All (λ x. x.id < n) xs → is_some (find (λ x. x.id == o) xs) ≡ true → o < n
@@ -152,7 +156,7 @@ module _ {K T F I : Type 0} (g : Procedures K T F I) where
   closed_root s h = is_directory-closed s h root_id
 
 -- what is found and is a directory is found before what comes behind
-is_directory_object-or : {F I : Type 0} (found other : Option (Object F I)) → is_directory_object found ≡ true → is_directory_object (option_or found other) ≡ true
+pub is_directory_object-or : {F I : Type 0} (found other : Option (Object F I)) → is_directory_object found ≡ true → is_directory_object (option_or found other) ≡ true
 is_directory_object-or None other h = cc
 is_directory_object-or (Some x) other h = h
 
@@ -172,11 +176,11 @@ module _ {K T F I : Type 0} where
       ap is_directory_object (found_behind s body permanent exclusive m drawn) ∙ is_directory_object-or (object_of s m) _ h
 
 -- what is found is found before what comes behind, and else what comes behind is
-is_some-or_left : {F I : Type 0} (found other : Option (Object F I)) → is_some found ≡ true → is_some (option_or found other) ≡ true
+pub is_some-or_left : {F I : Type 0} (found other : Option (Object F I)) → is_some found ≡ true → is_some (option_or found other) ≡ true
 is_some-or_left None other h = cc
 is_some-or_left (Some x) other h = refl
 
-is_some-or_right : {F I : Type 0} (found other : Option (Object F I)) → is_some other ≡ true → is_some (option_or found other) ≡ true
+pub is_some-or_right : {F I : Type 0} (found other : Option (Object F I)) → is_some other ≡ true → is_some (option_or found other) ≡ true
 is_some-or_right None other h = h
 is_some-or_right (Some x) other h = refl
 
@@ -202,6 +206,9 @@ module _ {K T F I : Type 0} where
         drawn = All-from_recursion (λ x. x.id < s.next_id) s.objects (omega arith, (omega arith, (omega arith, (omega arith, (omega arith, (omega arith, tt))))));
         descending = All-from_recursion (λ r. r.directory < r.object) s.rows (omega arith, (omega arith, (omega arith, (omega arith, (omega arith, tt)))));
         pending = All-nil (λ x. Stands s x.object);
+        ticketed = All-nil (λ x. x.ticket < s.next_id);
+        reserved = All-nil (λ x. All (λ y. y.id ≢ x.ticket) s.objects);
+        awaited = λ i j d less within. absurd (omega (arith, within));
         rising = pairs_rise s.rows (omega arith, (omega arith, (omega arith, (omega arith, tt))));
         stamped = All-from_recursion (λ r. r.stamp < s.next_stamp) s.rows (omega arith, (omega arith, (omega arith, (omega arith, (omega arith, tt)))));
         inside = All-from_recursion (λ r. IsDirectory s r.directory) s.rows (refl, (refl, (refl, (refl, (refl, tt)))));
@@ -270,6 +277,11 @@ module _ {K T F I : Type 0} where
         drawn = in_order-All (λ x. x.id) (λ x. x.id < s.next_id + 1) _ s.objects (omega arith) (drawn_more s.next_id (s.next_id + 1) s.objects (omega arith) sound.drawn);
         descending = sound.descending;
         pending = sound_pending s t stays s.pending sound.pending;
+        ticketed = All-weaker (λ x. x.ticket < s.next_id) (λ x. x.ticket < s.next_id + 1) (λ x less. omega (arith, less)) s.pending sound.ticketed;
+        reserved = λ k d within.
+            in_order-All (λ x. x.id) (λ y. y.id ≢ (get_or s.pending k d).ticket) _ s.objects
+            (λ same. let less = sound.ticketed k d within in omega (arith, less, same)) (sound.reserved k d within);
+        awaited = sound.awaited;
         rising = sound.rising;
         stamped = sound.stamped;
         inside = sound_inside s t (λ o h. is_directory-with_object s body permanent exclusive o sound.drawn h) s.rows sound.inside;
@@ -293,6 +305,9 @@ module _ {K T F I : Type 0} where
     drawn = sound.drawn;
     descending = All-append (λ r. r.directory < r.object) s.rows (new_rows spot s.next_stamp o) sound.descending (below spot inside);
     pending = sound.pending;
+    ticketed = sound.ticketed;
+    reserved = sound.reserved;
+    awaited = sound.awaited;
     rising = last spot;
     stamped = All-append (λ r. r.stamp < s.next_stamp + length (new_rows spot s.next_stamp o)) s.rows (new_rows spot s.next_stamp o)
         (All-weaker (λ r. r.stamp < s.next_stamp) (λ r. r.stamp < s.next_stamp + length (new_rows spot s.next_stamp o)) (λ r less. omega (arith, less)) s.rows sound.stamped)
@@ -350,6 +365,9 @@ module _ {K T F I : Type 0} where
     drawn = drawn_more s.next_id id s.objects later sound.drawn;
     descending = sound.descending;
     pending = sound.pending;
+    ticketed = All-weaker (λ x. x.ticket < s.next_id) (λ x. x.ticket < id) (λ x less. omega (arith, less, later)) s.pending sound.ticketed;
+    reserved = sound.reserved;
+    awaited = sound.awaited;
     rising = sound.rising;
     stamped = sound.stamped;
     inside = sound.inside;
@@ -373,6 +391,9 @@ module _ {K T F I : Type 0} where
     drawn = sound.drawn;
     descending = sound.descending;
     pending = sound.pending;
+    ticketed = sound.ticketed;
+    reserved = sound.reserved;
+    awaited = sound.awaited;
     rising = sound.rising;
     stamped = sound.stamped;
     inside = sound.inside;
@@ -419,6 +440,9 @@ module _ {K T F I : Type 0} (g : Procedures K T F I) where
         (alive_from_pin s (get_or s.pending k d).object
         (list_any_at (λ x. x.object == (get_or s.pending k d).object) s.pending k d within (eq-eqb (get_or s.pending k d).object (get_or s.pending k d).object refl)))
         (sound.pending k d within);
+    ticketed = sound.ticketed;
+    reserved = λ k d within. All-filter (λ x. is_alive s x.id) (λ y. y.id ≢ (get_or s.pending k d).ticket) s.objects (sound.reserved k d within);
+    awaited = sound.awaited;
     rising = AllPairs-filter (λ a b. a.stamp < b.stamp) (is_kept s) s.rows sound.rising;
     stamped = All-filter (is_kept s) (λ r. r.stamp < s.next_stamp) s.rows sound.stamped;
     inside = All-kept (is_kept s) (λ r. IsDirectory s r.directory × (is_kept s r ≡ true → holds_kept s r.directory ≡ true)) (λ r. IsDirectory (settle g s) r.directory)
@@ -446,6 +470,10 @@ module _ {K T F I : Type 0} (g : Procedures K T F I) where
         drawn = drawn_map (opened_object g s.set o reason) (opened_object-id g s.set o reason) s.next_id s.objects sound.drawn;
         descending = sound.descending;
         pending = sound_pending s t stays s.pending sound.pending;
+        ticketed = sound.ticketed;
+        reserved = λ k d within.
+            reserved_map (opened_object g s.set o reason) (opened_object-id g s.set o reason) (get_or s.pending k d).ticket s.objects (sound.reserved k d within);
+        awaited = sound.awaited;
         rising = sound.rising;
         stamped = sound.stamped;
         inside = sound_inside s t (λ m h. is_directory-opened g s o m reason ∙ h) s.rows sound.inside;
@@ -486,6 +514,10 @@ module _ {K T F I : Type 0} (g : Procedures K T F I) where
         drawn = drawn_map (closed_object g s.set h.object _ _) (closed_object-id g s.set h.object _ _) s.next_id s.objects sound.drawn;
         descending = sound.descending;
         pending = sound_pending s t stays s.pending sound.pending;
+        ticketed = sound.ticketed;
+        reserved = λ k d within.
+            reserved_map (closed_object g s.set h.object _ _) (closed_object-id g s.set h.object _ _) (get_or s.pending k d).ticket s.objects (sound.reserved k d within);
+        awaited = sound.awaited;
         rising = sound.rising;
         stamped = sound.stamped;
         inside = sound_inside s t (λ m k. is_directory-closed g s h m ∙ k) s.rows sound.inside;

@@ -1,5 +1,5 @@
 -- What is settled stays so when a handle or an object with one comes, and after each step.
-use Rattle.std.proofs.Common.{◌≡◌, ◌∙◌, ℕ, ◌+◌, ◌==◌, Bool, true, false, ◌&&◌, ◌||◌, not, if◌then◌else◌, List, [], ◌∷◌, ◌++◌, All, Option, None, Some, option_map, refl, ap, sym, subst, eq-eqb, eqb-true, get_or}
+use Rattle.std.proofs.Common.{◌≡◌, ◌∙◌, ℕ, ◌+◌, ◌==◌, Bool, true, false, ◌&&◌, ◌||◌, not, if◌then◌else◌, List, [], ◌∷◌, ◌++◌, All, Option, None, Some, option_map, refl, ap, sym, subst, eq-eqb, eqb-true, get_or, MatchOption}
 use Rattle.std.specs.List.{list_any}
 use Rattle.std.specs.Option.{option_map_or, option_and_then, is_some}
 use Rattle.std.proofs.lemmas.Bool.{and_from, false≢true}
@@ -31,7 +31,11 @@ use Rattle.ob_model.proofs.Ended.{any_filter}
 use Rattle.ob_model.proofs.Settled.{alive_from_root, alive_from_handle, alive_from_name, kept_twice, objects_alive}
 use Rattle.ob_model.proofs.Soundness.{find_id-map, opened_object-id, opened_object-is_directory, closed_object-id, closed_object-is_directory}
 use Rattle.ob_model.proofs.Turned.{turned_object-id, turned_either, turned_others}
-use Rattle.ob_model.proofs.Leads.{step_leads}
+use Rattle.ob_model.specs.declared.reply.Event.TheVariants.{Start, Resume, Abandon}
+use Rattle.ob_model.specs.declared.state.Pending.{Pending}
+use Rattle.ob_model.specs.PendingOpens.{pending_of, with_pending}
+use Rattle.ob_model.specs.Parses.{parsed_state, Resumes, Abandons}
+use Rattle.ob_model.proofs.Leads.{started, came_leads}
 
 or_left : (a b : Bool) → a ≡ true → (a || b) ≡ true
 or_left a b h = ap (λ x. x || b) h
@@ -239,11 +243,22 @@ module _ {K T F I : Type 0} (g : Procedures K T F I) where
 
   -- a step from a settled state leads to a settled one
   pub step_settled : (s t : State K T F I) (event : Event K) (answer : Answer) → IsSettled s → Step g s event answer t → IsSettled t
-  step_settled s t event answer settled h =
-      step_leads g s IsSettled settled (λ body. record { names = settled.names; objects = settled.objects }) (λ p value o asked reason e. settling_settles (with_handle (with_open g s o reason) p value o asked.inherit))
+  step_settled s t (Start p command) answer settled h =
+      came_leads g s IsSettled settled (λ body. record { names = settled.names; objects = settled.objects }) (λ p value o asked reason e. settling_settles (with_handle (with_open g s o reason) p value o asked.inherit))
       (λ p spot body attrs value lawful. settling_settles (created g s p spot body attrs value)) (λ h. settling_settles (closed_handle g s h))
       (λ o permanent. settling_settles (turned s o permanent)) (λ p d. settling_settles (with_map s p d))
-      (λ p inherit. settling_settles (begun g s p inherit)) (λ p. settling_settles (ended g s p)) t event answer h
+      (λ p inherit. settling_settles (begun g s p inherit)) (λ p. settling_settles (ended g s p))
+      (λ p attrs wanted o rest n. settling_settles (with_pending s p attrs wanted o rest n)) t (started p command answer h)
+  step_settled s t (Resume ticket parse) answer settled h = go (pending_of s ticket) h.2
+    where
+      go : (found : Option (Pending K)) → MatchOption found ⊥ (λ x. Resumes g s x h.0 answer t) → IsSettled t
+      go None does = absurd does
+      go (Some x) does = subst IsSettled (sym does.2) (settling_settles does.0)
+  step_settled s t (Abandon ticket parse) answer settled h = go (pending_of s ticket) h.2
+    where
+      go : (found : Option (Pending K)) → MatchOption found ⊥ (λ x. Abandons g s x h.0 answer t) → IsSettled t
+      go None does = absurd does
+      go (Some x) does = subst IsSettled (sym does.1) (settling_settles (parsed_state s x.ticket h.0))
 
 -- each name of the opening state names a permanent object, and each object is the root or has such a name
 pub opening_settled : {K T F I : Type 0} (set : T) → IsSettled (opening {K = K} {F = F} {I = I} set)

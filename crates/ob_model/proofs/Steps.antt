@@ -3,23 +3,25 @@ use Rattle.std.proofs.Common.{◌≡◌, ℕ, Bool, true, false, not, List, [], 
 use Rattle.std.specs.Prelude.{MatchBool}
 use Rattle.std.specs.Option.{option_and_then, option_map, option_map_or, is_some}
 use Rattle.ob_base.specs.declared.status.Status.{Status}
-use Rattle.ob_base.specs.declared.status.Status.TheVariants.{Success, InvalidHandle, InsufficientResources, ObjectTypeMismatch, ObjectNameExists, ObjectNameCollision, ProcessGone, TypeRefused}
+use Rattle.ob_base.specs.declared.status.Status.TheVariants.{NoMemory, Success, InvalidHandle, InsufficientResources, ObjectTypeMismatch, ObjectNameExists, ObjectNameCollision, ProcessGone, TypeRefused}
 use Rattle.ob_base.specs.Attrs.{has_flag, open_if_flag}
 use Rattle.ob_base.specs.Handle.{key_of}
 use Rattle.ob_model.specs.declared.command.Place.{Place}
 use Rattle.ob_model.specs.declared.command.Place.TheVariants as place
 use Rattle.ob_model.specs.declared.command.Command.TheVariants.{CreateDirectory, CreateLink, CreateObject, OpenDirectory, OpenLink, OpenObject, Close, QueryLink, QueryName, Duplicate, MakeTemporary, MakePermanent, SetDeviceMap, NewProcess, ExitProcess}
 use Rattle.ob_model.specs.declared.reply.Answer.{Answer}
+use Rattle.ob_model.specs.declared.reply.Answer.TheVariants.{Ticket}
 use Rattle.ob_model.specs.declared.reply.Event.{Event}
-use Rattle.ob_model.specs.declared.reply.Event.TheVariants.{Start}
+use Rattle.ob_model.specs.declared.reply.Event.TheVariants.{Start, Resume, Abandon}
 use Rattle.ob_model.specs.declared.reply.Given.TheVariants.{Handle, Process}
 use Rattle.ob_model.specs.declared.state.Held.{Held}
 use Rattle.ob_model.specs.declared.state.Object.{Object}
+use Rattle.ob_model.specs.declared.state.Pending.{Pending}
 use Rattle.ob_model.specs.declared.state.Wanted.{Wanted}
 use Rattle.ob_model.specs.declared.state.Wanted.TheVariants as wanted
-use Rattle.ob_model.specs.State.{State, is_live, is_directory, held_of, object_of}
+use Rattle.ob_model.specs.State.{State, is_live, is_directory, is_store_full, held_of, object_of}
 use Rattle.ob_model.specs.Looks.{Look, At, Vacant, Parse, Refused, LooksUp, most_reparses}
-use Rattle.ob_model.specs.Procedures.{Procedures, Opened, Created, without_parse}
+use Rattle.ob_model.specs.Procedures.{Procedures, ParseOutcome, EndsItself, EndsMade, EndsReparse, EndsRefused, Opened, Created, without_parse}
 use Rattle.ob_model.specs.Settle.{settle}
 use Rattle.ob_model.specs.Grants.{first_refusal, IsFreeValue, open_refusal_of}
 use Rattle.ob_model.specs.Closing.{closed_handle}
@@ -27,7 +29,9 @@ use Rattle.ob_model.specs.Permanence.{turned}
 use Rattle.ob_model.specs.Maps.{with_map}
 use Rattle.ob_model.specs.Types.{is_wanted, is_wanted_at}
 use Rattle.ob_model.specs.Refusals.{gives, answers, IsRefused, Unless, create_refusals, open_refusals}
-use Rattle.ob_model.specs.Opens.{GivesHandle, OpensAt, Opens, asked_by, type_wanted, open_mode}
+use Rattle.ob_model.specs.PendingOpens.{pending_of, with_pending}
+use Rattle.ob_model.specs.Parses.{parsed_state, EndsOpen, Resumes, Abandons}
+use Rattle.ob_model.specs.Opens.{GivesHandle, OpensAt, Begins, Opens, asked_by, type_wanted, open_mode}
 use Rattle.ob_model.specs.Creates.{Making, MakesDirectory, MakesLink, MakesObject, is_fit, create_mode, type_made, Spot, room_refusals, make_refusal, body_made, created, dropped, Makes, Creates}
 use Rattle.ob_model.specs.Naming.{TellsName, TellsTarget}
 use Rattle.ob_model.specs.Processes.{values_in, is_crowded, begun, ended}
@@ -38,6 +42,8 @@ use Rattle.ob_model.proofs.VacantNames.{HasComponent, vacant_name}
 use Rattle.ob_model.proofs.Places.{IsPlace}
 use Rattle.ob_model.proofs.Earliest.{unmatched}
 use Rattle.ob_model.proofs.Soundness.{settled_sound, created_sound, dropped_sound, gives_handle_sound, closed_sound}
+use Rattle.ob_model.proofs.OpenEnds.{IsOpenEnd, open_end, again_end}
+use Rattle.ob_model.proofs.PendingSound.{begun_pending_sound, parsed_sound, HasTicket, has_ticket}
 use Rattle.ob_model.proofs.Turned.{turned_sound}
 use Rattle.ob_model.proofs.Maps.{mapped_sound}
 use Rattle.ob_model.proofs.Ended.{begun_sound, ended_sound, duplicates_sound}
@@ -110,12 +116,18 @@ module _ {K T F I : Type 0} (g : Procedures K T F I) where
       (GivesHandle g s p o (asked_by attrs) Opened status answer t) sound
       (λ is does. gives_handle_sound g s t does.1 p o (asked_by attrs) Opened status answer does.0 sound live (stands_where_wanted s o wanted is) does.2 does.3) h
 
+  begins_sound : (s t : State K T F I) (p attrs : ℕ) (wanted : Wanted K) (o : ℕ) (rest : List ℕ) (n : ℕ) (answer : Answer)
+      → IsSound s → Stands s o → Begins g s p attrs wanted o rest n answer t → IsSound t
+  begins_sound s t p attrs wanted o rest n answer sound stands h =
+      unless_sound ((is_store_full s, InsufficientResources) ∷ []) s t answer ((answer ≡ Ticket s.next_id) × (t ≡ settle g (with_pending s p attrs wanted o rest n))) sound
+      (λ e does. subst IsSound (sym does.1) (settled_sound g (with_pending s p attrs wanted o rest n) (begun_pending_sound s p attrs wanted o rest n sound stands))) h
+
   opens_sound : (s t : State K T F I) (p attrs : ℕ) (wanted : Wanted K) (look : Look) (answer : Answer)
-      → IsSound s → is_live s p ≡ true → Opens g s p attrs wanted look answer t → IsSound t
-  opens_sound s t p attrs wanted (Refused status) answer sound live h = refused_sound s t status answer sound h
-  opens_sound s t p attrs wanted (Vacant d c) answer sound live h = absurd h
-  opens_sound s t p attrs wanted (Parse o rest n) answer sound live h = absurd h
-  opens_sound s t p attrs wanted (At o) answer sound live h = opens_at_sound s t p attrs wanted Success o answer sound live h
+      → IsSound s → is_live s p ≡ true → IsOpenEnd s look → Opens g s p attrs wanted look answer t → IsSound t
+  opens_sound s t p attrs wanted (Refused status) answer sound live end h = refused_sound s t status answer sound h
+  opens_sound s t p attrs wanted (Vacant d c) answer sound live end h = absurd h
+  opens_sound s t p attrs wanted (Parse o rest n) answer sound live end h = begins_sound s t p attrs wanted o rest n answer sound end h
+  opens_sound s t p attrs wanted (At o) answer sound live end h = opens_at_sound s t p attrs wanted Success o answer sound live h
 
   makes_sound : (s t : State K T F I) (p attrs : ℕ) (making : Making K) (spot : Spot) (answer : Answer)
       → IsSound s → is_live s p ≡ true → MatchOption spot (Unit {0}) (IsPlace s) → Makes g s p attrs making spot answer t → IsSound t
@@ -171,7 +183,9 @@ module _ {K T F I : Type 0} (g : Procedures K T F I) where
       → IsSound s → OpensName g s p root name attrs wanted answer t → IsSound t
   opens_name_sound s t p root name attrs wanted answer sound h =
       unless_sound (open_refusals (is_live s p) name attrs) s t answer (WithRoot s p root answer t Does) sound
-      (λ e. with_root_sound s t p root answer Does sound (λ at does. opens_sound s t p attrs wanted does.0 answer sound (live_to_open (is_live s p) name attrs e) does.2)) h
+      (λ e. with_root_sound s t p root answer Does sound (λ at does.
+      opens_sound s t p attrs wanted does.0 answer sound (live_to_open (is_live s p) name attrs e)
+      (open_end (without_parse g) s p (open_mode wanted attrs) refl most_reparses at name does.0 does.1) does.2)) h
     where
       Does : Option ℕ → Type 0
       Does at = (look : Look) × LooksUp (without_parse g) s p (open_mode wanted attrs) most_reparses at name look × Opens g s p attrs wanted look answer t
@@ -188,6 +202,35 @@ module _ {K T F I : Type 0} (g : Procedures K T F I) where
       (λ x.
       tested_sound (is_directory s x.object) ObjectTypeMismatch s t answer ((answer ≡ answers Success) × (t ≡ settle g (with_map s p x.object))) sound
       (λ directory does. subst IsSound (sym does.1) (settled_sound g (with_map s p x.object) (mapped_sound s p x.object directory sound)))) h
+
+  -- ---- the end of a pending open
+
+  -- what a parse leads to, in the state in which it is judged
+  ends_open_sound : (s t : State K T F I) (x : Pending K) (outcome : Option (ParseOutcome F I)) (answer : Answer)
+      → IsSound s → is_live s x.process ≡ true → EndsOpen g s x outcome answer t → IsSound t
+  ends_open_sound s t x None answer sound live h = refused_sound s t NoMemory answer sound h
+  ends_open_sound s t x (Some EndsItself) answer sound live h = opens_at_sound s t x.process x.attrs x.wanted Success x.object answer sound live h
+  ends_open_sound s t x (Some (EndsMade face inner)) answer sound live h = opens_at_sound s t x.process x.attrs x.wanted Success x.ticket answer sound live h
+  ends_open_sound s t x (Some (EndsReparse text)) answer sound live h =
+      opens_sound s t x.process x.attrs x.wanted h.0 answer sound live (again_end g s x.process (open_mode x.wanted x.attrs) refl x.left text h.0 h.1) h.2
+  ends_open_sound s t x (Some (EndsRefused k)) answer sound live h = refused_sound s t (TypeRefused k) answer sound h
+
+  resumes_sound : (s t : State K T F I) (x : Pending K) (outcome : Option (ParseOutcome F I)) (answer : Answer)
+      → IsSound s → HasTicket s x → Resumes g s x outcome answer t → IsSound t
+  resumes_sound s t x outcome answer sound ticket h =
+      let u = parsed_state s x.ticket outcome in
+      let u_sound = parsed_sound s x.ticket outcome ticket.0 ticket.1 sound in
+      subst IsSound (sym h.2)
+      (settled_sound g h.0
+      (tested_sound (is_live s x.process) ProcessGone u h.0 answer (EndsOpen g u x outcome answer h.0) u_sound
+      (λ live does. ends_open_sound u h.0 x outcome answer u_sound (live_then outcome live) does) h.1))
+    where
+      live_then : (outcome : Option (ParseOutcome F I)) → is_live s x.process ≡ true → is_live (parsed_state s x.ticket outcome) x.process ≡ true
+      live_then None live = live
+      live_then (Some EndsItself) live = live
+      live_then (Some (EndsMade face inner)) live = live
+      live_then (Some (EndsReparse text)) live = live
+      live_then (Some (EndsRefused k)) live = live
 
   -- a step from a sound state leads to a sound one
   pub step_sound : (s t : State K T F I) (event : Event K) (answer : Answer) → IsSound s → Step g s event answer t → IsSound t
@@ -215,3 +258,14 @@ module _ {K T F I : Type 0} (g : Procedures K T F I) where
   step_sound s t (Start p ExitProcess) answer sound h =
       unless_sound ((not (is_live s p), ProcessGone) ∷ []) s t answer ((answer ≡ answers Success) × (t ≡ settle g (ended g s p))) sound
       (λ e does. subst IsSound (sym does.1) (settled_sound g (ended g s p) (ended_sound g s p sound))) h
+  step_sound s t (Resume ticket parse) answer sound h = go (pending_of s ticket) (has_ticket s ticket sound) h.2
+    where
+      go : (found : Option (Pending K)) → MatchOption found (Unit {0}) (HasTicket s) → MatchOption found ⊥ (λ x. Resumes g s x h.0 answer t) → IsSound t
+      go None has does = absurd does
+      go (Some x) has does = resumes_sound s t x h.0 answer sound has does
+  step_sound s t (Abandon ticket parse) answer sound h = go (pending_of s ticket) (has_ticket s ticket sound) h.2
+    where
+      go : (found : Option (Pending K)) → MatchOption found (Unit {0}) (HasTicket s) → MatchOption found ⊥ (λ x. Abandons g s x h.0 answer t) → IsSound t
+      go None has does = absurd does
+      go (Some x) has does =
+          subst IsSound (sym does.1) (settled_sound g (parsed_state s x.ticket h.0) (parsed_sound s x.ticket h.0 has.0 has.1 sound))

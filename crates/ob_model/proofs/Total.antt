@@ -5,23 +5,28 @@ use Rattle.std.specs.Option.{option_and_then, option_map, option_or, is_some}
 use Rattle.std.proofs.lemmas.List.Elements.{All-head, All-tail}
 use Rattle.std.proofs.lemmas.Bool.Decides.{nat_tests}
 use Rattle.ob_base.specs.declared.status.Status.{Status}
-use Rattle.ob_base.specs.declared.status.Status.TheVariants.{Success, InvalidHandle, InvalidParameter, AccessDenied, InsufficientResources, ObjectTypeMismatch, ObjectNameExists, ObjectNameCollision, ProcessGone, TypeRefused}
+use Rattle.ob_base.specs.declared.status.Status.TheVariants.{NoMemory, Success, InvalidHandle, InvalidParameter, AccessDenied, InsufficientResources, ObjectTypeMismatch, ObjectNameExists, ObjectNameCollision, ProcessGone, TypeRefused}
 use Rattle.ob_base.specs.Attrs.{has_flag, open_if_flag}
 use Rattle.ob_base.specs.Handle.{key_of}
 use Rattle.ob_model.specs.declared.command.Place.{Place}
 use Rattle.ob_model.specs.declared.command.Place.TheVariants as place
 use Rattle.ob_model.specs.declared.command.Command.TheVariants.{CreateDirectory, CreateLink, CreateObject, OpenDirectory, OpenLink, OpenObject, Close, QueryLink, QueryName, Duplicate, MakeTemporary, MakePermanent, SetDeviceMap, NewProcess, ExitProcess}
+use Rattle.ob_model.specs.declared.command.Command.{Command}
 use Rattle.ob_model.specs.declared.reply.Answer.{Answer}
+use Rattle.ob_model.specs.declared.reply.Answer.TheVariants.{Ticket}
+use Rattle.ob_model.specs.declared.reply.ParseRun.{ParseRun}
+use Rattle.ob_model.specs.declared.reply.ParseRun.TheVariants as run
+use Rattle.ob_model.specs.declared.state.Pending.{Pending}
 use Rattle.ob_model.specs.declared.reply.Event.{Event}
-use Rattle.ob_model.specs.declared.reply.Event.TheVariants.{Start}
+use Rattle.ob_model.specs.declared.reply.Event.TheVariants.{Start, Resume, Abandon}
 use Rattle.ob_model.specs.declared.reply.Given.TheVariants.{Handle, Text, Process}
 use Rattle.ob_model.specs.declared.state.Held.{Held}
 use Rattle.ob_model.specs.declared.state.Row.{Row}
 use Rattle.ob_model.specs.declared.state.Wanted.{Wanted}
 use Rattle.ob_model.specs.declared.state.Wanted.TheVariants as wanted
-use Rattle.ob_model.specs.State.{State, root_id, is_live, held_of, body_of, table_size, most_handles, greatest_number, is_directory}
+use Rattle.ob_model.specs.State.{State, root_id, is_live, is_store_full, held_of, body_of, table_size, most_handles, greatest_number, is_directory}
 use Rattle.ob_model.specs.Looks.{Look, At, Vacant, Parse, Refused, LooksUp, most_reparses}
-use Rattle.ob_model.specs.Procedures.{Procedures, Reason, Opened, Created, Duplicated, without_parse}
+use Rattle.ob_model.specs.Procedures.{Procedures, ParseOutcome, EndsItself, EndsMade, EndsReparse, EndsRefused, Reason, Opened, Created, Duplicated, without_parse}
 use Rattle.ob_model.specs.Settle.{settle}
 use Rattle.ob_model.specs.Grants.{first_refusal, IsFreeValue, Asked, is_table_full, is_exclusive, has_other_holder, grant_refusal, open_refusal, open_refusal_of, with_open, with_handle}
 use Rattle.ob_model.specs.Closing.{closed_handle}
@@ -29,14 +34,18 @@ use Rattle.ob_model.specs.Permanence.{turned}
 use Rattle.ob_model.specs.Maps.{with_map}
 use Rattle.ob_model.specs.Types.{is_wanted_at}
 use Rattle.ob_model.specs.Refusals.{gives, answers, IsRefused, Unless, create_refusals, open_refusals}
-use Rattle.ob_model.specs.Opens.{GivesHandle, OpensAt, Opens, asked_by, type_wanted, open_mode}
-use Rattle.ob_model.specs.Creates.{Making, MakesDirectory, MakesLink, MakesObject, is_fit, create_mode, type_made, Spot, is_store_full, is_stampless, room_refusals, make_refusal, body_made, created, dropped, Makes, MakesInRoom, Creates}
+use Rattle.ob_model.specs.PendingOpens.{pending_of, with_pending}
+use Rattle.ob_model.specs.Parses.{parsed_state, IsParsed, IsBrought, EndsOpen, Resumes, Abandons}
+use Rattle.ob_model.specs.Opens.{GivesHandle, OpensAt, Begins, Opens, asked_by, type_wanted, open_mode}
+use Rattle.ob_model.specs.Creates.{Making, MakesDirectory, MakesLink, MakesObject, is_fit, create_mode, type_made, Spot, is_stampless, room_refusals, make_refusal, body_made, created, dropped, Makes, MakesInRoom, Creates}
 use Rattle.ob_model.specs.Naming.{IsWayUp, row_of, path_text, path_answer, target_of, TellsName, TellsTarget}
 use Rattle.ob_model.specs.Processes.{values_in, is_crowded, begun, ended}
 use Rattle.ob_model.specs.Step.{WithHandle, WithRoot, CreatesIn, CreatesAt, OpensName, Turns, SetsMap, Step}
 use Rattle.ob_model.specs.Sound.{IsSound, Stands}
 use Rattle.ob_model.proofs.SoundPaths.{find_of}
-use Rattle.ob_model.proofs.Lookup.{looks_up_total}
+use Rattle.ob_model.proofs.Lookup.{looks_up_total, looks_again_total}
+use Rattle.ob_model.proofs.OpenEnds.{IsOpenEnd, open_end, again_end}
+use Rattle.ob_model.proofs.PendingSound.{parsed_sound, HasTicket, has_ticket}
 use Rattle.ob_model.proofs.Vacant.{IsUsableEnd, usable_end}
 use Rattle.ob_model.proofs.Free.{free_value}
 
@@ -195,11 +204,16 @@ module _ {K T F I : Type 0} (g : Procedures K T F I) where
       unless_total ((not (is_wanted_at g s o wanted), ObjectTypeMismatch) ∷ []) s (GivesHandle g s p o (asked_by attrs) Opened status)
       (λ e. gives_handle_total s p o (asked_by attrs) Opened status)
 
-  opens_total : (s : State K T F I) (p attrs : ℕ) (wanted : Wanted K) (look : Look) → IsUsableEnd s (open_mode wanted attrs) look → Has (Opens g s p attrs wanted look)
-  opens_total s p attrs wanted (Refused status) usable = refused_total s status
-  opens_total s p attrs wanted (At o) usable = opens_at_total s p attrs wanted Success o
-  opens_total s p attrs wanted (Vacant d c) usable = absurd (let e : false ≡ true = usable.0 in cc)
-  opens_total s p attrs wanted (Parse o rest n) usable = absurd usable
+  begins_total : (s : State K T F I) (p attrs : ℕ) (wanted : Wanted K) (o : ℕ) (rest : List ℕ) (n : ℕ) → Has (Begins g s p attrs wanted o rest n)
+  begins_total s p attrs wanted o rest n =
+      unless_total ((is_store_full s, InsufficientResources) ∷ []) s (λ answer t. (answer ≡ Ticket s.next_id) × (t ≡ settle g (with_pending s p attrs wanted o rest n)))
+      (λ e. (Ticket s.next_id, settle g (with_pending s p attrs wanted o rest n), (refl, refl)))
+
+  opens_total : (s : State K T F I) (p attrs : ℕ) (wanted : Wanted K) (look : Look) → IsOpenEnd s look → Has (Opens g s p attrs wanted look)
+  opens_total s p attrs wanted (Refused status) end = refused_total s status
+  opens_total s p attrs wanted (At o) end = opens_at_total s p attrs wanted Success o
+  opens_total s p attrs wanted (Vacant d c) end = absurd end
+  opens_total s p attrs wanted (Parse o rest n) end = begins_total s p attrs wanted o rest n
 
   makes_total : (s : State K T F I) (p attrs : ℕ) (making : Making K) (spot : Spot) → Has (Makes g s p attrs making spot)
   makes_total s p attrs making spot =
@@ -257,7 +271,7 @@ module _ {K T F I : Type 0} (g : Procedures K T F I) where
       looked : (at : Option ℕ) → MatchOption at (Unit {0}) (Stands s) → Has (Does at)
       looked at stands =
           let look = looks_up_total (without_parse g) s p (open_mode wanted attrs) most_reparses at name sound stands in
-          let done = opens_total s p attrs wanted look.0 (usable_end g s p (open_mode wanted attrs) most_reparses at name look.0 look.1) in
+          let done = opens_total s p attrs wanted look.0 (open_end (without_parse g) s p (open_mode wanted attrs) refl most_reparses at name look.0 look.1) in
           (done.0, done.1, (look.0, look.1, done.2))
 
   turns_total : (s : State K T F I) (p handle : ℕ) (permanent : Bool) → IsSound s → Has (Turns g s p handle permanent)
@@ -273,34 +287,77 @@ module _ {K T F I : Type 0} (g : Procedures K T F I) where
       unless_total ((not (is_directory s h.object), ObjectTypeMismatch) ∷ []) s (λ answer t. (answer ≡ answers Success) × (t ≡ settle g (with_map s p h.object)))
       (λ e. (answers Success, settle g (with_map s p h.object), (refl, refl))))
 
-  -- in a sound state every event has an answer
-  pub step_total : (s : State K T F I) (event : Event K) → IsSound s → (answer : Answer) × (t : State K T F I) × Step g s event answer t
-  step_total s (Start p (CreateDirectory where_to attrs)) sound = creates_at_total s p where_to attrs MakesDirectory sound
-  step_total s (Start p (CreateLink where_to attrs target)) sound = creates_at_total s p where_to attrs (MakesLink target) sound
-  step_total s (Start p (CreateObject where_to attrs kind args)) sound = creates_at_total s p where_to attrs (MakesObject kind args) sound
-  step_total s (Start p (OpenDirectory root name attrs)) sound = opens_name_total s p root name attrs wanted.Directory sound
-  step_total s (Start p (OpenLink root name attrs)) sound = opens_name_total s p root name attrs wanted.Link sound
-  step_total s (Start p (OpenObject root name attrs want)) sound = opens_name_total s p root name attrs (type_wanted want) sound
-  step_total s (Start p (Close handle)) sound =
+  -- in a sound state every start has an answer
+  pub start_total : (s : State K T F I) (p : ℕ) (command : Command K) → IsSound s → (answer : Answer) × (t : State K T F I) × Step g s (Start p command) answer t
+  start_total s p (CreateDirectory where_to attrs) sound = creates_at_total s p where_to attrs MakesDirectory sound
+  start_total s p (CreateLink where_to attrs target) sound = creates_at_total s p where_to attrs (MakesLink target) sound
+  start_total s p (CreateObject where_to attrs kind args) sound = creates_at_total s p where_to attrs (MakesObject kind args) sound
+  start_total s p (OpenDirectory root name attrs) sound = opens_name_total s p root name attrs wanted.Directory sound
+  start_total s p (OpenLink root name attrs) sound = opens_name_total s p root name attrs wanted.Link sound
+  start_total s p (OpenObject root name attrs want) sound = opens_name_total s p root name attrs (type_wanted want) sound
+  start_total s p (Close handle) sound =
       with_handle_total s p handle (λ h answer t. (answer ≡ answers Success) × (t ≡ settle g (closed_handle g s h))) sound (λ h stands. (answers Success, settle g (closed_handle g s h), (refl, refl)))
-  step_total s (Start p (QueryLink handle)) sound =
+  start_total s p (QueryLink handle) sound =
       with_handle_total s p handle (λ h answer t. TellsTarget s h.object answer × (t ≡ s)) sound (λ h stands. let told = tells_target_total s h.object in (told.0, s, (told.1, refl)))
-  step_total s (Start p (QueryName handle)) sound =
+  start_total s p (QueryName handle) sound =
       with_handle_total s p handle (λ h answer t. TellsName s h.object answer × (t ≡ s)) sound (λ h stands. let told = tells_name_total s h.object sound in (told.0, s, (told.1, refl)))
-  step_total s (Start p (Duplicate handle to inherit)) sound =
+  start_total s p (Duplicate handle to inherit) sound =
       unless_total ((not (is_live s p), ProcessGone) ∷ (not (is_live s to), ProcessGone) ∷ []) s
       (λ answer t. MatchOption (option_and_then (held_of s p) (key_of handle)) (IsRefused s InvalidHandle answer t) (λ h. Given h answer t))
       (λ e. held_total s p handle Given sound (λ h stands. gives_handle_total s to h.object (record { inherit = inherit; exclusive = false }) Duplicated Success))
     where
       Given : Held → Answer → State K T F I → Type 0
       Given h answer t = GivesHandle g s to h.object (record { inherit = inherit; exclusive = false }) Duplicated Success answer t
-  step_total s (Start p (MakeTemporary handle)) sound = turns_total s p handle false sound
-  step_total s (Start p (MakePermanent handle)) sound = turns_total s p handle true sound
-  step_total s (Start p (SetDeviceMap handle)) sound = sets_map_total s p handle sound
-  step_total s (Start p (NewProcess inherit)) sound =
+  start_total s p (MakeTemporary handle) sound = turns_total s p handle false sound
+  start_total s p (MakePermanent handle) sound = turns_total s p handle true sound
+  start_total s p (SetDeviceMap handle) sound = sets_map_total s p handle sound
+  start_total s p (NewProcess inherit) sound =
       unless_total ((not (is_live s p), ProcessGone) ∷ (is_crowded s p inherit, InsufficientResources) ∷ []) s
       (λ answer t. let u = begun g s p inherit in (answer ≡ gives Success (Process s.next_process (values_in u s.next_process))) × (t ≡ settle g u))
       (λ e. let u = begun g s p inherit in (gives Success (Process s.next_process (values_in u s.next_process)), settle g u, (refl, refl)))
-  step_total s (Start p ExitProcess) sound =
+  start_total s p ExitProcess sound =
       unless_total ((not (is_live s p), ProcessGone) ∷ []) s (λ answer t. (answer ≡ answers Success) × (t ≡ settle g (ended g s p)))
       (λ e. (answers Success, settle g (ended g s p), (refl, refl)))
+
+  -- ---- the end of a pending open
+
+  -- what a parse leads to
+  ends_open_total : (s : State K T F I) (x : Pending K) (outcome : Option (ParseOutcome F I)) → IsSound s → Has (EndsOpen g s x outcome)
+  ends_open_total s x None sound = refused_total s NoMemory
+  ends_open_total s x (Some EndsItself) sound = opens_at_total s x.process x.attrs x.wanted Success x.object
+  ends_open_total s x (Some (EndsMade face inner)) sound = opens_at_total s x.process x.attrs x.wanted Success x.ticket
+  ends_open_total s x (Some (EndsReparse text)) sound =
+      let look = looks_again_total g s x.process (open_mode x.wanted x.attrs) x.left text sound in
+      let done = opens_total s x.process x.attrs x.wanted look.0 (again_end g s x.process (open_mode x.wanted x.attrs) refl x.left text look.0 look.1) in
+      (done.0, done.1, (look.0, look.1, done.2))
+  ends_open_total s x (Some (EndsRefused k)) sound = refused_total s (TypeRefused k)
+
+  resumes_total : (s : State K T F I) (x : Pending K) (outcome : Option (ParseOutcome F I)) → IsSound s → HasTicket s x → Has (Resumes g s x outcome)
+  resumes_total s x outcome sound ticket =
+      let u = parsed_state s x.ticket outcome in
+      let done = unless_total ((not (is_live s x.process), ProcessGone) ∷ []) u (EndsOpen g u x outcome)
+      (λ e. ends_open_total u x outcome (parsed_sound s x.ticket outcome ticket.0 ticket.1 sound)) in
+      (done.0, settle g done.1, (done.1, done.2, refl))
+
+  abbrev Brings : State K T F I → ParseRun → Option (Pending K) → Option (ParseOutcome F I) → Type 0
+  Brings s parse found outcome = MatchOption found ⊥ (λ x. IsParsed g s x parse outcome)
+
+  resumed_total : (s : State K T F I) (parse : ParseRun) (outcome : Option (ParseOutcome F I)) (found : Option (Pending K))
+      → IsSound s → MatchOption found (Unit {0}) (HasTicket s) → Brings s parse found outcome → Has (λ answer t. MatchOption found ⊥ (λ x. Resumes g s x outcome answer t))
+  resumed_total s parse outcome None sound ticket brought = absurd brought
+  resumed_total s parse outcome (Some x) sound ticket brought = resumes_total s x outcome sound ticket
+
+  -- in a sound state every event has an answer, whatever is brought with it
+  pub step_total : (s : State K T F I) (event : Event K) (outcome : Option (ParseOutcome F I)) → IsSound s → IsBrought g s event outcome → (answer : Answer) × (t : State K T F I) × Step g s event answer t
+  step_total s (Start p command) outcome sound brought = start_total s p command sound
+  step_total s (Resume ticket run.Unrun) outcome sound brought = absurd brought
+  step_total s (Resume ticket run.Ran) outcome sound brought =
+      let done = resumed_total s run.Ran outcome (pending_of s ticket) sound (has_ticket s ticket sound) brought in (done.0, done.1, (outcome, brought, done.2))
+  step_total s (Resume ticket run.NoMemory) outcome sound brought =
+      let done = resumed_total s run.NoMemory outcome (pending_of s ticket) sound (has_ticket s ticket sound) brought in (done.0, done.1, (outcome, brought, done.2))
+  step_total s (Abandon ticket parse) outcome sound brought =
+      let done = go (pending_of s ticket) brought in (done.0, done.1, (outcome, brought, done.2))
+    where
+      go : (found : Option (Pending K)) → Brings s parse found outcome → Has (λ answer t. MatchOption found ⊥ (λ x. Abandons g s x outcome answer t))
+      go None brought = absurd brought
+      go (Some x) brought = (answers Success, settle g (parsed_state s x.ticket outcome), (refl, refl))

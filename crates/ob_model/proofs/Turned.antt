@@ -1,5 +1,5 @@
 -- What stays as it is where an object is made permanent or temporary.
-use Rattle.std.proofs.Common.{◌≡◌, ◌≢◌, ◌∙◌, ℕ, ◌==◌, Bool, true, false, ◌&&◌, not, cond, if◌then◌else◌, List, [], ◌∷◌, map, find, Some, is_some, refl, ap, sym, eqb-true, eq-eqb}
+use Rattle.std.proofs.Common.{◌≡◌, ◌≢◌, ◌∙◌, ℕ, ◌==◌, Bool, true, false, ◌&&◌, not, cond, if◌then◌else◌, List, [], ◌∷◌, get_or, map, find, Some, is_some, refl, ap, sym, eqb-true, eq-eqb}
 use Rattle.std.specs.Option.{option_map_or}
 use Rattle.std.proofs.lemmas.Bool.{false≢true, ne_eqb}
 use Rattle.ob_model.specs.declared.state.Object.{Object}
@@ -7,7 +7,7 @@ use Rattle.ob_model.specs.State.{State, root_id, global_id, object_of, is_direct
 use Rattle.ob_model.specs.Settle.{is_permanent, has_name}
 use Rattle.ob_model.specs.Permanence.{turned_object, with_permanence, turned}
 use Rattle.ob_model.specs.Sound.{IsSound, Stands}
-use Rattle.ob_model.proofs.Soundness.{is_directory-map, stands-map, drawn_map, sound_maps, sound_rows, sound_inside, sound_handles, sound_pending}
+use Rattle.ob_model.proofs.Soundness.{is_directory-map, stands-map, drawn_map, reserved_map, sound_maps, sound_rows, sound_inside, sound_handles, sound_pending}
 
 -- an object keeps its number, whether it is a directory, and whether it is exclusive
 module _ {F I : Type 0} (o : ℕ) (permanent : Bool) where
@@ -70,6 +70,9 @@ module _ {K T F I : Type 0} where
         drawn = drawn_map (turned_object o permanent) (turned_object-id o permanent) s.next_id s.objects sound.drawn;
         descending = sound.descending;
         pending = sound_pending s t stays s.pending sound.pending;
+        ticketed = sound.ticketed;
+        reserved = λ k d within. reserved_map (turned_object o permanent) (turned_object-id o permanent) (get_or s.pending k d).ticket s.objects (sound.reserved k d within);
+        awaited = sound.awaited;
         rising = sound.rising;
         stamped = sound.stamped;
         inside = sound_inside s t (λ m k. directory m ∙ k) s.rows sound.inside;

@@ -9,7 +9,7 @@ use Rattle.std.proofs.lemmas.List.Sums.{length-filter}
 use Rattle.ob_base.specs.declared.status.Status.TheVariants.{InvalidParameter, AccessDenied, InsufficientResources, TypeRefused}
 use Rattle.ob_model.specs.declared.state.Held.{Held}
 use Rattle.ob_model.specs.declared.state.Row.{Row}
-use Rattle.ob_model.specs.State.{State, root_id, body_of, handle_count, handle_count_in, table_size, most_handles, greatest_number, greatest_process}
+use Rattle.ob_model.specs.State.{State, root_id, body_of, handle_count, handle_count_in, table_size, most_handles, greatest_number, greatest_process, is_store_full}
 use Rattle.ob_model.specs.Looks.{Look, LooksUp, Mode}
 use Rattle.ob_model.specs.Naming.{TellsName}
 use Rattle.ob_model.specs.declared.reply.Answer.{Answer}
@@ -18,7 +18,7 @@ use Rattle.ob_model.specs.Settle.{settle, has_handle, has_name, is_permanent, is
 use Rattle.ob_model.specs.Permanence.{turned, with_permanence}
 use Rattle.ob_model.specs.Grants.{Asked, first_refusal, is_exclusive, has_other_holder, is_table_full, with_handle, open_refusal, with_open, grant_refusal}
 use Rattle.ob_model.specs.Closing.{with_close, closed_object, closed_set}
-use Rattle.ob_model.specs.Creates.{Spot, is_store_full, is_stampless, room_refusals}
+use Rattle.ob_model.specs.Creates.{Spot, is_stampless, room_refusals}
 use Rattle.ob_model.specs.Processes.{most_processes, handles_in, values_in, inherited_from, is_crowded, with_child, inherits_one, inherits, begun}
 use Rattle.ob_model.specs.Alike.{unvalued_handle, unvalued}
 

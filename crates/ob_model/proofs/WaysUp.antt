@@ -10,7 +10,7 @@ use Rattle.ob_base.specs.declared.status.Status.TheVariants.{Success, InvalidHan
 use Rattle.ob_base.specs.declared.status.Status.{Status}
 use Rattle.ob_base.specs.Handle.{key_of}
 use Rattle.ob_model.specs.declared.reply.Answer.{Answer}
-use Rattle.ob_model.specs.declared.reply.Answer.TheVariants.{Done}
+use Rattle.ob_model.specs.declared.reply.Answer.TheVariants.{Done, Ticket}
 use Rattle.ob_model.specs.declared.reply.Given.{Given}
 use Rattle.ob_model.specs.declared.reply.Given.TheVariants.{Nothing, Handle, Text, Process}
 use Rattle.ob_model.specs.declared.state.Held.{Held}
@@ -240,6 +240,7 @@ module _ {K T F I : Type 0} (s : State K T F I) (sound : IsSound s) where
 -- the status of an answer, and the text that it gives
 abbrev status_of : Answer → Status
 status_of (Done reply) = reply.status
+status_of (Ticket number) = Success
 
 abbrev text_in : Given → List ℕ
 text_in Nothing = []
@@ -249,6 +250,7 @@ text_in (Process number values) = []
 
 abbrev text_of : Answer → List ℕ
 text_of (Done reply) = text_in reply.given
+text_of (Ticket number) = []
 
 module _ {K T F I : Type 0} (g : Procedures K T F I) (s t : State K T F I) (sound : IsSound s) (p handle : ℕ) (text : List ℕ) (q n : ℕ) (some : text ≢ []) where
   abbrev Named : Type 0

@@ -10,7 +10,7 @@ use Rattle.ob_model.specs.declared.command.Place.TheVariants.{At, Unnamed}
 use Rattle.ob_model.specs.declared.command.Command.{Command}
 use Rattle.ob_model.specs.declared.command.Command.TheVariants.{CreateDirectory, CreateLink, CreateObject, OpenDirectory, OpenLink, OpenObject, Close, QueryLink, QueryName, Duplicate, MakeTemporary, MakePermanent, SetDeviceMap, NewProcess, ExitProcess}
 use Rattle.ob_model.specs.declared.reply.Answer.{Answer}
-use Rattle.ob_model.specs.declared.reply.Answer.TheVariants.{Done}
+use Rattle.ob_model.specs.declared.reply.Answer.TheVariants.{Done, Ticket}
 use Rattle.ob_model.specs.declared.reply.Given.{Given}
 use Rattle.ob_model.specs.declared.reply.Given.TheVariants.{Nothing, Handle, Text, Process}
 use Rattle.ob_model.specs.declared.state.Held.{Held}
@@ -32,6 +32,7 @@ unvalued_given (Process number values) = Process number (map (λ value. 0) value
 
 abbrev pub unvalued_answer : Answer → Answer
 unvalued_answer (Done reply) = Done (record reply { given = unvalued_given reply.given })
+unvalued_answer (Ticket number) = Ticket number
 
 -- two answers have the same status, and give handles, the same text, the same process with as many
 -- handles, or nothing
@@ -53,9 +54,11 @@ process_in (Process number values) = Some number
 
 abbrev pub handle_given : Answer → Option ℕ
 handle_given (Done reply) = handle_in reply.given
+handle_given (Ticket number) = None
 
 abbrev pub process_given : Answer → Option ℕ
 process_given (Done reply) = process_in reply.given
+process_given (Ticket number) = None
 
 -- the values of handles that are told with a process
 abbrev pub values_in_given : Given → List ℕ
@@ -66,6 +69,7 @@ values_in_given (Process number values) = values
 
 abbrev pub values_given : Answer → List ℕ
 values_given (Done reply) = values_in_given reply.given
+values_given (Ticket number) = []
 
 -- the process that gets the handle which a command of a process asks for
 abbrev pub receiver : {K : Type 0} → ℕ → Command K → ℕ

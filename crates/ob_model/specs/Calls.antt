@@ -11,16 +11,18 @@ use Rattle.ob_base.specs.Handle.{key_of}
 use Rattle.ob_model.specs.declared.command.Command.{Command}
 use Rattle.ob_model.specs.declared.command.Command.TheVariants.{CreateDirectory, CreateLink, CreateObject, OpenDirectory, OpenLink, OpenObject, Close, QueryLink, QueryName, Duplicate, MakeTemporary, MakePermanent, SetDeviceMap, NewProcess, ExitProcess}
 use Rattle.ob_model.specs.declared.reply.Answer.{Answer}
-use Rattle.ob_model.specs.declared.reply.Answer.TheVariants.{Done}
+use Rattle.ob_model.specs.declared.reply.Answer.TheVariants.{Done, Ticket}
 use Rattle.ob_model.specs.declared.reply.Event.{Event}
-use Rattle.ob_model.specs.declared.reply.Event.TheVariants.{Start}
+use Rattle.ob_model.specs.declared.reply.Event.TheVariants.{Start, Resume, Abandon}
 use Rattle.ob_model.specs.declared.reply.Given.{Given}
 use Rattle.ob_model.specs.declared.reply.Given.TheVariants.{Nothing, Handle, Text, Process}
 use Rattle.ob_model.specs.declared.state.Body.{Body}
 use Rattle.ob_model.specs.declared.state.Body.TheVariants.{Directory, Link, Other}
 use Rattle.ob_model.specs.declared.state.Held.{Held}
 use Rattle.ob_model.specs.State.{State, object_of, body_of, is_live, held_of, handle_count, handle_count_in}
-use Rattle.ob_model.specs.Procedures.{Procedures, Reason}
+use Rattle.ob_model.specs.PendingOpens.{pending_of}
+use Rattle.ob_model.specs.Parses.{IsBrought}
+use Rattle.ob_model.specs.Procedures.{Procedures, Reason, ParseOutcome, EndsItself, EndsMade, EndsReparse, EndsRefused}
 use Rattle.ob_model.specs.Procedures.{Created as ForCreate, Opened as ForOpen, Duplicated as ForDuplicate, Inherited as ForChild}
 use Rattle.ob_model.specs.Step.{Step}
 use Rattle.ob_model.specs.Run.{Entry}
@@ -41,6 +43,7 @@ handle_in (Process child values) = None
 
 abbrev pub handle_given : Answer → Option ℕ
 handle_given (Done reply) = handle_in reply.given
+handle_given (Ticket number) = None
 
 -- a handle, where there is one, leads to an object
 abbrev pub leads_to : Option Held → ℕ → Bool
@@ -69,6 +72,14 @@ is_set_create (MakePermanent handle) = false
 is_set_create (SetDeviceMap handle) = false
 is_set_create (NewProcess inherit) = false
 is_set_create ExitProcess = false
+
+-- whether a parse made an instance
+abbrev pub is_made : {F I : Type 0} → Option (ParseOutcome F I) → Bool
+is_made None = false
+is_made (Some EndsItself) = false
+is_made (Some (EndsMade face inner)) = true
+is_made (Some (EndsReparse text)) = false
+is_made (Some (EndsRefused k)) = false
 
 -- the closes of the handles that go, in the order in which they were opened, where `stays` tells
 -- the others: of all handles to one object, those that were passed already and stay, and the rest
@@ -115,10 +126,14 @@ module _ {K T F I : Type 0} where
   abbrev pub is_drawn : State K T F I → State K T F I → Command K → ℕ → Bool
   is_drawn s t command o = is_set_create command && (o == s.next_id) && nat_lt s.next_id t.next_id
 
-  -- an object that was there or was drawn, and isn't there after the step, is deleted: it is taken away at
-  -- the end of the step, or its open was refused at its create
-  abbrev pub calls_of_end : State K T F I → State K T F I → Command K → ℕ → List Call
-  calls_of_end s t command o = if (is_of_set s o || is_drawn s t command o) && not (is_some (object_of t o)) then Deleted ∷ [] else []
+  -- an object that was there or came in the step, and isn't there after it, is deleted: it is taken away at
+  -- the end of the step, or its open was refused at its create or behind its parse
+  abbrev pub calls_of_end : State K T F I → State K T F I → (came : Bool) → ℕ → List Call
+  calls_of_end s t came o = if (is_of_set s o || came) && not (is_some (object_of t o)) then Deleted ∷ [] else []
+
+  -- what a pending open opens, where it is resumed
+  abbrev pub calls_of_resume : State K T F I → State K T F I → ℕ → Option ℕ → ℕ → List Call
+  calls_of_resume s t ticket given o = option_map_or (λ x. calls_of_grant ForOpen t x.process given o) (pending_of s ticket) []
 
   -- what a command opens or closes
   abbrev pub calls_of_command : State K T F I → State K T F I → ℕ → Command K → Option ℕ → ℕ → List Call
@@ -138,22 +153,26 @@ module _ {K T F I : Type 0} where
   calls_of_command s t p (NewProcess inherit) given o = calls_of_child t s.next_process o
   calls_of_command s t p ExitProcess given o = if is_live s p && is_of_set s o then closes_at_end s p o else []
 
-  -- the calls of a step on an object
-  abbrev pub calls_of_step : State K T F I → Event K → Answer → State K T F I → ℕ → List Call
-  calls_of_step s (Start p command) answer t o = calls_of_command s t p command (handle_given answer) o ++ calls_of_end s t command o
+  -- the calls of a step on an object, given what is brought with its event
+  abbrev pub calls_of_step : State K T F I → Event K → Option (ParseOutcome F I) → Answer → State K T F I → ℕ → List Call
+  calls_of_step s (Start p command) outcome answer t o = calls_of_command s t p command (handle_given answer) o ++ calls_of_end s t (is_drawn s t command o) o
+  calls_of_step s (Resume ticket parse) outcome answer t o = calls_of_resume s t ticket (handle_given answer) o ++ calls_of_end s t (is_made outcome && (o == ticket)) o
+  calls_of_step s (Abandon ticket parse) outcome answer t o = calls_of_end s t (is_made outcome && (o == ticket)) o
 
 -- ---- the calls of a run
 
--- a step that was made: its entry, and the state that it left
+-- a step that was made: its entry, what was brought with its event, and the state that it left
 pub record Passed (K T F I : Type 0) : Type 0 where
   pub entry : Entry K
+  pub outcome : Option (ParseOutcome F I)
   pub after : State K T F I
 
 module _ {K T F I : Type 0} where
   -- these steps are made one after another, from the state s, after n entries
   abbrev pub Passes : Procedures K T F I → State K T F I → ℕ → List (Passed K T F I) → Type 0
   Passes g s n [] = Unit {0}
-  Passes g s n (x ∷ xs) = (x.entry.number ≡ n + 1) × Step g s x.entry.event x.entry.answer x.after × Passes g x.after (n + 1) xs
+  Passes g s n (x ∷ xs) =
+      (x.entry.number ≡ n + 1) × IsBrought g s x.entry.event x.outcome × Step g s x.entry.event x.entry.answer x.after × Passes g x.after (n + 1) xs
 
   -- the state that the last of these steps left
   abbrev pub left_by : State K T F I → List (Passed K T F I) → State K T F I
@@ -163,4 +182,4 @@ module _ {K T F I : Type 0} where
   -- the calls of these steps on an object, one step's after another's
   abbrev pub calls_of_run : State K T F I → List (Passed K T F I) → ℕ → List Call
   calls_of_run s [] o = []
-  calls_of_run s (x ∷ xs) o = calls_of_step s x.entry.event x.entry.answer x.after o ++ calls_of_run x.after xs o
+  calls_of_run s (x ∷ xs) o = calls_of_step s x.entry.event x.outcome x.entry.answer x.after o ++ calls_of_run x.after xs o

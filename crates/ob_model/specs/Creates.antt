@@ -4,7 +4,7 @@
 -- Sources: ZwCreateDirectoryObject, ZwCreateSymbolicLinkObject, ZwCreateEvent and OBJECT_ATTRIBUTES structure
 -- (OBJ_OPENIF, OBJ_PERMANENT, OBJ_CASE_INSENSITIVE; Windows Driver Kit); Windows Internals, Object Manager (object types and their methods). The order
 -- of refusals, and that a new object whose open is refused is deleted under its number, are this profile.
-use Rattle.std.specs.Prelude.{◌≡◌, ℕ, ◌+◌, Bool, true, false, ◌&&◌, ◌||◌, not, nat_lt, nat_le, List, [], ◌∷◌, ◌++◌, length, Option, None, Some, MatchOption, MatchBool}
+use Rattle.std.specs.Prelude.{◌≡◌, ℕ, ◌+◌, Bool, true, false, ◌&&◌, ◌||◌, not, nat_lt, List, [], ◌∷◌, ◌++◌, length, Option, None, Some, MatchOption, MatchBool}
 use Rattle.std.specs.Option.{is_some}
 use Rattle.std.specs.Str.{bytes_eq}
 use Rattle.ob_base.specs.declared.status.Status.{Status}
@@ -18,7 +18,7 @@ use Rattle.ob_model.specs.declared.state.Row.{Row}
 use Rattle.ob_model.specs.declared.state.Wanted.{Wanted}
 use Rattle.ob_model.specs.declared.state.Wanted.TheVariants as wanted
 use Rattle.ob_model.specs.Names.{is_name}
-use Rattle.ob_model.specs.State.{State, greatest_number, most_objects, insert_object}
+use Rattle.ob_model.specs.State.{State, greatest_number, is_store_full, insert_object}
 use Rattle.ob_model.specs.Looks.{Mode, Look, At, Vacant, Parse, Refused}
 use Rattle.ob_model.specs.Procedures.{Procedures, Created}
 use Rattle.ob_model.specs.Settle.{settle, deleted_one}
@@ -60,10 +60,6 @@ new_rows None stamp o = []
 new_rows (Some spot) stamp o = record { stamp = stamp; directory = spot.0; name = spot.1; object = o } ∷ []
 
 module _ {K T F I : Type 0} where
-  -- no more objects fit, or no number is left for one
-  abbrev pub is_store_full : State K T F I → Bool
-  is_store_full s = nat_le most_objects (length s.objects + length s.pending) || nat_lt greatest_number s.next_id
-
   -- no stamp is left for a row
   abbrev pub is_stampless : State K T F I → Bool
   is_stampless s = nat_lt greatest_number s.next_stamp

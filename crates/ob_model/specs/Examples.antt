@@ -444,7 +444,7 @@ closes_handle handle = Start 1 (Close handle)
 
 -- a step of process 1's seat
 abbrev pub passed : ℕ → Event ℕ → Answer → Recorded → Passed ℕ (List (ℕ × Call)) ℕ ℕ
-passed number event answer after = record { entry = record { number = number; seat = 1; event = event; answer = answer }; after = after }
+passed number event answer after = record { entry = record { number = number; seat = 1; event = event; answer = answer }; outcome = None; after = after }
 
 -- an object is made and gets handle 4; another's open is refused, so that it is deleted; and the handle
 -- is closed

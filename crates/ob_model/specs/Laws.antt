@@ -19,7 +19,8 @@ use Rattle.ob_model.specs.Names.{separator, joined, IsRest, IsSplit, substituted
 use Rattle.ob_model.specs.State.{State, root_id, insert_object, object_of, is_directory, process_of, is_live, held_of}
 use Rattle.ob_model.specs.Opening.{opening}
 use Rattle.ob_model.specs.Paths.{Origin, found, is_match, IsPath, directory_at}
-use Rattle.ob_model.specs.Procedures.{Procedures, Reason}
+use Rattle.ob_model.specs.Procedures.{Procedures, Reason, ParseOutcome, ParseEnds, FrontIsUsed}
+use Rattle.ob_model.specs.Parses.{IsBrought}
 use Rattle.ob_model.specs.Looks.{Look, At, Mode, Looks, LooksUp}
 use Rattle.ob_model.specs.Settle.{IsSettled, settle, is_permanent, has_handle, has_name}
 use Rattle.ob_model.specs.Closing.{is_handle, closed_handle}
@@ -177,11 +178,22 @@ module _ (K T F I : Type 0) where
       (g : Procedures K T F I) (s t : State K T F I) (event : Event K) (answer : Answer)
       → IsSound s → Step g s event answer t → IsSound t
 
-  -- in a sound state every event has an answer, and a state that it leads to
+  -- in a sound state every event has an answer, and a state that it leads to, whatever is brought with it; a
+  -- start, with which nothing is brought, always has
   abbrev pub StepIsTotal : Type 0
   StepIsTotal =
-      (g : Procedures K T F I) (s : State K T F I) (event : Event K)
-      → IsSound s → (answer : Answer) × (t : State K T F I) × Step g s event answer t
+      (g : Procedures K T F I) (s : State K T F I) (event : Event K) (outcome : Option (ParseOutcome F I))
+      → IsSound s → IsBrought g s event outcome → (answer : Answer) × (t : State K T F I) × Step g s event answer t
+
+  -- where each parse procedure uses a front of its rest, as in a lawful set, a parse ends, over every rest; and every
+  -- parse ends in one way
+  abbrev pub ParseHasAnEnd : Type 0
+  ParseHasAnEnd =
+      (g : Procedures K T F I) → FrontIsUsed g → (face : F) (rest : List ℕ) → (outcome : ParseOutcome F I) × ParseEnds g face rest outcome
+
+  abbrev pub ParseHasOneEnd : Type 0
+  ParseHasOneEnd =
+      (g : Procedures K T F I) (face : F) (rest : List ℕ) (a b : ParseOutcome F I) → ParseEnds g face rest a → ParseEnds g face rest b → a ≡ b
 
   -- a step with its answer leads to one state alone, and so does a list of entries
   abbrev pub StepHasOneEnd : Type 0
@@ -200,11 +212,11 @@ module _ (K T F I : Type 0) where
       (g : Procedures K T F I) (s : State K T F I) (n : ℕ) (entries : List (Entry K)) (t : State K T F I) → RunFrom g s n entries t
       → (steps : List (Passed K T F I)) × (map (λ x. x.entry) steps ≡ entries) × Passes g s n steps × (left_by s steps ≡ t)
 
-  -- every list of events, each with the seat whose caller asks, has a run
+  -- every list of commands, each with the seat whose caller asks and the process for which it does, has a run
   abbrev pub RunIsTotal : Type 0
   RunIsTotal =
-      (g : Procedures K T F I) (first : T) (asked : List (ℕ × Event K))
-      → (entries : List (Entry K)) × (t : State K T F I) × (map (λ e. (e.seat, e.event)) entries ≡ asked) × Run g first entries t
+      (g : Procedures K T F I) (first : T) (asked : List (ℕ × ℕ × Command K))
+      → (entries : List (Entry K)) × (t : State K T F I) × (map (λ e. (e.seat, e.event)) entries ≡ map {B = ℕ × Event K} (λ x. (x.0, Start x.1 x.2)) asked) × Run g first entries t
 
   -- in every state of a run the handles of an exclusive object are in one process, and no child inherits one
   abbrev pub ExclusiveIsAlone : Type 0

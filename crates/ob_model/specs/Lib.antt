@@ -13,7 +13,9 @@ pub mod Permanence
 pub mod Maps
 pub mod Types
 pub mod Refusals
+pub mod PendingOpens
 pub mod Opens
+pub mod Parses
 pub mod Creates
 pub mod Naming
 pub mod Processes

@@ -1,17 +1,20 @@
--- What an open does past its refusals: the type test, and a grant, which duplicates have too.
+-- What an open does past its refusals: the type test, and a grant, which duplicates have too; or the parse of
+-- the object that its name reached.
 --
 -- Sources: ZwOpenDirectoryObject, ZwOpenEvent, OBJECT_ATTRIBUTES structure (OBJ_CASE_INSENSITIVE,
 -- OBJ_OPENLINK; Windows Driver Kit); Windows Internals, Object Manager
--- (object handles). The order of refusals is this profile.
-use Rattle.std.specs.Prelude.{◌≡◌, ℕ, Bool, true, false, ◌||◌, not, [], ◌∷◌, Option, None, Some, Result, MatchResult}
+-- (object handles, parse methods). The order of refusals is this profile.
+use Rattle.std.specs.Prelude.{◌≡◌, ℕ, List, Bool, true, false, ◌||◌, not, [], ◌∷◌, Option, None, Some, Result, MatchResult}
 use Rattle.ob_base.specs.declared.status.Status.{Status}
-use Rattle.ob_base.specs.declared.status.Status.TheVariants.{Success, ObjectTypeMismatch}
+use Rattle.ob_base.specs.declared.status.Status.TheVariants.{Success, ObjectTypeMismatch, InsufficientResources}
 use Rattle.ob_base.specs.Attrs.{has_flag, inherit_flag, exclusive_flag, case_insensitive_flag, open_link_flag}
 use Rattle.ob_model.specs.declared.reply.Answer.{Answer}
+use Rattle.ob_model.specs.declared.reply.Answer.TheVariants.{Ticket}
 use Rattle.ob_model.specs.declared.reply.Given.TheVariants.{Handle}
 use Rattle.ob_model.specs.declared.state.Wanted.{Wanted}
 use Rattle.ob_model.specs.declared.state.Wanted.TheVariants.{Anything, Directory, Link, Kind}
-use Rattle.ob_model.specs.State.{State}
+use Rattle.ob_model.specs.State.{State, is_store_full}
+use Rattle.ob_model.specs.PendingOpens.{with_pending}
 use Rattle.ob_model.specs.Looks.{Mode, Look, At, Vacant, Parse, Refused}
 use Rattle.ob_model.specs.Procedures.{Procedures, Reason, Opened}
 use Rattle.ob_model.specs.Settle.{settle}
@@ -56,9 +59,15 @@ module _ {K T F I : Type 0} (g : Procedures K T F I) where
   OpensAt s p attrs wanted status o answer t =
       Unless ((not (is_wanted_at g s o wanted), ObjectTypeMismatch) ∷ []) s answer t (GivesHandle s p o (asked_by attrs) Opened status answer t)
 
-  -- what the lookup of an open's name leads to: a refusal, or an object that is opened
+  -- an open that reached a parsing object is pending from then on, under the next number as its ticket: the
+  -- rest goes to the parse, with so many reparses left
+  abbrev pub Begins : State K T F I → ℕ → ℕ → Wanted K → ℕ → List ℕ → ℕ → Answer → State K T F I → Type 0
+  Begins s p attrs wanted o rest n answer t =
+      Unless ((is_store_full s, InsufficientResources) ∷ []) s answer t ((answer ≡ Ticket s.next_id) × (t ≡ settle g (with_pending s p attrs wanted o rest n)))
+
+  -- what the lookup of an open's name leads to: a refusal, an object that is opened, or a parse
   abbrev pub Opens : State K T F I → ℕ → ℕ → Wanted K → Look → Answer → State K T F I → Type 0
   Opens s p attrs wanted (Refused status) answer t = IsRefused s status answer t
   Opens s p attrs wanted (At o) answer t = OpensAt s p attrs wanted Success o answer t
   Opens s p attrs wanted (Vacant d c) answer t = ⊥
-  Opens s p attrs wanted (Parse o rest n) answer t = ⊥
+  Opens s p attrs wanted (Parse o rest n) answer t = Begins s p attrs wanted o rest n answer t

@@ -94,14 +94,34 @@ module _ {K T F I : Type 0} (g : Procedures K T F I) where
   abbrev pub OwnKindIsSame : Type 0
   OwnKindIsSame = (a : K) → g.same_kind a a ≡ true
 
+  -- a parse procedure uses a front of the rest, and leaves what is behind it to an instance that parses
+  abbrev pub FrontIsUsed : Type 0
+  FrontIsUsed = (face next : F) (rest : List ℕ) (used : ℕ) (inner : I) → g.parsed face rest ≡ Front used next inner → UsesFront rest used next
+
+  -- the object itself is answered only to the empty rest
+  abbrev pub ItselfIsAtEnd : Type 0
+  ItselfIsAtEnd = (face : F) (rest : List ℕ) → g.parsed face rest ≡ Itself → rest ≡ []
+
+  -- an instance that a parse procedure makes is idle
+  abbrev pub ParsedIsIdle : (I → Type 0) → Type 0
+  ParsedIsIdle Idle = (face next : F) (rest : List ℕ) (used : ℕ) (inner : I) → g.parsed face rest ≡ Front used next inner → Idle inner
+
+  -- a face is found the same as itself
+  abbrev pub OwnFaceIsSame : Type 0
+  OwnFaceIsSame = (face : F) → g.same_face face face ≡ true
+
+  -- faces that are found the same give the same answer to every rest
+  abbrev pub SameFacesAnswerAlike : Type 0
+  SameFacesAnswerAlike = (a b : F) (rest : List ℕ) → g.same_face a b ≡ true → g.parsed a rest ≡ g.parsed b rest
+
   -- The laws of parse procedures, where Idle is the fact that an inner value stands for no open
   -- handle.
   pub record IsLawfulParse (Idle : I → Type 0) : Type 0 where
-    pub front : (face next : F) (rest : List ℕ) (used : ℕ) (inner : I) → g.parsed face rest ≡ Front used next inner → UsesFront rest used next
-    pub itself : (face : F) (rest : List ℕ) → g.parsed face rest ≡ Itself → rest ≡ []
-    pub parsed_idle : (face next : F) (rest : List ℕ) (used : ℕ) (inner : I) → g.parsed face rest ≡ Front used next inner → Idle inner
-    pub own_face : (face : F) → g.same_face face face ≡ true
-    pub same_answers : (a b : F) (rest : List ℕ) → g.same_face a b ≡ true → g.parsed a rest ≡ g.parsed b rest
+    pub front : FrontIsUsed
+    pub itself : ItselfIsAtEnd
+    pub parsed_idle : ParsedIsIdle Idle
+    pub own_face : OwnFaceIsSame
+    pub same_answers : SameFacesAnswerAlike
 
   -- A lawful set, where Idle is the fact that an inner value stands for no open handle.
   pub record IsLawful (Idle : I → Type 0) : Type 0 where

@@ -1,7 +1,7 @@
 -- Sound states: what holds of the opening state and after each step, and what a lookup rests on.
 --
 -- Source: this profile.
-use Rattle.std.specs.Prelude.{◌≡◌, true, false, Bool, ◌&&◌, ◌==◌, ℕ, ◌<◌, List, All, AllPairs, MatchOption, codes}
+use Rattle.std.specs.Prelude.{◌≡◌, ◌≢◌, true, false, Bool, ◌&&◌, ◌==◌, ℕ, ◌<◌, List, All, AllPairs, MatchOption, codes}
 use Rattle.std.specs.Str.{bytes_eq}
 use Rattle.std.specs.Option.{is_some}
 use Rattle.ob_model.specs.declared.state.Process.{Process}
@@ -32,7 +32,8 @@ module _ {K T F I : Type 0} where
   -- and a row's directory was made before its object, so that each way up ends. Rows rise by stamps that
   -- were drawn; each stands in a directory, its name is a component, no row has the name, with case, of an
   -- earlier one of its directory, and none of the root is called `??`. The process of each handle is live,
-  -- and has no two handles of one value. The number of each process was drawn.
+  -- and has no two handles of one value. The number of each process was drawn. The tickets of pending opens rise,
+  -- were drawn, and are no object's numbers.
   pub record IsSound (s : State K T F I) : Type 0 where
     pub root : IsDirectory s root_id
     pub global : IsDirectory s global_id
@@ -42,6 +43,9 @@ module _ {K T F I : Type 0} where
     pub drawn : All (λ x. x.id < s.next_id) s.objects
     pub descending : All (λ r. r.directory < r.object) s.rows
     pub pending : All (λ x. Stands s x.object) s.pending
+    pub ticketed : All (λ x. x.ticket < s.next_id) s.pending
+    pub reserved : All (λ x. All (λ y. y.id ≢ x.ticket) s.objects) s.pending
+    pub awaited : AllPairs (λ a b. a.ticket < b.ticket) s.pending
     pub rising : AllPairs (λ a b. a.stamp < b.stamp) s.rows
     pub stamped : All (λ r. r.stamp < s.next_stamp) s.rows
     pub inside : All (λ r. IsDirectory s r.directory) s.rows

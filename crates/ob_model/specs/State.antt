@@ -3,7 +3,7 @@
 --
 -- Sources: Windows Internals, Object Manager (object directories, handles and the process handle
 -- table, session namespace); the opening state, the counters and the limits are this profile.
-use Rattle.std.specs.Prelude.{ℕ, ◌-◌, ◌^◌, Bool, true, false, ◌&&◌, ◌==◌, nat_lt, if◌then◌else◌, List, [], ◌∷◌, Option, count_by}
+use Rattle.std.specs.Prelude.{ℕ, ◌+◌, ◌-◌, ◌^◌, Bool, true, false, ◌&&◌, ◌||◌, ◌==◌, nat_lt, nat_le, if◌then◌else◌, List, [], ◌∷◌, length, Option, count_by}
 use Rattle.std.specs.List.{find}
 use Rattle.std.specs.Option.{option_map, is_some, option_map_or}
 use Rattle.ob_model.specs.declared.state.Body.{Body}
@@ -111,3 +111,7 @@ module _ {K T F I : Type 0} where
   -- how many handles a process has
   abbrev pub table_size : State K T F I → ℕ → ℕ
   table_size s p = count_by (λ h. h.process == p) s.handles
+
+  -- no more objects and pending opens fit, or no number is left for one
+  abbrev pub is_store_full : State K T F I → Bool
+  is_store_full s = nat_le most_objects (length s.objects + length s.pending) || nat_lt greatest_number s.next_id

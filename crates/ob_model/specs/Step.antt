@@ -1,5 +1,5 @@
 -- The steps of the abstract machine: for each command the refusals in their order, and then what it
--- answers and what it leaves. The value of a new handle is the one free choice.
+-- answers and what it leaves; and how a pending open ends. The value of a new handle is the one free choice.
 --
 -- Sources: ZwCreateDirectoryObject, ZwOpenDirectoryObject, ZwCreateSymbolicLinkObject,
 -- ZwOpenSymbolicLinkObject, ZwQuerySymbolicLinkObject, ZwCreateEvent, ZwOpenEvent, ZwClose, ZwDuplicateObject,
@@ -16,13 +16,15 @@ use Rattle.ob_model.specs.declared.command.Command.{Command}
 use Rattle.ob_model.specs.declared.command.Command.TheVariants.{CreateDirectory, CreateLink, CreateObject, OpenDirectory, OpenLink, OpenObject, Close, QueryLink, QueryName, Duplicate, MakeTemporary, MakePermanent, SetDeviceMap, NewProcess, ExitProcess}
 use Rattle.ob_model.specs.declared.reply.Answer.{Answer}
 use Rattle.ob_model.specs.declared.reply.Event.{Event}
-use Rattle.ob_model.specs.declared.reply.Event.TheVariants.{Start}
+use Rattle.ob_model.specs.declared.reply.Event.TheVariants.{Start, Resume, Abandon}
 use Rattle.ob_model.specs.declared.state.Held.{Held}
 use Rattle.ob_model.specs.declared.state.Wanted.{Wanted}
 use Rattle.ob_model.specs.declared.state.Wanted.TheVariants as wanted
 use Rattle.ob_model.specs.State.{State, is_live, is_directory, held_of}
 use Rattle.ob_model.specs.Looks.{Look, LooksUp, most_reparses}
-use Rattle.ob_model.specs.Procedures.{Procedures, without_parse}
+use Rattle.ob_model.specs.PendingOpens.{pending_of}
+use Rattle.ob_model.specs.Parses.{IsBrought, Resumes, Abandons}
+use Rattle.ob_model.specs.Procedures.{Procedures, ParseOutcome, without_parse}
 use Rattle.ob_model.specs.Settle.{settle}
 use Rattle.ob_model.specs.Closing.{closed_handle}
 use Rattle.ob_model.specs.Permanence.{turned}
@@ -108,6 +110,11 @@ module _ {K T F I : Type 0} (g : Procedures K T F I) where
   Starts s p (NewProcess inherit) answer t = MakesChild g s p inherit answer t
   Starts s p ExitProcess answer t = Exits g s p answer t
 
-  -- From the state s the machine may answer the event so, and go on to the state t.
+  -- From the state s the machine may answer the event so, and go on to the state t. A resume or an abandon of an
+  -- open that isn't pending is no step.
   abbrev pub Step : State K T F I → Event K → Answer → State K T F I → Type 0
   Step s (Start p command) answer t = Starts s p command answer t
+  Step s (Resume ticket parse) answer t =
+      (outcome : Option (ParseOutcome F I)) × IsBrought g s (Resume ticket parse) outcome × MatchOption (pending_of s ticket) ⊥ (λ x. Resumes g s x outcome answer t)
+  Step s (Abandon ticket parse) answer t =
+      (outcome : Option (ParseOutcome F I)) × IsBrought g s (Abandon ticket parse) outcome × MatchOption (pending_of s ticket) ⊥ (λ x. Abandons g s x outcome answer t)

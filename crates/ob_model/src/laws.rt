@@ -30,6 +30,8 @@ ghost use Rattle.ob_model.specs.Laws.{
   OpeningIsSound,
   StepStaysSound,
   StepIsTotal,
+  ParseHasAnEnd,
+  ParseHasOneEnd,
   StepHasOneEnd,
   RunHasOneEnd,
   RunIsTotal,
@@ -166,9 +168,17 @@ pub fn step_stays_sound<K, T, F, I>()
 {}
 
 /// In a sound state every event has an answer, and a state that it leads to: each process may start
-/// each command, and there is always one thing that the machine may do.
+/// each command, each pending open may be resumed with what its parse ended with, or given up, and there is always
+/// one thing that the machine may do.
 pub fn step_is_total<K, T, F, I>()
     ensures { StepIsTotal K T F I }
+{}
+
+/// A parse of an object of a lawful set ends, whatever the rest is: each front that a parse procedure uses makes
+/// the rest shorter. Every parse has one end, so that no history has to say which it was.
+pub fn parse_has_one_end<K, T, F, I>()
+    ensures total { ParseHasAnEnd K T F I }
+    ensures unique { ParseHasOneEnd K T F I }
 {}
 
 /// A step with its answer leads to one state alone, from each state, sound or not: the value of a new
@@ -182,8 +192,8 @@ pub fn run_has_one_end<K, T, F, I>()
     ensures { RunHasOneEnd K T F I }
 {}
 
-/// Every list of events has a run from the opening state: whatever is asked, in whatever order, there is
-/// a history of it.
+/// Every list of commands has a run from the opening state: whatever is asked, in whatever order and by whatever
+/// processes, there is a history of it.
 pub fn run_is_total<K, T, F, I>()
     ensures { RunIsTotal K T F I }
 {}

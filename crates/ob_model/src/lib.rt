@@ -16,5 +16,5 @@ mod state;
 pub use bytes::Bytes;
 pub use command::{Command, Place};
 pub use handles::Handles;
-pub use reply::{Answer, Event, Given, Reply};
+pub use reply::{Answer, Event, Given, ParseRun, Reply};
 pub use state::{Body, Held, Object, Pending, Process, Row, Wanted};

@@ -26,6 +26,17 @@ pub struct Reply {
     pub given: Given,
 }
 
+/// What became of the parse of a pending open. A parse is run by a caller, between two steps.
+#[derive(Clone, Copy, PartialEq, Eq, Debug)]
+pub enum ParseRun {
+    /// It was not run.
+    Unrun,
+    /// It ran to its end.
+    Ran,
+    /// It found no memory.
+    NoMemory,
+}
+
 /// One event of the namespace's history: one atomic step is made for it. `K` is the kind of an
 /// object of the set of types.
 #[derive(Debug, Drop)]
@@ -37,6 +48,20 @@ pub enum Event<K> {
         /// What it asks.
         command: Command<K>,
     },
+    /// A caller brings the parse of a pending open, so that the open ends, or goes on to another parse.
+    Resume {
+        /// The ticket of the pending open.
+        ticket: u64,
+        /// What became of its parse: it ran, or found no memory.
+        parse: ParseRun,
+    },
+    /// A caller gives a pending open up.
+    Abandon {
+        /// The ticket of the pending open.
+        ticket: u64,
+        /// What became of its parse.
+        parse: ParseRun,
+    },
 }
 
 /// How an event ends.
@@ -44,4 +69,6 @@ pub enum Event<K> {
 pub enum Answer {
     /// The command is done, and this is its reply.
     Done(Reply),
+    /// An open reached a parsing object, and is pending under this ticket until its parse is brought.
+    Ticket(u64),
 }

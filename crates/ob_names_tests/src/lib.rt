@@ -6,6 +6,10 @@
 #[cfg(test)]
 mod base;
 #[cfg(test)]
+mod both;
+#[cfg(test)]
+mod boxes;
+#[cfg(test)]
 mod model;
 #[cfg(test)]
 mod names;

@@ -3,7 +3,7 @@
 use ob_base::Fault;
 use ob_plain::{
     Call, CallKind, Counting, Plain, PlainKind, Recorder, accepted_opens_are_noted,
-    first_calls_are_kept, recorder_is_lawful,
+    first_calls_are_kept,
 };
 use ob_types::{Reason, TypeSet, close_last, is_one_kind, laws, open_or_leave};
 
@@ -96,8 +96,12 @@ fn laws_at_a_recorder(_rt: HostRuntime) {
     laws::one_kind::<Recording>();
     laws::own_kind::<Recording>();
     laws::equal_kinds::<Recording>();
+    laws::front_is_used::<Recording>();
+    laws::itself_at_end::<Recording>();
+    laws::parsed_idle::<Recording>();
+    laws::own_face::<Recording>();
+    laws::same_answers::<Recording>();
     laws::is_lawful::<Recording>();
     accepted_opens_are_noted::<Counting<Plain>>();
-    recorder_is_lawful::<Counting<Plain>>();
     first_calls_are_kept();
 }

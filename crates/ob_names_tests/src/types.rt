@@ -5,8 +5,10 @@ ghost use Rattle.std.specs.Bool.{beq};
 ghost use Rattle.std.proofs.Common.{rules};
 ghost use Rattle.ob_model.specs.Procedures.{Refused};
 
-use ob_types::{Reason, Refusal, TypeSet, close_last, is_one_kind, laws, open_or_leave};
-use std::alloc::Global;
+use ob_types::{
+    ParseAnswer, Reason, Refusal, TypeSet, close_last, is_one_kind, laws, open_or_leave,
+};
+use std::alloc::{AllocError, Global};
 
 /// Doors that one can be through at a time.
 #[derive(Drop)]
@@ -44,6 +46,22 @@ impl TypeSet for Doors {
         *face
     }
 
+    fn parses(_kind: bool) -> bool {
+        false
+    }
+
+    fn same(a: &bool, b: &bool) -> bool {
+        *a == *b
+    }
+
+    fn parse(
+        _alloc: Global,
+        _face: &bool,
+        _rest: &[u8],
+    ) -> Result<ParseAnswer<bool, bool>, AllocError> {
+        unreachable!()
+    }
+
     fn make(_alloc: Global, kind: bool, args: &[u8]) -> Result<(bool, bool), Refusal> {
         if args.is_empty() {
             Ok((kind, false))
@@ -71,6 +89,16 @@ impl TypeSet for Doors {
     ghost made_idle = { λ _ _ _. refl };
 
     ghost closed_idle = { λ _ _ _. refl };
+
+    ghost front_is_used = { λ _ _ _ _ _ told. Prim.search rules };
+
+    ghost itself_at_end = { λ _ _ told. Prim.search rules };
+
+    ghost parsed_idle = { λ _ _ _ _ _ told. Prim.search rules };
+
+    ghost own_face = { Prim.search rules };
+
+    ghost same_answers = { λ _ _ _ _. refl };
 
     ghost one_kind = { Prim.search rules };
 

@@ -117,3 +117,28 @@ fn a_process_gets_a_map_in_place_of_its_own(rt: HostRuntime) -> Result<(), Fail>
     assert!(rt; all.view(none).local.is_none() && !all.is_mapped(DIRECTORY));
     Ok(())
 }
+
+#[test]
+fn a_process_leaves_its_handles_from_the_oldest_on(rt: HostRuntime) -> Result<(), Fail> {
+    let mut all = three_handles(rt.alloc())?;
+    let Some(mut ending) = all.end(PARENT) else {
+        return Err(Fail::from("the parent is gone"));
+    };
+    assert!(rt;
+        all.len() == 1 && counts(&all, 5) == (1, 0, 1, true) && counts(&all, 6) == (0, 0, 0, false)
+    );
+    assert!(rt; ending.count_of(ObjId(5)) == 1 && ending.count_of(ObjId(7)) == 0);
+    assert!(rt; ending.next() == Some(held(PARENT, Handle(4), 5, false, 1)));
+    assert!(rt; ending.count_of(ObjId(5)) == 0 && ending.count_of(ObjId(6)) == 1);
+    assert!(rt;
+        ending.next() == Some(held(PARENT, Handle(8), 6, false, 3)) && ending.next().is_none()
+    );
+    let touched = ending.into_touched();
+    assert!(rt; touched.holds(ObjId(5)) && touched.holds(ObjId(6)) && !touched.holds(ObjId(7)));
+    let (last, first) = (touched.last_before(ObjId(9)), touched.last_before(ObjId(6)));
+    assert!(rt;
+        last == Some(ObjId(6)) && first == Some(ObjId(5)) && touched.last_before(ObjId(5)).is_none()
+    );
+    assert!(rt; all.end(PARENT).is_none());
+    Ok(())
+}

@@ -1,4 +1,3 @@
 pub mod Digits
 pub mod Decimals
 pub mod FirstCalls
-pub mod Recording

@@ -3,3 +3,4 @@ pub mod Plain
 pub mod Counting
 pub mod Calls
 pub mod Recorder
+pub mod Fronts

@@ -6,10 +6,11 @@ ghost use Rattle.ob_plain.specs.declared.counting.Counting.{Counting};
 ghost use Rattle.std.proofs.Common.{ap, ◌∙◌};
 ghost use Rattle.ob_plain.specs.Plain.{unless_told};
 ghost use Rattle.ob_plain.specs.Counting.{counting_procedures, counted, part_of, opens_of, closes_of, deletes_of};
+ghost use Rattle.ob_plain.specs.Fronts.{counted_front};
 
 use crate::Plain;
-use ob_types::{Reason, Refusal, TypeSet};
-use std::alloc::Global;
+use ob_types::{ParseAnswer, Reason, Refusal, TypeSet};
+use std::alloc::{AllocError, Global};
 
 /// The standard set: the plain types, counted. (this profile)
 pub type Standard = Counting<Plain>;
@@ -83,6 +84,22 @@ impl<T: TypeSet> TypeSet for Counting<T> {
         T::kind_of(face)
     }
 
+    fn parses(kind: T::Kind) -> bool {
+        T::parses(kind)
+    }
+
+    fn same(a: &T::Face, b: &T::Face) -> bool {
+        T::same(a, b)
+    }
+
+    fn parse(
+        alloc: Global,
+        face: &T::Face,
+        rest: &[u8],
+    ) -> Result<ParseAnswer<T::Face, T::Inner>, AllocError> {
+        T::parse(alloc, face, rest)
+    }
+
     fn make(alloc: Global, kind: T::Kind, args: &[u8]) -> Result<(T::Face, T::Inner), Refusal> {
         T::make(alloc, kind, args)
     }
@@ -108,6 +125,16 @@ impl<T: TypeSet> TypeSet for Counting<T> {
     ghost made_idle = { T.made_idle };
 
     ghost closed_idle = { λ counting. T.closed_idle counting.part };
+
+    ghost front_is_used = { counted_front T.procedures T.front_is_used };
+
+    ghost itself_at_end = { T.itself_at_end };
+
+    ghost parsed_idle = { T.parsed_idle };
+
+    ghost own_face = { T.own_face };
+
+    ghost same_answers = { T.same_answers };
 
     ghost one_kind = { T.one_kind };
 

@@ -1,13 +1,13 @@
 //! Events, mutants and sections.
 
-ghost use Rattle.std.specs.Prelude.{◌≡◌, refl};
+ghost use Rattle.std.specs.Prelude.{◌≡◌, true, refl};
 ghost use Rattle.std.proofs.Common.{ap, rules};
-ghost use Rattle.ob_plain.specs.Plain.{plain_procedures, IsIdle, unless_told, one_more};
+ghost use Rattle.ob_plain.specs.Plain.{plain_procedures, same_plain_kind, IsIdle, unless_told, one_more};
 ghost use Rattle.ob_plain.specs.declared.plain.PlainKind.TheVariants.{Event, Mutant, Section};
 
 use crate::limit_of;
-use ob_types::{Reason, Refusal, TypeSet};
-use std::alloc::Global;
+use ob_types::{ParseAnswer, Reason, Refusal, TypeSet};
+use std::alloc::{AllocError, Global};
 
 /// The kinds of plain objects (Windows Internals, Object Manager: object types).
 #[derive(Clone, Copy, PartialEq, Eq, Debug)]
@@ -42,7 +42,7 @@ pub struct Plain;
 
 /// Arguments of a plain object are empty, for no limit, or its limit in decimal, from 1 to 65,535
 /// without a leading zero; all others are refused with 1, so also any that are longer than 65,535
-/// bytes or have a byte outside 0x20 to 0x7E. An open is refused with 2 at the limit and else adds
+/// bytes or have a byte outside 0x20 to 0x7E. No plain object parses. An open is refused with 2 at the limit and else adds
 /// one to the number of handles, which stops at the greatest u32. A close sets it to the handles
 /// left in the system. (this profile)
 impl TypeSet for Plain {
@@ -66,6 +66,22 @@ impl TypeSet for Plain {
 
     fn kind_of(face: &PlainFace) -> PlainKind {
         face.kind
+    }
+
+    fn parses(_kind: PlainKind) -> bool {
+        false
+    }
+
+    fn same(a: &PlainFace, b: &PlainFace) -> bool {
+        a.kind == b.kind
+    }
+
+    fn parse(
+        _alloc: Global,
+        _face: &PlainFace,
+        _rest: &[u8],
+    ) -> Result<ParseAnswer<PlainFace, PlainInner>, AllocError> {
+        unreachable!()
     }
 
     fn make(
@@ -101,6 +117,16 @@ impl TypeSet for Plain {
     ghost made_idle = { λ _ _ _. refl };
 
     ghost closed_idle = { λ _ _ _. refl };
+
+    ghost front_is_used = { λ _ _ _ _ _ told. Prim.search rules };
+
+    ghost itself_at_end = { λ _ _ told. Prim.search rules };
+
+    ghost parsed_idle = { λ _ _ _ _ _ told. Prim.search rules };
+
+    ghost own_face = { λ face. elim face.kind as (λ kind. same_plain_kind kind kind ≡ true) [ Event ↦ refl | Mutant ↦ refl | Section ↦ refl ] };
+
+    ghost same_answers = { λ _ _ _ _. refl };
 
     ghost one_kind = { elim [ Event ↦ elim [ Event ↦ λ _. refl | Mutant ↦ λ e. Prim.search rules | Section ↦ λ e. Prim.search rules ] | Mutant ↦ elim [ Event ↦ λ e. Prim.search rules | Mutant ↦ λ _. refl | Section ↦ λ e. Prim.search rules ] | Section ↦ elim [ Event ↦ λ e. Prim.search rules | Mutant ↦ λ e. Prim.search rules | Section ↦ λ _. refl ] ] };
 

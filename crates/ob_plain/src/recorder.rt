@@ -9,12 +9,15 @@ ghost use Rattle.ob_plain.specs.Recorder.{recording_procedures, opened_by, IsRec
 ghost use Rattle.ob_plain.specs.Recorder.{serial_after, opened_call};
 ghost use Rattle.ob_plain.specs.declared.recorder.Recorder.{Recorder};
 ghost use Rattle.ob_plain.specs.declared.recorder.Recorded.{Recorded};
+ghost use Rattle.ob_plain.specs.Fronts.{recorded_front, recorded_itself, recorded_idle};
+ghost use Rattle.ob_plain.specs.Recorder.{unopened_answer};
+ghost use Rattle.ob_types.specs.Parsing.{answer_of};
 
 use crate::calls::CallList;
 use crate::{Call, CallKind};
 use ob_base::Fault;
-use ob_types::{Reason, Refusal, TypeSet};
-use std::alloc::Global;
+use ob_types::{ParseAnswer, Reason, Refusal, TypeSet};
+use std::alloc::{AllocError, Global};
 
 /// A set of types with the first of its calls, as many as there is room for, and the number of the
 /// others. An open that is refused is none of them. No call takes memory for that: the room is
@@ -92,6 +95,22 @@ impl<T: TypeSet> TypeSet for Recorder<T> {
         T::kind_of(face)
     }
 
+    fn parses(kind: T::Kind) -> bool {
+        T::parses(kind)
+    }
+
+    fn same(a: &T::Face, b: &T::Face) -> bool {
+        T::same(a, b)
+    }
+
+    fn parse(
+        alloc: Global,
+        face: &T::Face,
+        rest: &[u8],
+    ) -> Result<ParseAnswer<T::Face, Recorded<T::Inner>>, AllocError> {
+        Ok(unopened(T::parse(alloc, face, rest)?))
+    }
+
     fn make(
         alloc: Global,
         kind: T::Kind,
@@ -141,11 +160,40 @@ impl<T: TypeSet> TypeSet for Recorder<T> {
 
     ghost closed_idle = { λ recorder inner. T.closed_idle recorder.part inner.part };
 
+    ghost front_is_used = { recorded_front T.procedures T.front_is_used };
+
+    ghost itself_at_end = { recorded_itself T.procedures T.itself_at_end };
+
+    ghost parsed_idle = { recorded_idle T.procedures T.idle T.parsed_idle };
+
+    ghost own_face = { T.own_face };
+
+    ghost same_answers = { λ a b rest told. ap unopened_answer (T.same_answers a b rest told) };
+
     ghost one_kind = { T.one_kind };
 
     ghost own_kind = { T.own_kind };
 
     ghost equal_kinds = { T.equal_kinds };
+}
+
+/// What a parse procedure answers, where an instance that it makes was not opened yet.
+fn unopened<F, I>(answer: ParseAnswer<F, I>) -> ParseAnswer<F, Recorded<I>>
+    ensures { answer_of result ≡ unopened_answer (answer_of answer) }
+{
+    match answer {
+        ParseAnswer::Itself => ParseAnswer::Itself,
+        ParseAnswer::Front { used, next, inner } => ParseAnswer::Front {
+            used,
+            next,
+            inner: Recorded {
+                part: inner,
+                serial: 0,
+            },
+        },
+        ParseAnswer::Reparse(text) => ParseAnswer::Reparse(text),
+        ParseAnswer::Refused(code) => ParseAnswer::Refused(code),
+    }
 }
 
 /// An open that the set below accepts is noted, and one that it refuses changes nothing. The first that
@@ -157,10 +205,4 @@ pub fn accepted_opens_are_noted<T: TypeSet>()
     ensures refused { (recorder : Recorder T) (inner : Recorded T.Inner) (reason : model.Reason) (k : ℕ) → (T.procedures).refuses_to_open (part_of recorder) inner.part reason ≡ Some k → (recording_procedures T.procedures).opened recorder inner reason ≡ (recorder, inner) }
     ensures first { (recorder : Recorder T) (inner : Recorded T.Inner) (reason : model.Reason) → (T.procedures).refuses_to_open (part_of recorder) inner.part reason ≡ None → inner.serial ≡ 0 → ((recording_procedures T.procedures).opened recorder inner reason).1.serial ≡ counted (last_of recorder) }
     ensures later { (recorder : Recorder T) (inner : Recorded T.Inner) (reason : model.Reason) → inner.serial ≢ 0 → ((recording_procedures T.procedures).opened recorder inner reason).1.serial ≡ inner.serial }
-{}
-
-/// The recorder of a lawful set is lawful, also in its parse procedures. Nothing is done when it runs.
-/// (this profile)
-pub fn recorder_is_lawful<T: TypeSet>()
-    ensures { model.IsLawful T.procedures T.idle → model.IsLawful (recording_procedures T.procedures) (IsRecordedIdle T.idle) }
 {}

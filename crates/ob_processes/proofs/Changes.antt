@@ -3,6 +3,7 @@ use Rattle.std.proofs.Common.{◌≡◌, ◌∙◌, ℕ, ◌+◌, ◌<◌, ◌�
 use Rattle.std.proofs.lemmas.List.{length-append, map-append}
 use Rattle.std.proofs.lemmas.List.Elements.{All-nil, All-cons, All-head, All-tail, All-push, All-filter, filter-append}
 use Rattle.std.proofs.lemmas.List.Kept.{AllPairs-filter}
+use Rattle.std.proofs.lemmas.List.Filters.{length-filter_both}
 use Rattle.std.proofs.lemmas.Map.{keys-set_value}
 use Rattle.std.specs.BTreeMap.{is_at, insert_entry}
 use Rattle.std.specs.List.Sorted.{IsStrictlySortedBy}
@@ -11,7 +12,7 @@ use Rattle.std.specs.Ordering.{nat_cmp}
 use Rattle.ob_model.specs.declared.state.Held.{Held}
 use Rattle.ob_model.specs.declared.state.Process.{Process}
 use Rattle.ob_model.specs.Closing.{is_handle}
-use Rattle.ob_model.proofs.Finds.{filter_all}
+use Rattle.ob_model.proofs.Finds.{filter_all, filter_none}
 use Rattle.ob_model.proofs.Ids.{Differ, Differ-from_rising, is_at-id, insert_entry-last, remove_entry-id}
 use Rattle.ob_devmap.specs.Maps.{Directories, map_in, MapChanges}
 use Rattle.ob_handles.specs.Table.{without}
@@ -156,14 +157,23 @@ turn_started : (es : Entries) (p : ℕ) → in_turn (es ++ (p, []) ∷ []) ≡ i
 turn_started [] p = refl
 turn_started (e ∷ es) p = ap (λ hs. e.1 ++ hs) (turn_started es p)
 
-turn_ended : (p : ℕ) (es : Entries) → handles_in (at es p) ≡ [] → in_turn (remove_entry (is_at (nat_cmp p)) es) ≡ in_turn es
-turn_ended p [] empty = refl
-turn_ended p (e ∷ es) empty = go (is_at (nat_cmp p) e.0) empty (turn_ended p es)
+turn_ended : (p : ℕ) (es : Entries) → All Table es → in_turn (filter (λ e. not (e.0 == p)) es) ≡ filter (λ h. not (is_of p h)) (in_turn es)
+turn_ended p [] tables = refl
+turn_ended p (e ∷ es) tables =
+    go (e.0 == p) refl (turn_ended p es (All-tail Table e es tables)) ∙ sym (filter-append (λ h. not (is_of p h)) e.1 (in_turn es))
   where
-    go : (t : Bool) → handles_in (cond t (Some e.1) (at es p)) ≡ [] → (handles_in (at es p) ≡ [] → in_turn (remove_entry (is_at (nat_cmp p)) es) ≡ in_turn es)
-        → in_turn (cond t es (e ∷ remove_entry (is_at (nat_cmp p)) es)) ≡ e.1 ++ in_turn es
-    go true none more = ap (λ hs. hs ++ in_turn es) (sym none)
-    go false none more = ap (λ hs. e.1 ++ hs) (more none)
+    table : Table e
+    table = All-head Table e es tables
+
+    go : (t : Bool) → (e.0 == p) ≡ t → in_turn (filter (λ x. not (x.0 == p)) es) ≡ filter (λ h. not (is_of p h)) (in_turn es)
+        → in_turn (cond (not t) (e ∷ filter (λ x. not (x.0 == p)) es) (filter (λ x. not (x.0 == p)) es))
+        ≡ filter (λ h. not (is_of p h)) e.1 ++ filter (λ h. not (is_of p h)) (in_turn es)
+    go true same more =
+        more ∙ ap (λ hs. hs ++ filter (λ h. not (is_of p h)) (in_turn es)) (sym (filter_none (λ h. not (is_of p h)) e.1
+        (λ k d below. ap not (subst (λ n. ((get_or e.1 k d).process == n) ≡ true) (eqb-true e.0 p same) (table.own k d below)))))
+    go false other more =
+        ap (λ hs. e.1 ++ hs) more ∙ ap (λ hs. hs ++ filter (λ h. not (is_of p h)) (in_turn es)) (sym (filter_all (λ h. not (is_of p h)) e.1
+        (λ k d below. ap not (ap (λ n. n == p) (eqb-true (get_or e.1 k d).process e.0 (table.own k d below)) ∙ other))))
 
 -- the others have their maps still
 processes_without : (maps left : Directories) (p : ℕ) (es : Entries) → MapChanges p None maps left
@@ -271,21 +281,33 @@ module _ (p kept : ℕ) (es : Entries) (is : IsRunning es kept) where
       total = is.total ∙ ap length (sym handles_begun);
     }
 
-  -- a process without handles ends
-  module _ (new : Entries) (empty : handles_in (at es p) ≡ []) (taken : new ≡ remove_entry (is_at (nat_cmp p)) es) where
+  -- a process ends
+  module _ (new : Entries) (taken : new ≡ remove_entry (is_at (nat_cmp p)) es) where
     pub others : new ≡ filter (λ e. not (e.0 == p)) es
     others = taken ∙ remove_entry-id p es differ
 
     pub processes_ended : (maps left : Directories) → MapChanges p None maps left → processes_of left new ≡ filter (λ x. not (x.number == p)) (processes_of maps es)
     processes_ended maps left cleared = ap (processes_of left) others ∙ processes_without maps left p es cleared
 
-    pub handles_ended : handles_of new ≡ handles_of es
-    handles_ended = ap handles_of taken ∙ ap by_order (turn_ended p es empty)
+    pub handles_ended : handles_of new ≡ filter (λ h. not (is_of p h)) (handles_of es)
+    handles_ended = ap handles_of others ∙ ap by_order (turn_ended p es is.tables) ∙ sym (filter-by_order (λ h. not (is_of p h)) (in_turn es))
 
-    pub running_ended : IsStrictlySortedBy nat_cmp (keys_of new) → IsRunning new kept
-    running_ended numbers = record {
-      numbers = numbers;
-      tables = subst (All Table) (sym others) (All-filter (λ e. not (e.0 == p)) Table es is.tables);
-      rising = subst OrdersRise (sym handles_ended) is.rising;
-      total = is.total ∙ ap length (sym handles_ended);
-    }
+    module _ (x : List Held) (found : handles_in (at es p) ≡ x) where
+      lengths_ended : length (handles_of new) + length x ≡ kept
+      lengths_ended =
+          let parts = length-filter_both (is_of p) (λ h. not (is_of p h)) (λ h. refl) (handles_of es) in
+          let own : length (filter (is_of p) (handles_of es)) ≡ length x = ap length (handles_at p es differ is.tables ∙ found) in
+          let left : length (handles_of new) ≡ length (filter (λ h. not (is_of p h)) (handles_of es)) = ap length handles_ended in
+          let all : kept ≡ length (handles_of es) = is.total in
+          omega (arith, parts, own, left, all)
+
+      pub many_ended : length x ≤ kept
+      many_ended = omega (arith, lengths_ended)
+
+      pub running_ended : (left : ℕ) → left + length x ≡ kept → IsStrictlySortedBy nat_cmp (keys_of new) → IsRunning new left
+      running_ended left so_many numbers = record {
+        numbers = numbers;
+        tables = subst (All Table) (sym others) (All-filter (λ e. not (e.0 == p)) Table es is.tables);
+        rising = subst OrdersRise (sym handles_ended) (AllPairs-filter (λ a b. a.order < b.order) (λ h. not (is_of p h)) (handles_of es) is.rising);
+        total = omega (arith, lengths_ended, so_many);
+      }

@@ -76,6 +76,15 @@ counts_fewer test handles old new h are less one = λ object.
     minus : (a b : ℕ) → (a + b) - a ≡ b
     minus a b = omega arith
 
+-- the counts of those that don't pass a test
+pub counts_parted : (test : Held → Bool) (handles passing : List Held) (object : ℕ) → filter test handles ≡ passing
+    → count_by (leads_to object) handles - count_by (leads_to object) passing ≡ count_by (leads_to object) (filter (λ k. not (test k)) handles)
+counts_parted test handles passing object are =
+    let parts : count_by (leads_to object) (filter test handles) + count_by (leads_to object) (filter (λ k. not (test k)) handles) ≡ count_by (leads_to object) handles =
+    sum_by-filter_both test (λ k. not (test k)) (λ _. refl) (λ k. cond (leads_to object k) 1 0) handles in
+    let same : count_by (leads_to object) (filter test handles) ≡ count_by (leads_to object) passing = ap (count_by (leads_to object)) are in
+    omega (arith, parts, same)
+
 -- a value is that of one handle of a table
 pub one_of_value : (handles : List Held) (value : ℕ) (h : Held) → AllPairs (λ a b. a.value ≢ b.value) handles → find (λ k. k.value == value) handles ≡ Some h
     → filter (λ k. k.value == value) handles ≡ h ∷ []

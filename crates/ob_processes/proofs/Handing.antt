@@ -1,11 +1,10 @@
 -- Handles that a process begins with: their values, their orders, and what is left without them.
-use Rattle.std.proofs.Common.{◌≡◌, ◌≢◌, ◌∙◌, ℕ, suc, ◌+◌, ◌<◌, ◌≤◌, ◌==◌, ◌&&◌, ◌||◌, Bool, true, false, not, cond, List, [], ◌∷◌, ◌++◌, length, filter, find, get_or, map, take, Option, None, Some, Result, Ok, Err, All, refl, ap, sym, subst, arith, eq-eqb}
+use Rattle.std.proofs.Common.{◌≡◌, ◌≢◌, ◌∙◌, ℕ, suc, ◌+◌, ◌<◌, ◌==◌, ◌&&◌, Bool, true, false, not, cond, List, [], ◌∷◌, ◌++◌, length, filter, find, get_or, map, take, Option, None, Some, Result, Ok, Err, All, refl, ap, sym, subst, arith, eq-eqb}
 use Rattle.std.specs.Prelude.{AllPairs}
 use Rattle.std.specs.Result.{IfOk}
-use Rattle.std.specs.List.{list_any}
 use Rattle.std.specs.Option.{is_some}
 use Rattle.std.proofs.Common.{Vec}
-use Rattle.std.proofs.lemmas.Bool.{ne_eqb, or_right}
+use Rattle.std.proofs.lemmas.Bool.{ne_eqb}
 use Rattle.std.proofs.lemmas.List.{append-nil, get_or-take, get_or_default, length-take-le}
 use Rattle.std.proofs.Math.Seq.{take-suc}
 use Rattle.std.proofs.lemmas.List.Elements.{All-nil, All-cons, All-head, All-tail, All-append, All-weaker, filter-append}
@@ -99,62 +98,11 @@ module _ (all : List Held) (k : ℕ) (x : Held) (within : k < length all) (is : 
       let before : i < k = subst (λ (n : ℕ). i < n) so_far below in
       apart i k d before within (ap (λ (h : Held). h.value) (sym (get_or-take k all i d before)) ∙ same ∙ ap (λ (h : Held). h.value) (is ∙ get_or_default all k x d within))
 
--- ---- taken one after another
-
-found_any : (p : ℕ) (hs : List Held) (h : Held) → find (is_of p) hs ≡ Some h → list_any (is_handle p h.value) hs ≡ true
-found_any p [] h found = cc
-found_any p (k ∷ hs) h found = go (is_of p k) refl found (found_any p hs h)
-  where
-    go : (t : Bool) → is_of p k ≡ t → cond t (Some k) (find (is_of p) hs) ≡ Some h → (find (is_of p) hs ≡ Some h → list_any (is_handle p h.value) hs ≡ true)
-        → (is_handle p h.value k || list_any (is_handle p h.value) hs) ≡ true
-    go true own found more =
-        let it : k ≡ h = cc in
-        ap (λ b. b || list_any (is_handle p h.value) hs) (ap (λ b. b && (k.value == h.value)) own ∙ eq-eqb k.value h.value (ap (λ (x : Held). x.value) it))
-    go false other found more = or_right (is_handle p h.value k) _ (more found)
-
-fewer_left : {X : Type 0} (gone : X → Bool) (xs : List X) → length (filter (λ x. not (gone x)) xs) ≤ length xs
-fewer_left gone [] = omega arith
-fewer_left {X} gone (x ∷ xs) = go (gone x) (fewer_left gone xs)
-  where
-    go : (t : Bool) → length (filter (λ y. not (gone y)) xs) ≤ length xs → length (cond (not t) (x ∷ filter (λ y. not (gone y)) xs) (filter (λ y. not (gone y)) xs)) ≤ length (x ∷ xs)
-    go true less = omega (arith, less)
-    go false less = omega (arith, less)
-
-fewer : {X : Type 0} (gone : X → Bool) (xs : List X) → list_any gone xs ≡ true → length (filter (λ x. not (gone x)) xs) < length xs
-fewer gone [] some = cc
-fewer {X} gone (x ∷ xs) some = go (gone x) some (fewer gone xs) (fewer_left gone xs)
-  where
-    go : (t : Bool) → (t || list_any gone xs) ≡ true → (list_any gone xs ≡ true → length (filter (λ y. not (gone y)) xs) < length xs) → length (filter (λ y. not (gone y)) xs) ≤ length xs
-        → length (cond (not t) (x ∷ filter (λ y. not (gone y)) xs) (filter (λ y. not (gone y)) xs)) < length (x ∷ xs)
-    go true some more less = omega (arith, less)
-    go false some more less = let below = more some in omega (arith, below)
-
-keeps_all : {X : Type 0} (keeps gone : X → Bool) (xs : List X) → ((x : X) → gone x ≡ true → keeps x ≡ false) → filter keeps (filter (λ x. not (gone x)) xs) ≡ filter keeps xs
-keeps_all keeps gone [] apart = refl
-keeps_all {X} keeps gone (x ∷ xs) apart = go (gone x) refl (keeps_all keeps gone xs apart)
-  where
-    go : (t : Bool) → gone x ≡ t → filter keeps (filter (λ y. not (gone y)) xs) ≡ filter keeps xs
-        → filter keeps (cond (not t) (x ∷ filter (λ y. not (gone y)) xs) (filter (λ y. not (gone y)) xs)) ≡ cond (keeps x) (x ∷ filter keeps xs) (filter keeps xs)
-    go true is more = more ∙ ap (λ b. cond b (x ∷ filter keeps xs) (filter keeps xs)) (sym (apart x is))
-    go false is more = ap (λ ys. cond (keeps x) (x ∷ ys) ys) more
-
-own_handle : (p value : ℕ) (h : Held) → is_handle p value h ≡ true → not (is_of p h) ≡ false
-own_handle p value h e = go (is_of p h) e
-  where
-    go : (t : Bool) → (t && (h.value == value)) ≡ true → not t ≡ false
-    go true e = refl
-    go false e = cc
-
-module _ (p : ℕ) (before after : List Held) (h : Held) (took : after ≡ filter (λ k. not (is_handle p h.value k)) before) where
-  pub one_less : find (is_of p) before ≡ Some h → length after < length before
-  one_less found = subst (λ hs. length hs < length before) (sym took) (fewer (is_handle p h.value) before (found_any p before h found))
-
-  pub same_others : filter (λ k. not (is_of p k)) after ≡ filter (λ k. not (is_of p k)) before
-  same_others = ap (filter (λ k. not (is_of p k))) took ∙ keeps_all (λ k. not (is_of p k)) (is_handle p h.value) before (own_handle p h.value)
+-- ---- none is taken
 
 -- where none is found none is left out
-pub all_others : (p : ℕ) (hs : List Held) → find (is_of p) hs ≡ None → filter (λ k. not (is_of p k)) hs ≡ hs
-all_others p hs none = filter_all (λ k. not (is_of p k)) hs (λ k d within. ap not (none_found p hs none k d within))
+pub none_goes : (p : ℕ) (hs : List Held) → find (is_of p) hs ≡ None → filter (λ k. not (is_of p k)) hs ≡ hs
+none_goes p hs none = filter_all (λ k. not (is_of p k)) hs (λ k d within. ap not (none_found p hs none k d within))
   where
     none_found : (p : ℕ) (hs : List Held) → find (is_of p) hs ≡ None → All (λ k. is_of p k ≡ false) hs
     none_found p [] none = All-nil (λ k. is_of p k ≡ false)

@@ -1,5 +1,5 @@
 -- The counts of all handles, where a process or a handle comes or goes.
-use Rattle.std.proofs.Common.{◌≡◌, ◌∙◌, ℕ, ◌+◌, ◌<◌, ◌≤◌, ◌==◌, ◌&&◌, nat_lt, not, List, [], ◌∷◌, ◌++◌, length, filter, find, count_by, Option, None, Some, All, refl, ap, sym, subst}
+use Rattle.std.proofs.Common.{◌≡◌, ◌∙◌, ℕ, ◌+◌, ◌-◌, ◌<◌, ◌≤◌, ◌==◌, ◌&&◌, nat_lt, not, List, [], ◌∷◌, ◌++◌, length, filter, find, count_by, Option, None, Some, All, refl, ap, sym, subst}
 use Rattle.std.proofs.lemmas.List.Sums.{length-filter}
 use Rattle.std.specs.BTreeMap.{is_at, insert_entry}
 use Rattle.std.specs.List.{list_any}
@@ -14,12 +14,12 @@ use Rattle.ob_handles.specs.Table.{IsUnused, without}
 use Rattle.ob_counts.specs.Counts.{Numbers, count_of, CountsOneMore, CountsOneLess}
 use Rattle.ob_devmap.specs.Maps.{Directories, MapChanges}
 use Rattle.ob_processes.specs.Counts.{Counts, AreKept}
-use Rattle.ob_processes.specs.Running.{Running, Entries, handles_of, seen}
+use Rattle.ob_processes.specs.Running.{Running, Entries, handles_of, processes_of, seen}
 use Rattle.ob_processes.proofs.Entries.{at, handles_in, is_of, filter_both, handles_at}
-use Rattle.ob_processes.proofs.Counting.{counts_more, counts_fewer, counts_room, holders, taken_none}
-use Rattle.ob_processes.proofs.Changes.{put, stays, handles_more, handles_fewer, begun, running_begun, handles_begun, others, running_ended, handles_ended}
+use Rattle.ob_processes.proofs.Counting.{counts_more, counts_fewer, counts_parted, counts_room, holders, taken_none}
+use Rattle.ob_processes.proofs.Changes.{put, stays, handles_more, handles_fewer, begun, running_begun, handles_begun, others, many_ended, running_ended, processes_ended, handles_ended}
 use Rattle.ob_processes.proofs.Mapped.{mapped_put, mapped_begun, mapped_ended}
-use Rattle.ob_processes.proofs.Seen.{all_handles, in_found, handles_now, written_same}
+use Rattle.ob_processes.proofs.Seen.{all_handles, in_found, handles_now, processes_now, written_same}
 use Rattle.ob_processes.proofs.Written.{kept_more, kept_fewer}
 
 -- what was granted and taken back leaves the process as it was
@@ -82,6 +82,20 @@ module _ (maps : Directories) (es : Entries) (kept : ℕ) (numbers : Numbers) (a
                 ∙ ap (filter (λ k. k.value == value)) (handles_at key es (Differ-from_rising es are.running.numbers) are.running.tables ∙ ap handles_in found)
                 ∙ one
 
+    -- a process ends
+    module _ (new : Entries) (taken : new ≡ remove_entry (is_at (nat_cmp key)) es) where
+      pub processes_left : (left : Directories) → MapChanges p None maps left → processes_of left new ≡ filter (λ x. not (x.number == p)) now.processes
+      processes_left left cleared =
+          processes_ended key kept es are.running new taken maps left (subst (λ n. MapChanges n None maps left) (sym is_p) cleared)
+          ∙ ap (filter (λ x. not (x.number == key))) (processes_now maps es kept are.running now same)
+          ∙ ap (λ n. filter (λ x. not (x.number == n)) now.processes) is_p
+
+      pub handles_left : handles_of new ≡ filter (λ h. not (h.process == p)) now.handles
+      handles_left =
+          handles_ended key kept es are.running new taken
+          ∙ ap (filter (λ h. not (h.process == key))) (handles_now maps es kept are.running now same)
+          ∙ ap (λ n. filter (λ h. not (h.process == n)) now.handles) is_p
+
   module _ (key : ℕ) (new : Entries) where
     pub counted_begun : All (λ e. e.0 < key) es → new ≡ insert_entry nat_cmp es key [] → IsStrictlySortedBy nat_cmp (keys_of new) → AreKept maps new kept numbers
     counted_begun newest put_in rising = record {
@@ -90,13 +104,20 @@ module _ (maps : Directories) (es : Entries) (kept : ℕ) (numbers : Numbers) (a
       counts = subst (Counts numbers) (sym (handles_begun key kept es are.running new newest put_in)) are.counts;
     }
 
-    pub counted_ended : handles_in (at es key) ≡ [] → new ≡ remove_entry (is_at (nat_cmp key)) es → IsStrictlySortedBy nat_cmp (keys_of new)
-        → (left : Directories) → MapChanges key None maps left → AreKept left new kept numbers
-    counted_ended empty taken rising left cleared = record {
-      running = running_ended key kept es are.running new empty taken rising;
-      mapped = mapped_ended maps left key es new (others key kept es are.running new empty taken) cleared are.mapped;
-      counts = subst (Counts numbers) (sym (handles_ended key kept es are.running new empty taken)) are.counts;
-    }
+    module _ (x : List Held) (found : handles_in (at es key) ≡ x) (taken : new ≡ remove_entry (is_at (nat_cmp key)) es) where
+      pub enough_ended : length x ≤ kept
+      enough_ended = many_ended key kept es are.running new taken x found
+
+      pub counted_ended : (less : ℕ) → less + length x ≡ kept → IsStrictlySortedBy nat_cmp (keys_of new) → (left : Directories) → MapChanges key None maps left
+          → (after : Numbers) → ((object : ℕ) → count_of after object ≡ count_of numbers object - count_by (λ h. h.object == object) x) → AreKept left new less after
+      counted_ended less so_many rising left cleared after lowered = record {
+        running = running_ended key kept es are.running new taken x found less so_many rising;
+        mapped = mapped_ended maps left key es new (others key kept es are.running new taken) cleared are.mapped;
+        counts = λ object.
+            lowered object ∙ ap (λ n. n - count_by (λ h. h.object == object) x) (are.counts object)
+            ∙ counts_parted (is_of key) (handles_of es) x object (handles_at key es (Differ-from_rising es are.running.numbers) are.running.tables ∙ found)
+            ∙ ap (count_by (λ h. h.object == object)) (sym (handles_ended key kept es are.running new taken));
+      }
 
 -- where more handles lead to an object than those of a process, another process has one
 pub other_holder : (p object inside all : ℕ) (handles : List Held) → inside ≡ count_by (λ h. (h.process == p) && (h.object == object)) handles

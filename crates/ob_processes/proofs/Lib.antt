@@ -8,3 +8,4 @@ pub mod Handing
 pub mod Written
 pub mod Kept
 pub mod Mapped
+pub mod Leaving

@@ -30,7 +30,7 @@ map_some maps p None = refl
 map_some maps p (Some x) = refl
 
 -- where a test keeps nothing, nothing passes
-none_passes : {X : Type 0} (test : X → Bool) (xs : List X) → filter test xs ≡ [] → All (λ x. test x ≡ false) xs
+pub none_passes : {X : Type 0} (test : X → Bool) (xs : List X) → filter test xs ≡ [] → All (λ x. test x ≡ false) xs
 none_passes test [] none = All-nil (λ x. test x ≡ false)
 none_passes {X} test (x ∷ xs) none = go (test x) refl none (none_passes test xs)
   where

@@ -2,3 +2,4 @@ pub mod ByOrder
 pub mod Running
 pub mod Counts
 pub mod Handed
+pub mod Ending

@@ -1,6 +1,6 @@
 //! One live process.
 
-ghost use Rattle.std.specs.Prelude.{◌≡◌, ◌≢◌, ◌+◌, ◌<◌, ◌≤◌, ◌==◌, if◌then◌else◌, [], ◌∷◌, ◌++◌, Err};
+ghost use Rattle.std.specs.Prelude.{◌≡◌, ◌≢◌, ◌+◌, ◌<◌, ◌≤◌, ◌==◌, if◌then◌else◌, [], ◌∷◌, ◌++◌, Err, true};
 ghost use Rattle.std.specs.Prelude.{◌⊎◌, length, filter, count_by, All, AllPairs, IfSome, IfOk, IfErr, OnOk, OnErr};
 ghost use Rattle.std.specs.List.{find, slice_get};
 ghost use Rattle.std.specs.Option.{is_some};
@@ -9,7 +9,9 @@ ghost use Rattle.ob_base.specs.declared.status.Status.TheVariants.{InsufficientR
 ghost use Rattle.ob_model.specs.State.{greatest_number, most_handles};
 ghost use Rattle.ob_model.specs.Grants.{IsHandleValue};
 ghost use Rattle.ob_handles.specs.Table.{IsUnused, without};
+ghost use Rattle.ob_counts.specs.Counts.{is_listed};
 
+use crate::ending::Ending;
 use ob_base::{Fault, Handle, ObjId, Proc};
 use ob_counts::Counts;
 use ob_handles::HandleTable;
@@ -137,5 +139,13 @@ impl<H: HandleTable> Live<H> {
         let taken = self.table.take(value)?;
         self.counts.lower(taken.object);
         Some(taken)
+    }
+    /// What is left of it, where its process is live no longer. Takes no memory.
+    pub(crate) fn into_ending(self) -> Ending<H>
+        ensures handles { result.handles ≡ self }
+        ensures touched { All (λ h. is_listed result.touched h.object ≡ true) result.handles }
+    {
+        let (table, touched) = (self.table, self.counts.into_touched());
+        Ending { table, touched }
     }
 }

@@ -1,7 +1,7 @@
 //! The live processes.
 
 ghost use Rattle.std.specs.Prelude.{◌≡◌, ◌≢◌, ◌+◌, ◌<◌, ◌≤◌, ◌==◌, ◌&&◌, not, [], ◌∷◌, ◌++◌, None, Some, Err, true, false};
-ghost use Rattle.std.specs.Prelude.{◌⊎◌, length, filter, map, count_by, All, AllPairs, IfOk, IfErr, OnOk, OnErr};
+ghost use Rattle.std.specs.Prelude.{◌⊎◌, length, filter, map, count_by, All, AllPairs, IfSome, IfOk, IfErr, OnOk, OnErr};
 ghost use Rattle.std.specs.List.{find, list_any};
 ghost use Rattle.std.specs.Option.{is_some, option_and_then, option_map_or};
 ghost use Rattle.ob_base.specs.declared.fault.Fault.TheVariants.{Memory, Refused};
@@ -9,10 +9,12 @@ ghost use Rattle.ob_base.specs.declared.status.Status.TheVariants.{InsufficientR
 ghost use Rattle.ob_model.specs.State.{global_id, greatest_number, most_handles};
 ghost use Rattle.ob_model.specs.Grants.{IsHandleValue};
 ghost use Rattle.ob_model.specs.Closing.{is_handle};
+ghost use Rattle.ob_counts.specs.Counts.{is_listed};
 ghost use Rattle.ob_processes.specs.ByOrder.{OrdersRise};
 ghost use Rattle.ob_processes.specs.Handed.{handed_on};
 ghost use Rattle.ob_processes.specs.Running.{with_map};
 
+use crate::ending::Ending;
 use crate::live::Live;
 use ob_base::{Fault, Handle, ObjId, Proc};
 use ob_counts::Counts;
@@ -101,15 +103,26 @@ impl<H: HandleTable> Processes<H> {
         Ok(())
     }
 
-    /// A process that has no handle is live no longer, and its device map goes with it; where it isn't
-    /// live nothing changes. Takes no memory.
-    pub fn end(&mut self, process: Proc)
-        requires empty { find (λ h. h.process == process) self.old.handles ≡ None }
+    /// A process is live no longer, its device map goes with it, and so do its handles: they are given,
+    /// to be closed one after another, with the objects that they lead to. `None` where it isn't live,
+    /// and then nothing changes. Takes no memory, and a time that grows with the objects that its
+    /// handles lead to, times the logarithm of all.
+    ///
+    /// Source: Windows Internals, Processes (what the end of a process closes).
+    pub fn end(&mut self, process: Proc) -> Option<Ending<H>>
         ensures others { self.new.processes ≡ filter (λ x. not (x.number == process)) self.old.processes }
-        ensures handles { self.new.handles ≡ self.old.handles }
+        ensures handles { self.new.handles ≡ filter (λ h. not (h.process == process)) self.old.handles }
+        ensures live { is_some result ≡ is_some (find (λ x. x.number == process) self.old.processes) }
+        ensures own { IfSome result (λ ending. ending.handles ≡ filter (λ h. h.process == process) self.old.handles) }
+        ensures touched { IfSome result (λ ending. All (λ h. is_listed ending.touched h.object ≡ true) ending.handles) }
     {
-        self.live.remove(&process.0);
+        let live = self.live.remove(&process.0);
         self.maps.clear(process);
+        let live = live?;
+        self.total -= live.len();
+        let ending = live.into_ending();
+        ending.uncount(&mut self.counts);
+        Some(ending)
     }
 
     /// Whether a process is live. Takes no memory.
@@ -334,7 +347,7 @@ impl<H: HandleTable> Processes<H> {
     {
         self.start(process, map)?;
         if let Err(refused) = self.put_all(process, inherited, order) {
-            self.withdraw(process);
+            self.end(process);
             return Err(refused);
         }
         Ok(())
@@ -364,17 +377,6 @@ impl<H: HandleTable> Processes<H> {
             next += 1;
         }
         Ok(())
-    }
-
-    /// Takes a process away with all its handles.
-    fn withdraw(&mut self, process: Proc)
-        ensures processes { self.new.processes ≡ filter (λ x. not (x.number == process)) self.old.processes }
-        ensures handles { self.new.handles ≡ filter (λ h. not (h.process == process)) self.old.handles }
-    {
-        while let Some(held) = self.oldest(process) {
-            self.take(process, held.value);
-        }
-        self.end(process);
     }
 
     /// Takes the handle of a process of a value out, and gives it; `None` where it has none, and then

@@ -9,7 +9,7 @@ use Rattle.ob_base.specs.declared.status.Status.TheVariants.{Success, InvalidHan
 use Rattle.ob_model.specs.declared.command.Command.{Command}
 use Rattle.ob_model.specs.declared.command.Command.TheVariants as command
 use Rattle.ob_model.specs.declared.reply.Answer.{Answer}
-use Rattle.ob_model.specs.declared.reply.Answer.TheVariants.{Done}
+use Rattle.ob_model.specs.declared.reply.Answer.TheVariants.{Done, Ticket}
 use Rattle.ob_model.specs.declared.reply.Event.TheVariants.{Start}
 use Rattle.ob_model.specs.declared.reply.Given.{Given}
 use Rattle.ob_model.specs.declared.reply.Given.TheVariants as given
@@ -375,13 +375,14 @@ module _ {T F I : Type 0} (g : Procedures PlainKind T F I) (s t u v : State Plai
         (idle c (command.NewProcess inherit) f (λ q value closed. closed)) child inherit a.given b.given same on.inherited hold.told hold_too.told
     done ExitProcess f e h k = exits f e h k
 
--- alike answers have one status, and give the same but for values
-reply_in : Answer → Reply
-reply_in (Done reply) = reply
+-- alike answers have one status, and give the same but for values: the reply of an answer, or another one
+reply_in : Reply → Answer → Reply
+reply_in other (Done reply) = reply
+reply_in other (Ticket number) = other
 
 pub replies_alike : (a b : Reply) → AreAlikeAnswers (Done a) (Done b) → (a.status ≡ b.status) × (unvalued_given a.given ≡ unvalued_given b.given)
 unfolding reply_in
-replies_alike a b same = (ap (λ x. (reply_in x).status) same, ap (λ x. (reply_in x).given) same)
+replies_alike a b same = (ap (λ x. (reply_in a x).status) same, ap (λ x. (reply_in a x).given) same)
 
 pub words_stay_alike : {T F I : Type 0} (g : Procedures PlainKind T F I) (s t u v : State PlainKind T F I) (p : ℕ) (request : Request (List ℕ)) (words others : Words)
     (c d : Command PlainKind) (a b : Reply)

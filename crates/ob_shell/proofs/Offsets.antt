@@ -7,11 +7,12 @@ use Rattle.ob_base.specs.declared.status.Status.{Status}
 use Rattle.ob_base.specs.declared.status.Status.TheVariants.{Success, InvalidHandle, InsufficientResources, NameTooLong, ObjectTypeMismatch, ObjectNameExists, ObjectNameCollision, ProcessGone, TypeRefused}
 use Rattle.ob_base.specs.Attrs.{has_flag, open_if_flag}
 use Rattle.ob_base.specs.Handle.{key_of}
+use Rattle.ob_model.specs.declared.command.Command.{Command}
 use Rattle.ob_model.specs.declared.command.Command.TheVariants as command
 use Rattle.ob_model.specs.declared.command.Place.{Place}
 use Rattle.ob_model.specs.declared.command.Place.TheVariants as place
 use Rattle.ob_model.specs.declared.reply.Answer.{Answer}
-use Rattle.ob_model.specs.declared.reply.Answer.TheVariants.{Done}
+use Rattle.ob_model.specs.declared.reply.Answer.TheVariants.{Done, Ticket}
 use Rattle.ob_model.specs.declared.reply.Event.{Event}
 use Rattle.ob_model.specs.declared.reply.Event.TheVariants.{Start}
 use Rattle.ob_model.specs.declared.reply.Given.{Given}
@@ -20,7 +21,8 @@ use Rattle.ob_model.specs.declared.reply.Reply.{Reply}
 use Rattle.ob_model.specs.declared.state.Held.{Held}
 use Rattle.ob_model.specs.declared.state.Wanted.{Wanted}
 use Rattle.ob_model.specs.declared.state.Wanted.TheVariants as wanted
-use Rattle.ob_model.specs.State.{State, is_live, is_directory, held_of, body_of}
+use Rattle.ob_model.specs.State.{State, is_live, is_directory, held_of, body_of, is_store_full}
+use Rattle.ob_model.specs.PendingOpens.{with_pending}
 use Rattle.ob_model.specs.Names.{longest_name}
 use Rattle.ob_model.specs.Looks.{Look, At, Vacant, Parse, Refused, LooksUp, most_reparses}
 use Rattle.ob_model.specs.Procedures.{Procedures, Reason, Opened, Created, Duplicated, without_parse}
@@ -51,6 +53,7 @@ use Rattle.ob_shell.specs.Offsets.{HoldHandles, OffsetsAreAddedInFull}
 -- an answer gives no more than the greatest handle value
 abbrev GivesHandle : Answer → Type 0
 GivesHandle (Done reply) = given_handle reply.given ≤ greatest_handle
+GivesHandle (Ticket number) = Unit {0}
 
 module _ {K T F I : Type 0} where
   refused_gives : (s t : State K T F I) (status : Status) (answer : Answer) → IsRefused s status answer t → GivesHandle answer
@@ -122,7 +125,9 @@ module _ {K T F I : Type 0} (g : Procedures K T F I) where
       → Opens g s p attrs wanted look answer t → GivesHandle answer
   opens_gives s t p attrs wanted (Refused status) answer h = refused_gives s t status answer h
   opens_gives s t p attrs wanted (Vacant d c) answer h = absurd h
-  opens_gives s t p attrs wanted (Parse o rest n) answer h = absurd h
+  opens_gives s t p attrs wanted (Parse o rest n) answer h =
+      unless_gives ((is_store_full s, InsufficientResources) ∷ []) s t answer ((answer ≡ Ticket s.next_id) × (t ≡ settle g (with_pending s p attrs wanted o rest n)))
+      (λ does. subst GivesHandle (sym does.0) tt) h
   opens_gives s t p attrs wanted (At o) answer h = opens_at_gives s t p attrs wanted Success o answer h
 
   makes_gives : (s t : State K T F I) (p attrs : ℕ) (making : Making K) (spot : Spot) (answer : Answer)
@@ -179,22 +184,22 @@ module _ {K T F I : Type 0} (g : Procedures K T F I) where
       Does : Option ℕ → Type 0
       Does at = (look : Look) × LooksUp (without_parse g) s p (open_mode wanted attrs) most_reparses at name look × Opens g s p attrs wanted look answer t
 
-  -- so does each step
-  step_gives : (s t : State K T F I) (event : Event K) (answer : Answer) → Step g s event answer t → GivesHandle answer
-  step_gives s t (Start p (command.CreateDirectory where_to attrs)) answer h = creates_at_gives s t p where_to attrs MakesDirectory answer h
-  step_gives s t (Start p (command.CreateLink where_to attrs target)) answer h = creates_at_gives s t p where_to attrs (MakesLink target) answer h
-  step_gives s t (Start p (command.CreateObject where_to attrs kind args)) answer h = creates_at_gives s t p where_to attrs (MakesObject kind args) answer h
-  step_gives s t (Start p (command.OpenDirectory root name attrs)) answer h = opens_name_gives s t p root name attrs wanted.Directory answer h
-  step_gives s t (Start p (command.OpenLink root name attrs)) answer h = opens_name_gives s t p root name attrs wanted.Link answer h
-  step_gives s t (Start p (command.OpenObject root name attrs want)) answer h = opens_name_gives s t p root name attrs (type_wanted want) answer h
-  step_gives s t (Start p (command.Close handle)) answer h =
+  -- so does each start
+  start_gives : (s t : State K T F I) (p : ℕ) (c : Command K) (answer : Answer) → Step g s (Start p c) answer t → GivesHandle answer
+  start_gives s t p (command.CreateDirectory where_to attrs) answer h = creates_at_gives s t p where_to attrs MakesDirectory answer h
+  start_gives s t p (command.CreateLink where_to attrs target) answer h = creates_at_gives s t p where_to attrs (MakesLink target) answer h
+  start_gives s t p (command.CreateObject where_to attrs kind args) answer h = creates_at_gives s t p where_to attrs (MakesObject kind args) answer h
+  start_gives s t p (command.OpenDirectory root name attrs) answer h = opens_name_gives s t p root name attrs wanted.Directory answer h
+  start_gives s t p (command.OpenLink root name attrs) answer h = opens_name_gives s t p root name attrs wanted.Link answer h
+  start_gives s t p (command.OpenObject root name attrs want) answer h = opens_name_gives s t p root name attrs (type_wanted want) answer h
+  start_gives s t p (command.Close handle) answer h =
       with_handle_gives s t p handle answer (λ x. (answer ≡ answers Success) × (t ≡ settle g (closed_handle g s x)))
       (λ x does. subst GivesHandle (sym does.0) (omega arith)) h
-  step_gives s t (Start p (command.QueryLink handle)) answer h =
+  start_gives s t p (command.QueryLink handle) answer h =
       with_handle_gives s t p handle answer (λ x. TellsTarget s x.object answer × (t ≡ s)) (λ x does. target_gives s x.object answer does.0) h
-  step_gives s t (Start p (command.QueryName handle)) answer h =
+  start_gives s t p (command.QueryName handle) answer h =
       with_handle_gives s t p handle answer (λ x. TellsName s x.object answer × (t ≡ s)) (λ x does. name_gives s x.object answer does.0) h
-  step_gives s t (Start p (command.Duplicate handle to inherit)) answer h =
+  start_gives s t p (command.Duplicate handle to inherit) answer h =
       unless_gives ((not (is_live s p), ProcessGone) ∷ (not (is_live s to), ProcessGone) ∷ []) s t answer
       (MatchOption (option_and_then (held_of s p) (key_of handle)) (IsRefused s InvalidHandle answer t) Given) (go (option_and_then (held_of s p) (key_of handle))) h
     where
@@ -204,22 +209,22 @@ module _ {K T F I : Type 0} (g : Procedures K T F I) where
       go : (o : Option Held) → MatchOption o (IsRefused s InvalidHandle answer t) Given → GivesHandle answer
       go None h = refused_gives s t InvalidHandle answer h
       go (Some x) h = gives_handle_gives s t to x.object (record { inherit = inherit; exclusive = false }) Duplicated Success answer h
-  step_gives s t (Start p (command.MakeTemporary handle)) answer h =
+  start_gives s t p (command.MakeTemporary handle) answer h =
       with_handle_gives s t p handle answer (λ x. (answer ≡ answers Success) × (t ≡ settle g (turned s x.object false)))
       (λ x does. subst GivesHandle (sym does.0) (omega arith)) h
-  step_gives s t (Start p (command.MakePermanent handle)) answer h =
+  start_gives s t p (command.MakePermanent handle) answer h =
       with_handle_gives s t p handle answer (λ x. (answer ≡ answers Success) × (t ≡ settle g (turned s x.object true)))
       (λ x does. subst GivesHandle (sym does.0) (omega arith)) h
-  step_gives s t (Start p (command.SetDeviceMap handle)) answer h =
+  start_gives s t p (command.SetDeviceMap handle) answer h =
       with_handle_gives s t p handle answer
       (λ x. Unless ((not (is_directory s x.object), ObjectTypeMismatch) ∷ []) s answer t ((answer ≡ answers Success) × (t ≡ settle g (with_map s p x.object))))
       (λ x does. unless_gives ((not (is_directory s x.object), ObjectTypeMismatch) ∷ []) s t answer ((answer ≡ answers Success) × (t ≡ settle g (with_map s p x.object)))
       (λ done. subst GivesHandle (sym done.0) (omega arith)) does) h
-  step_gives s t (Start p (command.NewProcess inherit)) answer h =
+  start_gives s t p (command.NewProcess inherit) answer h =
       unless_gives ((not (is_live s p), ProcessGone) ∷ (is_crowded s p inherit, InsufficientResources) ∷ []) s t answer
       (let u = begun g s p inherit in (answer ≡ gives Success (Process s.next_process (values_in u s.next_process))) × (t ≡ settle g u))
       (λ does. subst GivesHandle (sym does.0) (omega arith)) h
-  step_gives s t (Start p command.ExitProcess) answer h =
+  start_gives s t p command.ExitProcess answer h =
       unless_gives ((not (is_live s p), ProcessGone) ∷ []) s t answer ((answer ≡ answers Success) × (t ≡ settle g (ended g s p))) (λ does. subst GivesHandle (sym does.0) (omega arith)) h
 
 -- all words of a process are set to handles, and one of them is
@@ -282,6 +287,6 @@ pub added_in_full : OffsetsAreAddedInFull
 added_in_full = record {
   first = λ process word. omega arith;
   kept = λ request process c reply words s s' had step.
-      changed_kept (change_of request) process reply words had (step_gives standard s s' (Start process c) (Done reply) step);
+      changed_kept (change_of request) process reply words had (start_gives standard s s' process c (Done reply) step);
   exact = λ handle process words had. sum_exact (words.values process handle.word) handle.offset (had process handle.word);
 }

@@ -1,5 +1,5 @@
 -- Whatever lines come, a run of them from a sound state shows something, and wants no memory.
-use Rattle.std.proofs.Common.{ℕ, ◌+◌, List, [], ◌∷◌, ◌++◌, codes, Some, None, refl, inl}
+use Rattle.std.proofs.Common.{ℕ, ◌+◌, List, [], ◌∷◌, ◌++◌, codes, Some, None, refl, subst, inl}
 use Rattle.ob_model.specs.declared.command.Command.{Command}
 use Rattle.ob_model.specs.declared.command.Command.TheVariants as command
 use Rattle.ob_model.specs.declared.command.Place.{Place}
@@ -12,7 +12,8 @@ use Rattle.ob_model.specs.Run.{Entry, RunFrom}
 use Rattle.ob_model.specs.Sound.{IsSound}
 use Rattle.ob_model.specs.Step.{Step}
 use Rattle.ob_model.proofs.Steps.{step_sound}
-use Rattle.ob_model.proofs.Total.{step_total}
+use Rattle.ob_model.proofs.Replies.{start_replies}
+use Rattle.ob_model.proofs.Total.{start_total}
 use Rattle.ob_plain.specs.declared.plain.PlainKind.{PlainKind}
 use Rattle.ob_lines.specs.declared.form.Form.TheVariants.{Nothing, Stat, Asks}
 use Rattle.ob_lines.specs.declared.request.PlaceForm.{PlaceForm}
@@ -61,11 +62,10 @@ command_total ExitProcess words process text = (command.ExitProcess, refl)
 
 -- a command is answered by a reply, in a state that stays sound
 reply_total : (s : Space) (p : ℕ) (c : Command PlainKind) → IsSound s → (reply : Reply) × (t : Space) × Step standard s (Start p c) (Done reply) t × IsSound t
-reply_total s p c sound = done (step_total standard s (Start p c) sound)
-  where
-    done : (answer : Answer) × (t : Space) × Step standard s (Start p c) answer t
-        → (reply : Reply) × (t : Space) × Step standard s (Start p c) (Done reply) t × IsSound t
-    done (Done reply, t, step) = (reply, t, step, step_sound standard s t (Start p c) (Done reply) sound step)
+reply_total s p c sound =
+    let done = start_total standard s p c sound in
+    let told = start_replies standard s done.1 done.0 p c done.2 in
+    (told.0, done.1, subst (λ answer. Step standard s (Start p c) answer done.1) told.1 done.2, step_sound standard s done.1 (Start p c) done.0 sound done.2)
 
 -- lines of any forms show something
 pub shows_total : (forms : Forms) (number : ℕ) (words : Words) (s : Space) (count : ℕ) → HaveTexts forms → IsSound s

@@ -7,6 +7,7 @@ use Rattle.std.specs.Option.{option_map_or, is_some}
 use Rattle.std.proofs.lemmas.Bool.{false≢true}
 use Rattle.std.proofs.lemmas.List.Elements.{All-nil, All-cons, All-filter}
 use Rattle.std.proofs.lemmas.List.Kept.{AllPairs-filter}
+use Rattle.ob_model.specs.declared.state.Body.TheVariants.{Directory}
 use Rattle.ob_model.specs.declared.state.Row.{Row}
 use Rattle.ob_model.specs.declared.state.Held.{Held}
 use Rattle.ob_model.specs.declared.state.Object.{Object}
@@ -164,6 +165,26 @@ module _ {K T F I : Type 0} (g : Procedures K T F I) where
           one_more (deleted_one g x.body set) (not (up y.id)) (filter (λ o. not (up o.id)) (filter (λ o. not (o.id == id)) ys)) (filter (λ o. not (up o.id)) ys)
           (rest found goes (λ k d below. behind (suc k) d (omega (arith, below))))
 
+  -- a delete of a directory changes nothing
+  plain_deleted : (up : ℕ → Bool) (set : T) (id : ℕ) (xs : List (Object F I)) → All (λ x. (x.id == id) ≡ true → x.body ≡ Directory) xs
+      → deleted_all g set (filter (λ x. not (up x.id)) (filter (λ x. not (x.id == id)) xs)) ≡ deleted_all g set (filter (λ x. not (up x.id)) xs)
+  plain_deleted up set id [] plain = refl
+  plain_deleted up set id (x ∷ xs) plain =
+      go (x.id == id) (not (up x.id)) refl refl (plain 0 x (omega arith)) (plain_deleted up set id xs (λ k d below. plain (suc k) d (omega (arith, below))))
+    where
+      others : List (Object F I)
+      others = filter (λ y. not (y.id == id)) xs
+
+      dead : List (Object F I) → List (Object F I)
+      dead ys = filter (λ y. not (up y.id)) ys
+
+      go : (b c : Bool) → (x.id == id) ≡ b → not (up x.id) ≡ c → (b ≡ true → x.body ≡ Directory) → deleted_all g set (dead others) ≡ deleted_all g set (dead xs)
+          → deleted_all g set (dead (cond (not b) (x ∷ others) others)) ≡ deleted_all g set (cond c (x ∷ dead xs) (dead xs))
+      go true true e f body rest = rest ∙ ap (λ y. deleted_one g y (deleted_all g set (dead xs))) (sym (body refl))
+      go true false e f body rest = rest
+      go false true e f body rest = ap (λ b. deleted_all g set (cond b (x ∷ dead others) (dead others))) f ∙ ap (deleted_one g x.body) rest
+      go false false e f body rest = ap (λ b. deleted_all g set (cond b (x ∷ dead others) (dead others))) f ∙ rest
+
 module _ {K T F I : Type 0} (g : Procedures K T F I) (s : State K T F I) where
   -- What is left when these objects were judged: of their names those that stay, of them those that do, and
   -- with the others of those that are left deleted as well, all are deleted.
@@ -179,11 +200,11 @@ module _ {K T F I : Type 0} (g : Procedures K T F I) (s : State K T F I) where
     pub next_process : t.next_process ≡ s.next_process
     pub next_order : t.next_order ≡ s.next_order
 
-  -- at first, none
-  pub none_judged : (done : ℕ → Bool) → All (λ x. done x.id ≡ false) s.objects → All (λ r. done r.object ≡ false) s.rows → Judged done s
+  -- at first, only what stays
+  pub none_judged : (done : ℕ → Bool) → All (λ x. (is_alive s x.id || not (done x.id)) ≡ true) s.objects → All (λ r. (is_kept s r || not (done r.object)) ≡ true) s.rows → Judged done s
   none_judged done objects rows = record {
-    objects = sym (filter_all (λ x. is_alive s x.id || not (done x.id)) s.objects (λ k d below. none_done (is_alive s (get_or s.objects k d).id) (done (get_or s.objects k d).id) (objects k d below)));
-    rows = sym (filter_all (λ r. is_kept s r || not (done r.object)) s.rows (λ k d below. none_done (is_kept s (get_or s.rows k d)) (done (get_or s.rows k d).object) (rows k d below)));
+    objects = sym (filter_all (λ x. is_alive s x.id || not (done x.id)) s.objects objects);
+    rows = sym (filter_all (λ r. is_kept s r || not (done r.object)) s.rows rows);
     deleted = refl;
     handles = refl;
     processes = refl;
@@ -195,12 +216,11 @@ module _ {K T F I : Type 0} (g : Procedures K T F I) (s : State K T F I) where
   }
 
   -- the same ones, told otherwise
-  pub judged_alike : (done other : ℕ → Bool) (t : State K T F I) → All (λ x. done x.id ≡ other x.id) s.objects → All (λ r. done r.object ≡ other r.object) s.rows → Judged done t → Judged other t
+  pub judged_alike : (done other : ℕ → Bool) (t : State K T F I) → All (λ x. (is_alive s x.id || not (done x.id)) ≡ (is_alive s x.id || not (other x.id))) s.objects
+      → All (λ r. (is_kept s r || not (done r.object)) ≡ (is_kept s r || not (other r.object))) s.rows → Judged done t → Judged other t
   judged_alike done other t objects rows judged = record {
-    objects = judged.objects ∙ filter_agrees (λ x. is_alive s x.id || not (done x.id)) (λ x. is_alive s x.id || not (other x.id)) s.objects
-        (λ k d below. ap (λ b. is_alive s (get_or s.objects k d).id || not b) (objects k d below));
-    rows = judged.rows ∙ filter_agrees (λ r. is_kept s r || not (done r.object)) (λ r. is_kept s r || not (other r.object)) s.rows
-        (λ k d below. ap (λ b. is_kept s (get_or s.rows k d) || not b) (rows k d below));
+    objects = judged.objects ∙ filter_agrees (λ x. is_alive s x.id || not (done x.id)) (λ x. is_alive s x.id || not (other x.id)) s.objects objects;
+    rows = judged.rows ∙ filter_agrees (λ r. is_kept s r || not (done r.object)) (λ r. is_kept s r || not (other r.object)) s.rows rows;
     deleted = judged.deleted;
     handles = judged.handles;
     processes = judged.processes;
@@ -244,11 +264,14 @@ module _ {K T F I : Type 0} (g : Procedures K T F I) (s : State K T F I) where
           ∙ judged.deleted
 
   module _ (done : ℕ → Bool) (t : State K T F I) (judged : Judged done t) where
-    -- what wasn't judged is found as it was
-    found_left : (o : ℕ) → done o ≡ false → find (λ x. x.id == o) t.objects ≡ find (λ x. x.id == o) s.objects
-    found_left o new =
+    -- what stays or wasn't judged is found as it was
+    pub stays_found : (o : ℕ) → (is_alive s o || not (done o)) ≡ true → find (λ x. x.id == o) t.objects ≡ find (λ x. x.id == o) s.objects
+    stays_found o stays =
         ap (find (λ x. x.id == o)) judged.objects
-        ∙ find-filter (λ (x : Object F I). x.id == o) (λ x. is_alive s x.id || not (done x.id)) (λ x same. none_done (is_alive s x.id) (done x.id) (ap done (eqb-true x.id o same) ∙ new)) s.objects
+        ∙ find-filter (λ (x : Object F I). x.id == o) (λ x. is_alive s x.id || not (done x.id)) (λ x same. ap (λ n. is_alive s n || not (done n)) (eqb-true x.id o same) ∙ stays) s.objects
+
+    found_left : (o : ℕ) → done o ≡ false → find (λ x. x.id == o) t.objects ≡ find (λ x. x.id == o) s.objects
+    found_left o new = stays_found o (none_done (is_alive s o) (done o) new)
 
     -- so what holds of the numbers that are left holds of its own
     pub holds_of : (P : ℕ → Type 0) (o : ℕ) → done o ≡ false → Stands s o → All (λ x. P x.id) t.objects → P o
@@ -263,11 +286,35 @@ module _ {K T F I : Type 0} (g : Procedures K T F I) (s : State K T F I) where
         subst (λ (hs : List Held). All (IsIdleUnheld idle hs) t.objects) (sym judged.handles)
         (subst (All (IsIdleUnheld idle s.handles)) (sym judged.objects) (All-filter (λ x. is_alive s x.id || not (done x.id)) (IsIdleUnheld idle s.handles) s.objects unheld))
 
-    -- one object more is judged: each name in it is of one that was, and each of a greater number that is left
-    -- stays
-    module _ (id : ℕ) (new : done id ≡ false) (rising : AllPairs (λ a b. a.id < b.id) s.objects) (unpinned : is_pinned s id ≡ false)
+    -- one object is the first to be deleted of those that are left and go
+    abbrev pub IsDeletedFirst : ℕ → Type 0
+    IsDeletedFirst id =
+        is_alive s id ≡ false → (x : Object F I) → find (λ y. y.id == id) t.objects ≡ Some x
+        → deleted_all g (deleted_one g x.body t.set) (filter (λ y. not (is_alive s y.id)) (filter (λ y. not (y.id == id)) t.objects))
+        ≡ deleted_all g t.set (filter (λ y. not (is_alive s y.id)) t.objects)
+
+    -- so it is where each of a greater number that is left stays
+    pub greatest_first : (id : ℕ) → AllPairs (λ a b. a.id < b.id) s.objects → All (λ x. id < x.id → is_alive s x.id ≡ true) t.objects → IsDeletedFirst id
+    greatest_first id rising behind goes x e =
+        last_deleted g (is_alive s) t.set id x t.objects
+        (subst (AllPairs (λ a b. a.id < b.id)) (sym judged.objects) (AllPairs-filter (λ a b. a.id < b.id) (λ y. is_alive s y.id || not (done y.id)) s.objects rising)) e goes behind
+
+    -- and where it is a directory, of whose delete no set is told
+    pub directory_first : (id : ℕ) → All (λ x. (x.id == id) ≡ true → x.body ≡ Directory) s.objects → IsDeletedFirst id
+    directory_first id plain goes x e =
+        ap (λ body. deleted_all g (deleted_one g body t.set) (filter (λ y. not (is_alive s y.id)) (filter (λ y. not (y.id == id)) t.objects)))
+        (all_found (λ y. (y.id == id) ≡ true → y.body ≡ Directory) (λ y. y.id == id) t.objects x left e (found_passes (λ y. y.id == id) t.objects x e))
+        ∙ plain_deleted g (is_alive s) t.set id t.objects left
+      where
+        left : All (λ y. (y.id == id) ≡ true → y.body ≡ Directory) t.objects
+        left =
+            subst (λ (xs : List (Object F I)). All (λ y. (y.id == id) ≡ true → y.body ≡ Directory) xs) (sym judged.objects)
+            (All-filter (λ y. is_alive s y.id || not (done y.id)) (λ y. (y.id == id) ≡ true → y.body ≡ Directory) s.objects plain)
+
+    -- one object more is judged: each name in it is of one that was, and it is the first to be deleted
+    module _ (id : ℕ) (new : done id ≡ false) (unpinned : is_pinned s id ≡ false)
         (inside : All (λ r. (r.directory == id) ≡ true → (is_kept s r || (done r.object || (r.object == id))) ≡ true) s.rows)
-        (behind : All (λ x. id < x.id → is_alive s x.id ≡ true) t.objects) where
+        (first : IsDeletedFirst id) where
       abbrev pub next : ℕ → Bool
       next o = done o || (o == id)
 
@@ -337,9 +384,7 @@ module _ {K T F I : Type 0} (g : Procedures K T F I) (s : State K T F I) where
           deletes goes None e =
               ap (λ xs. deleted_all g t.set (filter (λ y. not (is_alive s y.id)) xs))
               (filter_all (λ y. not (y.id == id)) t.objects (λ k d below. ap not (not_found (λ y. y.id == id) t.objects e k d below)))
-          deletes goes (Some x) e =
-              last_deleted g (is_alive s) t.set id x t.objects
-              (subst (AllPairs (λ a b. a.id < b.id)) (sym judged.objects) (AllPairs-filter (λ a b. a.id < b.id) (λ y. is_alive s y.id || not (done y.id)) s.objects rising)) e goes behind
+          deletes goes (Some x) e = first goes x e
 
           go : (b : Bool) → is_alive s id ≡ b → Judged next (cond b (without_names t id) (without_object g (without_names t id) id))
           go true e = record {

@@ -9,3 +9,4 @@ pub mod Placed
 pub mod Results
 pub mod Walked
 pub mod Stored
+pub mod Turns

@@ -8,12 +8,12 @@ use Rattle.ob_model.proofs.Soundness.{stands_drawn}
 use Rattle.std.specs.Option.{unwrap_or, is_some}
 use Rattle.ob_model.specs.declared.state.Object.{Object}
 use Rattle.ob_model.specs.declared.state.Row.{Row}
-use Rattle.ob_model.specs.State.{State, is_directory, table_size, most_handles}
+use Rattle.ob_model.specs.State.{State, is_directory, is_store_full, table_size, most_handles}
 use Rattle.ob_model.specs.Closing.{is_handle}
 use Rattle.ob_model.specs.Procedures.{Procedures, Created}
 use Rattle.ob_model.specs.Settle.{deleted_one}
 use Rattle.ob_model.specs.Grants.{open_refusal_of, open_refusal, with_open, opened_body, opened_set, opened_object, is_table_full}
-use Rattle.ob_model.specs.Creates.{new_rows, dropped, is_store_full}
+use Rattle.ob_model.specs.Creates.{new_rows, dropped}
 use Rattle.ob_objects.specs.declared.object.StoredObject.{StoredObject}
 use Rattle.ob_objects.specs.Store.{Entries, NameEntry, IsStore, stored_at, directory_at, entries_in, body_of_stored, objects_of, rows_of}
 use Rattle.ob_objects.specs.Changes.{with_entry, without_object, refusal_to_open, with_opened, set_after_open}

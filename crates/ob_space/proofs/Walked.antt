@@ -1,28 +1,24 @@
--- What the calls of settling make of a namespace: one object forgotten, deleted and settled; the walk over all
--- objects; and the two that may go after a close.
-use Rattle.std.proofs.Common.{◌≡◌, ℕ, ◌<◌, ◌≤◌, Bool, true, false, not, ◌||◌, ◌&&◌, ◌==◌, nat_le, cond, List, [], get_or, find, refl, ap, ◌∙◌, sym, subst, arith, filter, All, eq-eqb, eqb-true, leb-true, leb-false, le-leb}
+-- What the calls of settling make of a namespace: one object forgotten, deleted and settled; and the two that
+-- may go after a close.
+use Rattle.std.proofs.Common.{◌≡◌, ℕ, ◌<◌, Bool, true, false, not, ◌||◌, ◌&&◌, ◌==◌, cond, List, [], get_or, find, refl, ap, ◌∙◌, sym, subst, arith, filter, All, eq-eqb, eqb-true}
 use Rattle.std.specs.Prelude.{Option, None, Some, option_map, MatchOption}
 use Rattle.std.specs.List.{list_any}
-use Rattle.std.specs.Option.{option_map_or, is_some}
+use Rattle.std.specs.Option.{option_map_or}
 use Rattle.std.proofs.lemmas.Bool.{false≢true, ne_eqb}
-use Rattle.std.proofs.lemmas.Bool.Decides.{nat_tests}
 use Rattle.std.proofs.lemmas.List.Elements.{All-filter}
 use Rattle.std.proofs.lemmas.List.Folds.{list_any-append}
 use Rattle.ob_model.specs.declared.state.Row.{Row}
 use Rattle.ob_model.specs.declared.state.Held.{Held}
 use Rattle.ob_model.specs.declared.state.Object.{Object}
 use Rattle.ob_model.specs.Procedures.{Procedures}
-use Rattle.ob_model.specs.Sound.{Stands}
 use Rattle.ob_model.specs.State.{State, root_id}
 use Rattle.ob_model.specs.Settle.{is_kept, is_alive, is_permanent, has_handle, has_name, is_pinned, is_mapped, holds_kept, deleted_one, settle, IsSettled}
 use Rattle.ob_model.proofs.Finds.{filter_all}
-use Rattle.ob_model.proofs.Soundness.{stands_drawn}
 use Rattle.ob_objects.specs.declared.named.Place.{Place}
 use Rattle.ob_objects.specs.declared.object.StoredObject.{StoredObject}
 use Rattle.ob_objects.specs.Changes as changes
-use Rattle.ob_objects.specs.Named.{IsLastBefore}
+use Rattle.ob_objects.specs.Named.{place_of}
 use Rattle.ob_objects.specs.Store.{Entries, NameEntry, IsStore, stored_at, body_of_stored, object_of_stored, objects_of, rows_of, place_at}
-use Rattle.ob_objects.proofs.ByStamp.{above-leb}
 use Rattle.ob_objects.proofs.Follow.{found_is_stored, object_goes_alone}
 use Rattle.ob_objects.proofs.Shown.{names_change_no_object, rows_go_with_directory}
 use Rattle.ob_objects.proofs.Stands.{name_goes, no_name, one_directory, placed}
@@ -30,10 +26,10 @@ use Rattle.ob_processes.specs.Running.{Running}
 use Rattle.ob_space.specs.declared.space.Namespace.{Namespace}
 use Rattle.ob_space.specs.Namespace.{state_of}
 use Rattle.ob_space.specs.Orderly.{IsIdleBody, is_held, IsIdleUnheld, IsOrderly}
-use Rattle.ob_space.specs.Settling.{is_held_up, without_names, with_handle_to, without_object, settled_one}
+use Rattle.ob_space.specs.Settling.{is_held_up, without_names, with_handle_to, without_object, settled_one, settled_unless, AreSettled}
 use Rattle.ob_space.proofs.Handles.{found_passes}
-use Rattle.ob_space.proofs.Judged.{Judged, none_judged, judged_alike, all_judged, one_judged, holds_of, unheld_left, or_none, any_agrees, all_pass, all_found, left_stays, some_done}
-use Rattle.ob_space.proofs.Orders.{finds_itself, settled_orderly}
+use Rattle.ob_space.proofs.Judged.{Judged, none_judged, all_judged, one_judged, greatest_first, unheld_left, or_none, any_agrees, all_pass, all_found, left_stays, some_done}
+use Rattle.ob_space.proofs.Orders.{settled_orderly}
 use Rattle.ob_space.proofs.Stored.{body_is}
 
 -- ---- the name of one object
@@ -102,7 +98,43 @@ module _ (K : Type 0) {T F I : Type 0} (g : Procedures K T F I) (a : Namespace T
             (subst (All (IsIdleUnheld idle a.processes.handles)) (sym objects) unheld) (found_is_stored store id ∙ ap (option_map (object_of_stored id)) e)
             (second_false (id == root_id) (is_held a.processes.handles id) _ _ _ up)
 
--- ---- the walk over all objects, and the two after a close
+-- ---- one object, and then the directory of its name
+
+-- what is left of a state in which objects without a handle are idle
+pub settled_unheld : {K T F I : Type 0} (g : Procedures K T F I) (idle : I → Type 0) (s : State K T F I) (o : ℕ) → All (IsIdleUnheld idle s.handles) s.objects
+    → (t : State K T F I) → t ≡ settled_one g s o → All (IsIdleUnheld idle t.handles) t.objects
+settled_unheld {K} {T} {F} {I} g idle s o unheld t is = subst (λ (u : State K T F I). All (IsIdleUnheld idle u.handles) u.objects) (sym is) (go (is_held_up (without_names s o) o))
+  where
+    go : (b : Bool) → All (IsIdleUnheld idle (cond b (without_names s o) (without_object g (without_names s o) o)).handles) (cond b (without_names s o) (without_object g (without_names s o) o)).objects
+    go true = unheld
+    go false = All-filter (λ x. not (x.id == o)) (IsIdleUnheld idle s.handles) s.objects unheld
+
+module _ (K : Type 0) {T F I : Type 0} (g : Procedures K T F I) (a : Namespace T (Entries F I) Running) (store : IsStore a.store) (touched : ℕ → Bool) (id : ℕ)
+    (t : State K T F I) (first : t ≡ settled_one g (state_of K a) id) where
+  Found : State K T F I → Option Row → Type 0
+  Found u o =
+      MatchOption o ((u ≡ settled_one g (state_of K a) id) × All (λ q. (q.object == id) ≡ false) (rows_of a.store))
+      (λ r. (u ≡ settled_unless g touched (settled_one g (state_of K a) id) r.directory) × All (λ q. (q.object == id) ≡ true → q.directory ≡ r.directory) (rows_of a.store))
+
+  pub named_settled : (p : Place) → place_at a.store id ≡ Some p → (u : State K T F I) → u ≡ settled_unless g touched t p.directory → AreSettled g (state_of K a) touched id u
+  unfolding Found
+  named_settled p at u then =
+      let found = placed (find (λ (r : Row). r.object == id) (rows_of a.store)) p at in
+      let there : p.directory ≡ found.0.directory = ap (λ (x : Place). x.directory) found.2 in
+      subst (Found u) (sym found.1) (
+        then ∙ (λ i. settled_unless g touched (first i) (there i)),
+        λ k d below own. one_directory a.store store id p at k d below own ∙ there,
+      )
+
+  pub unnamed_settled : place_at a.store id ≡ None → AreSettled g (state_of K a) touched id t
+  unfolding Found
+  unnamed_settled none = go (find (λ (r : Row). r.object == id) (rows_of a.store)) none
+    where
+      go : (o : Option Row) → option_map place_of o ≡ None → Found t o
+      go None e = (first, no_name a.store store id none)
+      go (Some r) e = cc
+
+-- ---- the two after a close
 
 turned : (a b : ℕ) → (a == b) ≡ false → (b == a) ≡ false
 turned a b other = ne_eqb b a (λ same. false≢true (sym other ∙ eq-eqb a b (sym same)))
@@ -116,85 +148,21 @@ and_false : (b : Bool) → (b && false) ≡ false
 and_false true = refl
 and_false false = refl
 
+or_true : (k : Bool) → (k || true) ≡ true
+or_true true = refl
+or_true false = refl
+
 more_done : (k a b : Bool) → (k || a) ≡ true → (k || (a || b)) ≡ true
 more_done true a b h = refl
 more_done false true b h = refl
 more_done false false b h = cc
 
-bounds_agree : (b id o : ℕ) → id < b → (o < b → o ≤ id) → (nat_le b o || (o == id)) ≡ nat_le id o
-bounds_agree b id o less last = go (nat_le b o) refl
-  where
-    go : (t : Bool) → nat_le b o ≡ t → (t || (o == id)) ≡ nat_le id o
-    go true e = sym (le-leb id o (omega (arith, less, leb-true b o e)))
-    go false e = near (last (leb-false b o e))
-      where
-        near : o ≤ id → (false || (o == id)) ≡ nat_le id o
-        near below = grind (arith, nat_tests)
-
 module _ (K : Type 0) {T F I : Type 0} (g : Procedures K T F I) (idle : I → Type 0) (a : Namespace T (Entries F I) Running) (orderly : IsOrderly idle (state_of K a)) where
   abbrev s : State K T F I
   s = state_of K a
 
-  -- each object is there
-  there : All (λ x. Stands s x.id) s.objects
-  there k d below = ap is_some (finds_itself s.objects orderly.rising k d below)
-
   pub settled_is_orderly : (t : State K T F I) → t ≡ settle g s → IsOrderly idle t
   settled_is_orderly t is = subst (λ (u : State K T F I). IsOrderly idle u) (sym is) (settled_orderly g idle s orderly)
-
-  pub walk_first : Judged g s (nat_le a.next_id) s
-  walk_first =
-      none_judged g s (nat_le a.next_id) (λ k d below. above-leb (get_or s.objects k d).id a.next_id (orderly.drawn k d below))
-      (λ k d below. above-leb (get_or s.rows k d).object a.next_id (stands_drawn a.next_id s.objects (get_or s.rows k d).object orderly.drawn (orderly.standing k d below)))
-
-  module _ (bound : ℕ) (t : State K T F I) (judged : Judged g s (nat_le bound) t) where
-    pub walk_unheld : All (IsIdleUnheld idle t.handles) t.objects
-    walk_unheld = unheld_left g s (nat_le bound) t judged idle orderly.unheld
-
-    module _ (id : ℕ) (last : IsLastBefore bound t.objects (Some id)) where
-      last_one : (o : ℕ) → Stands s o → o < bound → o ≤ id
-      last_one o stands less = holds_of g s (nat_le bound) t judged (λ n. n < bound → n ≤ id) o (above-leb o bound less) stands last.2 less
-
-      pub walk_step : (u : State K T F I) → u ≡ settled_one g t id → Judged g s (nat_le id) u
-      walk_step u is =
-          subst (Judged g s (nat_le id)) (sym is)
-          (judged_alike g s (λ o. nat_le bound o || (o == id)) (nat_le id) (settled_one g t id)
-          (λ k d below. bounds_agree bound id (get_or s.objects k d).id last.1 (last_one (get_or s.objects k d).id (there k d below)))
-          (λ k d below. bounds_agree bound id (get_or s.rows k d).object last.1 (last_one (get_or s.rows k d).object (orderly.standing k d below)))
-          (one_judged g s (nat_le bound) t judged id (above-leb id bound last.1) orderly.rising refl inside behind))
-        where
-          inside : All (λ r. (r.directory == id) ≡ true → (is_kept s r || (nat_le bound r.object || (r.object == id))) ≡ true) s.rows
-          inside k d below here = some_done (is_kept s (get_or s.rows k d)) _ (go (nat_le bound (get_or s.rows k d).object) refl)
-            where
-              go : (b : Bool) → nat_le bound (get_or s.rows k d).object ≡ b → (b || ((get_or s.rows k d).object == id)) ≡ true
-              go true e = refl
-              go false e =
-                  let lower = last_one (get_or s.rows k d).object (orderly.standing k d below) (leb-false bound (get_or s.rows k d).object e) in
-                  let same : (get_or s.rows k d).directory ≡ id = eqb-true (get_or s.rows k d).directory id here in
-                  absurd (omega (arith, lower, same, orderly.descending k d below))
-
-          left : All (λ x. (is_alive s x.id || not (nat_le bound x.id)) ≡ true) t.objects
-          left = subst (λ (xs : List (Object F I)). All (λ x. (is_alive s x.id || not (nat_le bound x.id)) ≡ true) xs) (sym judged.objects) (all_pass (λ x. is_alive s x.id || not (nat_le bound x.id)) s.objects)
-
-          behind : All (λ x. id < x.id → is_alive s x.id ≡ true) t.objects
-          behind k d below later = left_stays (is_alive s (get_or t.objects k d).id) (nat_le bound (get_or t.objects k d).id) (left k d below) (go (nat_le bound (get_or t.objects k d).id) refl)
-            where
-              go : (b : Bool) → nat_le bound (get_or t.objects k d).id ≡ b → b ≡ true
-              go true e = refl
-              go false e = absurd (omega (arith, later, last.2 k d below (leb-false bound (get_or t.objects k d).id e)))
-
-    pub walk_end : IsLastBefore bound t.objects None → t ≡ settle g s
-    walk_end none =
-        all_judged g s (nat_le bound) t
-        (λ k d below. some_done (is_alive s (get_or s.objects k d).id) _ (done (get_or s.objects k d).id (there k d below)))
-        (λ k d below. some_done (is_kept s (get_or s.rows k d)) _ (done (get_or s.rows k d).object (orderly.standing k d below))) judged
-      where
-        done : (o : ℕ) → Stands s o → nat_le bound o ≡ true
-        done o stands = go (nat_le bound o) refl
-          where
-            go : (b : Bool) → nat_le bound o ≡ b → b ≡ true
-            go true e = refl
-            go false e = absurd (omega (arith, leb-false bound o e, holds_of g s (nat_le bound) t judged (λ n. bound ≤ n) o e stands none))
 
   -- ---- after a close
 
@@ -232,12 +200,12 @@ module _ (K : Type 0) {T F I : Type 0} (g : Procedures K T F I) (idle : I → Ty
 
     first_judged : Judged g s (λ o. false || (o == object)) (settled_one g s object)
     first_judged =
-        one_judged g s (λ o. false) s (none_judged g s (λ o. false) (λ k d below. refl) (λ k d below. refl)) object refl orderly.rising refl
+        one_judged g s (λ o. false) s (none_judged g s (λ o. false) (λ k d below. or_true (is_alive s (get_or s.objects k d).id)) (λ k d below. or_true (is_kept s (get_or s.rows k d)))) object refl refl
         (λ k d below here. kept_others k d below)
-        (λ k d below later. sym (alive_others (get_or s.objects k d).id (ne_eqb (get_or s.objects k d).id object (λ same. omega (arith, later, same)))
+        (greatest_first g s (λ o. false) s (none_judged g s (λ o. false) (λ k d below. or_true (is_alive s (get_or s.objects k d).id)) (λ k d below. or_true (is_kept s (get_or s.rows k d)))) object orderly.rising (λ k d below later. sym (alive_others (get_or s.objects k d).id (ne_eqb (get_or s.objects k d).id object (λ same. omega (arith, later, same)))
         (λ j e within. not_both ((get_or s.rows j e).directory == (get_or s.objects k d).id) ((get_or s.rows j e).object == object)
         (λ inside of. omega (arith, later, orderly.descending j e within, eqb-true (get_or s.rows j e).directory (get_or s.objects k d).id inside, eqb-true (get_or s.rows j e).object object of))))
-        ∙ settled.objects k d below)
+        ∙ settled.objects k d below))
 
     -- where it has no name, no other goes
     pub closed_alone : (t : State K T F I) → t ≡ settled_one g s object → IsStore a.store → place_at a.store object ≡ None → t ≡ settle g s
@@ -299,8 +267,9 @@ module _ (K : Type 0) {T F I : Type 0} (g : Procedures K T F I) (idle : I → Ty
             (λ k d below. go (get_or s.objects k d).id ((get_or s.objects k d).id == object) ((get_or s.objects k d).id == p.directory) refl refl (settled.objects k d below))
             (λ k d below. more_done (is_kept s (get_or s.rows k d)) ((get_or s.rows k d).object == object) ((get_or s.rows k d).object == p.directory) (kept_others k d below))
             (subst (Judged g s (λ o. (false || (o == object)) || (o == p.directory))) (sym then)
-            (one_judged g s (λ o. false || (o == object)) t judged p.directory (ne_eqb p.directory object (λ same. omega (arith, before, same))) orderly.rising refl
-            (λ k d below here. more_done (is_kept s (get_or s.rows k d)) ((get_or s.rows k d).object == object) ((get_or s.rows k d).object == p.directory) (kept_others k d below)) behind))
+            (one_judged g s (λ o. false || (o == object)) t judged p.directory (ne_eqb p.directory object (λ same. omega (arith, before, same))) refl
+            (λ k d below here. more_done (is_kept s (get_or s.rows k d)) ((get_or s.rows k d).object == object) ((get_or s.rows k d).object == p.directory) (kept_others k d below))
+            (greatest_first g s (λ o. false || (o == object)) t judged p.directory orderly.rising behind)))
           where
             go : (m : ℕ) (b c : Bool) → (m == object) ≡ b → (m == p.directory) ≡ c → is_alive (with_handle_to s object) m ≡ true → (is_alive s m || ((false || b) || c)) ≡ true
             go m true c e f alive = some_done (is_alive s m) true refl

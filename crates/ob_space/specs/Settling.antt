@@ -1,11 +1,12 @@
--- Which objects stay, told from the names that stay; what settling makes of one object; and what was
--- settled before one handle was closed.
-use Rattle.std.specs.Prelude.{ℕ, Bool, false, ◌&&◌, ◌||◌, ◌==◌, not, if◌then◌else◌, [], ◌∷◌, ◌++◌, filter}
-use Rattle.std.specs.List.{list_any}
+-- Which objects stay, told from the names that stay; what settling makes of one object; what was settled
+-- before one handle was closed; and what a process that ends leaves to be settled.
+use Rattle.std.specs.Prelude.{◌≡◌, ℕ, Bool, true, false, ◌&&◌, ◌||◌, ◌==◌, not, if◌then◌else◌, [], ◌∷◌, ◌++◌, filter, All, Option, Some, MatchOption}
+use Rattle.std.specs.List.{list_any, find}
 use Rattle.std.specs.Option.{option_map_or}
 use Rattle.ob_model.specs.Procedures.{Procedures}
 use Rattle.ob_model.specs.State.{State, root_id, body_of}
-use Rattle.ob_model.specs.Settle.{is_permanent, has_handle, has_name, is_mapped, deleted_one}
+use Rattle.ob_model.specs.Settle.{is_permanent, has_handle, is_kept, has_name, is_mapped, deleted_one}
+use Rattle.ob_model.specs.Sound.{IsDirectory}
 
 module _ {K T F I : Type 0} where
   -- the object is the root, has a handle, is `\GLOBAL??` or a live process's map directory, is permanent and
@@ -26,6 +27,14 @@ module _ {K T F I : Type 0} where
     handles = s.handles ++ record { process = 0; value = 0; object = o; inherit = false; order = 0 } ∷ [];
   }
 
+  -- Only these objects, and the directory of this map, can go, and directories that hold names which go: the
+  -- name of each other object stays, and each other object is held up, be it by a name that lies in it. The map
+  -- is a directory.
+  pub record StaysBut (s : State K T F I) (touched : ℕ → Bool) (map : Option ℕ) : Type 0 where
+    pub names : All (λ r. touched r.object ≡ false → is_kept s r ≡ true) s.rows
+    pub objects : All (λ x. touched x.id ≡ false → (map ≡ Some x.id → ⊥) → is_held_up s x.id ≡ true) s.objects
+    pub directory : MatchOption map (Unit {0}) (IsDirectory s)
+
 module _ {K T F I : Type 0} (g : Procedures K T F I) where
   -- the state without an object, which is deleted, and without what lies in it
   abbrev pub without_object : State K T F I → ℕ → State K T F I
@@ -39,3 +48,14 @@ module _ {K T F I : Type 0} (g : Procedures K T F I) where
   -- doesn't
   abbrev pub settled_one : State K T F I → ℕ → State K T F I
   settled_one s o = if is_held_up (without_names s o) o then without_names s o else without_object (without_names s o) o
+
+  -- the same, unless it is one of these objects
+  abbrev pub settled_unless : (ℕ → Bool) → State K T F I → ℕ → State K T F I
+  settled_unless touched s o = if touched o then s else settled_one s o
+
+  -- What is left where an object was settled and then, where it had a name, the directory of its name, unless
+  -- that is one of these objects. All names of the object lie in one directory.
+  abbrev pub AreSettled : State K T F I → (ℕ → Bool) → ℕ → State K T F I → Type 0
+  AreSettled s touched o t =
+      MatchOption (find (λ r. r.object == o) s.rows) ((t ≡ settled_one s o) × All (λ q. (q.object == o) ≡ false) s.rows)
+      (λ r. (t ≡ settled_unless touched (settled_one s o) r.directory) × All (λ q. (q.object == o) ≡ true → q.directory ≡ r.directory) s.rows)

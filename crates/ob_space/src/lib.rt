@@ -29,6 +29,6 @@ pub use looking::look_up;
 pub use opening::opening_store;
 pub use placing::{Spot, place_new};
 pub use roots::root_object;
-pub use settling::{settle, settle_after_loss};
+pub use settling::{settle_after_end, settle_after_loss};
 pub use space::{Namespace, ROOT, held_of, is_full, is_live, is_stampless};
 pub use wanted::is_wanted_at;

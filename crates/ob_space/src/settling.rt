@@ -5,35 +5,17 @@ ghost use Rattle.ob_model.specs.Settle.{settle, IsSettled, is_permanent, has_han
 ghost use Rattle.ob_objects.specs.Store.{objects_of, rows_of, body_of_stored, stored_at};
 ghost use Rattle.ob_space.specs.Namespace.{state_of, listed, none_running, running_alone, handles_alone};
 ghost use Rattle.ob_space.specs.Orderly.{IsOrderly, IsIdleBody, IsIdleUnheld};
-ghost use Rattle.ob_space.specs.Settling.{is_held_up, settled_one, with_handle_to, without_names, without_object};
+ghost use Rattle.ob_counts.specs.Counts.{is_listed};
+ghost use Rattle.ob_model.specs.Sound.{IsSound};
+ghost use Rattle.ob_space.specs.Settling.{is_held_up, settled_one, settled_unless, AreSettled, StaysBut, with_handle_to, without_names, without_object};
 
 use crate::space::{GLOBAL, Namespace, ROOT};
 use ob_base::ObjId;
+use ob_counts::Touched;
 use ob_handles::HandleTable;
 use ob_objects::{Store, StoredBody};
 use ob_processes::Processes;
 use ob_types::TypeSet;
-
-/// Takes away the names and the objects that don't stay, both judged as they were before, and
-/// deletes those objects from the highest number down: the set is told of each object of its own. It
-/// asks that the state is orderly, and leaves it so. No memory is taken.
-///
-/// It is one walk over the objects, from the highest number down: what lies in a directory has greater
-/// numbers, so at each directory the names that are left in it are those that stay.
-///
-/// Source: Windows Internals, Object Manager (object retention); that it is judged once, at the end of
-/// a step, and the order of the deletes are this profile.
-pub fn settle<T: TypeSet, H: HandleTable>(space: &mut Namespace<T, Store<T>, Processes<H>>)
-    requires { IsOrderly T.idle (state_of T.Kind space.old) }
-    ensures orderly { IsOrderly T.idle (state_of T.Kind space.new) }
-    ensures settled { state_of T.Kind space.new ≡ settle T.procedures (state_of T.Kind space.old) }
-{
-    let mut bound = ObjId(space.next_id);
-    while let Some(id) = space.store.last_before(bound) {
-        settle_one(space, id);
-        bound = id;
-    }
-}
 
 /// Settles after an object has lost a handle, or is a process's map directory no longer: an object that
 /// is neither permanent nor has a handle loses its name, and goes if it holds no names that stay and is no
@@ -61,6 +43,74 @@ pub fn settle_after_loss<T: TypeSet, H: HandleTable>(
     settle_one(space, object);
     if let Some(place) = place {
         settle_one(space, place.directory);
+    }
+}
+
+/// Settles after a process has ended: of the objects that its handles led to, each that is neither
+/// permanent nor has a handle now loses its name, and goes if it holds no names that stay and is no map
+/// directory; and then the directory of that name goes, if nothing holds it now. The directory of the
+/// process's device map goes in the same way. The set is told of each object of its own that goes, from
+/// the highest number down. The root and `\GLOBAL??` stay always.
+///
+/// It asks that the state is orderly and sound, and that nothing else can go but a directory by the
+/// names that it holds: `StaysBut`. It leaves an orderly state. No memory is taken, and no other object
+/// is looked at, so that it takes a time that grows with the objects that the handles led to, times the
+/// logarithm of all.
+///
+/// Source: Windows Internals, Object Manager (object retention); that it is judged once, at the end of
+/// a step, and the order of the deletes are this profile.
+pub fn settle_after_end<T: TypeSet, H: HandleTable>(
+    space: &mut Namespace<T, Store<T>, Processes<H>>,
+    touched: &Touched,
+    map: Option<ObjId>,
+)
+    requires orderly { IsOrderly T.idle (state_of T.Kind space.old) }
+    requires sound { IsSound (state_of T.Kind space.old) }
+    requires kept { StaysBut (state_of T.Kind space.old) (is_listed touched.now) map }
+    ensures orderly { IsOrderly T.idle (state_of T.Kind space.new) }
+    ensures settled { state_of T.Kind space.new ≡ settle T.procedures (state_of T.Kind space.old) }
+{
+    let mut bound = ObjId(space.next_id);
+    if let Some(directory) = map {
+        settle_untouched(space, touched, directory);
+    }
+    while let Some(id) = touched.last_before(bound) {
+        settle_named(space, touched, id);
+        bound = id;
+    }
+}
+
+/// Settles one object, and then the directory of its name, unless that has its own turn.
+fn settle_named<T: TypeSet, H: HandleTable>(
+    space: &mut Namespace<T, Store<T>, Processes<H>>,
+    touched: &Touched,
+    id: ObjId,
+)
+    requires { All (IsIdleUnheld T.idle space.old.processes.handles) (objects_of space.old.store) }
+    ensures { AreSettled T.procedures (state_of T.Kind space.old) (is_listed touched.now) id (state_of T.Kind space.new) }
+{
+    // The length tells what holds of every store.
+    let _ = space.store.len();
+    let place = space.store.place_of(id);
+    settle_one(space, id);
+    if let Some(place) = place {
+        settle_untouched(space, touched, place.directory);
+    }
+}
+
+/// Settles a directory, unless it is one of the objects that have their own turns: what lies in it has
+/// greater numbers, and is judged before.
+fn settle_untouched<T: TypeSet, H: HandleTable>(
+    space: &mut Namespace<T, Store<T>, Processes<H>>,
+    touched: &Touched,
+    directory: ObjId,
+)
+    requires { All (IsIdleUnheld T.idle space.old.processes.handles) (objects_of space.old.store) }
+    ensures { state_of T.Kind space.new
+        ≡ settled_unless T.procedures (is_listed touched.now) (state_of T.Kind space.old) directory }
+{
+    if !touched.holds(directory) {
+        settle_one(space, directory);
     }
 }
 

@@ -3,9 +3,9 @@
 ghost use Rattle.std.specs.Prelude.{◌≡◌, ◌||◌};
 ghost use Rattle.std.specs.Option.{option_and_then};
 ghost use Rattle.ob_base.specs.Handle.{key_of};
-ghost use Rattle.ob_model.specs.State.{is_live, held_of};
+ghost use Rattle.ob_model.specs.State.{is_live, held_of, is_store_full};
 ghost use Rattle.ob_model.specs.Grants.{is_table_full};
-ghost use Rattle.ob_model.specs.Creates.{is_store_full, is_stampless};
+ghost use Rattle.ob_model.specs.Creates.{is_stampless};
 ghost use Rattle.ob_space.specs.Namespace.{state_of};
 
 use ob_base::{Handle, ObjId, Proc};

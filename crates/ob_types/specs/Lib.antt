@@ -1,1 +1,5 @@
 pub mod Told
+pub mod Parsing
+pub mod Runs
+pub mod Both
+pub mod BothLaws

@@ -37,8 +37,33 @@ pub fn equal_kinds<T: TypeSet>()
     ensures { (a b : T.Kind) → T.Kind.PartialEq.eq a b ≡ (T.procedures).same_kind a b }
 {}
 
-/// A set whose parse procedures are lawful is a lawful set: its own laws are the others. (this
-/// profile)
+/// A parse procedure uses a front of the rest, at least a byte of one that isn't empty, and leaves what is
+/// behind it only to an instance that parses. (this profile)
+pub fn front_is_used<T: TypeSet>()
+    ensures { model.FrontIsUsed T.procedures }
+{}
+
+/// The object itself is answered only to the empty rest. (this profile)
+pub fn itself_at_end<T: TypeSet>()
+    ensures { model.ItselfIsAtEnd T.procedures }
+{}
+
+/// An instance that a parse procedure makes stands for no open handle. (this profile)
+pub fn parsed_idle<T: TypeSet>()
+    ensures { model.ParsedIsIdle T.procedures T.idle }
+{}
+
+/// A face is found the same as itself. (this profile)
+pub fn own_face<T: TypeSet>()
+    ensures { model.OwnFaceIsSame T.procedures }
+{}
+
+/// Faces that are found the same answer every rest alike. (this profile)
+pub fn same_answers<T: TypeSet>()
+    ensures { model.SameFacesAnswerAlike T.procedures }
+{}
+
+/// Each set of types is lawful: these laws together are what makes it so. (this profile)
 pub fn is_lawful<T: TypeSet>()
-    ensures { model.IsLawfulParse T.procedures T.idle → model.IsLawful T.procedures T.idle }
+    ensures { model.IsLawful T.procedures T.idle }
 {}

@@ -5,13 +5,19 @@
 //! one record of functions, of `ob_model`'s `Procedures`, by which each method has its contract.
 #![tactic(auto)]
 
+mod answer;
+mod both;
 pub mod laws;
 mod reason;
 mod refusal;
+mod run;
 mod set;
 mod uses;
 
+pub use answer::ParseAnswer;
+pub use both::{Both, calls_go_to_their_part};
 pub use reason::Reason;
 pub use refusal::Refusal;
+pub use run::{Outcome, a_parse_run_has_one_end, run_parse, same_faces_end_alike};
 pub use set::TypeSet;
 pub use uses::{close_last, is_one_kind, open_or_leave};

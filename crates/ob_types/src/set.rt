@@ -1,17 +1,18 @@
 //! The procedures of a set of types.
 
-ghost use Rattle.std.specs.Prelude.{◌≡◌, None, Some, IfOk, IfErr};
+ghost use Rattle.std.specs.Prelude.{◌≡◌, None, Some, true, IfOk, IfErr};
 ghost use Rattle.ob_model.specs.Procedures as model;
+ghost use Rattle.ob_types.specs.Parsing.{answer_of};
 ghost use Rattle.ob_types.specs.Told.{reason_of, IsTold};
 
-use crate::{Reason, Refusal};
-use std::alloc::Global;
+use crate::{ParseAnswer, Reason, Refusal};
+use std::alloc::{AllocError, Global};
 
 /// A set of types: the kinds of its objects, and the procedures that the namespace calls for them
 /// (Windows Internals, Object Manager: object types and their methods).
 ///
 /// An object has a face, which never changes, and an inner value, which its open, close and delete
-/// procedures change. Want of memory in `make` aside, what a procedure gives depends on nothing but
+/// procedures change. Want of memory in `make` and `parse` aside, what a procedure gives depends on nothing but
 /// what it is given: on the arguments, and where it has one on the set's own value. (this profile)
 pub trait TypeSet: Sized + Drop + Send {
     /// The kinds of objects, one for each type.
@@ -37,6 +38,14 @@ pub trait TypeSet: Sized + Drop + Send {
     fn kind_of(face: &Self::Face) -> Self::Kind
         ensures { result ≡ procedures.kind_of face.now };
 
+    /// Whether objects of the kind have a parse procedure.
+    fn parses(kind: Self::Kind) -> bool
+        ensures { result ≡ procedures.parses kind };
+
+    /// Whether two faces stand for one object: then they answer every rest alike.
+    fn same(a: &Self::Face, b: &Self::Face) -> bool
+        ensures { result ≡ procedures.same_face a.now b.now };
+
     /// A new object of the kind: its face and its inner value. It is refused with a number where
     /// the type refuses the arguments; else want of memory is the only error.
     fn make(
@@ -47,6 +56,17 @@ pub trait TypeSet: Sized + Drop + Send {
         ensures accepted { IfOk result (λ _. procedures.refuses_to_make kind args.now ≡ None) }
         ensures made { IfOk result (λ instance. instance ≡ procedures.made kind args.now) }
         ensures refused { IfErr result (λ refusal. IsTold refusal (procedures.refuses_to_make kind args.now)) };
+
+    /// What the parse procedure of an object with this face answers to the rest of a name that leads to
+    /// the object. The only error is want of memory. It is called outside of every lock, and knows nothing of
+    /// the set's value.
+    fn parse(
+        alloc: Global,
+        face: &Self::Face,
+        rest: &[u8],
+    ) -> Result<ParseAnswer<Self::Face, Self::Inner>, AllocError>
+        requires { procedures.parses (procedures.kind_of face.now) ≡ true }
+        ensures { IfOk result (λ answer. answer_of answer ≡ procedures.parsed face.now rest.now) };
 
     /// What is done for a new handle to an object with this inner value. It may refuse the handle,
     /// with a number of its own; then the set and the inner value stay as they were.
@@ -73,6 +93,22 @@ pub trait TypeSet: Sized + Drop + Send {
 
     /// A close that leaves no handle in the system leaves an idle inner value.
     ghost closed_idle: { model.LastClosedIsIdle procedures idle };
+
+    /// A parse procedure uses a front of the rest, at least a byte of one that isn't empty, and leaves what
+    /// is behind it only to an instance that parses.
+    ghost front_is_used: { model.FrontIsUsed procedures };
+
+    /// The object itself is answered only to the empty rest.
+    ghost itself_at_end: { model.ItselfIsAtEnd procedures };
+
+    /// An instance that a parse procedure makes is idle.
+    ghost parsed_idle: { model.ParsedIsIdle procedures idle };
+
+    /// A face is found the same as itself.
+    ghost own_face: { model.OwnFaceIsSame procedures };
+
+    /// Faces that are found the same answer every rest alike.
+    ghost same_answers: { model.SameFacesAnswerAlike procedures };
 
     /// Kinds that are found the same are one kind.
     ghost one_kind: { model.SameKindIsOne procedures };

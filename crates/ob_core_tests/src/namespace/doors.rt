@@ -6,8 +6,8 @@ ghost use Rattle.std.proofs.Common.{rules};
 ghost use Rattle.ob_model.specs.Procedures.{Refused};
 ghost use Rattle.ob_core_tests.specs.declared.namespace.doors.Door.TheVariants.{Free, Through, Locked};
 
-use ob_types::{Reason, Refusal, TypeSet};
-use std::alloc::Global;
+use ob_types::{ParseAnswer, Reason, Refusal, TypeSet};
+use std::alloc::{AllocError, Global};
 
 /// What changes of a door: whether somebody is through, and whether it is locked.
 #[derive(Clone, Copy)]
@@ -57,6 +57,22 @@ impl TypeSet for Doors {
         *face
     }
 
+    fn parses(_kind: bool) -> bool {
+        false
+    }
+
+    fn same(a: &bool, b: &bool) -> bool {
+        *a == *b
+    }
+
+    fn parse(
+        _alloc: Global,
+        _face: &bool,
+        _rest: &[u8],
+    ) -> Result<ParseAnswer<bool, Door>, AllocError> {
+        unreachable!()
+    }
+
     fn make(_alloc: Global, kind: bool, args: &[u8]) -> Result<(bool, Door), Refusal> {
         if !kind {
             return Err(Refusal::Code(7));
@@ -95,6 +111,16 @@ impl TypeSet for Doors {
     ghost made_idle = { λ _. elim [ [] ↦ λ _. refl | _ ∷ _ ↦ λ _. refl ] };
 
     ghost closed_idle = { λ _. elim [ Free ↦ λ _. refl | Through ↦ λ _. refl | Locked ↦ λ _. refl ] };
+
+    ghost front_is_used = { λ _ _ _ _ _ told. Prim.search rules };
+
+    ghost itself_at_end = { λ _ _ told. Prim.search rules };
+
+    ghost parsed_idle = { λ _ _ _ _ _ told. Prim.search rules };
+
+    ghost own_face = { Prim.search rules };
+
+    ghost same_answers = { λ _ _ _ _. refl };
 
     ghost one_kind = { Prim.search rules };
 

@@ -1,42 +1,68 @@
 -- The oldest is closed, and then the next, until none is left.
-use Rattle.std.proofs.Common.{◌∙◌, ap, sym, subst}
-use Rattle.ob_model.specs.State.{State}
-use Rattle.ob_model.specs.Processes.{without_process}
+use Rattle.std.proofs.Common.{◌≡◌, ◌∙◌, ◌+◌, [], true, All, get_or, length, refl, ap, sym, subst, arith}
+use Rattle.std.specs.Option.{is_some}
+use Rattle.std.specs.Prelude.{MatchOption, false}
+use Rattle.ob_model.specs.State.{is_live}
+use Rattle.ob_counts.specs.Counts.{Numbers, is_listed}
+use Rattle.ob_model.specs.Processes.{handles_in}
 use Rattle.ob_space.specs.Namespace.{state_of}
 use Rattle.ob_space.specs.Orderly.{IsOrderly}
-use Rattle.ob_life.proofs.Beginnings.{parted_orderly}
-use Rattle.ob_life.proofs.Endings.{held_itself, next_closed, next_sound, next_fewer, all_closed, parted}
+use Rattle.ob_life.proofs.Endings.{closing, none_goes, no_handles, first_closed, next_closed, all_closed, ended_orderly, ended_stays, few_handles}
 use Rattle.ob_life.proofs.ending.end_process.Goals as goal
 
-pub close_handle-requires-clause-held : goal.close_handle-requires-clause-held
-close_handle-requires-clause-held g c _ _ =
-    held_itself c.args.process c.loop-held.space.processes.handles c.in-Some.held c.loop-held.invariant.sound.distinct (sym c.oldest.ensures ∙ c.in-Some.is)
+pub returns-in_err-ending-clause-ended : goal.returns-in_err-ending-clause-ended
+returns-in_err-ending-clause-ended g c =
+    first_closed g.row.T-Kind.Denot g.T.TypeSet.procedures c.args.space.now c.args.process c.end.new.self [] c.requires.sound c.end.ensures.handles c.end.ensures.others
+    (no_handles (state_of g.row.T-Kind.Denot c.args.space.now) c.args.process c.requires.sound (sym c.end.ensures.live ∙ ap is_some c.in_err-ending.was))
 
-pub loop-held-smaller : goal.loop-held-smaller
-loop-held-smaller g c =
-    next_fewer g.T.TypeSet.procedures (state_of g.row.T-Kind.Denot c.loop-held.space) c.args.process c.loop-held.invariant.sound c.in-Some.held (sym c.oldest.ensures ∙ c.in-Some.is)
-    (state_of g.row.T-Kind.Denot c.close_handle.new.space) c.close_handle.ensures.closed
+pub returns-in_err-ending-clause-orderly : goal.returns-in_err-ending-clause-orderly
+returns-in_err-ending-clause-orderly g c =
+    subst (IsOrderly g.T.TypeSet.idle) (sym (returns-in_err-ending-clause-ended g c))
+    (ended_orderly g.T.TypeSet.procedures g.T.TypeSet.idle c.closed_idle.ensures (state_of g.row.T-Kind.Denot c.args.space.now) c.args.process c.requires.sound c.requires.orderly)
+
+pub returns-in_err-ending-clause-live : goal.returns-in_err-ending-clause-live
+returns-in_err-ending-clause-live g c =
+    let dead = sym c.end.ensures.live ∙ ap is_some c.in_err-ending.was in
+    subst
+    (λ o. MatchOption o ((is_live (state_of g.row.T-Kind.Denot c.args.space.now) c.args.process ≡ false) × (state_of g.row.T-Kind.Denot (record c.args.space.now { processes = c.end.new.self }) ≡ state_of g.row.T-Kind.Denot c.args.space.now))
+    (λ _. is_live (state_of g.row.T-Kind.Denot c.args.space.now) c.args.process ≡ true))
+    (sym c.from_residual.ensures)
+    (dead, none_goes g.row.T-Kind.Denot c.args.space.now c.args.process c.end.new.self c.requires.sound dead c.end.ensures.handles c.end.ensures.others)
+
+pub returns-clause-live : goal.returns-clause-live
+returns-clause-live g c = sym c.end.ensures.live ∙ ap is_some c.in_ok-ending.was
+
+pub loop-held-init : goal.loop-held-init
+loop-held-init g c = record {
+  turn =
+      first_closed g.row.T-Kind.Denot g.T.TypeSet.procedures c.args.space.now c.args.process c.end.new.self c.in_ok-ending.ending.handles c.requires.sound c.end.ensures.handles c.end.ensures.others
+      (sym c.in_ok-ending.ensures.own);
+  few = few_handles g.T.TypeSet.idle (state_of g.row.T-Kind.Denot c.args.space.now) c.args.process c.in_ok-ending.ending.handles c.end.new.self.handles c.requires.sound c.requires.orderly c.in_ok-ending.ensures.own c.end.ensures.handles;
+  listed = subst (All (λ h. is_listed c.in_ok-ending.ending.touched h.object ≡ true)) c.in_ok-ending.ensures.own c.in_ok-ending.ensures.touched;
+}
 
 pub loop-held-preserved : goal.loop-held-preserved
 loop-held-preserved g c = record {
-  orderly = c.close_handle.ensures.orderly;
-  sound =
-      next_sound g.T.TypeSet.procedures (state_of g.row.T-Kind.Denot c.loop-held.space) c.args.process c.loop-held.invariant.sound c.in-Some.held (sym c.oldest.ensures ∙ c.in-Some.is)
-      (state_of g.row.T-Kind.Denot c.close_handle.new.space) c.close_handle.ensures.closed;
   turn =
-      next_closed g.T.TypeSet.procedures (state_of g.row.T-Kind.Denot c.loop-held.space) c.args.process c.loop-held.invariant.sound c.in-Some.held (sym c.oldest.ensures ∙ c.in-Some.is)
-      (state_of g.row.T-Kind.Denot c.close_handle.new.space) c.close_handle.ensures.closed
-      ∙ c.loop-held.invariant.turn;
+      next_closed g.row.T-Kind.Denot g.T.TypeSet.procedures c.loop-held.space c.in-Some.held c.next.new.self.handles c.count_of-process_left.result (c.count_of-process_left.result + c.count_of.result) c.close.new.set c.close.new.self
+      c.count_of-process_left.ensures (λ i. c.count_of-process_left.ensures i + c.count_of.ensures i) c.close.ensures.set c.close.ensures.closed
+      ∙ ap (closing g.T.TypeSet.procedures (state_of g.row.T-Kind.Denot c.loop-held.space)) (sym c.in-Some.ensures.first) ∙ c.loop-held.invariant.turn;
+  few =
+      let one = ap length c.in-Some.ensures.first in
+      omega (arith, one, c.loop-held.invariant.few);
+  listed = λ k d below. c.in-Some.ensures.touched _ ∙ c.loop-held.invariant.listed k d below;
 }
 
 pub returns-clause-orderly : goal.returns-clause-orderly
 returns-clause-orderly g c =
-    subst (IsOrderly g.T.TypeSet.idle)
-    (sym (parted (state_of g.row.T-Kind.Denot c.loop-held.space) c.args.process c.end.new.self.processes c.end.new.self.handles c.end.ensures.others c.end.ensures.handles))
-    (parted_orderly g.T.TypeSet.procedures g.T.TypeSet.idle (state_of g.row.T-Kind.Denot c.loop-held.space) c.args.process c.loop-held.invariant.orderly)
+    subst (IsOrderly g.T.TypeSet.idle) (sym (all_closed g.T.TypeSet.procedures (state_of g.row.T-Kind.Denot c.loop-held.space) _ c.loop-held.ending.handles c.in_default.ensures.first.0 c.loop-held.invariant.turn))
+    (ended_orderly g.T.TypeSet.procedures g.T.TypeSet.idle c.closed_idle.ensures (state_of g.row.T-Kind.Denot c.args.space.now) c.args.process c.requires.sound c.requires.orderly)
 
-pub returns-clause-ended : goal.returns-clause-ended
-returns-clause-ended g c =
-    parted (state_of g.row.T-Kind.Denot c.loop-held.space) c.args.process c.end.new.self.processes c.end.new.self.handles c.end.ensures.others c.end.ensures.handles
-    ∙ ap (λ (u : State g.row.T-Kind.Denot g.row.T.Denot g.row.T-Face.Denot g.row.T-Inner.Denot). without_process u c.args.process)
-    (all_closed g.T.TypeSet.procedures (state_of g.row.T-Kind.Denot c.loop-held.space) c.args.process (sym c.oldest.ensures ∙ c.in_default.is) ∙ c.loop-held.invariant.turn)
+pub returns-clause-left : goal.returns-clause-left
+returns-clause-left g c =
+    ended_stays g.T.TypeSet.procedures (state_of g.row.T-Kind.Denot c.args.space.now) (state_of g.row.T-Kind.Denot c.loop-held.space) c.args.process (all_closed g.T.TypeSet.procedures (state_of g.row.T-Kind.Denot c.loop-held.space) _ c.loop-held.ending.handles c.in_default.ensures.first.0 c.loop-held.invariant.turn)
+    c.requires.sound c.requires.settled (λ o. refl) c.view.ensures.rising (is_listed c.into_touched-touched.result)
+    (λ k d below.
+    let object = (get_or (handles_in (state_of g.row.T-Kind.Denot c.args.space.now) c.args.process) k d).object in
+    ap (λ (n : Numbers). is_listed n object) c.into_touched-touched.ensures ∙ c.in_default.ensures.touched object ∙ c.loop-held.invariant.listed k d below)
+    c.view.result.local c.view.ensures.local

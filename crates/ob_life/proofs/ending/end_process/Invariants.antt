@@ -1,19 +1,18 @@
 -- What is still to be closed makes of the state what all was to make of it.
-use Rattle.std.proofs.Common.{◌≡◌, length}
-use Rattle.ob_model.specs.Processes.{handles_in, closed_in_turn}
-use Rattle.ob_model.specs.Sound.{IsSound}
+use Rattle.std.proofs.Common.{◌≡◌, ◌+◌, ◌<◌, ◌^◌, true, All, length}
+use Rattle.ob_counts.specs.Counts.{is_listed}
+use Rattle.ob_model.specs.Processes.{handles_in, ended}
 use Rattle.ob_space.specs.Namespace.{state_of}
-use Rattle.ob_space.specs.Orderly.{IsOrderly}
+use Rattle.ob_life.proofs.Endings.{closing}
 use Rattle.ob_life.proofs.ending.end_process.Given as goal
 
 abbrev pub invariant-loop-held : goal.invariant-loop-held
 invariant-loop-held g l =
     record {
-      orderly : IsOrderly g.T.TypeSet.idle (state_of g.row.T-Kind.Denot l.space);
-      sound : IsSound (state_of g.row.T-Kind.Denot l.space);
-      turn : closed_in_turn g.T.TypeSet.procedures (state_of g.row.T-Kind.Denot l.space) (handles_in (state_of g.row.T-Kind.Denot l.space) l.fn.process)
-          ≡ closed_in_turn g.T.TypeSet.procedures (state_of g.row.T-Kind.Denot l.fn.space) (handles_in (state_of g.row.T-Kind.Denot l.fn.space) l.fn.process);
+      turn : closing g.T.TypeSet.procedures (state_of g.row.T-Kind.Denot l.space) l.ending.handles ≡ ended g.T.TypeSet.procedures (state_of g.row.T-Kind.Denot l.fn.space) l.fn.process;
+      few : length l.ending.handles + length l.space.processes.handles < 2 ^ 32;
+      listed : All (λ h. is_listed l.ending.touched h.object ≡ true) (handles_in (state_of g.row.T-Kind.Denot l.fn.space) l.fn.process);
     }
 
 abbrev pub decreases-loop-held : goal.decreases-loop-held
-decreases-loop-held g l = length (handles_in (state_of g.row.T-Kind.Denot l.space) l.fn.process)
+decreases-loop-held g l = length l.ending.handles

@@ -12,8 +12,8 @@ put_all-requires-clause-live g c κs within =
 
 pub returns-in-Err-clause-unchanged : goal.returns-in-Err-clause-unchanged
 returns-in-Err-clause-unchanged g c =
-    alike c.withdraw.new.self c.args.self.now
-    (c.withdraw.ensures.processes
+    alike c.end.new.self c.args.self.now
+    (c.end.ensures.others
     ∙ ap (filter (λ x. not (x.number == c.args.process))) (c.put_all.ensures.processes ∙ c.in_ok-start.ensures.last)
     ∙ begun_back c.args.process c.args.map c.args.self.now.processes c.requires.number)
-    (c.withdraw.ensures.handles ∙ c.put_all.ensures.others ∙ c.in_ok-start.ensures.handles)
+    (c.end.ensures.handles ∙ c.put_all.ensures.others ∙ c.in_ok-start.ensures.handles)

@@ -1,0 +1,8 @@
+//! Devices, which lead to files, and files.
+#![tactic(auto)]
+
+mod device;
+mod table;
+
+pub use device::{DeviceFace, DeviceInner, DeviceKind, DeviceSet};
+pub use table::PathTable;

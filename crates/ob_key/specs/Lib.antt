@@ -1,0 +1,4 @@
+pub mod Entries
+pub mod Equality
+pub mod Key
+pub mod KeyLaws
