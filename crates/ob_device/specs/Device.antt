@@ -66,7 +66,7 @@ device_answer table [] = Front 0 (faces.File []) unopened
 device_answer table (b ∷ bs) =
     if has_path table (path_named (b ∷ bs)) then Front (length (b ∷ bs)) (faces.File (path_named (b ∷ bs))) unopened else Refused 3
 
--- what an object with this face answers to a rest; a file is not asked
+-- what an object with this face answers to a rest; a file doesn't parse, and refuses each
 abbrev pub answer_to : DeviceFace → List ℕ → ParseAnswer DeviceFace DeviceInner
 answer_to (faces.Device table) rest = device_answer table rest
 answer_to (faces.File path) rest = Refused 3

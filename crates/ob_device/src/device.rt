@@ -112,7 +112,7 @@ impl TypeSet for DeviceSet {
         rest: &[u8],
     ) -> Result<ParseAnswer<DeviceFace, DeviceInner>, AllocError> {
         let DeviceFace::Device(table) = face else {
-            unreachable!();
+            return Ok(ParseAnswer::Refused(3));
         };
         let path = path_named(rest);
         if !rest.is_empty() && !table.has(path) {

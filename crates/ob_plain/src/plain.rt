@@ -81,7 +81,7 @@ impl TypeSet for Plain {
         _face: &PlainFace,
         _rest: &[u8],
     ) -> Result<ParseAnswer<PlainFace, PlainInner>, AllocError> {
-        unreachable!()
+        Ok(ParseAnswer::Refused(3))
     }
 
     fn make(

@@ -59,13 +59,12 @@ pub trait TypeSet: Sized + Drop + Send {
 
     /// What the parse procedure of an object with this face answers to the rest of a name that leads to
     /// the object. The only error is want of memory. It is called outside of every lock, and knows nothing of
-    /// the set's value.
+    /// the set's value. A run asks only objects whose kind parses; what others answer is the set's choice.
     fn parse(
         alloc: Global,
         face: &Self::Face,
         rest: &[u8],
     ) -> Result<ParseAnswer<Self::Face, Self::Inner>, AllocError>
-        requires { procedures.parses (procedures.kind_of face.now) ≡ true }
         ensures { IfOk result (λ answer. answer_of answer ≡ procedures.parsed face.now rest.now) };
 
     /// What is done for a new handle to an object with this inner value. It may refuse the handle,
