@@ -26,3 +26,4 @@ pub mod Exclusive
 pub mod Alike
 pub mod Laws
 pub mod Examples
+pub mod ParseExamples

@@ -36,6 +36,15 @@ ghost use Rattle.ob_model.specs.Examples.{
   ClosesOfAnEnd,
   OpeningIsSettled,
 };
+ghost use Rattle.ob_model.specs.ParseExamples.{
+  MadeIsOpened,
+  MadeOfAnotherTypeGoes,
+  ItselfIsOpened,
+  ParseIsRefused,
+  AskerIsGone,
+  OpenIsGivenUp,
+  ReparsesAreCounted,
+};
 
 /// `Foo` and `FOO` are equal without case and differ with it; `[` is not `{` in either way.
 pub fn names_with_and_without_case()
@@ -180,6 +189,42 @@ pub fn paths_of_objects()
 /// text to look up where a step answers so; and with the object itself where there is no rest.
 pub fn parse_runs_end()
     ensures { ParseRunsEnd }
+{}
+
+/// A resume opens what the parse made, under its ticket. The object that parsed goes, since nothing else holds
+/// it.
+pub fn made_is_opened()
+    ensures { MadeIsOpened }
+{}
+
+/// What the parse made is of another type than was asked for: it goes unopened, before the object that parsed.
+pub fn made_of_another_type_goes()
+    ensures { MadeOfAnotherTypeGoes }
+{}
+
+/// Where no rest is left the object that parsed is opened, though it has no name, and stays.
+pub fn itself_is_opened()
+    ensures { ItselfIsOpened }
+{}
+
+/// A refusal of the parse is told by the resume.
+pub fn parse_is_refused()
+    ensures { ParseIsRefused }
+{}
+
+/// Where the process that asked is gone a resume says so, and what the parse made goes.
+pub fn asker_is_gone()
+    ensures { AskerIsGone }
+{}
+
+/// An open is given up before its parse was run, or behind it: then what the parse made goes.
+pub fn open_is_given_up()
+    ensures { OpenIsGivenUp }
+{}
+
+/// A text to look up takes one of the reparses that are left; where none is left that is told.
+pub fn reparses_are_counted()
+    ensures { ReparsesAreCounted }
 {}
 
 /// An object is opened at its create, closed and deleted; one whose open is refused at its create is

@@ -1,0 +1,17 @@
+-- The parse run step by step, and the resume by its case.
+use Rattle.std.proofs.Common.{ℕ, arith, refl}
+use Rattle.std.specs.Prelude.{Option, [], Some, codes}
+use Rattle.ob_model.specs.declared.state.Wanted.TheVariants.{Anything}
+use Rattle.ob_model.specs.Procedures.{ParseOutcome, ParseEnds, EndsMade, ends_made, goes_on}
+use Rattle.ob_model.specs.Parses.{parsed_state}
+use Rattle.ob_model.specs.ParseExamples.{parsing, with_open_at}
+use Rattle.ob_model.proofs.examples.asker_is_gone.Goals as goal
+
+pub returns : goal.returns
+returns c =
+    let s = record (with_open_at (codes "ab") 32 Anything) { processes = [] } in
+    let out : Option (ParseOutcome ℕ ℕ) = Some (EndsMade 3 98) in
+    let brought : ParseEnds parsing 1 (codes "ab") (EndsMade 3 98) = goes_on refl (omega arith) (ends_made refl refl) in (
+      (refl, brought, (out, brought, (parsed_state s 8 out, (refl, refl), refl)), tt),
+      refl,
+    )
