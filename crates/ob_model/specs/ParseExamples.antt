@@ -1,7 +1,7 @@
 -- Worked examples of pending opens: what is left of a small namespace where one is resumed or given up.
 --
 -- Source: this profile.
-use Rattle.std.specs.Prelude.{◌≡◌, ℕ, false, true, List, [], ◌∷◌, ◌++◌, Option, None, Some, codes}
+use Rattle.std.specs.Prelude.{◌≡◌, ℕ, ◌+◌, ◌==◌, if◌then◌else◌, false, true, List, [], ◌∷◌, ◌++◌, Option, None, Some, codes}
 use Rattle.ob_base.specs.declared.status.Status.TheVariants.{Success, ObjectTypeMismatch, ReparseLimit, ProcessGone, TypeRefused}
 use Rattle.ob_model.specs.declared.reply.Answer.{Answer}
 use Rattle.ob_model.specs.declared.reply.Event.{Event}
@@ -11,18 +11,23 @@ use Rattle.ob_model.specs.declared.reply.ParseRun.TheVariants.{Unrun, Ran}
 use Rattle.ob_model.specs.declared.state.Body.TheVariants.{Other}
 use Rattle.ob_model.specs.declared.state.Wanted.{Wanted}
 use Rattle.ob_model.specs.declared.state.Wanted.TheVariants.{Anything, Kind}
-use Rattle.ob_model.specs.Procedures.{Procedures, Opened as ForOpen, ParseOutcome, EndsItself, EndsMade, EndsReparse, EndsRefused}
-use Rattle.ob_model.specs.State.{object_of}
+use Rattle.ob_model.specs.Procedures.{Procedures, Opened as ForOpen, ParseAnswer, Itself, Front, Reparse, Refused as ParseRefused, ParseOutcome, EndsItself, EndsMade, EndsReparse, EndsRefused}
+use Rattle.ob_model.specs.State.{object_of, global_id}
 use Rattle.ob_model.specs.Opening.{opening}
 use Rattle.ob_model.specs.Parses.{parsed_state}
 use Rattle.ob_model.specs.Grants.{with_open, with_handle}
 use Rattle.ob_model.specs.Settle.{settle}
 use Rattle.ob_model.specs.Refusals.{gives, answers}
 use Rattle.ob_model.specs.Calls.{Call, Opened, Deleted, Passed, Passes, calls_of_run}
-use Rattle.ob_model.specs.Examples.{recording, Recorded, parsed_byte}
+use Rattle.ob_model.specs.Examples.{recording, Recorded}
 
--- a set whose value is the list of the calls that it got, and whose objects parse byte by byte: `ab` leads
--- from face 1 to a new object of face 3, whose inner value is 98; `!` is refused with 5; and `@` leads to `\Device`
+-- a parse that takes a rest byte by byte, to the instance of the next face each, whose inner value is the
+-- byte; it refuses `!` with 5, and looks `\DosDevices` up at `@`
+abbrev pub parsed_byte : ℕ → List ℕ → ParseAnswer ℕ ℕ
+parsed_byte face [] = Itself
+parsed_byte face (b ∷ bs) = if b == 33 then ParseRefused 5 else if b == 64 then Reparse (codes "\\DosDevices") else Front 1 (face + 1) b
+
+-- a set whose value is the list of the calls that it got, and whose objects parse so
 abbrev pub parsing : Procedures ℕ (List (ℕ × Call)) ℕ ℕ
 parsing = record recording { parses = λ kind. true; parsed = parsed_byte }
 
@@ -103,11 +108,14 @@ OpenIsGivenUp =
     Passes parsing s 0 (one_step (Abandon 8 Unrun) None (answers Success) (given_none s None)) × ((given_none s None).set ≡ (1, Deleted) ∷ [])
     × Passes parsing s 0 (one_step (Abandon 8 Ran) made (answers Success) (given_none s made)) × ((given_none s made).set ≡ (98, Deleted) ∷ (1, Deleted) ∷ [])
 
--- a text to look up takes one of the reparses that are left; where none is left that is told
+-- a text to look up takes one of the reparses that are left, and a link in it another one; where none is left
+-- that is told
 abbrev pub ReparsesAreCounted : Type 0
 ReparsesAreCounted =
+    let text = Some (EndsReparse (codes "\\DosDevices")) in
+    let two = with_open_at (codes "a@") 2 Anything in
     let one = with_open_at (codes "a@") 1 Anything in
     let none = with_open_at (codes "a@") 0 Anything in
-    let text = Some (EndsReparse (codes "\\Device")) in
-    Passes parsing one 0 (one_step (Resume 8 Ran) text (gives Success (Handle 4)) (given_to one text 4))
+    Passes parsing two 0 (one_step (Resume 8 Ran) text (gives Success (Handle 4)) (given_to two text global_id))
+    × Passes parsing one 0 (one_step (Resume 8 Ran) text (answers ReparseLimit) (given_none one text))
     × Passes parsing none 0 (one_step (Resume 8 Ran) text (answers ReparseLimit) (given_none none text))

@@ -1,6 +1,6 @@
 -- The text is looked up by computing, and each resume is by its case.
 use Rattle.std.proofs.Common.{ℕ, arith, refl}
-use Rattle.std.specs.Prelude.{Option, Some, codes, Ok}
+use Rattle.std.specs.Prelude.{List, Option, Some, codes, Ok}
 use Rattle.ob_model.specs.declared.state.Wanted.TheVariants.{Anything}
 use Rattle.ob_model.specs.Procedures.{ParseOutcome, ParseEnds, EndsReparse, ends_reparse, goes_on}
 use Rattle.ob_model.specs.Parses.{parsed_state}
@@ -16,11 +16,14 @@ use Rattle.ob_model.proofs.examples.reparses_are_counted.Goals as goal
 pub returns : goal.returns
 unfolding walk looked_up
 returns c =
+    let two = with_open_at (codes "a@") 2 Anything in
     let one = with_open_at (codes "a@") 1 Anything in
-    let s = one in
     let none = with_open_at (codes "a@") 0 Anything in
-    let out : Option (ParseOutcome ℕ ℕ) = Some (EndsReparse (codes "\\Device")) in
-    let brought : ParseEnds parsing 1 (codes "a@") (EndsReparse (codes "\\Device")) = goes_on refl (omega arith) (ends_reparse refl) in (
-      (refl, brought, (out, brought, (given_to one out 4, (At 4, ends_as_computed parsing (parsed_state one 8 out) refl 1 (open_mode {K = ℕ} Anything 0) 0 (codes "\\Device") (At 4) refl, (Ok 4, granted s out 4, (refl, ((1, refl, omega arith, omega arith), refl), refl), (refl, refl))), refl)), tt),
+    let text : List ℕ = codes "\\DosDevices" in
+    let out : Option (ParseOutcome ℕ ℕ) = Some (EndsReparse text) in
+    let mode = open_mode {K = ℕ} Anything 0 in
+    let brought : ParseEnds parsing 1 (codes "a@") (EndsReparse text) = goes_on refl (omega arith) (ends_reparse refl) in (
+      (refl, brought, (out, brought, (given_to two out 2, (At 2, ends_as_computed parsing (parsed_state two 8 out) refl 1 mode 1 text (At 2) refl, (Ok 4, granted two out 2, (refl, ((1, refl, omega arith, omega arith), refl), refl), (refl, refl))), refl)), tt),
+      (refl, brought, (out, brought, (parsed_state one 8 out, (Refused ReparseLimit, ends_as_computed parsing (parsed_state one 8 out) refl 1 mode 0 text (Refused ReparseLimit) refl, (refl, refl)), refl)), tt),
       (refl, brought, (out, brought, (parsed_state none 8 out, (Refused ReparseLimit, refl, (refl, refl)), refl)), tt),
     )
