@@ -28,15 +28,15 @@ const FILE: Kind = Either::Right(Either::Left(DeviceKind::File));
 const KEY: Kind = Either::Right(Either::Right(KeyKind::Key));
 
 // The kind and the arguments of a make, the name of the type, whether it parses, and the number that refuses.
-const MAKES: [(Kind, &'static [u8], &'static str, bool, Option<u16>); 8] = [
-    (EVENT, b"2", "Event", false, None),
-    (EVENT, b"a", "Event", false, Some(1)),
-    (DEVICE, b"a;b", "Device", true, None),
-    (DEVICE, b"a;;b", "Device", true, Some(1)),
-    (FILE, b"", "File", false, Some(5)),
-    (KEY, b"a;b", "Key", true, None),
-    (KEY, b"a>\\X", "Key", true, None),
-    (KEY, b"a>", "Key", true, Some(1)),
+const MAKES: [(Kind, &'static [u8], &'static [u8], bool, Option<u16>); 8] = [
+    (EVENT, b"2", b"Event", false, None),
+    (EVENT, b"a", b"Event", false, Some(1)),
+    (DEVICE, b"a;b", b"Device", true, None),
+    (DEVICE, b"a;;b", b"Device", true, Some(1)),
+    (FILE, b"", b"File", false, Some(5)),
+    (KEY, b"a;b", b"Key", true, None),
+    (KEY, b"a>\\X", b"Key", true, None),
+    (KEY, b"a>", b"Key", true, Some(1)),
 ];
 
 // What a make gives: an object, or the number that refuses it.
@@ -64,8 +64,8 @@ fn is_made_so(
 fn objects_are_made_by_the_part_of_their_kind(rt: HostRuntime) -> Result<(), Fail> {
     for (kind, args, name, parses, code) in MAKES {
         let is_made_so = is_made_so(rt.alloc(), kind, args, code)?;
-        let is_kind_so = Sum::type_name(kind) == name && Sum::parses(kind) == parses;
-        assert!(rt; is_made_so && is_kind_so, "at {name} and {args:?}");
+        let is_kind_so = Sum::type_name(kind).as_bytes() == name && Sum::parses(kind) == parses;
+        assert!(rt; is_made_so && is_kind_so, "at {name:?} and {args:?}");
     }
     Ok(())
 }
