@@ -1,0 +1,14 @@
+//! Tests of the sets of types that parse, devices and keys, alone and in a sum with the plain types: tables from
+//! the rules, and what no clause says. The crate holds tests alone, since a crate with tests is proved twice.
+#![tactic(auto)]
+
+#[cfg(test)]
+mod arguments;
+#[cfg(test)]
+mod devices;
+#[cfg(test)]
+mod entries;
+#[cfg(test)]
+mod keys;
+#[cfg(test)]
+mod sum;
