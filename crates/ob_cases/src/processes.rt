@@ -3,7 +3,7 @@
 use crate::runs::{Case, run};
 use std::test::Fail;
 
-const CASES: [Case; 11] = [
+const CASES: [Case; 13] = [
     Case {
         shows: b"an exclusive object is opened and duplicated in its process alone, and gone with it",
         script: b"p1 make Mutant \"\\M\" E \"\" =m\np1 new plain =q\nq open Mutant \"\\M\" - =x\np1 open Mutant \"\\M\" IE =x\np1 open Mutant \"\\M\" I =x\np1 open Mutant \"\\M\" E =x\np1 dup m q plain =w\np1 dup m p1 inherit =w\np1 dup m p1 plain =w\np1 make Event \"\\V\" - \"\" =v\np1 open Event \"\\V\" E =x\np1 exit\nq open Mutant \"\\M\" - =x\nstat\n",
@@ -68,6 +68,18 @@ const CASES: [Case; 11] = [
         shows: b"handles are closed in order as a process ends, and what it alone held goes",
         script: b"p1 new plain =q\nq dir \"\\T\" - =t\nq make Event \"\\T\\E\" - \"\" =e\nq make Event \"\\T\\P\" P \"\" =p\np1 open Event \"\\T\\E\" - =e\nq exit\nstat\np1 name e\np1 close e\nstat\np1 opendir \"\\T\" - =t\n",
         prints: b"1: SUCCESS\n2: SUCCESS\n3: SUCCESS\n4: SUCCESS\n5: SUCCESS\n6: SUCCESS\n7: objects 9 handles 1 opens 3 closes 2 deletes 0\n8: SUCCESS \"\"\n9: SUCCESS\n10: objects 8 handles 0 opens 3 closes 3 deletes 1\n11: OBJECT_NAME_NOT_FOUND\n",
+        status: 0,
+    },
+    Case {
+        shows: b"directories around what an ended process held go with it, also one that it had closed before",
+        script: b"p1 new plain =q\nq dir \"\\A\" - =a\nq dir \"\\A\\B\" - =b\nq make Event \"\\A\\B\\E\" - \"\" =e\nq close a\nstat\nq name b\nq exit\nstat\np1 opendir \"\\A\" - =x\n",
+        prints: b"1: SUCCESS\n2: SUCCESS\n3: SUCCESS\n4: SUCCESS\n5: SUCCESS\n6: objects 9 handles 2 opens 1 closes 0 deletes 0\n7: SUCCESS \"\"\n8: SUCCESS\n9: objects 6 handles 0 opens 1 closes 1 deletes 1\n10: OBJECT_NAME_NOT_FOUND\n",
+        status: 0,
+    },
+    Case {
+        shows: b"a map directory outlives its process while a name in it is held, and a directory while it holds a permanent name",
+        script: b"p1 new plain =q\nq dir \"\\M\" - =m\nq map m\nq make Event \"\\??\\E\" - \"\" =e\nq dir \"\\??\\D\" - =d\nq link \"\\??\\D\\X:\" P \"\\Device\" =x\np1 opendir \"\\M\\D\" - =h\nq exit\nstat\np1 name h\np1 close h\nstat\n",
+        prints: b"1: SUCCESS\n2: SUCCESS\n3: SUCCESS\n4: SUCCESS\n5: SUCCESS\n6: SUCCESS\n7: SUCCESS\n8: SUCCESS\n9: objects 9 handles 1 opens 1 closes 1 deletes 1\n10: SUCCESS \"\"\n11: SUCCESS\n12: objects 8 handles 0 opens 1 closes 1 deletes 1\n",
         status: 0,
     },
 ];

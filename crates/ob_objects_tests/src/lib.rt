@@ -1,5 +1,5 @@
-//! Tests of directories, of the store of objects, of device maps, of the table of handles and of the live
-//! processes, by their public functions. The crate holds tests alone, since a crate with tests is proved twice.
+//! Tests of directories, of the store of objects, of device maps, of the table of handles, of the live
+//! processes and of pending opens, by their public functions. The crate holds tests alone, since a crate with tests is proved twice.
 #![tactic(auto)]
 
 #[cfg(test)]
@@ -10,5 +10,7 @@ mod handles;
 mod maps;
 #[cfg(test)]
 mod objects;
+#[cfg(test)]
+mod pending;
 #[cfg(test)]
 mod processes;
