@@ -21,9 +21,7 @@ use Rattle.ob_model.specs.Refusals.{IsRefused, Unless, answers}
 use Rattle.ob_model.specs.Settle.{IsSettled, settle, has_handle, has_name, is_kept, is_alive, is_permanent, is_pinned, is_mapped, holds_kept}
 use Rattle.ob_model.specs.Step.{SetsMap}
 use Rattle.ob_model.proofs.Finds.{find_none}
-use Rattle.ob_objects.specs.Store.{Entries}
 use Rattle.ob_processes.specs.Running.{Running}
-use Rattle.ob_space.specs.declared.space.Namespace.{Namespace}
 use Rattle.ob_space.specs.Namespace.{Parts, state_of}
 use Rattle.ob_space.specs.Orderly.{IsOrderly}
 use Rattle.ob_space.specs.Settling.{with_handle_to}

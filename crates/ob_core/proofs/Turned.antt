@@ -24,9 +24,7 @@ use Rattle.ob_model.proofs.Turned.{turned_object-id, turned_object-is_directory}
 use Rattle.ob_objects.specs.Changes as store
 use Rattle.ob_objects.specs.Store.{Entries, objects_of, rows_of}
 use Rattle.ob_objects.proofs.Shown.{permanence_is_objects}
-use Rattle.ob_processes.specs.Running.{Running}
 use Rattle.ob_space.specs.Namespace.{Parts, state_of}
-use Rattle.ob_space.specs.declared.space.Namespace.{Namespace}
 use Rattle.ob_space.specs.Orderly.{IsOrderly, IsIdleUnheld}
 use Rattle.ob_space.proofs.Orders.{pairs-map}
 use Rattle.ob_core.proofs.Stepping.{is_done}

@@ -50,10 +50,7 @@ pub(crate) fn turn<T: TypeSet, H: HandleTable>(
 }
 
 /// Whether an object has a name. Takes no memory.
-fn is_named<T: TypeSet, H: HandleTable>(
-    space: &Space<T, H>,
-    object: ObjId,
-) -> bool
+fn is_named<T: TypeSet, H: HandleTable>(space: &Space<T, H>, object: ObjId) -> bool
     ensures { result ≡ has_name (state_of T.Kind space.now) object }
 {
     space.store.name_of(object).is_some()

@@ -27,7 +27,6 @@ use Rattle.ob_objects.proofs.Follow.{set_after_close_is_machines}
 use Rattle.ob_processes.specs.Running.{Running}
 use Rattle.ob_processes.proofs.Entries.{filter_both, find_first}
 use Rattle.ob_processes.proofs.Seen.{none_passes}
-use Rattle.ob_space.specs.declared.space.Namespace.{Namespace}
 use Rattle.ob_space.specs.Namespace.{Parts, state_of}
 use Rattle.ob_space.specs.Orderly.{IsOrderly}
 use Rattle.ob_space.specs.Settling.{is_held_up, StaysBut}
@@ -186,7 +185,7 @@ module _ {K T F I : Type 0} (g : Procedures K T F I) where
       objects =
           All-map (λ x. touched x.id ≡ false → (directory ≡ Some x.id → ⊥) → is_held_up t x.id ≡ true) f s.objects
           (λ k d below. subst (λ n. touched n ≡ false → (directory ≡ Some n → ⊥) → is_held_up t n ≡ true) (sym (same_id (get_or s.objects k d)))
-          (λ free out. (λ i. ((get_or s.objects k d).id == root_id) || has_handle s (get_or s.objects k d).id || is_mapped s (get_or s.objects k d).id
+          (λ free out. (λ i. ((get_or s.objects k d).id == root_id) || has_handle s (get_or s.objects k d).id || is_pinned s (get_or s.objects k d).id || is_mapped s (get_or s.objects k d).id
           || (permanent (get_or s.objects k d).id i && has_name s (get_or s.objects k d).id) || list_any (λ r. r.directory == (get_or s.objects k d).id) s.rows)
           ∙ stays.objects k d below free out));
       directory = go directory stays.directory;

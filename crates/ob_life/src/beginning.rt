@@ -136,11 +136,7 @@ fn begin_with<T: TypeSet, H: HandleTable>(
 
 /// Opens the object of a handle that a child inherits; where the set refuses, the child loses the
 /// handle.
-fn inherit_one<T: TypeSet, H: HandleTable>(
-    space: &mut Space<T, H>,
-    child: Proc,
-    held: Held,
-) -> bool
+fn inherit_one<T: TypeSet, H: HandleTable>(space: &mut Space<T, H>, child: Proc, held: Held) -> bool
     ensures { let s = state_of T.Kind space.old in let t = state_of T.Kind space.new in
         MatchOption (open_refusal T.procedures s held.object model.Inherited)
         ((result ≡ true) × (t ≡ with_open T.procedures s held.object model.Inherited))

@@ -20,10 +20,7 @@ use ob_types::TypeSet;
 /// and each is of a live process. It leaves an orderly state.
 ///
 /// Source: ZwClose (Windows Driver Kit); Windows Internals, Object Manager (close methods).
-pub fn close_handle<T: TypeSet, H: HandleTable>(
-    space: &mut Space<T, H>,
-    held: Held,
-)
+pub fn close_handle<T: TypeSet, H: HandleTable>(space: &mut Space<T, H>, held: Held)
     requires orderly { IsOrderly T.idle (state_of T.Kind space.old) }
     requires sound { IsSound (state_of T.Kind space.old) }
     requires held { held_of (state_of T.Kind space.old) held.process held.value ≡ Some held }

@@ -9,7 +9,7 @@ ghost use Rattle.ob_counts.specs.Counts.{is_listed};
 ghost use Rattle.ob_model.specs.Sound.{IsSound};
 ghost use Rattle.ob_space.specs.Settling.{is_held_up, settled_one, settled_unless, AreSettled, StaysBut, with_handle_to, without_names, without_object};
 
-use crate::space::{Space, GLOBAL, ROOT};
+use crate::space::{GLOBAL, ROOT, Space};
 use ob_base::ObjId;
 use ob_counts::Touched;
 use ob_handles::HandleTable;
@@ -29,10 +29,7 @@ use ob_types::TypeSet;
 ///
 /// Source: Windows Internals, Object Manager (object retention); that it is judged once, at the end of
 /// a step, and the order of the deletes are this profile.
-pub fn settle_after_loss<T: TypeSet, H: HandleTable>(
-    space: &mut Space<T, H>,
-    object: ObjId,
-)
+pub fn settle_after_loss<T: TypeSet, H: HandleTable>(space: &mut Space<T, H>, object: ObjId)
     requires orderly { IsOrderly T.idle (state_of T.Kind space.old) }
     requires kept { IsSettled (with_handle_to (state_of T.Kind space.old) object) }
     ensures orderly { IsOrderly T.idle (state_of T.Kind space.new) }
@@ -82,11 +79,7 @@ pub fn settle_after_end<T: TypeSet, H: HandleTable>(
 }
 
 /// Settles one object, and then the directory of its name, unless that has its own turn.
-fn settle_named<T: TypeSet, H: HandleTable>(
-    space: &mut Space<T, H>,
-    touched: &Touched,
-    id: ObjId,
-)
+fn settle_named<T: TypeSet, H: HandleTable>(space: &mut Space<T, H>, touched: &Touched, id: ObjId)
     requires { All (IsIdleUnheld T.idle space.old.processes.handles) (objects_of space.old.store) }
     ensures { AreSettled T.procedures (state_of T.Kind space.old) (is_listed touched.now) id (state_of T.Kind space.new) }
 {
@@ -117,10 +110,7 @@ fn settle_untouched<T: TypeSet, H: HandleTable>(
 
 /// Settles one object: its name goes unless it stays, and then the object goes unless it stays, given
 /// the names that are left.
-fn settle_one<T: TypeSet, H: HandleTable>(
-    space: &mut Space<T, H>,
-    id: ObjId,
-)
+fn settle_one<T: TypeSet, H: HandleTable>(space: &mut Space<T, H>, id: ObjId)
     requires { All (IsIdleUnheld T.idle space.old.processes.handles) (objects_of space.old.store) }
     ensures { state_of T.Kind space.new ≡ settled_one T.procedures (state_of T.Kind space.old) id }
 {
@@ -158,10 +148,7 @@ fn forget_name<T: TypeSet>(store: &mut Store<T>, id: ObjId)
 }
 
 /// Takes away and deletes an object, where it is there, with what lies in it.
-fn delete_object<T: TypeSet, H: HandleTable>(
-    space: &mut Space<T, H>,
-    id: ObjId,
-)
+fn delete_object<T: TypeSet, H: HandleTable>(space: &mut Space<T, H>, id: ObjId)
     requires { MatchOption (stored_at space.old.store id) (Unit {0}) (λ object. IsIdleBody T.idle (body_of_stored object.body)) }
     ensures { state_of T.Kind space.new ≡ without_object T.procedures (state_of T.Kind space.old) id }
 {

@@ -65,10 +65,7 @@ pub struct Namespace<T, S, P, N> {
 pub type Space<T, H> = Namespace<T, Store<T>, Processes<H>, PendingOpens<<T as TypeSet>::Kind>>;
 
 /// Whether a process is live.
-pub fn is_live<T: TypeSet, H: HandleTable>(
-    space: &Space<T, H>,
-    process: Proc,
-) -> bool
+pub fn is_live<T: TypeSet, H: HandleTable>(space: &Space<T, H>, process: Proc) -> bool
     ensures { result ≡ is_live (state_of T.Kind space.now) process }
 {
     space.processes.is_live(process)
@@ -92,10 +89,7 @@ pub fn held_of<T: TypeSet, H: HandleTable>(
 }
 
 /// Whether no handle more fits into a process's table, or no order of opening is left.
-pub(crate) fn is_table_full<T: TypeSet, H: HandleTable>(
-    space: &Space<T, H>,
-    process: Proc,
-) -> bool
+pub(crate) fn is_table_full<T: TypeSet, H: HandleTable>(space: &Space<T, H>, process: Proc) -> bool
     ensures { result ≡ is_table_full (state_of T.Kind space.now) process }
 {
     space.processes.len_of(process) >= MOST_HANDLES || space.next_order > GREATEST_NUMBER
@@ -111,19 +105,14 @@ fn is_store_full<T: TypeSet, H: HandleTable>(space: &Space<T, H>) -> bool
 
 /// Whether a process can be given no handle to a new object: its table is full, with 65,535 handles,
 /// there are 1,048,576 objects and pending opens, or no id or order of opening is left.
-pub fn is_full<T: TypeSet, H: HandleTable>(
-    space: &Space<T, H>,
-    process: Proc,
-) -> bool
+pub fn is_full<T: TypeSet, H: HandleTable>(space: &Space<T, H>, process: Proc) -> bool
     ensures { result ≡ (is_table_full (state_of T.Kind space.now) process || is_store_full (state_of T.Kind space.now)) }
 {
     is_table_full(space, process) || is_store_full(space)
 }
 
 /// Whether no stamp is left for a new name.
-pub fn is_stampless<T: TypeSet, H: HandleTable>(
-    space: &Space<T, H>,
-) -> bool
+pub fn is_stampless<T: TypeSet, H: HandleTable>(space: &Space<T, H>) -> bool
     ensures { result ≡ is_stampless (state_of T.Kind space.now) }
 {
     space.next_stamp > GREATEST_NUMBER

@@ -1,5 +1,5 @@
 -- The oldest is closed, and then the next, until none is left.
-use Rattle.std.proofs.Common.{◌≡◌, ◌∙◌, ◌+◌, [], true, All, get_or, length, refl, ap, sym, subst, arith}
+use Rattle.std.proofs.Common.{◌≡◌, ◌∙◌, ◌+◌, [], true, All, get_or, length, ap, sym, subst, arith}
 use Rattle.std.specs.Option.{is_some}
 use Rattle.std.specs.Prelude.{MatchOption, false}
 use Rattle.ob_model.specs.State.{is_live}
