@@ -21,10 +21,8 @@ use Rattle.ob_model.specs.Refusals.{IsRefused, Unless, answers}
 use Rattle.ob_model.specs.Settle.{IsSettled, settle, has_handle, has_name, is_kept, is_alive, is_permanent, is_pinned, is_mapped, holds_kept}
 use Rattle.ob_model.specs.Step.{SetsMap}
 use Rattle.ob_model.proofs.Finds.{find_none}
-use Rattle.ob_objects.specs.Store.{Entries}
 use Rattle.ob_processes.specs.Running.{Running}
-use Rattle.ob_space.specs.declared.space.Namespace.{Namespace}
-use Rattle.ob_space.specs.Namespace.{state_of}
+use Rattle.ob_space.specs.Namespace.{Parts, state_of}
 use Rattle.ob_space.specs.Orderly.{IsOrderly}
 use Rattle.ob_space.specs.Settling.{with_handle_to}
 use Rattle.ob_core.proofs.Stepping.{is_done}
@@ -182,7 +180,7 @@ module _ {K T F I : Type 0} (s : State K T F I) (p d : ℕ) where
 -- ---- the parts
 
 -- the processes with another map are the state with it
-pub stored_mapped : (K : Type 0) {T F I : Type 0} (a : Namespace T (Entries F I) Running) (now : Running) (p d : ℕ) → now.processes ≡ map (with_own_map p (Some d)) a.processes.processes
+pub stored_mapped : (K : Type 0) {T F I : Type 0} (a : Parts K T F I) (now : Running) (p d : ℕ) → now.processes ≡ map (with_own_map p (Some d)) a.processes.processes
     → now.handles ≡ a.processes.handles → state_of K (record a { processes = now }) ≡ with_map (state_of K a) p d
 stored_mapped K a now p d processes handles = λ i. record (state_of K a) { processes = processes i; handles = handles i }
 

@@ -24,9 +24,7 @@ use Rattle.ob_model.proofs.Turned.{turned_object-id, turned_object-is_directory}
 use Rattle.ob_objects.specs.Changes as store
 use Rattle.ob_objects.specs.Store.{Entries, objects_of, rows_of}
 use Rattle.ob_objects.proofs.Shown.{permanence_is_objects}
-use Rattle.ob_processes.specs.Running.{Running}
-use Rattle.ob_space.specs.Namespace.{state_of}
-use Rattle.ob_space.specs.declared.space.Namespace.{Namespace}
+use Rattle.ob_space.specs.Namespace.{Parts, state_of}
 use Rattle.ob_space.specs.Orderly.{IsOrderly, IsIdleUnheld}
 use Rattle.ob_space.proofs.Orders.{pairs-map}
 use Rattle.ob_core.proofs.Stepping.{is_done}
@@ -97,7 +95,7 @@ module _ {K T F I : Type 0} (idle : I → Type 0) (s : State K T F I) (o : ℕ) 
           go false = before
 
 -- the store with an object of other permanence is the state with it
-pub stored_turned : (K : Type 0) {T F I : Type 0} (a : Namespace T (Entries F I) Running) (stored : Entries F I) (o : ℕ) (permanent : Bool) → stored ≡ store.with_permanence a.store o permanent
+pub stored_turned : (K : Type 0) {T F I : Type 0} (a : Parts K T F I) (stored : Entries F I) (o : ℕ) (permanent : Bool) → stored ≡ store.with_permanence a.store o permanent
     → state_of K (record a { store = stored }) ≡ with_permanence (state_of K a) o permanent
 stored_turned K a stored o permanent is =
     let both = permanence_is_objects a.store o permanent in

@@ -12,14 +12,12 @@ use crate::replies::status_alone;
 use ob_base::{Handle, Proc, Status};
 use ob_handles::HandleTable;
 use ob_model::Reply;
-use ob_objects::Store;
-use ob_processes::Processes;
-use ob_space::{Namespace, close_handle, held_of, is_live, settle_after_loss};
+use ob_space::{Space, close_handle, held_of, is_live, settle_after_loss};
 use ob_types::TypeSet;
 
 /// Closes a handle of the caller. No memory is taken.
 pub(crate) fn close<T: TypeSet, H: HandleTable>(
-    space: &mut Namespace<T, Store<T>, Processes<H>>,
+    space: &mut Space<T, H>,
     process: Proc,
     handle: Handle,
 ) -> Reply

@@ -27,22 +27,22 @@ use crate::permanence::turn;
 use ob_base::{Fault, Handle, Proc};
 use ob_handles::HandleTable;
 use ob_model::{Command, Reply, Wanted};
-use ob_objects::Store;
+use ob_pending::PendingOpens;
 use ob_processes::Processes;
-use ob_space::{Namespace, opening_store};
+use ob_space::{Namespace, Space, opening_store};
 use ob_types::TypeSet;
 use std::alloc::Global;
 use std::marker::Model;
 
-/// The namespace of processes: its objects, their names, the live processes and their handles. `T` is a
-/// set of types for the objects that are neither directories nor links, and `H` the handle table that
-/// each process has; a core knows of both only what their traits say.
+/// The namespace of processes: its objects, their names, the live processes, their handles and their
+/// pending opens. `T` is a set of types for the objects that are neither directories nor links, and `H`
+/// the handle table that each process has; a core knows of both only what their traits say.
 ///
-/// Contracts see the state of the abstract machine: the value of the set, all objects, rows, processes
-/// and handles, and the numbers that the next ones get. Nothing else is visible, the table neither.
+/// Contracts see the state of the abstract machine: the value of the set, all objects, rows, processes,
+/// handles and pending opens, and the numbers that the next ones get. Nothing else is visible, the table neither.
 #[derive(Drop)]
 pub struct Core<T: TypeSet, H: HandleTable> {
-    space: Namespace<T, Store<T>, Processes<H>>,
+    space: Space<T, H>,
 }
 
 impl<T: TypeSet, H: HandleTable> Model for Core<T, H> {
@@ -80,6 +80,7 @@ impl<T: TypeSet, H: HandleTable> Core<T, H> {
                 set: types,
                 store: opening_store(alloc)?,
                 processes,
+                pending: PendingOpens::new(alloc),
                 next_id: 7,
                 next_stamp: 6,
                 next_process: 2,
@@ -158,7 +159,7 @@ impl<T: TypeSet, H: HandleTable> Core<T, H> {
 
 /// Makes the step of a command, and gives its reply.
 fn reply_to<T: TypeSet, H: HandleTable>(
-    space: &mut Namespace<T, Store<T>, Processes<H>>,
+    space: &mut Space<T, H>,
     process: Proc,
     command: &Command<T::Kind>,
 ) -> Result<Reply, Fault>

@@ -25,14 +25,12 @@ use ob_handles::HandleTable;
 use ob_lookup::{Look, Mode};
 use ob_model::{Place, Reply};
 use ob_names::Name;
-use ob_objects::Store;
-use ob_processes::Processes;
-use ob_space::{Namespace, Spot, is_live, judge_create, look_up, root_object};
+use ob_space::{Space, Spot, is_live, judge_create, look_up, root_object};
 use ob_types::TypeSet;
 
 /// Makes an object at a place; with OPENIF it opens what is there already.
 pub(crate) fn create<T: TypeSet, H: HandleTable>(
-    space: &mut Namespace<T, Store<T>, Processes<H>>,
+    space: &mut Space<T, H>,
     process: Proc,
     place: &Place,
     attrs: u32,
@@ -64,7 +62,7 @@ pub(crate) fn create<T: TypeSet, H: HandleTable>(
 
 /// Makes an object at a name, or opens what is there already.
 fn create_at_name<T: TypeSet, H: HandleTable>(
-    space: &mut Namespace<T, Store<T>, Processes<H>>,
+    space: &mut Space<T, H>,
     process: Proc,
     root: Option<Handle>,
     name: Name<'_>,
@@ -117,7 +115,7 @@ fn create_mode(attrs: Attrs) -> Mode
 
 /// What a create does at an object that is there already: with OPENIF it opens it.
 fn open_there<T: TypeSet, H: HandleTable>(
-    space: &mut Namespace<T, Store<T>, Processes<H>>,
+    space: &mut Space<T, H>,
     process: Proc,
     object: ObjId,
     attrs: Attrs,

@@ -13,9 +13,7 @@ use crate::replies::status_alone;
 use ob_base::{Fault, Handle, Proc, Status};
 use ob_handles::HandleTable;
 use ob_model::Reply;
-use ob_objects::Store;
-use ob_processes::Processes;
-use ob_space::{Namespace, held_of, is_live, settle_after_loss};
+use ob_space::{Space, held_of, is_live, settle_after_loss};
 use ob_types::TypeSet;
 
 /// Makes the directory of a handle of the caller its device map, in place of the one that it had: what
@@ -29,7 +27,7 @@ use ob_types::TypeSet;
 /// Source: Windows Internals, Object Manager (session namespace: device maps); NtSetInformationProcess
 /// (ProcessDeviceMap). The order of refusals is this profile.
 pub(crate) fn set_device_map<T: TypeSet, H: HandleTable>(
-    space: &mut Namespace<T, Store<T>, Processes<H>>,
+    space: &mut Space<T, H>,
     process: Proc,
     handle: Handle,
 ) -> Result<Reply, Fault>

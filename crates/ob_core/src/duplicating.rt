@@ -14,9 +14,7 @@ use crate::replies::status_alone;
 use ob_base::{Fault, Handle, Proc, Status};
 use ob_handles::HandleTable;
 use ob_model::Reply;
-use ob_objects::Store;
-use ob_processes::Processes;
-use ob_space::{Asked, Namespace, held_of, is_live};
+use ob_space::{Asked, Space, held_of, is_live};
 use ob_types::{Reason, TypeSet};
 
 /// Duplicates a handle of the caller into a process, which may be the caller itself: the new handle
@@ -28,7 +26,7 @@ use ob_types::{Reason, TypeSet};
 ///
 /// Source: ZwDuplicateObject (Windows Driver Kit); the order of refusals is this profile.
 pub(crate) fn duplicate<T: TypeSet, H: HandleTable>(
-    space: &mut Namespace<T, Store<T>, Processes<H>>,
+    space: &mut Space<T, H>,
     process: Proc,
     handle: Handle,
     to: Proc,

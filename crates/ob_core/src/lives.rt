@@ -14,9 +14,7 @@ use ob_base::{Proc, Status};
 use ob_handles::HandleTable;
 use ob_life::{begin_child, end_process};
 use ob_model::Reply;
-use ob_objects::Store;
-use ob_processes::Processes;
-use ob_space::{Namespace, is_live, settle_after_end};
+use ob_space::{Space, is_live, settle_after_end};
 use ob_types::TypeSet;
 use std::alloc::AllocError;
 
@@ -28,7 +26,7 @@ use std::alloc::AllocError;
 ///
 /// Source: Windows Internals, Processes (inheritance); the limits are this profile.
 pub(crate) fn new_process<T: TypeSet, H: HandleTable>(
-    space: &mut Namespace<T, Store<T>, Processes<H>>,
+    space: &mut Space<T, H>,
     process: Proc,
     inherit: bool,
 ) -> Result<Reply, AllocError>
@@ -57,7 +55,7 @@ pub(crate) fn new_process<T: TypeSet, H: HandleTable>(
 /// Source: Windows Internals, Processes (what the end of a process closes); the order of the closes is
 /// this profile.
 pub(crate) fn exit_process<T: TypeSet, H: HandleTable>(
-    space: &mut Namespace<T, Store<T>, Processes<H>>,
+    space: &mut Space<T, H>,
     process: Proc,
 ) -> Reply
     requires orderly { IsOrderly T.idle (state_of T.Kind space.old) }

@@ -22,9 +22,8 @@ use ob_base::{Attrs, Fault, Proc, Status};
 use ob_handles::HandleTable;
 use ob_model::{Bytes, Reply, Wanted};
 use ob_names::{Name, NameBuf};
-use ob_objects::{Store, StoredBody, StoredObject};
-use ob_processes::Processes;
-use ob_space::{Namespace, Spot, is_full, is_stampless, place_new};
+use ob_objects::{StoredBody, StoredObject};
+use ob_space::{Space, Spot, is_full, is_stampless, place_new};
 use ob_types::{Refusal, TypeSet, laws};
 use std::alloc::Global;
 use std::sync::Arc;
@@ -80,7 +79,7 @@ pub(crate) fn is_fit<K>(making: &Making<'_, K>) -> bool
 
 /// Makes an object at a name that is free in a directory, and opens a handle to it.
 pub(crate) fn make_named<T: TypeSet, H: HandleTable>(
-    space: &mut Namespace<T, Store<T>, Processes<H>>,
+    space: &mut Space<T, H>,
     process: Proc,
     spot: Spot,
     attrs: Attrs,
@@ -106,7 +105,7 @@ pub(crate) fn make_named<T: TypeSet, H: HandleTable>(
 
 /// Makes an object without a name, and opens a handle to it.
 pub(crate) fn make_unnamed<T: TypeSet, H: HandleTable>(
-    space: &mut Namespace<T, Store<T>, Processes<H>>,
+    space: &mut Space<T, H>,
     process: Proc,
     attrs: Attrs,
     making: Making<'_, T::Kind>,
@@ -131,7 +130,7 @@ pub(crate) fn make_unnamed<T: TypeSet, H: HandleTable>(
 /// All growths come before the first procedure of the set that changes it. What is there stays: an
 /// object more, with its handle, lets nothing go.
 fn make_in_room<T: TypeSet, H: HandleTable>(
-    space: &mut Namespace<T, Store<T>, Processes<H>>,
+    space: &mut Space<T, H>,
     process: Proc,
     spot: Option<Spot>,
     attrs: Attrs,

@@ -16,8 +16,7 @@ use ob_handles::HandleTable;
 use ob_model::{Bytes, Reply};
 use ob_names::LONGEST_NAME;
 use ob_objects::{Store, StoredBody, laws};
-use ob_processes::Processes;
-use ob_space::{Namespace, ROOT, held_of, is_live};
+use ob_space::{ROOT, Space, held_of, is_live};
 use ob_types::TypeSet;
 use std::alloc::{AllocError, Global};
 
@@ -31,7 +30,7 @@ use std::alloc::{AllocError, Global};
 ///
 /// Source: ObQueryNameString (Windows Driver Kit); the empty text and the limit are this profile.
 pub(crate) fn query_name<T: TypeSet, H: HandleTable>(
-    space: &Namespace<T, Store<T>, Processes<H>>,
+    space: &Space<T, H>,
     process: Proc,
     handle: Handle,
 ) -> Result<Reply, AllocError>
@@ -104,7 +103,7 @@ fn path_text(alloc: Global, way: &[&[u8]]) -> Result<Vec<u8>, AllocError>
 ///
 /// Source: ZwQuerySymbolicLinkObject (Windows Driver Kit).
 pub(crate) fn query_link<T: TypeSet, H: HandleTable>(
-    space: &Namespace<T, Store<T>, Processes<H>>,
+    space: &Space<T, H>,
     process: Proc,
     handle: Handle,
 ) -> Result<Reply, AllocError>

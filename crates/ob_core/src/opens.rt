@@ -23,9 +23,7 @@ use ob_handles::HandleTable;
 use ob_lookup::{Look, Mode};
 use ob_model::{Reply, Wanted};
 use ob_names::Name;
-use ob_objects::Store;
-use ob_processes::Processes;
-use ob_space::{Asked, Namespace, grant, is_live, is_wanted_at, judge_open, look_up, root_object};
+use ob_space::{Asked, Space, grant, is_live, is_wanted_at, judge_open, look_up, root_object};
 use ob_types::{Reason, TypeSet};
 
 /// The type that an open of an object asks for.
@@ -40,7 +38,7 @@ pub(crate) fn type_wanted<K: Copy>(want: Option<K>) -> Wanted<K>
 
 /// Opens an object by name, of the type that is asked for.
 pub(crate) fn open_name<T: TypeSet, H: HandleTable>(
-    space: &mut Namespace<T, Store<T>, Processes<H>>,
+    space: &mut Space<T, H>,
     process: Proc,
     root: Option<Handle>,
     name: &[u8],
@@ -87,7 +85,7 @@ fn open_mode<K: Copy>(wanted: Wanted<K>, attrs: Attrs) -> Mode
 /// Opens an object that was found, where it is of the type that is asked for. The handle is given
 /// with this status. What is there stays: a handle more lets nothing go.
 pub(crate) fn open_at<T: TypeSet, H: HandleTable>(
-    space: &mut Namespace<T, Store<T>, Processes<H>>,
+    space: &mut Space<T, H>,
     process: Proc,
     object: ObjId,
     attrs: Attrs,
@@ -113,7 +111,7 @@ pub(crate) fn open_at<T: TypeSet, H: HandleTable>(
 /// Grants a live process a handle to an object that is there, and gives it with this status, or
 /// replies why it is refused. What is there stays: a handle more lets nothing go.
 pub(crate) fn give_handle<T: TypeSet, H: HandleTable>(
-    space: &mut Namespace<T, Store<T>, Processes<H>>,
+    space: &mut Space<T, H>,
     process: Proc,
     object: ObjId,
     asked: Asked,

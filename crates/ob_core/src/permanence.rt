@@ -11,9 +11,7 @@ use crate::replies::status_alone;
 use ob_base::{Handle, ObjId, Proc, Status};
 use ob_handles::HandleTable;
 use ob_model::Reply;
-use ob_objects::Store;
-use ob_processes::Processes;
-use ob_space::{Namespace, held_of, is_live};
+use ob_space::{Space, held_of, is_live};
 use ob_types::TypeSet;
 
 /// Makes the object of a handle of the caller permanent, or temporary. One without a name isn't made
@@ -27,7 +25,7 @@ use ob_types::TypeSet;
 /// Object Manager (temporary and permanent objects). That an object without a name can't become
 /// permanent is this profile.
 pub(crate) fn turn<T: TypeSet, H: HandleTable>(
-    space: &mut Namespace<T, Store<T>, Processes<H>>,
+    space: &mut Space<T, H>,
     process: Proc,
     handle: Handle,
     permanent: bool,
@@ -52,10 +50,7 @@ pub(crate) fn turn<T: TypeSet, H: HandleTable>(
 }
 
 /// Whether an object has a name. Takes no memory.
-fn is_named<T: TypeSet, H: HandleTable>(
-    space: &Namespace<T, Store<T>, Processes<H>>,
-    object: ObjId,
-) -> bool
+fn is_named<T: TypeSet, H: HandleTable>(space: &Space<T, H>, object: ObjId) -> bool
     ensures { result ≡ has_name (state_of T.Kind space.now) object }
 {
     space.store.name_of(object).is_some()

@@ -27,8 +27,7 @@ use Rattle.ob_objects.proofs.Follow.{set_after_close_is_machines}
 use Rattle.ob_processes.specs.Running.{Running}
 use Rattle.ob_processes.proofs.Entries.{filter_both, find_first}
 use Rattle.ob_processes.proofs.Seen.{none_passes}
-use Rattle.ob_space.specs.declared.space.Namespace.{Namespace}
-use Rattle.ob_space.specs.Namespace.{state_of}
+use Rattle.ob_space.specs.Namespace.{Parts, state_of}
 use Rattle.ob_space.specs.Orderly.{IsOrderly}
 use Rattle.ob_space.specs.Settling.{is_held_up, StaysBut}
 use Rattle.ob_space.proofs.Closed.{held_alone}
@@ -186,7 +185,7 @@ module _ {K T F I : Type 0} (g : Procedures K T F I) where
       objects =
           All-map (λ x. touched x.id ≡ false → (directory ≡ Some x.id → ⊥) → is_held_up t x.id ≡ true) f s.objects
           (λ k d below. subst (λ n. touched n ≡ false → (directory ≡ Some n → ⊥) → is_held_up t n ≡ true) (sym (same_id (get_or s.objects k d)))
-          (λ free out. (λ i. ((get_or s.objects k d).id == root_id) || has_handle s (get_or s.objects k d).id || is_mapped s (get_or s.objects k d).id
+          (λ free out. (λ i. ((get_or s.objects k d).id == root_id) || has_handle s (get_or s.objects k d).id || is_pinned s (get_or s.objects k d).id || is_mapped s (get_or s.objects k d).id
           || (permanent (get_or s.objects k d).id i && has_name s (get_or s.objects k d).id) || list_any (λ r. r.directory == (get_or s.objects k d).id) s.rows)
           ∙ stays.objects k d below free out));
       directory = go directory stays.directory;
@@ -224,7 +223,7 @@ module _ {K T F I : Type 0} (g : Procedures K T F I) where
         (told_stays s h.object (count_to hs h.object) (count_to hs h.object + count_to s.handles h.object) stays)
 
 -- where a process was in a settled state, what its handles lead to can go, and its map
-module _ {K T F I : Type 0} (s : State K T F I) (p : ℕ) (sound : IsSound s) (settled : IsSettled s) (unpinned : (o : ℕ) → is_pinned s o ≡ false)
+module _ {K T F I : Type 0} (s : State K T F I) (p : ℕ) (sound : IsSound s) (settled : IsSettled s)
     (rising : AllPairs (λ a b. a.number < b.number) s.processes) (touched : ℕ → Bool) (listed : All (λ h. touched h.object ≡ true) (handles_in s p))
     (directory : Option ℕ) (is_map : directory ≡ option_and_then (λ x. x.map) (process_of s p)) where
   -- a handle of the process leads to a touched object
@@ -274,7 +273,7 @@ module _ {K T F I : Type 0} (s : State K T F I) (p : ℕ) (sound : IsSound s) (s
   parted_stays = record {
     names = λ k d below free. ap (λ b. is_permanent s (get_or s.rows k d).object || b) (still_held (get_or s.rows k d).object free) ∙ settled.names k d below;
     objects = λ k x below free out.
-        up ((get_or s.objects k x).id == root_id) _ _ _ _ _ _ _ _ (still_held (get_or s.objects k x).id free) (unpinned (get_or s.objects k x).id) (still_mapped (get_or s.objects k x).id out)
+        up ((get_or s.objects k x).id == root_id) _ _ _ _ _ _ _ _ (still_held (get_or s.objects k x).id free) (still_mapped (get_or s.objects k x).id out)
         (list_any_weaker (λ r. (r.directory == (get_or s.objects k x).id) && is_kept s r) (λ r. r.directory == (get_or s.objects k x).id) s.rows
         (λ j y within both. first ((get_or s.rows j y).directory == (get_or s.objects k x).id) (is_kept s (get_or s.rows j y)) both))
         (settled.objects k x below);
@@ -285,16 +284,13 @@ module _ {K T F I : Type 0} (s : State K T F I) (p : ℕ) (sound : IsSound s) (s
       first true b h = refl
       first false b h = cc
 
-      up : (a b b' pin c c' d e f : Bool) → b' ≡ b → pin ≡ false → c' ≡ c → (e ≡ true → f ≡ true) → (a || b || pin || c || d || e) ≡ true → (a || b' || c' || d || f) ≡ true
-      up a b b' pin c c' d e f held none mapped last alive =
-          (λ i. a || held i || mapped i || d || f) ∙ go a b c d e f last ((λ i. a || b || sym none i || c || d || e) ∙ alive)
+      up : (a b b' pin c c' d e f : Bool) → b' ≡ b → c' ≡ c → (e ≡ true → f ≡ true) → (a || b || pin || c || d || e) ≡ true → (a || b' || pin || c' || d || f) ≡ true
+      up a b b' pin c c' d e f held mapped last alive =
+          (λ i. a || held i || pin || mapped i || d || f) ∙ go (a || b || pin || c || d) e f last alive
         where
-          go : (a b c d e f : Bool) → (e ≡ true → f ≡ true) → (a || b || false || c || d || e) ≡ true → (a || b || c || d || f) ≡ true
-          go true b c d e f last h = refl
-          go false true c d e f last h = refl
-          go false false true d e f last h = refl
-          go false false false true e f last h = refl
-          go false false false false e f last h = last h
+          go : (x e f : Bool) → (e ≡ true → f ≡ true) → (x || e) ≡ true → (x || f) ≡ true
+          go true e f last h = refl
+          go false e f last h = last h
 
       go : (o : Option Process) → process_of s p ≡ o → MatchOption (option_and_then (λ x. x.map) o) (Unit {0}) (IsDirectory s)
       go None e = tt
@@ -309,7 +305,7 @@ no_handles s p sound dead =
     (λ k d below. is_false ((get_or s.handles k d).process == p) (λ own. false≢true (sym dead ∙ ap (is_live s) (sym (eqb-true (get_or s.handles k d).process p own)) ∙ sound.live k d below)))
 
 -- and nothing goes with it
-pub none_goes : (K : Type 0) {T F I : Type 0} (a : Namespace T (Entries F I) Running) (p : ℕ) (running : Running) → IsSound (state_of K a) → is_live (state_of K a) p ≡ false
+pub none_goes : (K : Type 0) {T F I : Type 0} (a : Parts K T F I) (p : ℕ) (running : Running) → IsSound (state_of K a) → is_live (state_of K a) p ≡ false
     → running.handles ≡ others_of a.processes.handles p → running.processes ≡ filter (λ x. not (x.number == p)) a.processes.processes → state_of K (record a { processes = running }) ≡ state_of K a
 none_goes K a p running sound dead handles processes = λ i. record (state_of K a) { handles = (handles ∙ same_handles) i; processes = (processes ∙ same_processes) i }
   where
@@ -328,7 +324,7 @@ none_goes K a p running sound dead handles processes = λ i. record (state_of K 
         (λ k d below. ap not (not_found (λ x. x.number == p) a.processes.processes (nothing (find (λ x. x.number == p) a.processes.processes) dead) k d below))
 
 -- without the process what is still to be closed is all that it had
-pub first_closed : (K : Type 0) {T F I : Type 0} (g : Procedures K T F I) (a : Namespace T (Entries F I) Running) (p : ℕ) (running : Running) (hs : List Held) → IsSound (state_of K a)
+pub first_closed : (K : Type 0) {T F I : Type 0} (g : Procedures K T F I) (a : Parts K T F I) (p : ℕ) (running : Running) (hs : List Held) → IsSound (state_of K a)
     → running.handles ≡ others_of a.processes.handles p → running.processes ≡ filter (λ x. not (x.number == p)) a.processes.processes → handles_in (state_of K a) p ≡ hs
     → closing g (state_of K (record a { processes = running })) hs ≡ ended g (state_of K a) p
 first_closed K g a p running hs sound handles processes own =
@@ -341,14 +337,14 @@ pub all_closed : {K T F I : Type 0} (g : Procedures K T F I) (s u : State K T F 
 all_closed g s u hs none turn = ap (closing g s) (sym none) ∙ turn
 
 -- what stays when it has ended
-pub ended_stays : {K T F I : Type 0} (g : Procedures K T F I) (s t : State K T F I) (p : ℕ) → t ≡ ended g s p → IsSound s → IsSettled s → ((o : ℕ) → is_pinned s o ≡ false)
+pub ended_stays : {K T F I : Type 0} (g : Procedures K T F I) (s t : State K T F I) (p : ℕ) → t ≡ ended g s p → IsSound s → IsSettled s
     → AllPairs (λ a b. a.number < b.number) s.processes → (touched : ℕ → Bool) → All (λ h. touched h.object ≡ true) (handles_in s p)
     → (directory : Option ℕ) → directory ≡ option_and_then (λ x. x.map) (process_of s p) → StaysBut t touched directory
-ended_stays {K} {T} {F} {I} g s t p is sound settled unpinned rising touched listed directory is_map =
+ended_stays {K} {T} {F} {I} g s t p is sound settled rising touched listed directory is_map =
     subst (λ (u : State K T F I). StaysBut u touched directory) (sym (is ∙ closed_apart g s p (handles_in s p) sound refl))
-    (closing_stays g touched directory (parted s p) (handles_in s p) (parted_stays s p sound settled unpinned rising touched listed directory is_map))
+    (closing_stays g touched directory (parted s p) (handles_in s p) (parted_stays s p sound settled rising touched listed directory is_map))
 
-module _ (K : Type 0) {T F I : Type 0} (g : Procedures K T F I) (a : Namespace T (Entries F I) Running) (h : Held) (hs : List Held) (process_left system_left : ℕ) (set : T) (store : Entries F I)
+module _ (K : Type 0) {T F I : Type 0} (g : Procedures K T F I) (a : Parts K T F I) (h : Held) (hs : List Held) (process_left system_left : ℕ) (set : T) (store : Entries F I)
     (own : process_left ≡ count_to hs h.object) (all : system_left ≡ count_to hs h.object + count_to a.processes.handles h.object)
     (set_is : set ≡ set_after_close g a.store a.set h.object process_left system_left) (store_is : store ≡ with_closed g a.store a.set h.object process_left system_left) where
   -- one more is closed

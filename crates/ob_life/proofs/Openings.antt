@@ -10,10 +10,9 @@ use Rattle.ob_objects.specs.Changes.{refusal_to_open, with_opened, set_after_ope
 use Rattle.ob_objects.proofs.Shown.{opened_is_machines}
 use Rattle.ob_objects.proofs.Follow.{refusal_is_machines, set_after_open_is_machines}
 use Rattle.ob_processes.specs.Running.{Running}
-use Rattle.ob_space.specs.declared.space.Namespace.{Namespace}
-use Rattle.ob_space.specs.Namespace.{state_of}
+use Rattle.ob_space.specs.Namespace.{Parts, state_of}
 
-module _ (K : Type 0) {T F I : Type 0} (g : Procedures K T F I) (a : Namespace T (Entries F I) Running) (child : ℕ) (h : Held) (set : T) (store : Entries F I) where
+module _ (K : Type 0) {T F I : Type 0} (g : Procedures K T F I) (a : Parts K T F I) (child : ℕ) (h : Held) (set : T) (store : Entries F I) where
   abbrev s : State K T F I
   s = state_of K a
 

@@ -15,9 +15,7 @@ ghost use Rattle.ob_space.specs.Orderly.{IsOrderly};
 use ob_base::{Handle, Proc};
 use ob_handles::HandleTable;
 use ob_model::{Handles, Held};
-use ob_objects::Store;
-use ob_processes::Processes;
-use ob_space::Namespace;
+use ob_space::Space;
 use ob_types::{Reason, TypeSet};
 use std::alloc::AllocError;
 
@@ -52,7 +50,7 @@ pub struct Child {
 /// Source: Windows Internals, Processes (inheritance of handles and of the device map); the limits are
 /// this profile.
 pub fn begin_child<T: TypeSet, H: HandleTable>(
-    space: &mut Namespace<T, Store<T>, Processes<H>>,
+    space: &mut Space<T, H>,
     parent: Proc,
     inherit: bool,
 ) -> Result<Option<Child>, AllocError>
@@ -80,7 +78,7 @@ pub fn begin_child<T: TypeSet, H: HandleTable>(
 }
 
 /// Whether no process more may live, or no number is left for one.
-fn is_full<T: TypeSet, H: HandleTable>(space: &Namespace<T, Store<T>, Processes<H>>) -> bool
+fn is_full<T: TypeSet, H: HandleTable>(space: &Space<T, H>) -> bool
     ensures { let s = state_of T.Kind space.now in
         result ≡ (nat_le most_processes (length s.processes) || nat_lt greatest_process s.next_process) }
 {
@@ -89,7 +87,7 @@ fn is_full<T: TypeSet, H: HandleTable>(space: &Namespace<T, Store<T>, Processes<
 
 /// The handles that a child of a process inherits, where it inherits any.
 fn inherited_from<T: TypeSet, H: HandleTable>(
-    space: &Namespace<T, Store<T>, Processes<H>>,
+    space: &Space<T, H>,
     parent: Proc,
     inherit: bool,
 ) -> Result<Vec<Held>, AllocError>
@@ -107,7 +105,7 @@ fn inherited_from<T: TypeSet, H: HandleTable>(
 /// values. All of them are in its table before the set is called, which takes the memory; what the set
 /// refuses is taken out again.
 fn begin_with<T: TypeSet, H: HandleTable>(
-    space: &mut Namespace<T, Store<T>, Processes<H>>,
+    space: &mut Space<T, H>,
     parent: Proc,
     inherited: &[Held],
 ) -> Result<Vec<Handle>, AllocError>
@@ -138,11 +136,7 @@ fn begin_with<T: TypeSet, H: HandleTable>(
 
 /// Opens the object of a handle that a child inherits; where the set refuses, the child loses the
 /// handle.
-fn inherit_one<T: TypeSet, H: HandleTable>(
-    space: &mut Namespace<T, Store<T>, Processes<H>>,
-    child: Proc,
-    held: Held,
-) -> bool
+fn inherit_one<T: TypeSet, H: HandleTable>(space: &mut Space<T, H>, child: Proc, held: Held) -> bool
     ensures { let s = state_of T.Kind space.old in let t = state_of T.Kind space.new in
         MatchOption (open_refusal T.procedures s held.object model.Inherited)
         ((result ≡ true) × (t ≡ with_open T.procedures s held.object model.Inherited))

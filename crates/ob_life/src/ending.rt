@@ -13,9 +13,7 @@ ghost use Rattle.ob_space.specs.Settling.{StaysBut};
 use ob_base::{ObjId, Proc};
 use ob_counts::Touched;
 use ob_handles::HandleTable;
-use ob_objects::Store;
-use ob_processes::Processes;
-use ob_space::Namespace;
+use ob_space::Space;
 use ob_types::TypeSet;
 
 /// What a process that has ended leaves to be settled.
@@ -38,7 +36,7 @@ pub struct Ended {
 /// Source: Windows Internals, Processes (what the end of a process closes); the order of the closes is
 /// this profile.
 pub fn end_process<T: TypeSet, H: HandleTable>(
-    space: &mut Namespace<T, Store<T>, Processes<H>>,
+    space: &mut Space<T, H>,
     process: Proc,
 ) -> Option<Ended>
     requires orderly { IsOrderly T.idle (state_of T.Kind space.old) }

@@ -14,7 +14,7 @@ use Rattle.ob_objects.proofs.Shown.{closed_is_machines}
 use Rattle.ob_objects.proofs.Follow.{set_after_close_is_machines}
 use Rattle.ob_processes.specs.Running.{Running}
 use Rattle.ob_space.specs.declared.space.Namespace.{Namespace}
-use Rattle.ob_space.specs.Namespace.{state_of}
+use Rattle.ob_space.specs.Namespace.{Parts, state_of}
 use Rattle.ob_space.specs.Orderly.{IsOrderly}
 use Rattle.ob_space.proofs.Handles.{only_handle, few_of_all}
 use Rattle.ob_space.proofs.Orders.{closed_orderly}
@@ -23,7 +23,7 @@ use Rattle.ob_space.proofs.Orders.{closed_orderly}
 pub held_alone : {K T F I : Type 0} (s : State K T F I) (p value : ℕ) (h : Held) → IsSound s → held_of s p value ≡ Some h → All (λ k. is_handle p value k ≡ true → k.object ≡ h.object) s.handles
 held_alone s p value h sound held = only_handle p value s.handles h sound.distinct held
 
-module _ (K : Type 0) {T F I : Type 0} (g : Procedures K T F I) (idle : I → Type 0) (a : Namespace T (Entries F I) Running) (orderly : IsOrderly idle (state_of K a)) (sound : IsSound (state_of K a))
+module _ (K : Type 0) {T F I : Type 0} (g : Procedures K T F I) (idle : I → Type 0) (a : Parts K T F I) (orderly : IsOrderly idle (state_of K a)) (sound : IsSound (state_of K a))
     (h : Held) (held : held_of (state_of K a) h.process h.value ≡ Some h) (running : Running) (taken : running.handles ≡ filter (λ k. not (is_handle h.process h.value k)) a.processes.handles)
     (same : running.processes ≡ a.processes.processes) where
   abbrev s : State K T F I

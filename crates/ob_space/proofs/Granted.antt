@@ -15,7 +15,7 @@ use Rattle.ob_objects.proofs.Shown.{opened_is_machines}
 use Rattle.ob_objects.proofs.Follow.{refusal_is_machines, set_after_open_is_machines}
 use Rattle.ob_processes.specs.Running.{Running}
 use Rattle.ob_space.specs.declared.space.Namespace.{Namespace}
-use Rattle.ob_space.specs.Namespace.{state_of}
+use Rattle.ob_space.specs.Namespace.{Parts, state_of}
 use Rattle.ob_space.specs.Orderly.{IsOrderly}
 use Rattle.ob_space.proofs.Handles.{is_itself, taken_back}
 use Rattle.ob_space.proofs.Orders.{granted_orderly}
@@ -35,7 +35,7 @@ last_test false false true d x y z w h = cc
 last_test false false false true x y z w h = cc
 last_test false false false false x y z w h = refl
 
-module _ (K : Type 0) {T F I : Type 0} (g : Procedures K T F I) (idle : I → Type 0) (a : Namespace T (Entries F I) Running) (orderly : IsOrderly idle (state_of K a))
+module _ (K : Type 0) {T F I : Type 0} (g : Procedures K T F I) (idle : I → Type 0) (a : Parts K T F I) (orderly : IsOrderly idle (state_of K a))
     (p o : ℕ) (asked : Asked) (reason : Reason) (result : Option Status) (early_is : result ≡ first_refusal (
     (asked.exclusive && not (is_exclusive (state_of K a) o), InvalidParameter)
     ∷ (asked.inherit && is_exclusive (state_of K a) o, InvalidParameter)

@@ -10,6 +10,7 @@ use Rattle.std.proofs.lemmas.List.Kept.{AllPairs-filter}
 use Rattle.ob_model.specs.declared.state.Body.TheVariants.{Directory}
 use Rattle.ob_model.specs.declared.state.Row.{Row}
 use Rattle.ob_model.specs.declared.state.Held.{Held}
+use Rattle.ob_model.specs.declared.state.Pending.{Pending}
 use Rattle.ob_model.specs.declared.state.Object.{Object}
 use Rattle.ob_model.specs.declared.state.Process.{Process}
 use Rattle.ob_model.specs.Procedures.{Procedures}
@@ -116,11 +117,6 @@ none_done false d h = ap not h
 kept_there : (t k d : Bool) → (t ≡ true → (k || d) ≡ true) → (t && (k || not d)) ≡ (t && k)
 kept_there true k d h = done_left k d (h refl)
 kept_there false k d h = refl
-
-insert_false : (a b c d e : Bool) → (a || b || c || d || e) ≡ (a || b || false || c || d || e)
-insert_false true b c d e = refl
-insert_false false true c d e = refl
-insert_false false false c d e = refl
 
 last_false : (a b : Bool) → (a || b) ≡ false → b ≡ false
 last_false true b h = cc
@@ -312,7 +308,7 @@ module _ {K T F I : Type 0} (g : Procedures K T F I) (s : State K T F I) where
             (All-filter (λ y. is_alive s y.id || not (done y.id)) (λ y. (y.id == id) ≡ true → y.body ≡ Directory) s.objects plain)
 
     -- one object more is judged: each name in it is of one that was, and it is the first to be deleted
-    module _ (id : ℕ) (new : done id ≡ false) (unpinned : is_pinned s id ≡ false)
+    module _ (id : ℕ) (new : done id ≡ false)
         (inside : All (λ r. (r.directory == id) ≡ true → (is_kept s r || (done r.object || (r.object == id))) ≡ true) s.rows)
         (first : IsDeletedFirst id) where
       abbrev pub next : ℕ → Bool
@@ -326,6 +322,9 @@ module _ {K T F I : Type 0} (g : Procedures K T F I) (s : State K T F I) where
 
       mapped_same : is_mapped t id ≡ is_mapped s id
       mapped_same = ap (λ (ps : List Process). (id == global_id) || list_any (λ p. option_map_or (λ d. d == id) p.map false) ps) judged.processes
+
+      pinned_same : is_pinned t id ≡ is_pinned s id
+      pinned_same = ap (list_any (λ (p : Pending K). p.object == id)) judged.pending
 
       rows_next : (without_names t id).rows ≡ filter (λ r. is_kept s r || not (next r.object)) s.rows
       rows_next =
@@ -348,10 +347,8 @@ module _ {K T F I : Type 0} (g : Procedures K T F I) (s : State K T F I) where
       -- it is judged as it was at first
       held_same : is_held_up (without_names t id) id ≡ is_alive s id
       held_same =
-          (λ i. (id == root_id) || handle_same i || mapped_same i || (permanent_same i && list_any (λ r. r.object == id) (rows_next i)) || list_any (λ r. r.directory == id) (rows_next i))
-          ∙ (λ i. (id == root_id) || has_handle s id || is_mapped s id || named (is_permanent s id) refl i || holds i)
-          ∙ insert_false (id == root_id) (has_handle s id) (is_mapped s id) (is_permanent s id && has_name s id) (holds_kept s id)
-          ∙ (λ i. (id == root_id) || has_handle s id || sym unpinned i || is_mapped s id || (is_permanent s id && has_name s id) || holds_kept s id)
+          (λ i. (id == root_id) || handle_same i || pinned_same i || mapped_same i || (permanent_same i && list_any (λ r. r.object == id) (rows_next i)) || list_any (λ r. r.directory == id) (rows_next i))
+          ∙ (λ i. (id == root_id) || has_handle s id || is_pinned s id || is_mapped s id || named (is_permanent s id) refl i || holds i)
         where
           named : (b : Bool) → is_permanent s id ≡ b → (b && list_any (λ r. r.object == id) (filter (λ r. is_kept s r || not (next r.object)) s.rows)) ≡ (b && has_name s id)
           named true e =
@@ -375,7 +372,7 @@ module _ {K T F I : Type 0} (g : Procedures K T F I) (s : State K T F I) where
           none_inside : is_alive s id ≡ false → filter (λ r. not (r.directory == id)) (without_names t id).rows ≡ (without_names t id).rows
           none_inside goes =
               filter_all (λ r. not (r.directory == id)) (without_names t id).rows
-              (λ k d below. ap not (none_passes (λ r. r.directory == id) (without_names t id).rows (last_false ((id == root_id) || has_handle (without_names t id) id || is_mapped (without_names t id) id || (is_permanent (without_names t id) id && has_name (without_names t id) id))
+              (λ k d below. ap not (none_passes (λ r. r.directory == id) (without_names t id).rows (last_false ((id == root_id) || has_handle (without_names t id) id || is_pinned (without_names t id) id || is_mapped (without_names t id) id || (is_permanent (without_names t id) id && has_name (without_names t id) id))
               (list_any (λ r. r.directory == id) (without_names t id).rows) (held_same ∙ goes)) k d below))
 
           deletes : is_alive s id ≡ false → (x : Option (Object F I)) → find (λ y. y.id == id) t.objects ≡ x

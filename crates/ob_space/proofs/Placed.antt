@@ -24,7 +24,7 @@ use Rattle.ob_lookup.proofs.Stays.{directory_with_object}
 use Rattle.ob_processes.specs.Running.{Running}
 use Rattle.ob_space.specs.declared.placing.Spot.{Spot}
 use Rattle.ob_space.specs.declared.space.Namespace.{Namespace}
-use Rattle.ob_space.specs.Namespace.{state_of, holding, none_running}
+use Rattle.ob_space.specs.Namespace.{Parts, state_of, holding, none_running}
 use Rattle.ob_space.specs.Placing.{spot_of, IsVacantSpot, IsFreeSpot, with_placed, without_name_in, IsOpened, IsTakenBack, placed}
 use Rattle.ob_space.specs.Orderly.{IsOrderly}
 use Rattle.ob_space.proofs.Granted.{has_room}
@@ -150,7 +150,7 @@ first_false : (a b : Bool) → (a || b) ≡ false → a ≡ false
 first_false true b h = h
 first_false false b h = refl
 
-module _ (K : Type 0) {T F I : Type 0} (g : Procedures K T F I) (idle : I → Type 0) (a : Namespace T (Entries F I) Running) (orderly : IsOrderly idle (state_of K a)) where
+module _ (K : Type 0) {T F I : Type 0} (g : Procedures K T F I) (idle : I → Type 0) (a : Parts K T F I) (orderly : IsOrderly idle (state_of K a)) where
   abbrev s : State K T F I
   s = state_of K a
 

@@ -43,23 +43,14 @@ All-unfilter {X} P keeps (x ∷ xs) all = go (keeps x) refl all (λ rest. All-un
     go true e all more = All-cons (λ y. keeps y ≡ true → P y) x xs (λ _. All-head P x (filter keeps xs) all) (more (All-tail P x (filter keeps xs) all))
     go false e all more = All-cons (λ y. keeps y ≡ true → P y) x xs (λ yes. absurd (false≢true (sym e ∙ yes))) (more all)
 
-any_last : (a b c d e : Bool) → e ≡ true → (a || b || c || d || e) ≡ true
-any_last true b c d e h = refl
-any_last false true c d e h = refl
-any_last false false true d e h = refl
-any_last false false false true e h = refl
-any_last false false false false e h = h
+any_last : (a b : Bool) → b ≡ true → (a || b) ≡ true
+any_last true b h = refl
+any_last false b h = h
 
 -- the tests of being held up, and those of staying
-stays_up : (a b c d e p f : Bool) → (e ≡ true → f ≡ true) → (a || b || c || d || e) ≡ true → (a || b || p || c || d || f) ≡ true
-stays_up true b c d e p f last h = refl
-stays_up false true c d e p f last h = refl
-stays_up false false true d e true f last h = refl
-stays_up false false true d e false f last h = refl
-stays_up false false false true e true f last h = refl
-stays_up false false false true e false f last h = refl
-stays_up false false false false e true f last h = refl
-stays_up false false false false e false f last h = last h
+stays_up : (a e f : Bool) → (e ≡ true → f ≡ true) → (a || e) ≡ true → (a || f) ≡ true
+stays_up true e f last h = refl
+stays_up false e f last h = last h
 
 both_true : (a b : Bool) → (a && b) ≡ true → (a ≡ true) × (b ≡ true)
 both_true true b h = (refl, h)
@@ -119,7 +110,7 @@ module _ {K T F I : Type 0} (s : State K T F I) where
   abbrev pub had_turn : (ℕ → Bool) → ℕ → ℕ → Bool
   had_turn touched b o = cond (touched o) (nat_le b o) (not (list_any (goes_below b o) s.rows))
 
-module _ {K T F I : Type 0} (g : Procedures K T F I) (idle : I → Type 0) (s : State K T F I) (orderly : IsOrderly idle s) (unpinned : (o : ℕ) → is_pinned s o ≡ false)
+module _ {K T F I : Type 0} (g : Procedures K T F I) (idle : I → Type 0) (s : State K T F I) (orderly : IsOrderly idle s)
     (inside : All (λ r. IsDirectory s r.directory) s.rows) (touched : ℕ → Bool) (map : Option ℕ) (stays : StaysBut s touched map) where
   abbrev is_open : ℕ → ℕ → Row → Bool
   is_open b o r = goes_below s b o r
@@ -251,7 +242,7 @@ module _ {K T F I : Type 0} (g : Procedures K T F I) (idle : I → Type 0) (s : 
       stays_there =
           ap (λ c. cond c (without_names t d) (without_object g (without_names t d) d))
           (ap (λ u. is_held_up u d) unchanged
-          ∙ any_last (d == root_id) (has_handle t d) (is_mapped t d) (is_permanent t d && has_name t d) (list_any (λ r. r.directory == d) t.rows) some)
+          ∙ any_last ((d == root_id) || has_handle t d || is_pinned t d || is_mapped t d || (is_permanent t d && has_name t d)) (list_any (λ r. r.directory == d) t.rows) some)
           ∙ unchanged
 
       one_stays : Judged g s (done b) (settled_one g t d)
@@ -283,7 +274,7 @@ module _ {K T F I : Type 0} (g : Procedures K T F I) (idle : I → Type 0) (s : 
 
       one_more : Judged g s (λ o. next o || (o == d)) (settled_one g t d)
       one_more =
-          one_judged g s next t judged d (new none) (unpinned d)
+          one_judged g s next t judged d (new none)
           (λ k x below here.
           let r : Row = get_or s.rows k x in
           let parts = unkept k x below here in
@@ -330,7 +321,7 @@ module _ {K T F I : Type 0} (g : Procedures K T F I) (idle : I → Type 0) (s : 
     -- an object that isn't touched, and isn't the map, stays where it holds no name that goes
     untouched_stays : All (λ x. touched x.id ≡ false → at x.id ≡ false → holds_open s.next_id x.id ≡ false → is_alive s x.id ≡ true) s.objects
     untouched_stays k x below free out closed =
-        stays_up (o == root_id) (has_handle s o) (is_mapped s o) (is_permanent s o && has_name s o) (list_any (λ r. r.directory == o) s.rows) (is_pinned s o) (holds_kept s o)
+        stays_up ((o == root_id) || has_handle s o || is_pinned s o || is_mapped s o || (is_permanent s o && has_name s o)) (list_any (λ r. r.directory == o) s.rows) (holds_kept s o)
         (list_any_weaker (λ r. r.directory == o) (λ r. (r.directory == o) && is_kept s r) s.rows each)
         (stays.objects k x below free (covers o free out))
       where
@@ -411,7 +402,7 @@ module _ {K T F I : Type 0} (g : Procedures K T F I) (idle : I → Type 0) (s : 
 
     first : Judged g s next (settled_one g t id)
     first =
-        one_judged g s (done b) t judged id new (unpinned id) within
+        one_judged g s (done b) t judged id new within
         (greatest_first g s (done b) t judged id orderly.rising (λ k x below later.
         left_stays (is_alive s (get_or t.objects k x).id) (done b (get_or t.objects k x).id) (there k x below) (behind (get_or t.objects k x).id later)))
       where

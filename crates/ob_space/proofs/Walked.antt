@@ -24,7 +24,7 @@ use Rattle.ob_objects.proofs.Shown.{names_change_no_object, rows_go_with_directo
 use Rattle.ob_objects.proofs.Stands.{name_goes, no_name, one_directory, placed}
 use Rattle.ob_processes.specs.Running.{Running}
 use Rattle.ob_space.specs.declared.space.Namespace.{Namespace}
-use Rattle.ob_space.specs.Namespace.{state_of}
+use Rattle.ob_space.specs.Namespace.{Parts, state_of}
 use Rattle.ob_space.specs.Orderly.{IsIdleBody, is_held, IsIdleUnheld, IsOrderly}
 use Rattle.ob_space.specs.Settling.{is_held_up, without_names, with_handle_to, without_object, settled_one, settled_unless, AreSettled}
 use Rattle.ob_space.proofs.Handles.{found_passes}
@@ -48,12 +48,12 @@ module _ {F I : Type 0} (store : Entries F I) (is : IsStore store) (id : ℕ) wh
   pub none_gone : place_at store id ≡ None → rows_of store ≡ filter (λ r. not (r.object == id)) (rows_of store)
   none_gone none = sym (filter_all (λ r. not (r.object == id)) (rows_of store) (λ k d below. ap not (no_name store is id none k d below)))
 
-second_false : (a b c d e : Bool) → (a || b || c || d || e) ≡ false → b ≡ false
-second_false true b c d e h = cc
-second_false false true c d e h = cc
-second_false false false c d e h = refl
+second_false : (a b c d e f : Bool) → (a || b || c || d || e || f) ≡ false → b ≡ false
+second_false true b c d e f h = cc
+second_false false true c d e f h = cc
+second_false false false c d e f h = refl
 
-module _ (K : Type 0) {T F I : Type 0} (g : Procedures K T F I) (a : Namespace T (Entries F I) Running) (id : ℕ) where
+module _ (K : Type 0) {T F I : Type 0} (g : Procedures K T F I) (a : Parts K T F I) (id : ℕ) where
   -- ---- one object is deleted
 
   pub is_deleted : (x : Option (StoredObject F I)) (left : Entries F I) (after : T) → x ≡ stored_at a.store id → left ≡ changes.without_object a.store id
@@ -96,7 +96,7 @@ module _ (K : Type 0) {T F I : Type 0} (g : Procedures K T F I) (a : Namespace T
         go (Some x) e =
             all_found (IsIdleUnheld idle a.processes.handles) (λ o. o.id == id) (objects_of store) (object_of_stored id x)
             (subst (All (IsIdleUnheld idle a.processes.handles)) (sym objects) unheld) (found_is_stored store id ∙ ap (option_map (object_of_stored id)) e)
-            (second_false (id == root_id) (is_held a.processes.handles id) _ _ _ up)
+            (second_false (id == root_id) (is_held a.processes.handles id) _ _ _ _ up)
 
 -- ---- one object, and then the directory of its name
 
@@ -109,7 +109,7 @@ settled_unheld {K} {T} {F} {I} g idle s o unheld t is = subst (λ (u : State K T
     go true = unheld
     go false = All-filter (λ x. not (x.id == o)) (IsIdleUnheld idle s.handles) s.objects unheld
 
-module _ (K : Type 0) {T F I : Type 0} (g : Procedures K T F I) (a : Namespace T (Entries F I) Running) (store : IsStore a.store) (touched : ℕ → Bool) (id : ℕ)
+module _ (K : Type 0) {T F I : Type 0} (g : Procedures K T F I) (a : Parts K T F I) (store : IsStore a.store) (touched : ℕ → Bool) (id : ℕ)
     (t : State K T F I) (first : t ≡ settled_one g (state_of K a) id) where
   Found : State K T F I → Option Row → Type 0
   Found u o =
@@ -157,7 +157,7 @@ more_done true a b h = refl
 more_done false true b h = refl
 more_done false false b h = cc
 
-module _ (K : Type 0) {T F I : Type 0} (g : Procedures K T F I) (idle : I → Type 0) (a : Namespace T (Entries F I) Running) (orderly : IsOrderly idle (state_of K a)) where
+module _ (K : Type 0) {T F I : Type 0} (g : Procedures K T F I) (idle : I → Type 0) (a : Parts K T F I) (orderly : IsOrderly idle (state_of K a)) where
   abbrev s : State K T F I
   s = state_of K a
 
@@ -200,7 +200,7 @@ module _ (K : Type 0) {T F I : Type 0} (g : Procedures K T F I) (idle : I → Ty
 
     first_judged : Judged g s (λ o. false || (o == object)) (settled_one g s object)
     first_judged =
-        one_judged g s (λ o. false) s (none_judged g s (λ o. false) (λ k d below. or_true (is_alive s (get_or s.objects k d).id)) (λ k d below. or_true (is_kept s (get_or s.rows k d)))) object refl refl
+        one_judged g s (λ o. false) s (none_judged g s (λ o. false) (λ k d below. or_true (is_alive s (get_or s.objects k d).id)) (λ k d below. or_true (is_kept s (get_or s.rows k d)))) object refl
         (λ k d below here. kept_others k d below)
         (greatest_first g s (λ o. false) s (none_judged g s (λ o. false) (λ k d below. or_true (is_alive s (get_or s.objects k d).id)) (λ k d below. or_true (is_kept s (get_or s.rows k d)))) object orderly.rising (λ k d below later. sym (alive_others (get_or s.objects k d).id (ne_eqb (get_or s.objects k d).id object (λ same. omega (arith, later, same)))
         (λ j e within. not_both ((get_or s.rows j e).directory == (get_or s.objects k d).id) ((get_or s.rows j e).object == object)
@@ -267,7 +267,7 @@ module _ (K : Type 0) {T F I : Type 0} (g : Procedures K T F I) (idle : I → Ty
             (λ k d below. go (get_or s.objects k d).id ((get_or s.objects k d).id == object) ((get_or s.objects k d).id == p.directory) refl refl (settled.objects k d below))
             (λ k d below. more_done (is_kept s (get_or s.rows k d)) ((get_or s.rows k d).object == object) ((get_or s.rows k d).object == p.directory) (kept_others k d below))
             (subst (Judged g s (λ o. (false || (o == object)) || (o == p.directory))) (sym then)
-            (one_judged g s (λ o. false || (o == object)) t judged p.directory (ne_eqb p.directory object (λ same. omega (arith, before, same))) refl
+            (one_judged g s (λ o. false || (o == object)) t judged p.directory (ne_eqb p.directory object (λ same. omega (arith, before, same)))
             (λ k d below here. more_done (is_kept s (get_or s.rows k d)) ((get_or s.rows k d).object == object) ((get_or s.rows k d).object == p.directory) (kept_others k d below))
             (greatest_first g s (λ o. false || (o == object)) t judged p.directory orderly.rising behind)))
           where

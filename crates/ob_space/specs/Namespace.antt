@@ -3,20 +3,25 @@ use Rattle.std.specs.Prelude.{List, []}
 use Rattle.ob_model.specs.declared.state.Object.{Object}
 use Rattle.ob_model.specs.declared.state.Row.{Row}
 use Rattle.ob_model.specs.declared.state.Held.{Held}
+use Rattle.ob_model.specs.declared.state.Pending.{Pending}
 use Rattle.ob_model.specs.State.{State}
 use Rattle.ob_objects.specs.Store.{Entries, objects_of, rows_of}
 use Rattle.ob_processes.specs.Running.{Running}
 use Rattle.ob_space.specs.declared.space.Namespace.{Namespace}
 
+-- the parts of a namespace, as a contract sees them
+abbrev pub Parts : (K T F I : Type 0) → Type 0
+Parts K T F I = Namespace T (Entries F I) Running (List (Pending K))
+
 -- the state of these parts: the objects and the rows are those of the store, the processes and their
--- handles those that run; nothing is pending
-abbrev pub state_of : (K : Type 0) {T F I : Type 0} → Namespace T (Entries F I) Running → State K T F I
+-- handles those that run
+abbrev pub state_of : (K : Type 0) {T F I : Type 0} → Parts K T F I → State K T F I
 state_of K a = record {
   objects = objects_of a.store;
   rows = rows_of a.store;
   handles = a.processes.handles;
   processes = a.processes.processes;
-  pending = [];
+  pending = a.pending;
   set = a.set;
   next_id = a.next_id;
   next_stamp = a.next_stamp;
@@ -43,6 +48,11 @@ holding set objects rows running = record {
 -- the same, for what doesn't read the value of the set
 abbrev pub listed : {F I : Type 0} → List (Object F I) → List Row → Running → State (Unit {0}) (Unit {0}) F I
 listed objects rows running = holding tt objects rows running
+
+-- a state with these objects, rows, processes with their handles, and pending opens, for what reads nothing
+-- else
+abbrev pub with_opens : {K F I : Type 0} → List (Object F I) → List Row → Running → List (Pending K) → State K (Unit {0}) F I
+with_opens objects rows running pending = record (holding tt objects rows running) { pending = pending }
 
 -- no process runs
 abbrev pub none_running : Running

@@ -5,15 +5,16 @@ use Rattle.std.specs.List.{list_any, find}
 use Rattle.std.specs.Option.{option_map_or}
 use Rattle.ob_model.specs.Procedures.{Procedures}
 use Rattle.ob_model.specs.State.{State, root_id, body_of}
-use Rattle.ob_model.specs.Settle.{is_permanent, has_handle, is_kept, has_name, is_mapped, deleted_one}
+use Rattle.ob_model.specs.Settle.{is_permanent, has_handle, is_kept, has_name, is_pinned, is_mapped, deleted_one}
 use Rattle.ob_model.specs.Sound.{IsDirectory}
 
 module _ {K T F I : Type 0} where
-  -- the object is the root, has a handle, is `\GLOBAL??` or a live process's map directory, is permanent and
-  -- has a name, or is the directory of a name: where the rows are those that stay, the object does
+  -- the object is the root, has a handle, is pinned by a pending open, is `\GLOBAL??` or a live process's map
+  -- directory, is permanent and has a name, or is the directory of a name: where the rows are those that stay,
+  -- the object does
   abbrev pub is_held_up : State K T F I → ℕ → Bool
   is_held_up s o =
-      (o == root_id) || has_handle s o || is_mapped s o || (is_permanent s o && has_name s o) || list_any (λ r. r.directory == o) s.rows
+      (o == root_id) || has_handle s o || is_pinned s o || is_mapped s o || (is_permanent s o && has_name s o) || list_any (λ r. r.directory == o) s.rows
 
   -- the state without the names of an object that don't stay
   abbrev pub without_names : State K T F I → ℕ → State K T F I

@@ -7,11 +7,9 @@ ghost use Rattle.ob_model.specs.Sound.{IsSound};
 ghost use Rattle.ob_space.specs.Namespace.{state_of};
 ghost use Rattle.ob_space.specs.Orderly.{IsOrderly};
 
-use crate::space::Namespace;
+use crate::space::Space;
 use ob_handles::HandleTable;
 use ob_model::Held;
-use ob_objects::Store;
-use ob_processes::Processes;
 use ob_types::TypeSet;
 
 /// Closes a handle that its process holds: it goes, and the set's close is called for its object, and
@@ -22,10 +20,7 @@ use ob_types::TypeSet;
 /// and each is of a live process. It leaves an orderly state.
 ///
 /// Source: ZwClose (Windows Driver Kit); Windows Internals, Object Manager (close methods).
-pub fn close_handle<T: TypeSet, H: HandleTable>(
-    space: &mut Namespace<T, Store<T>, Processes<H>>,
-    held: Held,
-)
+pub fn close_handle<T: TypeSet, H: HandleTable>(space: &mut Space<T, H>, held: Held)
     requires orderly { IsOrderly T.idle (state_of T.Kind space.old) }
     requires sound { IsSound (state_of T.Kind space.old) }
     requires held { held_of (state_of T.Kind space.old) held.process held.value ≡ Some held }

@@ -11,11 +11,9 @@ ghost use Rattle.ob_space.specs.Asking.{asked_of};
 ghost use Rattle.ob_space.specs.Namespace.{state_of};
 ghost use Rattle.ob_space.specs.Orderly.{IsOrderly};
 
-use crate::space::{Namespace, is_table_full};
+use crate::space::{Space, is_table_full};
 use ob_base::{Attrs, Fault, Handle, ObjId, Proc, Status};
 use ob_handles::HandleTable;
-use ob_objects::Store;
-use ob_processes::Processes;
 use ob_types::{Reason, TypeSet};
 
 /// What is asked of a handle.
@@ -58,7 +56,7 @@ impl Asked {
 /// Driver Kit); Windows Internals, Object Manager (open methods). The order of refusals is this
 /// profile.
 pub fn grant<T: TypeSet, H: HandleTable>(
-    space: &mut Namespace<T, Store<T>, Processes<H>>,
+    space: &mut Space<T, H>,
     process: Proc,
     object: ObjId,
     asked: Asked,
@@ -89,7 +87,7 @@ pub fn grant<T: TypeSet, H: HandleTable>(
 
 /// The first refusal of a grant of those that come before the set's procedure.
 fn early_refusal<T: TypeSet, H: HandleTable>(
-    space: &Namespace<T, Store<T>, Processes<H>>,
+    space: &Space<T, H>,
     process: Proc,
     object: ObjId,
     asked: Asked,

@@ -1,7 +1,7 @@
 //! The parts of a namespace, and the changes of them that its commands share.
 //!
 //! A [`Namespace`] is plain data: the set of types, the store of objects and names, the live processes
-//! with their handles, and the numbers that come next. The functions here are what commands are put
+//! with their handles, the pending opens, and the numbers that come next. The functions here are what commands are put
 //! together from: what is read off the parts, a name looked up, a handle granted, an object placed, a
 //! handle closed, and what a close lets go. Each is told by the state of the abstract machine that the
 //! parts stand for, `state_of`.
@@ -30,5 +30,5 @@ pub use opening::opening_store;
 pub use placing::{Spot, place_new};
 pub use roots::root_object;
 pub use settling::{settle_after_end, settle_after_loss};
-pub use space::{Namespace, ROOT, held_of, is_full, is_live, is_stampless};
+pub use space::{Namespace, ROOT, Space, held_of, is_full, is_live, is_stampless};
 pub use wanted::is_wanted_at;

@@ -9,13 +9,12 @@ ghost use Rattle.ob_lookup.specs.Look.{mode_of, look_of};
 ghost use Rattle.ob_space.specs.Looking.{IsRoot, IsUsable};
 ghost use Rattle.ob_space.specs.Namespace.{state_of};
 
-use crate::space::Namespace;
+use crate::space::Space;
 use ob_base::{Fault, ObjId, Proc};
 use ob_handles::HandleTable;
 use ob_lookup::{Look, Mode, look, sound_has_views, sound_is_closed};
 use ob_names::Name;
-use ob_objects::{Store, laws};
-use ob_processes::Processes;
+use ob_objects::laws;
 use ob_types::TypeSet;
 
 /// The most reparses of one lookup (this profile).
@@ -32,7 +31,7 @@ const MOST_REPARSES: u32 = 32;
 /// Source: Windows Internals, Object Manager (object names, symbolic links, session namespace); the limit
 /// is this profile.
 pub fn look_up<T: TypeSet, H: HandleTable>(
-    space: &Namespace<T, Store<T>, Processes<H>>,
+    space: &Space<T, H>,
     process: Proc,
     root: Option<ObjId>,
     name: Name<'_>,

@@ -16,12 +16,11 @@ ghost use Rattle.ob_space.specs.Namespace.{state_of};
 ghost use Rattle.ob_space.specs.Orderly.{IsOrderly, IsIdleBody};
 
 use crate::settling::delete_body;
-use crate::space::Namespace;
+use crate::space::Space;
 use ob_base::{Fault, Handle, ObjId, Proc};
 use ob_handles::HandleTable;
 use ob_names::NameBuf;
 use ob_objects::{Store, StoredObject};
-use ob_processes::Processes;
 use ob_types::{Reason, TypeSet};
 
 /// Where a new object is to stand: at a name in a directory.
@@ -47,7 +46,7 @@ pub struct Spot {
 ///
 /// Source: Windows Internals, Object Manager (open methods); the numbers are this profile.
 pub fn place_new<T: TypeSet, H: HandleTable>(
-    space: &mut Namespace<T, Store<T>, Processes<H>>,
+    space: &mut Space<T, H>,
     process: Proc,
     spot: Option<Spot>,
     object: StoredObject<T::Face, T::Inner>,

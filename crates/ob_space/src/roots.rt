@@ -5,11 +5,9 @@ ghost use Rattle.ob_base.specs.declared.Status.TheVariants.{InvalidHandle};
 ghost use Rattle.ob_space.specs.Namespace.{state_of};
 ghost use Rattle.ob_space.specs.Roots.{root_of};
 
-use crate::space::{Namespace, held_of};
+use crate::space::{Space, held_of};
 use ob_base::{Handle, ObjId, Proc, Status};
 use ob_handles::HandleTable;
-use ob_objects::Store;
-use ob_processes::Processes;
 use ob_types::TypeSet;
 
 /// The object that a name is relative to: that of the root handle, whose low two bits are ignored, and
@@ -17,7 +15,7 @@ use ob_types::TypeSet;
 ///
 /// Source: OBJECT_ATTRIBUTES structure (Windows Driver Kit).
 pub fn root_object<T: TypeSet, H: HandleTable>(
-    space: &Namespace<T, Store<T>, Processes<H>>,
+    space: &Space<T, H>,
     process: Proc,
     root: Option<Handle>,
 ) -> Result<Option<ObjId>, Status>

@@ -3,23 +3,24 @@
 ghost use Rattle.std.specs.Prelude.{◌≡◌, ◌||◌, ◌==◌, [], filter, not, All, MatchOption};
 ghost use Rattle.ob_model.specs.Settle.{settle, IsSettled, is_permanent, has_handle, is_mapped, deleted_one};
 ghost use Rattle.ob_objects.specs.Store.{objects_of, rows_of, body_of_stored, stored_at};
-ghost use Rattle.ob_space.specs.Namespace.{state_of, listed, none_running, running_alone, handles_alone};
+ghost use Rattle.ob_space.specs.Namespace.{state_of, listed, with_opens, none_running, running_alone, handles_alone};
 ghost use Rattle.ob_space.specs.Orderly.{IsOrderly, IsIdleBody, IsIdleUnheld};
 ghost use Rattle.ob_counts.specs.Counts.{is_listed};
 ghost use Rattle.ob_model.specs.Sound.{IsSound};
 ghost use Rattle.ob_space.specs.Settling.{is_held_up, settled_one, settled_unless, AreSettled, StaysBut, with_handle_to, without_names, without_object};
 
-use crate::space::{GLOBAL, Namespace, ROOT};
+use crate::space::{GLOBAL, ROOT, Space};
 use ob_base::ObjId;
 use ob_counts::Touched;
 use ob_handles::HandleTable;
 use ob_objects::{Store, StoredBody};
+use ob_pending::PendingOpens;
 use ob_processes::Processes;
 use ob_types::TypeSet;
 
 /// Settles after an object has lost a handle, or is a process's map directory no longer: an object that
-/// is neither permanent nor has a handle loses its name, and goes if it holds no names that stay and is no
-/// map directory; and then the directory of that name goes, if nothing holds it now. The set is told of each
+/// is neither permanent nor has a handle loses its name, and goes if it holds no names that stay, no open
+/// is pending at it and it is no map directory; and then the directory of that name goes, if nothing holds it now. The set is told of each
 /// object of its own that goes, the object first. The root and `\GLOBAL??` stay always.
 ///
 /// It asks that the state is orderly, and that with one handle more to the object it is settled, so that
@@ -28,10 +29,7 @@ use ob_types::TypeSet;
 ///
 /// Source: Windows Internals, Object Manager (object retention); that it is judged once, at the end of
 /// a step, and the order of the deletes are this profile.
-pub fn settle_after_loss<T: TypeSet, H: HandleTable>(
-    space: &mut Namespace<T, Store<T>, Processes<H>>,
-    object: ObjId,
-)
+pub fn settle_after_loss<T: TypeSet, H: HandleTable>(space: &mut Space<T, H>, object: ObjId)
     requires orderly { IsOrderly T.idle (state_of T.Kind space.old) }
     requires kept { IsSettled (with_handle_to (state_of T.Kind space.old) object) }
     ensures orderly { IsOrderly T.idle (state_of T.Kind space.new) }
@@ -47,8 +45,8 @@ pub fn settle_after_loss<T: TypeSet, H: HandleTable>(
 }
 
 /// Settles after a process has ended: of the objects that its handles led to, each that is neither
-/// permanent nor has a handle now loses its name, and goes if it holds no names that stay and is no map
-/// directory; and then the directory of that name goes, if nothing holds it now. The directory of the
+/// permanent nor has a handle now loses its name, and goes if it holds no names that stay, no open is
+/// pending at it and it is no map directory; and then the directory of that name goes, if nothing holds it now. The directory of the
 /// process's device map goes in the same way. The set is told of each object of its own that goes, from
 /// the highest number down. The root and `\GLOBAL??` stay always.
 ///
@@ -60,7 +58,7 @@ pub fn settle_after_loss<T: TypeSet, H: HandleTable>(
 /// Source: Windows Internals, Object Manager (object retention); that it is judged once, at the end of
 /// a step, and the order of the deletes are this profile.
 pub fn settle_after_end<T: TypeSet, H: HandleTable>(
-    space: &mut Namespace<T, Store<T>, Processes<H>>,
+    space: &mut Space<T, H>,
     touched: &Touched,
     map: Option<ObjId>,
 )
@@ -81,11 +79,7 @@ pub fn settle_after_end<T: TypeSet, H: HandleTable>(
 }
 
 /// Settles one object, and then the directory of its name, unless that has its own turn.
-fn settle_named<T: TypeSet, H: HandleTable>(
-    space: &mut Namespace<T, Store<T>, Processes<H>>,
-    touched: &Touched,
-    id: ObjId,
-)
+fn settle_named<T: TypeSet, H: HandleTable>(space: &mut Space<T, H>, touched: &Touched, id: ObjId)
     requires { All (IsIdleUnheld T.idle space.old.processes.handles) (objects_of space.old.store) }
     ensures { AreSettled T.procedures (state_of T.Kind space.old) (is_listed touched.now) id (state_of T.Kind space.new) }
 {
@@ -101,7 +95,7 @@ fn settle_named<T: TypeSet, H: HandleTable>(
 /// Settles a directory, unless it is one of the objects that have their own turns: what lies in it has
 /// greater numbers, and is judged before.
 fn settle_untouched<T: TypeSet, H: HandleTable>(
-    space: &mut Namespace<T, Store<T>, Processes<H>>,
+    space: &mut Space<T, H>,
     touched: &Touched,
     directory: ObjId,
 )
@@ -116,15 +110,12 @@ fn settle_untouched<T: TypeSet, H: HandleTable>(
 
 /// Settles one object: its name goes unless it stays, and then the object goes unless it stays, given
 /// the names that are left.
-fn settle_one<T: TypeSet, H: HandleTable>(
-    space: &mut Namespace<T, Store<T>, Processes<H>>,
-    id: ObjId,
-)
+fn settle_one<T: TypeSet, H: HandleTable>(space: &mut Space<T, H>, id: ObjId)
     requires { All (IsIdleUnheld T.idle space.old.processes.handles) (objects_of space.old.store) }
     ensures { state_of T.Kind space.new ≡ settled_one T.procedures (state_of T.Kind space.old) id }
 {
     forget_unkept(&mut space.store, &space.processes, id);
-    if !is_held_up(&space.store, &space.processes, id) {
+    if !is_held_up(&space.store, &space.processes, &space.pending, id) {
         delete_object(space, id);
     }
 }
@@ -157,10 +148,7 @@ fn forget_name<T: TypeSet>(store: &mut Store<T>, id: ObjId)
 }
 
 /// Takes away and deletes an object, where it is there, with what lies in it.
-fn delete_object<T: TypeSet, H: HandleTable>(
-    space: &mut Namespace<T, Store<T>, Processes<H>>,
-    id: ObjId,
-)
+fn delete_object<T: TypeSet, H: HandleTable>(space: &mut Space<T, H>, id: ObjId)
     requires { MatchOption (stored_at space.old.store id) (Unit {0}) (λ object. IsIdleBody T.idle (body_of_stored object.body)) }
     ensures { state_of T.Kind space.new ≡ without_object T.procedures (state_of T.Kind space.old) id }
 {
@@ -184,12 +172,14 @@ fn is_kept<T: TypeSet, H: HandleTable>(
 fn is_held_up<T: TypeSet, H: HandleTable>(
     store: &Store<T>,
     processes: &Processes<H>,
+    pending: &PendingOpens<T::Kind>,
     id: ObjId,
 ) -> bool
-    ensures { result ≡ is_held_up (listed (objects_of store.now) (rows_of store.now) processes.now) id }
+    ensures { result ≡ is_held_up (with_opens (objects_of store.now) (rows_of store.now) processes.now pending.now) id }
 {
     id == ROOT
         || has_handle(processes, id)
+        || pending.is_pinned(id)
         || is_mapped(processes, id)
         || (store.is_permanent(id) && store.has_name(id))
         || store.holds_names(id)

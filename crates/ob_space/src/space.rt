@@ -12,6 +12,7 @@ use ob_base::{Handle, ObjId, Proc};
 use ob_handles::{HandleTable, MOST_HANDLES};
 use ob_model::Held;
 use ob_objects::Store;
+use ob_pending::PendingOpens;
 use ob_processes::Processes;
 use ob_types::TypeSet;
 use std::alloc::Global;
@@ -22,20 +23,20 @@ pub const ROOT: ObjId = ObjId(1);
 /// The id of the directory `\GLOBAL??`.
 pub(crate) const GLOBAL: ObjId = ObjId(2);
 
-/// The most objects.
+/// The most objects and pending opens together.
 const MOST_OBJECTS: usize = 1_048_576;
 
 /// The greatest id, stamp and order of opening.
 const GREATEST_NUMBER: u64 = u64::MAX - 1;
 
 /// The parts of a namespace: the value of its set of types, the store of its objects and of their
-/// names, its live processes with their handles, and the numbers that the next ones get. `T` is the
-/// set, `S` the store of its objects, and `P` the processes.
+/// names, its live processes with their handles, its pending opens, and the numbers that the next ones get. `T` is the
+/// set, `S` the store of its objects, `P` the processes, and `N` the pending opens.
 ///
 /// The state of the abstract machine that these parts stand for is `state_of`. Nothing is kept true of
 /// them by the struct itself: a change says by `IsOrderly` what it asks and what it leaves.
 #[derive(Drop)]
-pub struct Namespace<T, S, P> {
+pub struct Namespace<T, S, P, N> {
     /// Where memory is taken from.
     pub alloc: Global,
     /// The value of the set of types, as the calls of its procedures have left it.
@@ -45,6 +46,8 @@ pub struct Namespace<T, S, P> {
     /// The live processes by their numbers, each with its handles: at most 1,024 processes, and 65,535
     /// handles of each.
     pub processes: P,
+    /// The pending opens by their tickets.
+    pub pending: N,
     /// The id that the next object gets: above every id that was drawn, and at most 2^64 - 1, with
     /// which none is left.
     pub next_id: u64,
@@ -58,11 +61,11 @@ pub struct Namespace<T, S, P> {
     pub next_order: u64,
 }
 
+/// The parts of a namespace of these types, whose handles stand in tables of this sort.
+pub type Space<T, H> = Namespace<T, Store<T>, Processes<H>, PendingOpens<<T as TypeSet>::Kind>>;
+
 /// Whether a process is live.
-pub fn is_live<T: TypeSet, H: HandleTable>(
-    space: &Namespace<T, Store<T>, Processes<H>>,
-    process: Proc,
-) -> bool
+pub fn is_live<T: TypeSet, H: HandleTable>(space: &Space<T, H>, process: Proc) -> bool
     ensures { result ≡ is_live (state_of T.Kind space.now) process }
 {
     space.processes.is_live(process)
@@ -73,7 +76,7 @@ pub fn is_live<T: TypeSet, H: HandleTable>(
 ///
 /// Source: Windows Internals on handles.
 pub fn held_of<T: TypeSet, H: HandleTable>(
-    space: &Namespace<T, Store<T>, Processes<H>>,
+    space: &Space<T, H>,
     process: Proc,
     handle: Handle,
 ) -> Option<Held>
@@ -86,37 +89,30 @@ pub fn held_of<T: TypeSet, H: HandleTable>(
 }
 
 /// Whether no handle more fits into a process's table, or no order of opening is left.
-pub(crate) fn is_table_full<T: TypeSet, H: HandleTable>(
-    space: &Namespace<T, Store<T>, Processes<H>>,
-    process: Proc,
-) -> bool
+pub(crate) fn is_table_full<T: TypeSet, H: HandleTable>(space: &Space<T, H>, process: Proc) -> bool
     ensures { result ≡ is_table_full (state_of T.Kind space.now) process }
 {
     space.processes.len_of(process) >= MOST_HANDLES || space.next_order > GREATEST_NUMBER
 }
 
-/// Whether no object more fits, or no id is left.
-fn is_store_full<T: TypeSet, H: HandleTable>(space: &Namespace<T, Store<T>, Processes<H>>) -> bool
+/// Whether no object and no pending open more fits, or no id is left.
+fn is_store_full<T: TypeSet, H: HandleTable>(space: &Space<T, H>) -> bool
     ensures { result ≡ is_store_full (state_of T.Kind space.now) }
 {
-    space.store.len() >= MOST_OBJECTS || space.next_id > GREATEST_NUMBER
+    let there = space.store.len().saturating_add(space.pending.len());
+    there >= MOST_OBJECTS || space.next_id > GREATEST_NUMBER
 }
 
 /// Whether a process can be given no handle to a new object: its table is full, with 65,535 handles,
-/// there are 1,048,576 objects, or no id or order of opening is left.
-pub fn is_full<T: TypeSet, H: HandleTable>(
-    space: &Namespace<T, Store<T>, Processes<H>>,
-    process: Proc,
-) -> bool
+/// there are 1,048,576 objects and pending opens, or no id or order of opening is left.
+pub fn is_full<T: TypeSet, H: HandleTable>(space: &Space<T, H>, process: Proc) -> bool
     ensures { result ≡ (is_table_full (state_of T.Kind space.now) process || is_store_full (state_of T.Kind space.now)) }
 {
     is_table_full(space, process) || is_store_full(space)
 }
 
 /// Whether no stamp is left for a new name.
-pub fn is_stampless<T: TypeSet, H: HandleTable>(
-    space: &Namespace<T, Store<T>, Processes<H>>,
-) -> bool
+pub fn is_stampless<T: TypeSet, H: HandleTable>(space: &Space<T, H>) -> bool
     ensures { result ≡ is_stampless (state_of T.Kind space.now) }
 {
     space.next_stamp > GREATEST_NUMBER

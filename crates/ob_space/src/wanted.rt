@@ -5,12 +5,11 @@ ghost use Rattle.ob_model.specs.Types.{is_wanted, is_wanted_at};
 ghost use Rattle.ob_objects.specs.Store.{body_of_stored};
 ghost use Rattle.ob_space.specs.Namespace.{state_of};
 
-use crate::space::Namespace;
+use crate::space::Space;
 use ob_base::ObjId;
 use ob_handles::HandleTable;
 use ob_model::Wanted;
-use ob_objects::{Store, StoredBody, laws};
-use ob_processes::Processes;
+use ob_objects::{StoredBody, laws};
 use ob_types::{TypeSet, is_one_kind};
 
 /// Whether a body is that of the type that is asked for.
@@ -31,7 +30,7 @@ fn is_wanted<T: TypeSet>(body: &StoredBody<T::Face, T::Inner>, wanted: Wanted<T:
 /// Whether an object is there and is of the type that is asked for: a directory, a link, an object of
 /// a kind of the set, or anything.
 pub fn is_wanted_at<T: TypeSet, H: HandleTable>(
-    space: &Namespace<T, Store<T>, Processes<H>>,
+    space: &Space<T, H>,
     id: ObjId,
     wanted: Wanted<T::Kind>,
 ) -> bool

@@ -1,5 +1,5 @@
 -- The oldest is closed, and then the next, until none is left.
-use Rattle.std.proofs.Common.{◌≡◌, ◌∙◌, ◌+◌, [], true, All, get_or, length, refl, ap, sym, subst, arith}
+use Rattle.std.proofs.Common.{◌≡◌, ◌∙◌, ◌+◌, [], true, All, get_or, length, ap, sym, subst, arith}
 use Rattle.std.specs.Option.{is_some}
 use Rattle.std.specs.Prelude.{MatchOption, false}
 use Rattle.ob_model.specs.State.{is_live}
@@ -61,7 +61,7 @@ returns-clause-orderly g c =
 pub returns-clause-left : goal.returns-clause-left
 returns-clause-left g c =
     ended_stays g.T.TypeSet.procedures (state_of g.row.T-Kind.Denot c.args.space.now) (state_of g.row.T-Kind.Denot c.loop-held.space) c.args.process (all_closed g.T.TypeSet.procedures (state_of g.row.T-Kind.Denot c.loop-held.space) _ c.loop-held.ending.handles c.in_default.ensures.first.0 c.loop-held.invariant.turn)
-    c.requires.sound c.requires.settled (λ o. refl) c.view.ensures.rising (is_listed c.into_touched-touched.result)
+    c.requires.sound c.requires.settled c.view.ensures.rising (is_listed c.into_touched-touched.result)
     (λ k d below.
     let object = (get_or (handles_in (state_of g.row.T-Kind.Denot c.args.space.now) c.args.process) k d).object in
     ap (λ (n : Numbers). is_listed n object) c.into_touched-touched.ensures ∙ c.in_default.ensures.touched object ∙ c.loop-held.invariant.listed k d below)

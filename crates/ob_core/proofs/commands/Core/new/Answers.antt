@@ -16,5 +16,6 @@ invariant_of-result g c =
       rows = rows_of (c.in_ok-opening_store.ensures.store i);
       handles = handles i;
       processes = processes i;
+      pending = c.new.ensures i;
     }))
     (opening_core g.T.TypeSet.idle c.args.types)
