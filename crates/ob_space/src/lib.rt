@@ -30,5 +30,5 @@ pub use opening::opening_store;
 pub use placing::{Spot, place_new};
 pub use roots::root_object;
 pub use settling::{settle_after_end, settle_after_loss};
-pub use space::{Namespace, ROOT, Space, held_of, is_full, is_live, is_stampless};
+pub use space::{Namespace, ROOT, Space, held_of, is_full, is_live, is_stampless, is_store_full};
 pub use wanted::is_wanted_at;

@@ -96,7 +96,7 @@ pub(crate) fn is_table_full<T: TypeSet, H: HandleTable>(space: &Space<T, H>, pro
 }
 
 /// Whether no object and no pending open more fits, or no id is left.
-fn is_store_full<T: TypeSet, H: HandleTable>(space: &Space<T, H>) -> bool
+pub fn is_store_full<T: TypeSet, H: HandleTable>(space: &Space<T, H>) -> bool
     ensures { result ≡ is_store_full (state_of T.Kind space.now) }
 {
     let there = space.store.len().saturating_add(space.pending.len());
