@@ -2,7 +2,10 @@
 
 use ob_arguments::Path;
 use ob_device::{DeviceFace, DeviceInner, DeviceKind, DeviceSet, PathTable};
-use ob_types::{ParseAnswer, Reason, Refusal, TypeSet, close_last, is_one_kind, laws};
+use ob_types::{
+    ParseAnswer, Reason, Refusal, TypeSet, a_parse_run_has_one_end, close_last, is_one_kind, laws,
+    same_faces_end_alike,
+};
 use std::alloc::{AllocError, Global};
 use std::test::Fail;
 
@@ -250,4 +253,6 @@ fn laws_at_devices(_rt: HostRuntime) {
     laws::own_face::<DeviceSet>();
     laws::same_answers::<DeviceSet>();
     laws::is_lawful::<DeviceSet>();
+    a_parse_run_has_one_end::<DeviceSet>();
+    same_faces_end_alike::<DeviceSet>();
 }

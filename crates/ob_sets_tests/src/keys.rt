@@ -2,7 +2,10 @@
 
 use ob_arguments::{Path, is_readable};
 use ob_key::{KeyFace, KeyInner, KeyKind, KeySet, KeyTable};
-use ob_types::{ParseAnswer, Reason, Refusal, TypeSet, close_last, is_one_kind, laws};
+use ob_types::{
+    ParseAnswer, Reason, Refusal, TypeSet, a_parse_run_has_one_end, close_last, is_one_kind, laws,
+    same_faces_end_alike,
+};
 use std::alloc::{AllocError, Global};
 use std::test::Fail;
 
@@ -295,4 +298,6 @@ fn laws_at_keys(_rt: HostRuntime) {
     laws::own_face::<KeySet>();
     laws::same_answers::<KeySet>();
     laws::is_lawful::<KeySet>();
+    a_parse_run_has_one_end::<KeySet>();
+    same_faces_end_alike::<KeySet>();
 }

@@ -5,8 +5,7 @@ use ob_device::{DeviceFace, DeviceInner, DeviceKind, DeviceSet};
 use ob_key::{KeyFace, KeyInner, KeyKind, KeySet};
 use ob_plain::{Plain, PlainFace, PlainInner, PlainKind};
 use ob_types::{
-    Both, Outcome, Reason, Refusal, TypeSet, a_parse_run_has_one_end, calls_go_to_their_part,
-    close_last, is_one_kind, laws, run_parse, same_faces_end_alike,
+    Both, Outcome, Reason, Refusal, TypeSet, calls_go_to_their_part, close_last, laws, run_parse,
 };
 use std::alloc::{AllocError, Global};
 use std::test::Fail;
@@ -55,7 +54,7 @@ fn is_made_so(
     wanted: Option<u16>,
 ) -> Result<bool, AllocError> {
     Ok(match made(alloc, kind, args)? {
-        Ok((face, _)) => wanted.is_none() && is_one_kind::<Sum>(Sum::kind_of(&face), kind),
+        Ok((face, _)) => wanted.is_none() && Sum::kind_of(&face) == kind,
         Err(code) => wanted == Some(code),
     })
 }
@@ -252,20 +251,11 @@ fn handles_are_counted_by_the_part_of_an_object(rt: HostRuntime) -> Result<(), F
 }
 
 #[test]
-fn laws_at_the_sum(_rt: HostRuntime) {
-    laws::refused_open::<Sum>();
-    laws::made_idle::<Sum>();
-    laws::closed_idle::<Sum>();
-    laws::one_kind::<Sum>();
-    laws::own_kind::<Sum>();
-    laws::equal_kinds::<Sum>();
-    laws::front_is_used::<Sum>();
-    laws::itself_at_end::<Sum>();
-    laws::parsed_idle::<Sum>();
-    laws::own_face::<Sum>();
-    laws::same_answers::<Sum>();
+fn the_sum_is_lawful(_rt: HostRuntime) {
     laws::is_lawful::<Sum>();
-    a_parse_run_has_one_end::<Sum>();
-    same_faces_end_alike::<Sum>();
+}
+
+#[test]
+fn calls_on_the_sum_go_to_their_part(_rt: HostRuntime) {
     calls_go_to_their_part::<Plain, Both<DeviceSet, KeySet>>();
 }
