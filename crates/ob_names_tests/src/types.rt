@@ -59,7 +59,7 @@ impl TypeSet for Doors {
         _face: &bool,
         _rest: &[u8],
     ) -> Result<ParseAnswer<bool, bool>, AllocError> {
-        unreachable!()
+        Ok(ParseAnswer::Refused(3))
     }
 
     fn make(_alloc: Global, kind: bool, args: &[u8]) -> Result<(bool, bool), Refusal> {
