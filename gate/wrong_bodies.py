@@ -7,8 +7,9 @@ together: a batch holds one edit of each function, in a copy of the repository, 
 verdict for every function. The crates are proved in a copy of their own first, lowest first, and each batch
 goes over that work; the batches of a crate begin as soon as it is proved, while others still are.
 
-What counts as a refusal is a goal of the function itself, or of a closure in it, that isn't proved. Not a
-refusal, and reported with the edit's name:
+What counts as a refusal is a goal of the function itself, or of a closure in it, that isn't proved. An edit with a
+line 'refusal: CODE' is to be refused by the compiler, before any proof: by errors of that code, in the file that it
+turns, and by no other; such an edit is tried alone. Not a refusal, and reported with the edit's name:
 
 - the function is proved: the body is right, or the contract is too weak;
 - it is not proved only because it calls another function of the batch, tried again, or of none;
@@ -65,6 +66,7 @@ class Edit:
     function: Function
     pairs: list
     fits: bool  # whether each old text stands once in the function's own text too
+    refusal: str = ""  # the code of the errors by which the compiler is to refuse it, before any proof
 
     @property
     def label(self):
@@ -170,6 +172,12 @@ def body_of(plain, place):
         place = closing(plain, match.start()) + 1
 
 
+def refusal_of(path):
+    """The code of the errors by which the compiler is to refuse an edit; empty where the prover is to."""
+    lines = [line for line in path.read_text().splitlines() if line.startswith("refusal:")]
+    return lines[0][len("refusal:") :].strip() if lines else ""
+
+
 def read_pairs(path):
     """The file that an edit names, and its pairs of old and new text."""
     file, pairs = None, []
@@ -181,7 +189,7 @@ def read_pairs(path):
             pairs.append([value, None])
         elif line.startswith("new:"):
             pairs[-1][1] = value
-        elif line.strip():
+        elif line.strip() and not line.startswith("refusal:"):
             raise Unfit(f"a line that is no part of an edit: {line}")
     if file is None or not pairs or any(new is None for _, new in pairs):
         raise Unfit("no file, or an old text without a new one")
@@ -223,7 +231,8 @@ def read_edit(crate, path):
     named = path.stem.split("-")[0]
     if named != function.path.split("::")[-1]:
         raise Unfit(f"it is named for {named} and turns {function.path}")
-    return Edit(crate, path.stem, file, function, pairs, fits(text[function.start : function.end], pairs))
+    is_fit = fits(text[function.start : function.end], pairs)
+    return Edit(crate, path.stem, file, function, pairs, is_fit, refusal_of(path))
 
 
 def with_edits(text, edits):
@@ -375,10 +384,20 @@ def judge(edit, said):
     return f"{edit.function.path} is proved with it"
 
 
+def judge_refusal(edit, output):
+    """What a check's output says of an edit that the compiler is to refuse: None where it does, or what is wrong."""
+    errors = re.findall(r"^(?:\./)?(\S+?):\d+:\d+: error(?:\[([\w-]+)\])?", output, re.M)
+    if not errors:
+        return "the compiler takes it"
+    other = next((error for error in errors if error != (edit.file, edit.refusal)), None)
+    return other and f"it is refused by another error: {other[1] or 'one without a code'} in {other[0]}"
+
+
 def batches(edits):
-    """Edits in batches of at most one a function; edits that don't fit a body's text stand alone."""
-    alone = [edit for edit in edits if not edit.fits]
-    left = [edit for edit in edits if edit.fits]
+    """Edits in batches of at most one a function; those that don't fit a body's text, or that are not to compile, stand
+    alone."""
+    alone = [edit for edit in edits if not edit.fits or edit.refusal]
+    left = [edit for edit in edits if edit.fits and not edit.refusal]
     while left:
         batch, seen, rest = [], set(), []
         for edit in left:
@@ -447,8 +466,8 @@ class Trial:
             return
         again = []
         for edit in batch:
-            fault = judge(edit, said)
-            if not said:
+            fault = judge_refusal(edit, output) if edit.refusal else judge(edit, said)
+            if not said and not edit.refusal:
                 lines = output.splitlines() or ["it printed nothing"]
                 fault = f"it can't be checked: {next((line for line in lines if 'error' in line), lines[-1])}"
             if fault == "again" and len(batch) > 1:

@@ -9,7 +9,7 @@ use Rattle.ob_model.specs.declared.reply.Answer.{Answer}
 use Rattle.ob_model.specs.declared.state.Held.{Held}
 use Rattle.ob_model.specs.declared.state.Wanted.{Wanted}
 use Rattle.ob_model.specs.State.{State, is_live, held_of}
-use Rattle.ob_model.specs.Procedures.{Procedures, without_parse}
+use Rattle.ob_model.specs.Procedures.{Procedures}
 use Rattle.ob_model.specs.Looks.{Mode, Look, LooksUp, most_reparses}
 use Rattle.ob_model.specs.Grants.{first_refusal}
 use Rattle.ob_model.specs.Refusals.{open_refusals, IsRefused}
@@ -38,7 +38,7 @@ judged_live false name attrs served = cc
 module _ {K T F I : Type 0} (g : Procedures K T F I) (s t : State K T F I) (p attrs lawful : ℕ) (answer : Answer) (live : Bool) (is : live ≡ is_live s p) where
   module _ (root : Option ℕ) (name : List ℕ) (wanted : Wanted K) where
     abbrev OpensLooked : ℕ → Option ℕ → Type 0
-    OpensLooked flags at = (look : Look) × LooksUp (without_parse g) s p (open_mode wanted flags) most_reparses at name look × Opens g s p flags wanted look answer t
+    OpensLooked flags at = (look : Look) × LooksUp g s p (open_mode wanted flags) most_reparses at name look × Opens g s p flags wanted look answer t
 
     pub opens_served : lawful ≡ attrs → first_refusal (open_refusals live name attrs) ≡ None → WithRoot s p root answer t (OpensLooked lawful) → OpensName g s p root name attrs wanted answer t
     opens_served same served done =
@@ -47,14 +47,14 @@ module _ {K T F I : Type 0} (g : Procedures K T F I) (s t : State K T F I) (p at
 
 -- what was looked up and then done, relative to the object of a root handle
 module _ {K T F I : Type 0} (g : Procedures K T F I) (s t : State K T F I) (p attrs : ℕ) (answer : Answer)
-    (root at : Option ℕ) (rooted : root_of s p root ≡ Some at) (name : List ℕ) (mode : Mode) (look : Look) (looked : LooksUp (without_parse g) s p mode most_reparses at name look) where
+    (root at : Option ℕ) (rooted : root_of s p root ≡ Some at) (name : List ℕ) (mode : Mode) (look : Look) (looked : LooksUp g s p mode most_reparses at name look) where
   pub creates_looked : (making : Making K) → mode ≡ create_mode attrs → Creates g s p attrs making look answer t → CreatesIn g s p (place.At root name) attrs making answer t
   creates_looked making is done =
-      with_root_done s t p answer (λ at. (look : Look) × LooksUp (without_parse g) s p (create_mode attrs) most_reparses at name look × Creates g s p attrs making look answer t) root at rooted
-      (look, subst (λ (m : Mode). LooksUp (without_parse g) s p m most_reparses at name look) is looked, done)
+      with_root_done s t p answer (λ at. (look : Look) × LooksUp g s p (create_mode attrs) most_reparses at name look × Creates g s p attrs making look answer t) root at rooted
+      (look, subst (λ (m : Mode). LooksUp g s p m most_reparses at name look) is looked, done)
 
   pub opens_looked : (wanted : Wanted K) → mode ≡ open_mode wanted attrs → Opens g s p attrs wanted look answer t
-      → WithRoot s p root answer t (λ at. (look : Look) × LooksUp (without_parse g) s p (open_mode wanted attrs) most_reparses at name look × Opens g s p attrs wanted look answer t)
+      → WithRoot s p root answer t (λ at. (look : Look) × LooksUp g s p (open_mode wanted attrs) most_reparses at name look × Opens g s p attrs wanted look answer t)
   opens_looked wanted is done =
-      with_root_done s t p answer (λ at. (look : Look) × LooksUp (without_parse g) s p (open_mode wanted attrs) most_reparses at name look × Opens g s p attrs wanted look answer t) root at rooted
-      (look, subst (λ (m : Mode). LooksUp (without_parse g) s p m most_reparses at name look) is looked, done)
+      with_root_done s t p answer (λ at. (look : Look) × LooksUp g s p (open_mode wanted attrs) most_reparses at name look × Opens g s p attrs wanted look answer t) root at rooted
+      (look, subst (λ (m : Mode). LooksUp g s p m most_reparses at name look) is looked, done)

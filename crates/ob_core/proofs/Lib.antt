@@ -7,3 +7,5 @@ pub mod Queries
 pub mod Stepping
 pub mod Turned
 pub mod WaysUp
+pub mod Awaiting
+pub mod Abandoned

@@ -1,9 +1,37 @@
--- How the start of a command ends.
+-- How the start of a command ends, and which parses are brought back to the opens that wait for them.
+use Rattle.std.specs.Prelude.{◌≡◌, Option, None, Some, MatchOption}
 use Rattle.ob_model.specs.declared.reply.Answer.{Answer}
-use Rattle.ob_model.specs.declared.reply.Answer.TheVariants.{Done}
+use Rattle.ob_model.specs.declared.reply.Answer.TheVariants.{Done, Ticket}
+use Rattle.ob_model.specs.State.{State}
+use Rattle.ob_model.specs.PendingOpens.{face_of, pending_of}
+use Rattle.ob_model.specs.Procedures.{Procedures, ParseOutcome, EndsItself, EndsMade, EndsReparse, EndsRefused}
+use Rattle.ob_parsing.specs.Parse.{ToRun, IsFor}
 use Rattle.ob_core.specs.declared.commands.Started.{Started}
 use Rattle.ob_core.specs.declared.commands.Started.TheVariants as started
 
--- how a start ends, as the machine's answer
-abbrev pub answer_of : Started → Answer
-answer_of (started.Done reply) = Done reply
+module _ {K T F I : Type 0} where
+  -- how a start ends, as the machine's answer
+  abbrev pub answer_of : Started T K F I → Answer
+  answer_of (started.Done reply) = Done reply
+  answer_of (started.Parsing parsing) = Ticket parsing.ticket
+
+  -- a fact of the parse that is to be run, where there is one
+  abbrev pub IfParsing : Started T K F I → (ToRun F → Type 0) → Type 0
+  IfParsing (started.Done reply) fact = Unit {0}
+  IfParsing (started.Parsing parsing) fact = fact parsing
+
+  -- a parse is the one that a pending open waits for: of the face of the object that the open pins, over its rest
+  abbrev pub IsParseOf : State K T F I → ToRun F → Type 0
+  IsParseOf s parsing = MatchOption (pending_of s parsing.ticket) ⊥ (λ x. (x.rest ≡ parsing.rest) × (face_of s x.object ≡ Some parsing.face))
+
+  -- a parse that is brought is one that an open of the state waits for; else it is a stranger's
+  abbrev pub IsAwaited : Procedures K T F I → State K T F I → ToRun F → Type 0
+  IsAwaited g s asked = MatchOption (pending_of s asked.ticket) ⊥ (λ x. MatchOption (face_of s x.object) ⊥ (λ pinned. IsFor g asked x pinned))
+
+-- the inner value of the instance that a parse made, where it made one
+abbrev pub made_in : {F I : Type 0} → Option (ParseOutcome F I) → Option I
+made_in None = None
+made_in (Some EndsItself) = None
+made_in (Some (EndsMade face inner)) = Some inner
+made_in (Some (EndsReparse text)) = None
+made_in (Some (EndsRefused k)) = None

@@ -1,9 +1,9 @@
 //! The namespace: commands in, replies out.
 
-ghost use Rattle.std.specs.Prelude.{◌≡◌, length, true, IsOk, IfOk, IfErr, OnErr};
+ghost use Rattle.std.specs.Prelude.{◌≡◌, ◌↔◌, length, true, false, IsTrue, IsOk, IfOk, IfErr, OnErr};
 ghost use Rattle.ob_base.specs.declared.Fault.TheVariants.{Memory};
-ghost use Rattle.ob_model.specs.declared.reply.Answer.TheVariants.{Done};
-ghost use Rattle.ob_model.specs.declared.reply.Event.TheVariants.{Start};
+ghost use Rattle.ob_base.specs.declared.status.Status.TheVariants.{Success};
+ghost use Rattle.ob_model.specs.declared.reply.Event.TheVariants.{Start, Abandon};
 ghost use Rattle.std.specs.Option.{is_some};
 ghost use Rattle.ob_model.specs.State.{held_of, table_size};
 ghost use Rattle.ob_model.specs.Opening.{opening};
@@ -13,7 +13,10 @@ ghost use Rattle.ob_model.specs.Step.{Step};
 ghost use Rattle.ob_space.specs.Namespace.{state_of};
 ghost use Rattle.ob_space.specs.Orderly.{IsOrderly};
 ghost use Rattle.ob_core.specs.Early.{TakesNoMemory, is_refused_early};
-ghost use Rattle.ob_core.specs.Starting.{answer_of};
+ghost use Rattle.ob_model.specs.Refusals.{answers};
+ghost use Rattle.ob_parsing.specs.Parse.{asked_of};
+ghost use Rattle.ob_parsing.specs.Brought.{run_of, brought as end_of};
+ghost use Rattle.ob_core.specs.Starting.{answer_of, IfParsing, IsParseOf, IsAwaited};
 
 use crate::closing::close;
 use crate::creating::create;
@@ -23,10 +26,12 @@ use crate::lives::{exit_process, new_process};
 use crate::making::{Making, link_to, object_of};
 use crate::naming::{query_link, query_name};
 use crate::opens::{open_name, type_wanted};
+use crate::parses::abandon;
 use crate::permanence::turn;
 use ob_base::{Fault, Handle, Proc};
 use ob_handles::HandleTable;
 use ob_model::{Command, Reply, Wanted};
+use ob_parsing::{Brought, Parsing};
 use ob_pending::PendingOpens;
 use ob_processes::Processes;
 use ob_space::{Namespace, Space, opening_store};
@@ -57,11 +62,16 @@ impl<T: TypeSet, H: HandleTable> Model for Core<T, H> {
     ghost invariant = { λ a. IsCore T.idle (state_of T.Kind a.space) };
 }
 
-/// How the start of a command ends.
-#[derive(Debug, Drop)]
-pub enum Started {
+/// How the start of a command ends. A parse that is to be run can't be let go.
+pub enum Started<T: TypeSet> {
     /// The command is done, and this is its reply.
     Done(Reply),
+    /// An open reached an object whose kind parses. It is pending under the ticket of this parse, which its caller
+    /// is to run, and then to bring, or to give up.
+    ///
+    /// Source: Windows Internals, Object Manager (parse methods); that the parse is run between two steps is this
+    /// profile.
+    Parsing(Parsing<T>),
 }
 
 impl<T: TypeSet, H: HandleTable> Core<T, H> {
@@ -97,15 +107,33 @@ impl<T: TypeSet, H: HandleTable> Core<T, H> {
     /// refused before its lookup, so these never fail: where the process is gone, the flags, the other
     /// parameters or the bytes or the length of the name are refused, the process lacks the handle that it
     /// names, or no process more may live.
-    pub fn start(&mut self, process: Proc, command: &Command<T::Kind>) -> Result<Started, Fault>
+    pub fn start(&mut self, process: Proc, command: &Command<T::Kind>) -> Result<Started<T>, Fault>
         ensures step { IfOk result (λ started.
             Step T.procedures self.old (Start process command.now) (answer_of started) self.new) }
+        ensures parse { IfOk result (λ started. IfParsing started (IsParseOf self.new)) }
         ensures without_memory { TakesNoMemory command.now → IsOk result }
         ensures early { is_refused_early self.old process command.now ≡ true → IsOk result }
         ensures err { OnErr result (self.new ≡ self.old) }
         ensures memory { IfErr result (λ fault. fault ≡ Memory) }
     {
-        Ok(Started::Done(reply_to(&mut self.space, process, command)?))
+        step_for(&mut self.space, process, command)
+    }
+
+    /// Gives up an open that waits for this parse, whether it was run or not, and tells whether one does: that open
+    /// is pending no longer, an instance that the parse made is deleted, and the object that the open pinned goes
+    /// where nothing else holds it. No memory is taken.
+    ///
+    /// It is false exactly for a stranger's parse, whose ticket isn't that of a pending open, or whose face or rest
+    /// isn't that of the open; then nothing changes, and the parse is let go.
+    ///
+    /// Source: Windows Internals, Object Manager (parse methods; object retention); that an open is given up by its
+    /// ticket is this profile.
+    pub fn abandon(&mut self, brought: Brought<T>) -> bool
+        ensures exact { IsTrue result ↔ IsAwaited T.procedures self.old (asked_of (end_of brought)) }
+        ensures step { IsTrue result → Step T.procedures self.old (Abandon (end_of brought).ticket (run_of brought)) (answers Success) self.new }
+        ensures stranger { result ≡ false → self.new ≡ self.old }
+    {
+        abandon(&mut self.space, brought)
     }
 
     /// How many objects there are: at most 1,048,576.
@@ -157,18 +185,19 @@ impl<T: TypeSet, H: HandleTable> Core<T, H> {
     }
 }
 
-/// Makes the step of a command, and gives its reply.
-fn reply_to<T: TypeSet, H: HandleTable>(
+/// Makes the step of a command, and tells how it ends.
+fn step_for<T: TypeSet, H: HandleTable>(
     space: &mut Space<T, H>,
     process: Proc,
     command: &Command<T::Kind>,
-) -> Result<Reply, Fault>
+) -> Result<Started<T>, Fault>
     requires orderly { IsOrderly T.idle (state_of T.Kind space.old) }
     requires settled { IsSettled (state_of T.Kind space.old) }
     requires sound { IsSound (state_of T.Kind space.old) }
     ensures orderly { IsOrderly T.idle (state_of T.Kind space.new) }
-    ensures step { IfOk result (λ reply.
-        Step T.procedures (state_of T.Kind space.old) (Start process command.now) (Done reply) (state_of T.Kind space.new)) }
+    ensures step { IfOk result (λ started.
+        Step T.procedures (state_of T.Kind space.old) (Start process command.now) (answer_of started) (state_of T.Kind space.new)) }
+    ensures parse { IfOk result (λ started. IfParsing started (IsParseOf (state_of T.Kind space.new))) }
     ensures without_memory { TakesNoMemory command.now → IsOk result }
     ensures early { is_refused_early (state_of T.Kind space.old) process command.now ≡ true → IsOk result }
     ensures err { OnErr result (state_of T.Kind space.new ≡ state_of T.Kind space.old) }
@@ -176,19 +205,26 @@ fn reply_to<T: TypeSet, H: HandleTable>(
 {
     match command {
         Command::CreateDirectory { place, attrs } => {
-            create(space, process, place, *attrs, Making::Directory)
+            let making = Making::Directory;
+            Ok(Started::Done(create(space, process, place, *attrs, making)?))
         }
         Command::CreateLink {
             place,
             attrs,
             target,
-        } => create(space, process, place, *attrs, link_to(target)),
+        } => {
+            let making = link_to(target);
+            Ok(Started::Done(create(space, process, place, *attrs, making)?))
+        }
         Command::CreateObject {
             place,
             attrs,
             kind,
             args,
-        } => create(space, process, place, *attrs, object_of(*kind, args)),
+        } => {
+            let making = object_of(*kind, args);
+            Ok(Started::Done(create(space, process, place, *attrs, making)?))
+        }
         Command::OpenDirectory { root, name, attrs } => {
             let wanted = Wanted::Directory;
             open_name(space, process, *root, name.as_slice(), *attrs, wanted)
@@ -206,18 +242,24 @@ fn reply_to<T: TypeSet, H: HandleTable>(
             let wanted = type_wanted(*want);
             open_name(space, process, *root, name.as_slice(), *attrs, wanted)
         }
-        Command::Close { handle } => Ok(close(space, process, *handle)),
-        Command::QueryLink { handle } => Ok(query_link(space, process, *handle)?),
-        Command::QueryName { handle } => Ok(query_name(space, process, *handle)?),
+        Command::Close { handle } => Ok(Started::Done(close(space, process, *handle))),
+        Command::QueryLink { handle } => Ok(Started::Done(query_link(space, process, *handle)?)),
+        Command::QueryName { handle } => Ok(Started::Done(query_name(space, process, *handle)?)),
         Command::Duplicate {
             handle,
             to,
             inherit,
-        } => duplicate(space, process, *handle, *to, *inherit),
-        Command::MakeTemporary { handle } => Ok(turn(space, process, *handle, false)),
-        Command::MakePermanent { handle } => Ok(turn(space, process, *handle, true)),
-        Command::SetDeviceMap { handle } => set_device_map(space, process, *handle),
-        Command::NewProcess { inherit } => Ok(new_process(space, process, *inherit)?),
-        Command::ExitProcess => Ok(exit_process(space, process)),
+        } => Ok(Started::Done(duplicate(space, process, *handle, *to, *inherit)?)),
+        Command::MakeTemporary { handle } => Ok(Started::Done(turn(
+            space, process, *handle, false,
+        ))),
+        Command::MakePermanent { handle } => Ok(Started::Done(turn(space, process, *handle, true))),
+        Command::SetDeviceMap { handle } => Ok(Started::Done(set_device_map(
+            space, process, *handle,
+        )?)),
+        Command::NewProcess { inherit } => Ok(Started::Done(new_process(
+            space, process, *inherit,
+        )?)),
+        Command::ExitProcess => Ok(Started::Done(exit_process(space, process))),
     }
 }

@@ -99,6 +99,7 @@ fn create_at_name<T: TypeSet, H: HandleTable>(
             };
             make_named(space, process, spot, attrs, making)
         }
+        Look::Parse { .. } => unreachable!(),
     }
 }
 

@@ -6,7 +6,7 @@
 //!
 //! What a command and its reply are made of is handed on: [`Command`], [`Place`] and [`Wanted`],
 //! [`Reply`] and [`Given`], and the [`Bytes`] and [`Handles`] in them; and so are handle tables, [`HandleTable`] and
-//! [`OpenTable`]. So a caller names this crate and a set of types and nothing else for them.
+//! [`OpenTable`], and the parses that an open may wait for, [`Parsing`] and [`Parsed`], with [`Brought`] for either. So a caller names this crate and a set of types and nothing else for them.
 #![tactic(auto)]
 
 mod closing;
@@ -18,9 +18,11 @@ mod lives;
 mod making;
 mod naming;
 mod opens;
+mod parses;
 mod permanence;
 mod replies;
 
 pub use commands::{Core, Started};
 pub use ob_handles::{HandleTable, OpenTable};
 pub use ob_model::{Bytes, Command, Given, Handles, Place, Reply, Wanted};
+pub use ob_parsing::{Brought, Parsed, Parsing};

@@ -11,18 +11,21 @@ ghost use Rattle.ob_model.specs.Settle.{IsSettled};
 ghost use Rattle.ob_model.specs.Sound.{IsSound};
 ghost use Rattle.ob_model.specs.State.{is_live};
 ghost use Rattle.ob_model.specs.Looks as machine;
-ghost use Rattle.ob_model.specs.Procedures.{without_parse};
 ghost use Rattle.ob_lookup.specs.Look.{mode_of, look_of};
 ghost use Rattle.ob_space.specs.Namespace.{state_of};
 ghost use Rattle.ob_space.specs.Orderly.{IsOrderly};
 ghost use Rattle.ob_core.specs.Early.{is_open_refused};
+ghost use Rattle.ob_core.specs.Starting.{answer_of, IfParsing, IsParseOf};
 
+use crate::Started;
+use crate::parses::begin;
 use crate::replies::{status_alone, with_handle};
 use ob_base::{Attrs, Fault, Handle, ObjId, Proc, Status};
 use ob_handles::HandleTable;
 use ob_lookup::{Look, Mode};
 use ob_model::{Reply, Wanted};
 use ob_names::Name;
+use ob_parses::Asking;
 use ob_space::{Asked, Space, grant, is_live, is_wanted_at, judge_open, look_up, root_object};
 use ob_types::{Reason, TypeSet};
 
@@ -36,7 +39,8 @@ pub(crate) fn type_wanted<K: Copy>(want: Option<K>) -> Wanted<K>
     }
 }
 
-/// Opens an object by name, of the type that is asked for.
+/// Opens an object by name, of the type that is asked for, or begins to: where the name reaches an object whose
+/// kind parses, the open waits for its parse.
 pub(crate) fn open_name<T: TypeSet, H: HandleTable>(
     space: &mut Space<T, H>,
     process: Proc,
@@ -44,30 +48,44 @@ pub(crate) fn open_name<T: TypeSet, H: HandleTable>(
     name: &[u8],
     attrs: u32,
     wanted: Wanted<T::Kind>,
-) -> Result<Reply, Fault>
+) -> Result<Started<T>, Fault>
     requires orderly { IsOrderly T.idle (state_of T.Kind space.old) }
     requires settled { IsSettled (state_of T.Kind space.old) }
     requires sound { IsSound (state_of T.Kind space.old) }
     ensures orderly { IsOrderly T.idle (state_of T.Kind space.new) }
-    ensures step { IfOk result (λ reply.
-        OpensName T.procedures (state_of T.Kind space.old) process root name.now attrs wanted (Done reply) (state_of T.Kind space.new)) }
+    ensures step { IfOk result (λ started.
+        OpensName T.procedures (state_of T.Kind space.old) process root name.now attrs wanted (answer_of started) (state_of T.Kind space.new)) }
+    ensures parse { IfOk result (λ started. IfParsing started (IsParseOf (state_of T.Kind space.new))) }
     ensures early { is_open_refused (state_of T.Kind space.old) process root name.now attrs ≡ true → IsOk result }
     ensures err { OnErr result (state_of T.Kind space.new ≡ state_of T.Kind space.old) }
     ensures memory { IfErr result (λ fault. fault ≡ Memory) }
 {
-    let attrs = match judge_open(is_live(space, process), name, attrs) {
-        Ok(attrs) => attrs,
-        Err(status) => return Ok(status_alone(status)),
+    let lawful = match judge_open(is_live(space, process), name, attrs) {
+        Ok(lawful) => lawful,
+        Err(status) => return Ok(Started::Done(status_alone(status))),
     };
     let root = match root_object(space, process, root) {
         Ok(root) => root,
-        Err(status) => return Ok(status_alone(status)),
+        Err(status) => return Ok(Started::Done(status_alone(status))),
     };
-    let mode = open_mode(wanted, attrs);
+    let mode = open_mode(wanted, lawful);
     match look_up(space, process, root, Name::new(name), mode)? {
-        Look::Refused(status) => Ok(status_alone(status)),
-        Look::At(object) => open_at(space, process, object, attrs, wanted, Status::Success),
+        Look::Refused(status) => Ok(Started::Done(status_alone(status))),
+        Look::At(object) => {
+            let status = Status::Success;
+            let reply = open_at(space, process, object, lawful, wanted, status)?;
+            Ok(Started::Done(reply))
+        }
         Look::Vacant { .. } => unreachable!(),
+        Look::Parse { object, rest, left } => {
+            let asking = Asking {
+                process,
+                attrs,
+                wanted,
+            };
+            let begun = begin(space, asking, object, rest, left)?;
+            Ok(begun)
+        }
     }
 }
 

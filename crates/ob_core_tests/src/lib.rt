@@ -12,3 +12,7 @@ mod permanence;
 mod processes;
 #[cfg(test)]
 mod recorded;
+#[cfg(test)]
+mod replies;
+#[cfg(test)]
+mod waiting;

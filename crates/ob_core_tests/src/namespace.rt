@@ -3,9 +3,10 @@
 
 mod doors;
 
+use crate::replies::reply_of;
 use doors::Doors;
 use ob_base::{Fault, Handle, Proc, Status};
-use ob_core::{Bytes, Command, Core, Given, OpenTable, Place, Reply, Started};
+use ob_core::{Bytes, Command, Core, Given, OpenTable, Place, Reply};
 use std::alloc::{AllocError, Global};
 use std::test::Fail;
 
@@ -93,8 +94,7 @@ fn given_to(given: &[Handle], step: usize) -> Handle {
 }
 
 fn reply(core: &mut Core<Doors, OpenTable>, command: &Command<bool>) -> Result<Reply, Fault> {
-    let Started::Done(reply) = core.start(Proc(1), command)?;
-    Ok(reply)
+    reply_of(core, Proc(1), command)
 }
 
 fn handle_of(reply: &Reply) -> Handle {

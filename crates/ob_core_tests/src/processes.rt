@@ -1,7 +1,8 @@
 //! Processes: what they inherit, duplicate and close, told by the replies and by the counts that are left.
 
+use crate::replies::reply_of;
 use ob_base::{Fault, Handle, Proc, Status};
-use ob_core::{Bytes, Command, Core, Given, OpenTable, Place, Reply, Started};
+use ob_core::{Bytes, Command, Core, Given, OpenTable, Place, Reply};
 use ob_plain::{Counting, Plain, PlainKind, Standard};
 use std::alloc::{AllocError, Global};
 use std::test::Fail;
@@ -88,8 +89,7 @@ fn given_to(given: &[Handle], step: usize) -> Handle {
 }
 
 fn reply(core: &mut Namespace, process: u32, command: &Command<PlainKind>) -> Result<Reply, Fault> {
-    let Started::Done(reply) = core.start(Proc(process), command)?;
-    Ok(reply)
+    reply_of(core, Proc(process), command)
 }
 
 fn handle_of(reply: &Reply) -> Handle {

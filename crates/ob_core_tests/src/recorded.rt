@@ -1,7 +1,8 @@
 //! A namespace whose set records its calls: they are those that the commands make, in their order.
 
+use crate::replies::reply_of;
 use ob_base::{Fault, Handle, Proc};
-use ob_core::{Bytes, Command, Core, Given, OpenTable, Place, Reply, Started};
+use ob_core::{Bytes, Command, Core, Given, OpenTable, Place, Reply};
 use ob_plain::{Call, CallKind, Plain, PlainKind, Recorder};
 use ob_types::Reason;
 use std::alloc::{AllocError, Global};
@@ -32,8 +33,7 @@ fn open(alloc: Global) -> Result<Command<PlainKind>, AllocError> {
 }
 
 fn reply(core: &mut Recording, command: &Command<PlainKind>) -> Result<Reply, Fault> {
-    let Started::Done(reply) = core.start(Proc(1), command)?;
-    Ok(reply)
+    reply_of(core, Proc(1), command)
 }
 
 fn handle_of(reply: &Reply) -> Handle {

@@ -3,19 +3,24 @@
 --
 -- Sources: Windows Internals, Object Manager (session namespace: the local DOS device directory is
 -- searched before `\GLOBAL??`); the rule on creates behind `\??` is this profile.
-use Rattle.std.specs.Prelude.{◌≡◌, ℕ, Bool, ◌&&◌, nat_eq, if◌then◌else◌, List, [], ◌∷◌, drop, Option, None, Some, codes}
+use Rattle.std.specs.Prelude.{◌≡◌, ℕ, Bool, false, ◌&&◌, nat_eq, if◌then◌else◌, List, [], ◌∷◌, drop, Option, None, Some, codes}
 use Rattle.std.specs.List.{starts_with}
-use Rattle.std.specs.Option.{option_map, option_or, unwrap_or}
+use Rattle.std.specs.Arc.{arc_value}
+use Rattle.std.specs.Option.{option_map, option_map_or, option_or, unwrap_or}
 use Rattle.std.specs.Str.{bytes_eq}
 use Rattle.ob_model.specs.declared.state.Body.TheVariants as model
 use Rattle.ob_model.specs.Names.{separator, begins_with_separator}
 use Rattle.ob_model.specs.State.{State, root_id, body_of}
 use Rattle.ob_model.specs.Paths.{Origin, is_one_component}
 use Rattle.ob_model.specs.Paths as paths
+use Rattle.ob_model.specs.Procedures.{Procedures}
 use Rattle.ob_model.specs.Looks as machine
 use Rattle.ob_devmap.specs.declared.view.View.{View}
 use Rattle.ob_dirs.specs.declared.entry.DirEntry.{DirEntry}
 use Rattle.ob_dirs.specs.Dir.{entry_found}
+use Rattle.ob_objects.specs.declared.object.StoredBody.{StoredBody}
+use Rattle.ob_objects.specs.declared.object.StoredBody.TheVariants as stored
+use Rattle.ob_objects.specs.Store.{Entries, stored_at}
 use Rattle.ob_lookup.specs.declared.start.Place.{Place}
 use Rattle.ob_lookup.specs.declared.start.Place.TheVariants.{InDirectory, InView}
 use Rattle.ob_lookup.specs.declared.start.Start.{Start}
@@ -83,11 +88,23 @@ abbrev pub stop_of : Stop → machine.Stop
 stop_of (Missed directory component last) = machine.Missed directory component last
 stop_of (Directory id) = machine.Reached id []
 stop_of (Link id target rest) = machine.Reached id rest
-stop_of (Other id rest) = machine.Reached id rest
+stop_of (Other id rest parses) = machine.Reached id rest
 
 -- the object that was reached is, in the state, what the stop says
-abbrev pub Meets : {K T F I : Type 0} → State K T F I → Stop → Type 0
-Meets s (Missed directory component last) = Unit {0}
-Meets s (Directory id) = body_of s id ≡ Some model.Directory
-Meets s (Link id target rest) = body_of s id ≡ Some (model.Link target)
-Meets {F = F} {I = I} s (Other id rest) = (face : F) × (inner : I) × (body_of s id ≡ Some (model.Other face inner))
+abbrev pub Meets : {K T F I : Type 0} → Procedures K T F I → State K T F I → Stop → Type 0
+Meets g s (Missed directory component last) = Unit {0}
+Meets g s (Directory id) = body_of s id ≡ Some model.Directory
+Meets g s (Link id target rest) = body_of s id ≡ Some (model.Link target)
+Meets {F = F} {I = I} g s (Other id rest parses) =
+    (face : F) × (inner : I) × (body_of s id ≡ Some (model.Other face inner)) × (parses ≡ g.parses (g.kind_of face))
+
+module _ {K T F I : Type 0} (g : Procedures K T F I) where
+  -- an object's kind parses
+  abbrev pub parses_in : StoredBody F I → Bool
+  parses_in (stored.Directory entries) = false
+  parses_in (stored.Link target) = false
+  parses_in (stored.Other face inner) = g.parses (g.kind_of (arc_value face))
+
+  -- an object is there, and its kind parses
+  abbrev pub parses_at : Entries F I → ℕ → Bool
+  parses_at store id = option_map_or (λ x. parses_in x.body) (stored_at store id) false

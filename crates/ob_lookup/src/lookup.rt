@@ -2,7 +2,6 @@
 
 ghost use Rattle.std.specs.Prelude.{◌≡◌, ◌<◌, ℕ, IsSome, IfOk, IfErr, OnErr};
 ghost use Rattle.ob_model.specs.State.{State};
-ghost use Rattle.ob_model.specs.Procedures.{without_parse};
 ghost use Rattle.ob_model.specs.Looks as machine;
 ghost use Rattle.ob_devmap.specs.View.{IsViewOf};
 ghost use Rattle.ob_objects.specs.Store.{Shows, directory_at};
@@ -11,7 +10,7 @@ ghost use Rattle.ob_lookup.specs.Walk.{directory_of, place_of, text_of};
 ghost use Rattle.ob_lookup.specs.Look.{mode_of, look_of, turn_of, IfAgain, LooksAgain, Goes, LooksUpIn, WalkMayWantMemory, NameMayWantMemory};
 
 use crate::next::{Next, at_stop};
-use crate::start::{Start, absolute, begin};
+use crate::start::{Beginning, Start, absolute, begin};
 use crate::walk::walk;
 use crate::{Look, Mode};
 use ob_base::{Fault, ObjId, Status};
@@ -45,13 +44,15 @@ use std::alloc::Global;
 /// - `ReparseLimit`: a reparse more than `budget` is wanted, however long what it makes.
 /// - `NameTooLong`: a target and what follows the link make more than 32,767 bytes.
 ///
-/// No object is asked to parse what follows it in a name: parse procedures have not come yet.
+/// An open that reaches an object whose kind parses ends there: what follows the object in the name, which may
+/// be nothing, is for its parse procedure, and so is the whole of a name relative to it. A create never asks it:
+/// to a create it is as any other object.
 ///
-/// The only fault is `Memory`, for a text that a link makes or for a vacant component. So there is none where
-/// no link is followed and no vacant place is found: where the name, looked up with no reparse left, ends at
-/// an object or in another refusal than `ReparseLimit`.
+/// The only fault is `Memory`, for a text that a link makes, for a vacant component, or for what is to be parsed.
+/// So there is none where no link is followed, no vacant place is found and no object is to parse: where the
+/// name, looked up with no reparse left, ends at an object or in another refusal than `ReparseLimit`.
 ///
-/// Source: Windows Internals, Object Manager (object names, symbolic links, session namespace);
+/// Source: Windows Internals, Object Manager (object names, symbolic links, parse methods, session namespace);
 /// OBJECT_ATTRIBUTES structure (Windows Driver Kit). The refusals and their order, and the rule on creates
 /// behind `\??`, are this profile.
 pub fn look<T: TypeSet>(
@@ -71,9 +72,9 @@ pub fn look<T: TypeSet>(
     ensures wants { OnErr result (NameMayWantMemory T.procedures store.now view (mode_of mode) root name.entry) }
     ensures memory { IfErr result (λ fault. fault ≡ Fault.Memory) }
 {
-    let start = match begin(store, &view, root, name, mode) {
-        Ok(start) => start,
-        Err(status) => return Ok(Look::Refused(status)),
+    let start = match begin(alloc, store, &view, root, name, mode, budget)? {
+        Beginning::Walk(start) => start,
+        Beginning::Over(look) => return Ok(look),
     };
     let mut left = budget;
     let mut next = look_from(alloc, store, &view, start, mode, left)?;
@@ -102,8 +103,8 @@ fn look_from<T: TypeSet>(
     ensures left { IfOk result (λ next. IfAgain next (0 < left)) }
     ensures goes { IfOk result (λ next.
         (s : State T.Kind T T.Face T.Inner) (p : ℕ) (end : machine.Look) → Shows s store.now → IsViewOf s p view.now
-        → Goes (without_parse T.procedures) s p (mode_of mode) left (turn_of next) end
-        → machine.Looks (without_parse T.procedures) s p (mode_of mode) left (place_of p start.entry) (text_of start.entry) end) }
+        → Goes T.procedures s p (mode_of mode) left (turn_of next) end
+        → machine.Looks T.procedures s p (mode_of mode) left (place_of p start.entry) (text_of start.entry) end) }
     ensures again { IfOk result (λ next. IfAgain next
         (WalkMayWantMemory T.procedures store.now view.now (mode_of mode) start.entry)) }
     ensures wants { OnErr result (WalkMayWantMemory T.procedures store.now view.now (mode_of mode) start.entry) }
@@ -126,8 +127,8 @@ fn look_again<T: TypeSet>(
     ensures left { IfOk result (λ next. IfAgain next (0 < left)) }
     ensures goes { IfOk result (λ next.
         (s : State T.Kind T T.Face T.Inner) (p : ℕ) (end : machine.Look) → Shows s store.now → IsViewOf s p view.now
-        → Goes (without_parse T.procedures) s p (mode_of mode) left (turn_of next) end
-        → LooksAgain (without_parse T.procedures) s p (mode_of mode) left text.entry end) }
+        → Goes T.procedures s p (mode_of mode) left (turn_of next) end
+        → LooksAgain T.procedures s p (mode_of mode) left text.entry end) }
     ensures memory { IfErr result (λ fault. fault ≡ Fault.Memory) }
 {
     match absolute(view, text, mode.create) {

@@ -2,12 +2,13 @@
 
 ghost use Rattle.std.specs.Prelude.{◌≡◌, IfOk, IfErr, OnErr};
 ghost use Rattle.ob_model.specs.Looks as machine;
-ghost use Rattle.ob_lookup.specs.Look.{mode_of, look_of, next_at, turn_at, turn_of, TurnMayWantMemory};
+ghost use Rattle.ob_lookup.specs.Look.{mode_of, look_of, other_at, next_at, turn_at, turn_of, MayWantMemory, TurnMayWantMemory};
 
 use crate::start::ROOT;
 use crate::walk::Stop;
 use crate::{Look, Mode};
 use ob_base::{Fault, ObjId, Status};
+use ob_model::Bytes;
 use ob_names::{Name, NameBuf, substitute};
 use std::alloc::{AllocError, Global};
 
@@ -22,8 +23,8 @@ pub(crate) enum Next {
 
 /// What is done at a stop, with so many reparses left.
 pub(crate) fn at_stop(alloc: Global, stop: Stop<'_>, mode: Mode, left: u32) -> Result<Next, Fault>
-    ensures turn { IfOk result (λ next. turn_of next ≡ turn_at left (next_at (mode_of mode) stop.entry)) }
-    ensures wants { OnErr result (TurnMayWantMemory (turn_at 0 (next_at (mode_of mode) stop.entry))) }
+    ensures turn { IfOk result (λ next. turn_of next ≡ turn_at left (next_at (mode_of mode) left stop.entry)) }
+    ensures wants { OnErr result (TurnMayWantMemory (turn_at 0 (next_at (mode_of mode) 0 stop.entry))) }
     ensures memory { IfErr result (λ fault. fault ≡ Fault.Memory) }
 {
     match stop {
@@ -34,7 +35,10 @@ pub(crate) fn at_stop(alloc: Global, stop: Stop<'_>, mode: Mode, left: u32) -> R
         } => Ok(Next::Over(at_miss(alloc, mode, directory, component, last)?)),
         Stop::Directory(id) => Ok(Next::Over(Look::At(id))),
         Stop::Link { id, target, rest } => at_link(alloc, mode, left, id, target, rest),
-        Stop::Other { id, rest } => Ok(Next::Over(at_other(id, rest))),
+        Stop::Other { id, rest, parses } => {
+            let asked = parses && !mode.create;
+            Ok(Next::Over(at_other(alloc, left, id, rest, asked)?))
+        }
     }
 }
 
@@ -107,13 +111,28 @@ fn follow(alloc: Global, left: u32, target: Name<'_>, rest: Name<'_>) -> Result<
     }
 }
 
-/// What a lookup ends with at an object of the set.
-fn at_other(id: ObjId, rest: Name<'_>) -> Look
-    ensures { look_of result ≡ machine.named_or_mismatch id rest.entry }
+/// What a lookup ends with at an object of the set, which is asked to parse the rest or not.
+fn at_other(
+    alloc: Global,
+    left: u32,
+    id: ObjId,
+    rest: Name<'_>,
+    asked: bool,
+) -> Result<Look, AllocError>
+    ensures end { IfOk result (λ look. look_of look ≡ other_at asked id rest.entry left) }
+    ensures wants { OnErr result (MayWantMemory (other_at asked id rest.entry 0)) }
 {
+    if asked {
+        let rest = Bytes::from_slice(alloc, rest.as_slice())?;
+        return Ok(Look::Parse {
+            object: id,
+            rest,
+            left,
+        });
+    }
     if rest.as_slice().is_empty() {
-        Look::At(id)
+        Ok(Look::At(id))
     } else {
-        Look::Refused(Status::ObjectTypeMismatch)
+        Ok(Look::Refused(Status::ObjectTypeMismatch))
     }
 }

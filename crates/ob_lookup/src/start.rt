@@ -1,24 +1,22 @@
 //! Where a walk begins.
 
-ghost use Rattle.std.specs.Prelude.{◌≡◌, ◌∷◌, ℕ, IsSome, IfOk, MatchResult};
+ghost use Rattle.std.specs.Prelude.{◌≡◌, ◌&&◌, not, ◌∷◌, ℕ, IsSome, IfOk, OnErr};
 ghost use Rattle.std.specs.Option.{option_map, is_some};
 ghost use Rattle.ob_model.specs.Names.{separator, begins_with_separator};
-ghost use Rattle.ob_model.specs.State.{State};
 ghost use Rattle.ob_model.specs.Paths as paths;
-ghost use Rattle.ob_model.specs.Procedures.{without_parse};
-ghost use Rattle.ob_model.specs.Looks as machine;
-ghost use Rattle.ob_devmap.specs.View.{IsViewOf};
-ghost use Rattle.ob_objects.specs.Store.{Shows, directory_at};
+ghost use Rattle.ob_objects.specs.Store.{directory_at};
 ghost use Rattle.ob_lookup.specs.Closed.{IsClosed, IsRootThere, IsViewThere};
-ghost use Rattle.ob_lookup.specs.Look.{mode_of};
-ghost use Rattle.ob_lookup.specs.Walk.{local_of, directory_of, place_of, text_of, start_behind_view, root_origin, absolute_origin};
+ghost use Rattle.ob_lookup.specs.Look.{mode_of, IfWalk, Begins, NameMayWantMemory};
+ghost use Rattle.ob_lookup.specs.Walk.{local_of, directory_of, place_of, text_of, start_behind_view, root_origin, absolute_origin, parses_at};
 
-use crate::Mode;
+use crate::{Look, Mode};
 use ob_base::{ObjId, Status};
 use ob_devmap::View;
+use ob_model::Bytes;
 use ob_names::{Component, Name, first};
 use ob_objects::{Store, StoredBody};
 use ob_types::TypeSet;
+use std::alloc::{AllocError, Global};
 
 /// The root directory, which `\` names.
 pub(crate) const ROOT: ObjId = ObjId(1);
@@ -40,6 +38,15 @@ pub(crate) struct Start<'a> {
     pub(crate) place: Place,
     /// What stands behind the separator that the text begins with.
     pub(crate) behind: Option<Name<'a>>,
+}
+
+/// How a lookup begins.
+#[derive(Drop)]
+pub(crate) enum Beginning<'a> {
+    /// With a walk.
+    Walk(Start<'a>),
+    /// It is over.
+    Over(Look),
 }
 
 /// A view's local directory: that of the device map, or the global one where there is no map.
@@ -125,35 +132,66 @@ fn from_root<'a>(text: Name<'a>) -> Option<Start<'a>>
     })
 }
 
-/// Where a name begins: where the absolute name does, else at the object of the root handle, which must
-/// be a directory. No object is asked to parse a name yet.
+/// Where a name begins: where the absolute name does, else at the object of the root handle, which must be a
+/// directory, or be one whose kind parses, and then it is asked to parse the name, but not by a create.
 pub(crate) fn begin<'a, T: TypeSet>(
+    alloc: Global,
     store: &Store<T>,
     view: &View,
     root: Option<ObjId>,
     name: Name<'a>,
     mode: Mode,
-) -> Result<Start<'a>, Status>
+    left: u32,
+) -> Result<Beginning<'a>, AllocError>
     requires closed { IsClosed store.now }
     requires view { IsViewThere store.now view.now }
     requires root { IsRootThere store.now root }
-    ensures directory { IfOk result (λ start. IsSome (directory_at store.now (directory_of view.now start.place))) }
-    ensures begins { (s : State T.Kind T T.Face T.Inner) (p : ℕ) (n : ℕ) (end : machine.Look)
-        → Shows s store.now → IsViewOf s p view.now → MatchResult result
-        (λ start. machine.Looks (without_parse T.procedures) s p (mode_of mode) n (place_of p start) (text_of start) end
-        → machine.LooksUp (without_parse T.procedures) s p (mode_of mode) n root name.entry end)
-        (λ status. machine.LooksUp (without_parse T.procedures) s p (mode_of mode) n root name.entry (machine.Refused status)) }
+    ensures directory { IfOk result (λ beginning. IfWalk beginning (λ start.
+        IsSome (directory_at store.now (directory_of view.now start.place)))) }
+    ensures begins { IfOk result (λ beginning. Begins T.procedures store.now view.now (mode_of mode) left root name.entry beginning) }
+    ensures wants { OnErr result (NameMayWantMemory T.procedures store.now view.now (mode_of mode) root name.entry) }
 {
     let Some(id) = root else {
-        return absolute(view, name, mode.create).ok_or(Status::ObjectPathSyntaxBad);
+        let Some(start) = absolute(view, name, mode.create) else {
+            return Ok(Beginning::Over(Look::Refused(Status::ObjectPathSyntaxBad)));
+        };
+        return Ok(Beginning::Walk(start));
     };
     if begins_with_separator(name.as_slice()) {
-        return Err(Status::ObjectPathSyntaxBad);
+        return Ok(Beginning::Over(Look::Refused(Status::ObjectPathSyntaxBad)));
     }
-    if !is_directory(store, id) {
-        return Err(Status::ObjectTypeMismatch);
+    if is_directory(store, id) {
+        return Ok(Beginning::Walk(relative(id, name)));
     }
-    Ok(relative(id, name))
+    if !is_asked(store, id, mode) {
+        return Ok(Beginning::Over(Look::Refused(Status::ObjectTypeMismatch)));
+    }
+    let rest = Bytes::from_slice(alloc, name.as_slice())?;
+    Ok(Beginning::Over(Look::Parse {
+        object: id,
+        rest,
+        left,
+    }))
+}
+
+/// Whether an object is asked to parse a name relative to it: its kind parses, and nothing is to be created.
+fn is_asked<T: TypeSet>(store: &Store<T>, id: ObjId, mode: Mode) -> bool
+    ensures { result ≡ (not mode.create && parses_at T.procedures store.now id) }
+{
+    !mode.create && is_parsing(store, id)
+}
+
+/// Whether an object is one of the set whose kind parses.
+fn is_parsing<T: TypeSet>(store: &Store<T>, id: ObjId) -> bool
+    ensures { result ≡ parses_at T.procedures store.now id }
+{
+    let Some(object) = store.get(id) else {
+        return false;
+    };
+    match &object.body {
+        StoredBody::Directory(_) | StoredBody::Link(_) => false,
+        StoredBody::Other { face, .. } => T::parses(T::kind_of(face)),
+    }
 }
 
 /// Whether the first byte is a separator.

@@ -1,6 +1,7 @@
 //! How a lookup is asked for, and what it ends with.
 
 use ob_base::{ObjId, Status};
+use ob_model::Bytes;
 use ob_names::NameBuf;
 
 /// How a name is looked up.
@@ -29,6 +30,15 @@ pub enum Look {
         directory: ObjId,
         /// The component, which is to be the entry's name.
         component: NameBuf,
+    },
+    /// An object whose kind parses, for an open: its parse procedure is to be asked.
+    Parse {
+        /// The object.
+        object: ObjId,
+        /// What follows it in the name, which may be nothing.
+        rest: Bytes,
+        /// The reparses that are left.
+        left: u32,
     },
     /// A refusal, with its status.
     Refused(Status),

@@ -46,6 +46,8 @@ pub(crate) enum Stop<'a> {
         id: ObjId,
         /// What follows it in the text.
         rest: Name<'a>,
+        /// Whether its kind parses.
+        parses: bool,
     },
 }
 
@@ -61,7 +63,7 @@ pub(crate) fn walk<'a, T: TypeSet>(
     requires directory { IsSome (directory_at store.now (directory_of view.now start.place)) }
     ensures stop { (s : State T.Kind T T.Face T.Inner) (p : ℕ) → Shows s store.now → IsViewOf s p view.now
         → IsStop s (place_of p start.entry) (text_of start.entry) fold (stop_of result) }
-    ensures meets { (s : State T.Kind T T.Face T.Inner) → Shows s store.now → Meets s result }
+    ensures meets { (s : State T.Kind T T.Face T.Inner) → Shows s store.now → Meets T.procedures s result }
 {
     let mut place = start.place;
     let mut dir = directory(store, directory_of(view, &place));
@@ -94,10 +96,11 @@ pub(crate) fn walk<'a, T: TypeSet>(
                     rest: Name::new(rest),
                 };
             }
-            StoredBody::Other { .. } => {
+            StoredBody::Other { face, .. } => {
                 return Stop::Other {
                     id: object,
                     rest: Name::new(rest),
+                    parses: T::parses(T::kind_of(face)),
                 };
             }
         }

@@ -12,6 +12,7 @@ use std::test::Fail;
 pub(crate) enum End<'a> {
     At(u64),
     Vacant(u64, &'a [u8]),
+    Parse(u64, &'a [u8], u32),
     Refused(Status),
 }
 
@@ -20,7 +21,8 @@ pub(crate) enum End<'a> {
 pub(crate) enum Kind {
     Directory,
     Link(&'static [u8]),
-    Event,
+    File,
+    Device,
 }
 
 // A name for an object in a directory; the rows stand in the order in which they came.
@@ -173,7 +175,7 @@ fn at_row(row: PlainRow, mode: Mode, more: bool) -> Turn {
     match row.kind {
         Kind::Directory => Turn::Enters(row.object),
         Kind::Link(target) if more || (mode.follow && !mode.create) => Turn::Follows(target),
-        Kind::Event if more => Turn::Ends(End::Refused(Status::ObjectTypeMismatch)),
+        Kind::File | Kind::Device if more => Turn::Ends(End::Refused(Status::ObjectTypeMismatch)),
         _ => Turn::Ends(End::At(row.object)),
     }
 }

@@ -6,18 +6,18 @@ ghost use Rattle.ob_objects.specs.Store.{entries_in};
 use crate::flat_rows::{End, Kind, PlainRow, search};
 use crate::space::{Space, has_view};
 use ob_base::{ObjId, Status};
+use ob_device::{DeviceFace, DeviceInner, DeviceKind, DeviceSet};
 use ob_devmap::View;
 use ob_dirs::Dir;
 use ob_lookup::{Look, Mode, closed_stays, look, sound_has_views, sound_is_closed};
 use ob_names::{Name, NameBuf};
 use ob_objects::StoredBody;
-use ob_plain::{PlainFace, PlainInner, PlainKind, Standard};
-use ob_types::TypeSet;
+use ob_types::{ParseAnswer, TypeSet};
 use std::alloc::Global;
 use std::sync::Arc;
 use std::test::Fail;
 
-type Body = StoredBody<PlainFace, PlainInner>;
+type Body = StoredBody<DeviceFace, DeviceInner>;
 
 const ROOT: ObjId = ObjId(1);
 
@@ -61,6 +61,9 @@ fn is_end(look: &Look, end: End<'_>) -> bool {
             },
             End::Vacant(wanted, name),
         ) => { directory.0 == wanted && component.as_slice() == name }
+        (Look::Parse { object, rest, left }, End::Parse(wanted, text, number)) => {
+            object.0 == wanted && rest.as_slice() == text && *left == number
+        }
         (Look::Refused(status), End::Refused(wanted)) => *status == wanted,
         _ => false,
     }
@@ -73,7 +76,8 @@ fn body(alloc: Global, kind: Kind) -> Result<Body, Fail>
     match kind {
         Kind::Directory => Ok(StoredBody::Directory(Dir::new(alloc))),
         Kind::Link(target) => link(alloc, target),
-        Kind::Event => event(alloc),
+        Kind::File => file(alloc),
+        Kind::Device => device(alloc),
     }
 }
 
@@ -84,28 +88,44 @@ fn link(alloc: Global, target: &[u8]) -> Result<Body, Fail>
     Ok(StoredBody::Link(target))
 }
 
-fn event(alloc: Global) -> Result<Body, Fail>
+fn device(alloc: Global) -> Result<Body, Fail>
     ensures { IfOk result (λ body. entries_in body ≡ []) }
 {
-    let Ok((face, inner)) = Standard::make(alloc, PlainKind::Event, b"") else {
-        return Err(Fail::from("no event"));
+    let Ok((face, inner)) = DeviceSet::make(alloc, DeviceKind::Device, b"") else {
+        return Err(Fail::from("no device"));
     };
     let face = Arc::new(alloc, face)?;
     Ok(StoredBody::Other { face, inner })
 }
 
+// A file: what opening the device itself makes.
+fn file(alloc: Global) -> Result<Body, Fail>
+    ensures { IfOk result (λ body. entries_in body ≡ []) }
+{
+    let Ok((device, _)) = DeviceSet::make(alloc, DeviceKind::Device, b"") else {
+        return Err(Fail::from("no device"));
+    };
+    let answer = DeviceSet::parse(alloc, &device, b"")?;
+    let ParseAnswer::Front { next, inner, .. } = answer else {
+        return Err(Fail::from("no file"));
+    };
+    let face = Arc::new(alloc, next)?;
+    Ok(StoredBody::Other { face, inner })
+}
+
 // The objects of the small namespace from 2 on: the directory and the name of each, and its kind. `\Device` is
-// 2, `\Device\Disk` the event 3, `\Link` leads to `\Device`, `\Self` to itself, the target of `\Bad` has no
+// 2, `\Device\Disk` the file 3, `\Device\Raw` the device 10, `\Link` leads to `\Device`, `\Self` to itself, the target of `\Bad` has no
 // origin, `\K` leads to `\Device\`, and `\Foo` stands before `\foo`.
-const SMALL: [(u64, &'static [u8], Kind); 8] = [
+const SMALL: [(u64, &'static [u8], Kind); 9] = [
     (1, b"Device", Kind::Directory),
-    (2, b"Disk", Kind::Event),
+    (2, b"Disk", Kind::File),
     (1, b"Link", Kind::Link(b"\\Device")),
     (1, b"Self", Kind::Link(b"\\Self")),
     (1, b"Bad", Kind::Link(b"Device")),
     (1, b"K", Kind::Link(b"\\Device\\")),
     (1, b"Foo", Kind::Directory),
     (1, b"foo", Kind::Directory),
+    (2, b"Raw", Kind::Device),
 ];
 
 fn small(alloc: Global) -> Result<Space, Fail> {
@@ -242,6 +262,56 @@ fn ends_from(
     Ok(is_end(&found, end))
 }
 
+// The device of the small namespace.
+const RAW: u64 = 10;
+
+// Names that lead to the device of the small namespace, and what they end with: an open asks it to parse what
+// follows it, and a create doesn't.
+const PARSED: [(Mode, &'static [u8], End<'static>); 6] = [
+    (OPEN, b"\\Device\\Raw", End::Parse(RAW, b"", 32)),
+    (
+        OPEN,
+        b"\\Device\\Raw\\a\\\\b\\",
+        End::Parse(RAW, b"\\a\\\\b\\", 32),
+    ),
+    (OPEN, b"\\Link\\Raw\\a", End::Parse(RAW, b"\\a", 31)),
+    (OPEN_LINK, b"\\Link\\Raw", End::Parse(RAW, b"", 31)),
+    (CREATE, b"\\Device\\Raw", End::At(RAW)),
+    (
+        CREATE,
+        b"\\Device\\Raw\\a",
+        End::Refused(Status::ObjectTypeMismatch),
+    ),
+];
+
+// The same relative to an object: the device itself, and its directory.
+const PARSED_FROM: [(u64, Mode, &'static [u8], End<'static>); 6] = [
+    (RAW, OPEN, b"a\\b", End::Parse(RAW, b"a\\b", 32)),
+    (RAW, OPEN, b"", End::Parse(RAW, b"", 32)),
+    (RAW, OPEN, b"\\a", End::Refused(Status::ObjectPathSyntaxBad)),
+    (RAW, CREATE, b"a", End::Refused(Status::ObjectTypeMismatch)),
+    (2, OPEN, b"Raw\\a", End::Parse(RAW, b"\\a", 32)),
+    (2, OPEN, b"", End::At(2)),
+];
+
+#[test]
+fn parsing_objects(rt: HostRuntime) -> Result<(), Fail> {
+    let space = small(rt.alloc())?;
+    for &(mode, name, end) in &PARSED {
+        assert!(rt;
+            ends_so(rt.alloc(), &space, mode, name, end)?,
+            "at {name:?}"
+        );
+    }
+    for &(root, mode, name, end) in &PARSED_FROM {
+        assert!(rt;
+            ends_from(rt.alloc(), &space, ObjId(root), mode, name, end)?,
+            "at {root} {name:?}"
+        );
+    }
+    Ok(())
+}
+
 // Names with links in them, and what they end with in the small namespace.
 const BEHIND_LINKS: [(Mode, &'static [u8], End<'static>); 12] = [
     (OPEN, b"\\Link", End::At(2)),
@@ -326,14 +396,14 @@ const DEVICE_NAMES: [(u64, &'static [u8], Kind); 13] = [
     (3, b"C:", Kind::Directory),
     (2, b"C:", Kind::Directory),
     (2, b"D:", Kind::Directory),
-    (4, b"x", Kind::Event),
-    (6, b"y", Kind::Event),
+    (4, b"x", Kind::File),
+    (6, b"y", Kind::File),
     (1, b"DosDevices", Kind::Link(b"\\??")),
     (1, b"Drive", Kind::Link(b"\\DosDevices\\D:")),
-    (3, b"e:", Kind::Event),
-    (2, b"E:", Kind::Event),
-    (2, b"f:", Kind::Event),
-    (5, b"z", Kind::Event),
+    (3, b"e:", Kind::File),
+    (2, b"E:", Kind::File),
+    (2, b"f:", Kind::File),
+    (5, b"z", Kind::File),
 ];
 
 fn device_names(alloc: Global) -> Result<Space, Fail> {
@@ -533,7 +603,7 @@ fn digit(number: u64, place: u32, base: u64) -> u64
 fn kind_of(digit: u64, target: &'static [u8]) -> Kind {
     match digit {
         0 | 1 | 2 => Kind::Directory,
-        3 => Kind::Event,
+        3 => Kind::File,
         _ => Kind::Link(target),
     }
 }

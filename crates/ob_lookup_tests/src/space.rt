@@ -7,11 +7,11 @@ ghost use Rattle.ob_lookup.specs.Closed.{IsClosed, IsViewThere};
 ghost use Rattle.ob_lookup_tests.specs.Space.{IsSpace};
 
 use ob_base::{Fault, ObjId};
+use ob_device::{DeviceFace, DeviceInner, DeviceSet};
 use ob_devmap::View;
 use ob_dirs::Dir;
 use ob_names::{Name, NameBuf};
 use ob_objects::{Store, StoredBody, StoredObject};
-use ob_plain::{PlainFace, PlainInner, Standard};
 use std::alloc::Global;
 use std::marker::Model;
 use std::test::Fail;
@@ -20,17 +20,17 @@ use std::test::Fail;
 // the stamp of its name too. The first one is the root.
 #[derive(Drop)]
 pub(crate) struct Space {
-    store: Store<Standard>,
+    store: Store<DeviceSet>,
     next: u64,
 }
 
 impl Model for Space {
     ghost use Rattle.ob_objects.specs.Store.{Entries};
     ghost use Rattle.ob_lookup_tests.specs.Space.{IsSpace};
-    ghost use Rattle.ob_plain.specs.declared.plain.PlainFace.{PlainFace};
-    ghost use Rattle.ob_plain.specs.declared.plain.PlainInner.{PlainInner};
+    ghost use Rattle.ob_device.specs.declared.device.DeviceFace.{DeviceFace};
+    ghost use Rattle.ob_device.specs.declared.device.DeviceInner.{DeviceInner};
 
-    ghost Value = { Entries PlainFace PlainInner };
+    ghost Value = { Entries DeviceFace DeviceInner };
 
     ghost view = { λ space. space.store };
 
@@ -47,7 +47,7 @@ impl Space {
     }
 
     // The store.
-    pub(crate) fn store(&self) -> &Store<Standard>
+    pub(crate) fn store(&self) -> &Store<DeviceSet>
         ensures { IsClosed result.now }
     {
         &self.store
@@ -59,7 +59,7 @@ impl Space {
         alloc: Global,
         directory: ObjId,
         name: &[u8],
-        body: StoredBody<PlainFace, PlainInner>,
+        body: StoredBody<DeviceFace, DeviceInner>,
     ) -> Result<ObjId, Fail>
         requires { entries_in body ≡ [] }
     {
@@ -75,7 +75,7 @@ impl Space {
 }
 
 // A temporary object, not exclusive.
-fn temporary(body: StoredBody<PlainFace, PlainInner>) -> StoredObject<PlainFace, PlainInner>
+fn temporary(body: StoredBody<DeviceFace, DeviceInner>) -> StoredObject<DeviceFace, DeviceInner>
     ensures { result.body ≡ body }
 {
     StoredObject {
@@ -86,7 +86,7 @@ fn temporary(body: StoredBody<PlainFace, PlainInner>) -> StoredObject<PlainFace,
 }
 
 // Whether the directories of a view are there.
-pub(crate) fn has_view(store: &Store<Standard>, view: &View) -> bool
+pub(crate) fn has_view(store: &Store<DeviceSet>, view: &View) -> bool
     ensures { IsTrue result → IsViewThere store.now view.now }
 {
     let has_local = match view.local {
@@ -97,7 +97,7 @@ pub(crate) fn has_view(store: &Store<Standard>, view: &View) -> bool
 }
 
 // Whether a directory is there and has no entry of this spelling.
-fn is_free(store: &Store<Standard>, directory: ObjId, name: &[u8]) -> bool
+fn is_free(store: &Store<DeviceSet>, directory: ObjId, name: &[u8]) -> bool
     ensures there { IsTrue result → IsSome (directory_at store.now directory) }
     ensures free { IsTrue result → All (λ entry. entry.name ≢ name.now) (entries_at store.now directory) }
 {
@@ -108,7 +108,7 @@ fn is_free(store: &Store<Standard>, directory: ObjId, name: &[u8]) -> bool
 }
 
 // The entries of a directory, where it is one.
-fn dir_of(store: &Store<Standard>, id: ObjId) -> Option<&Dir>
+fn dir_of(store: &Store<DeviceSet>, id: ObjId) -> Option<&Dir>
     ensures { option_copied result ≡ directory_at store.now id }
 {
     match store.get(id) {
@@ -124,11 +124,11 @@ fn dir_of(store: &Store<Standard>, id: ObjId) -> Option<&Dir>
 
 // Puts an object and a name for it into a store, both with this number.
 fn put(
-    store: &mut Store<Standard>,
+    store: &mut Store<DeviceSet>,
     directory: ObjId,
     id: u64,
     name: NameBuf,
-    object: StoredObject<PlainFace, PlainInner>,
+    object: StoredObject<DeviceFace, DeviceInner>,
 ) -> Result<(), Fault>
     requires space { IsSpace store.old id }
     requires there { IsSome (directory_at store.old directory) }

@@ -20,7 +20,7 @@ use Rattle.ob_model.specs.Names.{longest_name}
 use Rattle.ob_model.specs.State.{State, is_live, is_directory, is_store_full, held_of, body_of}
 use Rattle.ob_model.specs.PendingOpens.{with_pending}
 use Rattle.ob_model.specs.Looks.{Look, At, Vacant, Parse, Refused, Mode, LooksUp, most_reparses}
-use Rattle.ob_model.specs.Procedures.{Procedures, Reason, Opened, Created, Duplicated, without_parse}
+use Rattle.ob_model.specs.Procedures.{Procedures, Reason, Opened, Created, Duplicated}
 use Rattle.ob_model.specs.Settle.{settle}
 use Rattle.ob_model.specs.Grants.{Asked, first_refusal, Grants, grant_refusal, IsFreeValue, open_refusal_of, opened_body, opened_set, with_open, with_handle}
 use Rattle.ob_model.specs.Closing.{is_handle, without_handle, with_close, closed_handle}
@@ -353,19 +353,19 @@ module _ {K T F I : Type 0} (g : Procedures K T F I) (s t : State K T F I) (alik
 
   -- a name ends the same in both states
   look_alike : (p : ℕ) (mode : Mode) (n : ℕ) (at : Option ℕ) (name : List ℕ) (one other : Look)
-      → LooksUp (without_parse g) s p mode n at name one → LooksUp (without_parse g) t p mode n at name other → other ≡ one
+      → LooksUp g s p mode n at name one → LooksUp g t p mode n at name other → other ≡ one
   look_alike p mode n at name one other h k =
-      looks_up_unique (without_parse g) s p mode n at name other one
-      (looks_up-valued (without_parse g) s p mode n at name other
-      (subst (λ x. LooksUp (without_parse g) x p mode n at name other) (sym alike) (looks_up-unvalued (without_parse g) t p mode n at name other k))) h
+      looks_up_unique g s p mode n at name other one
+      (looks_up-valued g s p mode n at name other
+      (subst (λ x. LooksUp g x p mode n at name other) (sym alike) (looks_up-unvalued g t p mode n at name other k))) h
 
   creates_in_alike : (where_to where_else : Place) (attrs : ℕ) (making : Making K) → AreAlikePlaces s t r where_to where_else
       → CreatesIn g s r where_to attrs making a u → CreatesIn g t r where_else attrs making b v → EndAlike
   creates_in_alike where_to where_else attrs making no_name h k = makes_alike attrs making None h k
   creates_in_alike where_to where_else attrs making (names {root = root} {other = other} {name = name} same) h k =
       using_root_alike r root other
-      (λ at. (look : Look) × LooksUp (without_parse g) s r (create_mode attrs) most_reparses at name look × Creates g s r attrs making look a u)
-      (λ at. (look : Look) × LooksUp (without_parse g) t r (create_mode attrs) most_reparses at name look × Creates g t r attrs making look b v) same
+      (λ at. (look : Look) × LooksUp g s r (create_mode attrs) most_reparses at name look × Creates g s r attrs making look a u)
+      (λ at. (look : Look) × LooksUp g t r (create_mode attrs) most_reparses at name look × Creates g t r attrs making look b v) same
       (λ at x y. creates_alike attrs making x.0 x.2
       (subst (λ look. Creates g t r attrs making look b v) (look_alike r (create_mode attrs) most_reparses at name x.0 y.0 x.1 y.1) y.2)) h k
 
@@ -392,10 +392,10 @@ module _ {K T F I : Type 0} (g : Procedures K T F I) (s t : State K T F I) (alik
       (subst (λ look. Opens g t r attrs wanted look b v) (look_alike r (open_mode wanted attrs) most_reparses at name x.0 y.0 x.1 y.1) y.2))) h k
     where
       DoesS : Option ℕ → Type 0
-      DoesS at = (look : Look) × LooksUp (without_parse g) s r (open_mode wanted attrs) most_reparses at name look × Opens g s r attrs wanted look a u
+      DoesS at = (look : Look) × LooksUp g s r (open_mode wanted attrs) most_reparses at name look × Opens g s r attrs wanted look a u
 
       DoesT : Option ℕ → Type 0
-      DoesT at = (look : Look) × LooksUp (without_parse g) t r (open_mode wanted attrs) most_reparses at name look × Opens g t r attrs wanted look b v
+      DoesT at = (look : Look) × LooksUp g t r (open_mode wanted attrs) most_reparses at name look × Opens g t r attrs wanted look b v
 
   pub closes_alike : (p value other : ℕ) → ((owner named : ℕ) → owner ≡ p → key_of named ≡ key_of value → IsClosed owner named) → LeadAlike s t p value other → Closes g s p value a u → Closes g t p other b v → EndAlike
   closes_alike p value other closes lead h k =

@@ -134,6 +134,7 @@ module _ {K T F I : Type 0} where
         descending = All-weaker (λ r. nat_lt r.directory r.object ≡ true) (λ r. r.directory < r.object) (λ r e. less r.directory r.object e) s.rows (AllPass-from_list_all (λ r. nat_lt r.directory r.object) s.rows seventh.0);
         pending = all_of_none (λ x. Stands s x.object) s.pending eighth.0;
         ticketed = all_of_none (λ x. x.ticket < s.next_id) s.pending eighth.0;
+        later = all_of_none (λ x. x.object < x.ticket) s.pending eighth.0;
         reserved = all_of_none (λ x. All (λ y. y.id ≢ x.ticket) s.objects) s.pending eighth.0;
         awaited = pairs_of_none (λ a b. a.ticket < b.ticket) s.pending eighth.0;
         rising = pairs_rise s.rows (rise s.rows ninth.0);

@@ -115,6 +115,7 @@ module _ {K T F I : Type 0} where
     descending = sound.descending;
     pending = sound.pending;
     ticketed = sound.ticketed;
+    later = sound.later;
     reserved = sound.reserved;
     awaited = sound.awaited;
     rising = sound.rising;
@@ -145,6 +146,7 @@ module _ {K T F I : Type 0} where
     descending = sound.descending;
     pending = sound.pending;
     ticketed = sound.ticketed;
+    later = sound.later;
     reserved = sound.reserved;
     awaited = sound.awaited;
     rising = sound.rising;
@@ -170,6 +172,7 @@ module _ {K T F I : Type 0} where
     descending = sound.descending;
     pending = sound.pending;
     ticketed = sound.ticketed;
+    later = sound.later;
     reserved = sound.reserved;
     awaited = sound.awaited;
     rising = sound.rising;

@@ -23,7 +23,7 @@ use Rattle.ob_model.specs.declared.state.Wanted.{Wanted}
 use Rattle.ob_model.specs.declared.state.Wanted.TheVariants as wanted
 use Rattle.ob_model.specs.State.{State, is_live, is_directory, is_store_full, held_of}
 use Rattle.ob_model.specs.Looks.{Mode, Look, At, Vacant, Parse, Refused, Looks, LooksUp, most_reparses}
-use Rattle.ob_model.specs.Procedures.{Procedures, ParseOutcome, EndsItself, EndsMade, EndsReparse, EndsRefused, ParseEnds, Reason, Opened, Created, Duplicated, without_parse}
+use Rattle.ob_model.specs.Procedures.{Procedures, ParseOutcome, EndsItself, EndsMade, EndsReparse, EndsRefused, ParseEnds, Reason, Opened, Created, Duplicated}
 use Rattle.ob_model.specs.Settle.{settle}
 use Rattle.ob_model.specs.Grants.{first_refusal, Grants, IsFreeValue, Asked, open_refusal_of, with_handle, with_open}
 use Rattle.ob_model.specs.Closing.{closed_handle}
@@ -165,18 +165,18 @@ module _ {K T F I : Type 0} (g : Procedures K T F I) where
   -- what the end of a create's name leads to, and that of an open's
   abbrev CreatesLooking : State K T F I → ℕ → List ℕ → ℕ → Making K → Answer → State K T F I → Option ℕ → Type 0
   CreatesLooking s p name attrs making answer t at =
-      (look : Look) × LooksUp (without_parse g) s p (create_mode attrs) most_reparses at name look × Creates g s p attrs making look answer t
+      (look : Look) × LooksUp g s p (create_mode attrs) most_reparses at name look × Creates g s p attrs making look answer t
 
   abbrev OpensLooking : State K T F I → ℕ → List ℕ → ℕ → Wanted K → Answer → State K T F I → Option ℕ → Type 0
   OpensLooking s p name attrs wanted answer t at =
-      (look : Look) × LooksUp (without_parse g) s p (open_mode wanted attrs) most_reparses at name look × Opens g s p attrs wanted look answer t
+      (look : Look) × LooksUp g s p (open_mode wanted attrs) most_reparses at name look × Opens g s p attrs wanted look answer t
 
   creates_in_end : (s t u : State K T F I) (p : ℕ) (where_to : Place) (attrs : ℕ) (making : Making K) (answer : Answer)
       → CreatesIn g s p where_to attrs making answer t → CreatesIn g s p where_to attrs making answer u → t ≡ u
   creates_in_end s t u p (place.At root name) attrs making answer h k =
       with_root_end s t u p root answer (CreatesLooking s p name attrs making answer t) (CreatesLooking s p name attrs making answer u)
       (λ at a b.
-      let same : b.0 ≡ a.0 = looks_up_unique (without_parse g) s p (create_mode attrs) most_reparses at name b.0 a.0 b.1 a.1 in
+      let same : b.0 ≡ a.0 = looks_up_unique g s p (create_mode attrs) most_reparses at name b.0 a.0 b.1 a.1 in
       creates_end s t u p attrs making a.0 answer a.2 (subst (λ look. Creates g s p attrs making look answer u) same b.2)) h k
   creates_in_end s t u p place.Unnamed attrs making answer h k = makes_end s t u p attrs making None answer h k
 
@@ -193,7 +193,7 @@ module _ {K T F I : Type 0} (g : Procedures K T F I) where
       (WithRoot s p root answer t (OpensLooking s p name attrs wanted answer t)) (WithRoot s p root answer u (OpensLooking s p name attrs wanted answer u))
       (with_root_end s t u p root answer (OpensLooking s p name attrs wanted answer t) (OpensLooking s p name attrs wanted answer u)
       (λ at a b.
-      let same : b.0 ≡ a.0 = looks_up_unique (without_parse g) s p (open_mode wanted attrs) most_reparses at name b.0 a.0 b.1 a.1 in
+      let same : b.0 ≡ a.0 = looks_up_unique g s p (open_mode wanted attrs) most_reparses at name b.0 a.0 b.1 a.1 in
       opens_end s t u p attrs wanted a.0 answer a.2 (subst (λ look. Opens g s p attrs wanted look answer u) same b.2))) h k
 
   turns_end : (s t u : State K T F I) (p handle : ℕ) (permanent : Bool) (answer : Answer) → Turns g s p handle permanent answer t → Turns g s p handle permanent answer u → t ≡ u

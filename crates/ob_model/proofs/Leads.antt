@@ -23,7 +23,7 @@ use Rattle.ob_model.specs.declared.state.Wanted.{Wanted}
 use Rattle.ob_model.specs.declared.state.Wanted.TheVariants as wanted
 use Rattle.ob_model.specs.State.{State, is_live, is_directory, is_store_full, held_of}
 use Rattle.ob_model.specs.Looks.{Look, At, Vacant, Parse, Refused, LooksUp, most_reparses}
-use Rattle.ob_model.specs.Procedures.{Procedures, ParseOutcome, EndsItself, EndsMade, EndsReparse, EndsRefused, Reason, Opened, Created, Duplicated, without_parse}
+use Rattle.ob_model.specs.Procedures.{Procedures, ParseOutcome, EndsItself, EndsMade, EndsReparse, EndsRefused, Reason, Opened, Created, Duplicated}
 use Rattle.ob_model.specs.Settle.{settle}
 use Rattle.ob_model.specs.Grants.{Asked, first_refusal, Grants, grant_refusal, IsFreeValue, open_refusal_of, with_open, with_handle}
 use Rattle.ob_model.specs.Closing.{closed_handle}
@@ -154,7 +154,7 @@ module _ {K T F I : Type 0} (g : Procedures K T F I) (s : State K T F I) (P : St
   creates_in_leads : (t : State K T F I) (p : ℕ) (where_to : Place) (attrs : ℕ) (making : Making K) (answer : Answer) → are_lawful attrs ≡ true → CreatesIn g s p where_to attrs making answer t → P t
   creates_in_leads t p (place.At root name) attrs making answer lawful h =
       with_root_leads t p root answer
-      (λ at. (look : Look) × LooksUp (without_parse g) s p (create_mode attrs) most_reparses at name look × Creates g s p attrs making look answer t)
+      (λ at. (look : Look) × LooksUp g s p (create_mode attrs) most_reparses at name look × Creates g s p attrs making look answer t)
       (λ at does. creates_leads t p attrs making does.0 answer lawful does.2) h
   creates_in_leads t p place.Unnamed attrs making answer lawful h = makes_leads t p attrs making None answer lawful h
 
@@ -169,7 +169,7 @@ module _ {K T F I : Type 0} (g : Procedures K T F I) (s : State K T F I) (P : St
       (λ e. with_root_leads t p root answer Does (λ at does. opens_leads t p attrs wanted does.0 answer does.2)) h
     where
       Does : Option ℕ → Type 0
-      Does at = (look : Look) × LooksUp (without_parse g) s p (open_mode wanted attrs) most_reparses at name look × Opens g s p attrs wanted look answer t
+      Does at = (look : Look) × LooksUp g s p (open_mode wanted attrs) most_reparses at name look × Opens g s p attrs wanted look answer t
 
   turns_leads : (t : State K T F I) (p handle : ℕ) (permanent : Bool) (answer : Answer) → Turns g s p handle permanent answer t → P t
   turns_leads t p handle permanent answer h =

@@ -106,6 +106,7 @@ module _ {K T F I : Type 0} where
     descending = sound.descending;
     pending = sound.pending;
     ticketed = sound.ticketed;
+    later = sound.later;
     reserved = sound.reserved;
     awaited = sound.awaited;
     rising = sound.rising;

@@ -1,8 +1,8 @@
 -- An open that begins to be pending, or is pending no longer, and an object under its ticket, leave a sound state.
-use Rattle.std.proofs.Common.{◌≡◌, ◌≢◌, ℕ, ◌<◌, ◌+◌, ◌==◌, true, false, not, List, [], ◌∷◌, get_or, All, Option, None, Some, filter, find, is_some, ap, ◌∙◌, sym, arith, eq-eqb}
+use Rattle.std.proofs.Common.{◌≡◌, ◌≢◌, ℕ, ◌<◌, ◌+◌, ◌==◌, Bool, true, false, not, cond, List, [], ◌∷◌, get_or, All, Option, None, Some, filter, find, is_some, ap, ◌∙◌, sym, refl, arith, eq-eqb, eqb-true}
 use Rattle.std.specs.Option.{option_or}
 use Rattle.std.specs.Prelude.{MatchOption}
-use Rattle.std.proofs.lemmas.List.Elements.{All-push, All-weaker, All-filter}
+use Rattle.std.proofs.lemmas.List.Elements.{All-push, All-head, All-tail, All-weaker, All-filter}
 use Rattle.std.proofs.lemmas.List.Elements.{filter_passes}
 use Rattle.std.proofs.lemmas.List.Kept.{AllPairs-filter}
 use Rattle.std.proofs.lemmas.List.Quantifiers.{all_pairs_push}
@@ -19,6 +19,15 @@ use Rattle.ob_model.proofs.SoundPaths.{find_of}
 use Rattle.ob_model.proofs.InOrder.{free_from_other, in_order-All, in_order-find}
 use Rattle.ob_model.proofs.Soundness.{is_directory_object, is_directory_object-or, is_some-or_left, drawn_more, sound_maps, sound_rows, sound_inside, sound_handles, sound_pending}
 
+-- the number of an object that is there was drawn
+stands_below : {F I : Type 0} (n o : ℕ) (xs : List (Object F I)) → All (λ x. x.id < n) xs → is_some (find (λ x. x.id == o) xs) ≡ true → o < n
+stands_below n o [] all e = cc
+stands_below {F} {I} n o (x ∷ xs) all e = go (x.id == o) refl e (stands_below n o xs (All-tail (λ y. y.id < n) x xs all))
+  where
+    go : (b : Bool) → (x.id == o) ≡ b → is_some (cond b (Some x) (find (λ y. y.id == o) xs)) ≡ true → (is_some (find (λ y. y.id == o) xs) ≡ true → o < n) → o < n
+    go true is any rest = let less : x.id < n = All-head (λ y. y.id < n) x xs all in omega (arith, less, eqb-true x.id o is)
+    go false is any rest = rest any
+
 module _ {K T F I : Type 0} (s : State K T F I) where
   pub begun_pending_sound : (p attrs : ℕ) (wanted : Wanted K) (o : ℕ) (rest : List ℕ) (n : ℕ) → IsSound s → Stands s o → IsSound (with_pending s p attrs wanted o rest n)
   begun_pending_sound p attrs wanted o rest n sound stands = record {
@@ -32,6 +41,7 @@ module _ {K T F I : Type 0} (s : State K T F I) where
     pending = All-push (λ x. Stands s x.object) s.pending _ sound.pending stands;
     ticketed = All-push (λ x. x.ticket < s.next_id + 1) s.pending _
         (All-weaker (λ x. x.ticket < s.next_id) (λ x. x.ticket < s.next_id + 1) (λ x less. omega (arith, less)) s.pending sound.ticketed) (omega arith);
+    later = All-push (λ x. x.object < x.ticket) s.pending _ sound.later (stands_below s.next_id o s.objects sound.drawn stands);
     reserved = All-push (λ x. All (λ y. y.id ≢ x.ticket) s.objects) s.pending _ sound.reserved
         (All-weaker (λ y. y.id < s.next_id) (λ y. y.id ≢ s.next_id) (λ y less same. omega (arith, less, same)) s.objects sound.drawn);
     awaited = all_pairs_push (λ a b. a.ticket < b.ticket) s.pending _ sound.awaited sound.ticketed;
@@ -57,6 +67,7 @@ module _ {K T F I : Type 0} (s : State K T F I) where
     descending = sound.descending;
     pending = All-filter (λ x. not (x.ticket == ticket)) (λ x. Stands s x.object) s.pending sound.pending;
     ticketed = All-filter (λ x. not (x.ticket == ticket)) (λ x. x.ticket < s.next_id) s.pending sound.ticketed;
+    later = All-filter (λ x. not (x.ticket == ticket)) (λ x. x.object < x.ticket) s.pending sound.later;
     reserved = All-filter (λ x. not (x.ticket == ticket)) (λ x. All (λ y. y.id ≢ x.ticket) s.objects) s.pending sound.reserved;
     awaited = AllPairs-filter (λ a b. a.ticket < b.ticket) (λ x. not (x.ticket == ticket)) s.pending sound.awaited;
     rising = sound.rising;
@@ -98,6 +109,7 @@ module _ {K T F I : Type 0} (s : State K T F I) where
       descending = sound.descending;
       pending = sound_pending s t stays s.pending sound.pending;
       ticketed = sound.ticketed;
+      later = sound.later;
       reserved = λ k d within.
           in_order-All (λ x. x.id) (λ y. y.id ≢ (get_or s.pending k d).ticket) new s.objects
           (λ same. others k d within (sym same)) (sound.reserved k d within);

@@ -21,7 +21,8 @@ use Rattle.ob_model.specs.declared.state.Wanted.TheVariants as wanted
 use Rattle.ob_model.specs.Names.{longest_name}
 use Rattle.ob_model.specs.State.{State, is_live, is_directory, held_of}
 use Rattle.ob_model.specs.Looks.{Look, At, Vacant, Parse, Refused, LooksUp, most_reparses}
-use Rattle.ob_model.specs.Procedures.{Procedures, Reason, Opened, Created, Duplicated, without_parse}
+use Rattle.ob_model.specs.Procedures.{Procedures, Reason, Opened, Created, Duplicated}
+use Rattle.ob_model.specs.PendingOpens.{face_of}
 use Rattle.ob_model.specs.Settle.{settle}
 use Rattle.ob_model.specs.Grants.{Asked, first_refusal, IsFreeValue, open_refusal_of}
 use Rattle.ob_model.specs.Closing.{closed_handle}
@@ -34,7 +35,7 @@ use Rattle.ob_model.specs.Creates.{Making, MakesDirectory, MakesLink, MakesObjec
 use Rattle.ob_model.specs.Naming.{path_text, TellsName, TellsTarget}
 use Rattle.ob_model.specs.Processes.{values_in, is_crowded, begun, ended}
 use Rattle.ob_model.specs.Step.{WithHandle, WithRoot, CreatesIn, CreatesAt, OpensName, Turns, Step}
-use Rattle.ob_model.proofs.Vacant.{IsUsableEnd, usable_end}
+use Rattle.ob_model.proofs.Vacant.{IsParsing, IsUsableEnd, usable_end}
 
 abbrev IsReply : Answer → Type 0
 IsReply answer = (reply : Reply) × (answer ≡ Done reply)
@@ -78,7 +79,15 @@ module _ {K T F I : Type 0} (s t : State K T F I) (answer : Answer) where
       go false e = (_, e)
   name_reply o (inr h) = (_, h.1)
 
-module _ {K T F I : Type 0} (g : Procedures K T F I) (s t : State K T F I) (answer : Answer) where
+module _ {K T F I : Type 0} (g : Procedures K T F I) (never : (kind : K) → g.parses kind ≡ false) (s t : State K T F I) (answer : Answer) where
+  -- no object parses
+  no_parse : (o : ℕ) → IsParsing g s o → ⊥
+  no_parse o h = go (face_of s o) h
+    where
+      go : (face : Option F) → MatchOption face ⊥ (λ face. g.parses (g.kind_of face) ≡ true) → ⊥
+      go None h = h
+      go (Some face) h = let no : g.parses (g.kind_of face) ≡ false = never (g.kind_of face) in cc
+
   gives_handle_reply : (p o : ℕ) (asked : Asked) (reason : Reason) (status : Status) → GivesHandle g s p o asked reason status answer t → IsReply answer
   gives_handle_reply p o asked reason status h = go h.0 h.3
     where
@@ -91,10 +100,10 @@ module _ {K T F I : Type 0} (g : Procedures K T F I) (s t : State K T F I) (answ
       unless_reply s t answer ((not (is_wanted_at g s o wanted), ObjectTypeMismatch) ∷ []) (GivesHandle g s p o (asked_by attrs) Opened status answer t)
       (gives_handle_reply p o (asked_by attrs) Opened status) h
 
-  opens_reply : (p attrs : ℕ) (wanted : Wanted K) (look : Look) → IsUsableEnd s (open_mode wanted attrs) look → Opens g s p attrs wanted look answer t → IsReply answer
+  opens_reply : (p attrs : ℕ) (wanted : Wanted K) (look : Look) → IsUsableEnd g s (open_mode wanted attrs) look → Opens g s p attrs wanted look answer t → IsReply answer
   opens_reply p attrs wanted (Refused status) usable h = refused_reply s t answer status h
   opens_reply p attrs wanted (Vacant d c) usable h = absurd h
-  opens_reply p attrs wanted (Parse o rest n) usable h = absurd usable
+  opens_reply p attrs wanted (Parse o rest n) usable h = absurd (no_parse o usable.1)
   opens_reply p attrs wanted (At o) usable h = opens_at_reply p attrs wanted Success o h
 
   makes_reply : (p attrs : ℕ) (making : Making K) (spot : Spot) → Makes g s p attrs making spot answer t → IsReply answer
@@ -128,7 +137,7 @@ module _ {K T F I : Type 0} (g : Procedures K T F I) (s t : State K T F I) (answ
   creates_in_reply : (p : ℕ) (where_to : Place) (attrs : ℕ) (making : Making K) → CreatesIn g s p where_to attrs making answer t → IsReply answer
   creates_in_reply p (place.At root name) attrs making h =
       with_root_reply s t answer p root
-      (λ at. (look : Look) × LooksUp (without_parse g) s p (create_mode attrs) most_reparses at name look × Creates g s p attrs making look answer t)
+      (λ at. (look : Look) × LooksUp g s p (create_mode attrs) most_reparses at name look × Creates g s p attrs making look answer t)
       (λ at does. creates_reply p attrs making does.0 does.2) h
   creates_in_reply p place.Unnamed attrs making h = makes_reply p attrs making None h
 
@@ -143,7 +152,7 @@ module _ {K T F I : Type 0} (g : Procedures K T F I) (s t : State K T F I) (answ
       (λ at does. opens_reply p attrs wanted does.0 (usable_end g s p (open_mode wanted attrs) most_reparses at name does.0 does.1) does.2)) h
     where
       Does : Option ℕ → Type 0
-      Does at = (look : Look) × LooksUp (without_parse g) s p (open_mode wanted attrs) most_reparses at name look × Opens g s p attrs wanted look answer t
+      Does at = (look : Look) × LooksUp g s p (open_mode wanted attrs) most_reparses at name look × Opens g s p attrs wanted look answer t
 
   turns_reply : (p handle : ℕ) (permanent : Bool) → Turns g s p handle permanent answer t → IsReply answer
   turns_reply p handle permanent h =

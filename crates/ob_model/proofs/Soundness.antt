@@ -207,6 +207,7 @@ module _ {K T F I : Type 0} where
         descending = All-from_recursion (λ r. r.directory < r.object) s.rows (omega arith, (omega arith, (omega arith, (omega arith, (omega arith, tt)))));
         pending = All-nil (λ x. Stands s x.object);
         ticketed = All-nil (λ x. x.ticket < s.next_id);
+        later = All-nil (λ x. x.object < x.ticket);
         reserved = All-nil (λ x. All (λ y. y.id ≢ x.ticket) s.objects);
         awaited = λ i j d less within. absurd (omega (arith, within));
         rising = pairs_rise s.rows (omega arith, (omega arith, (omega arith, (omega arith, tt))));
@@ -278,6 +279,7 @@ module _ {K T F I : Type 0} where
         descending = sound.descending;
         pending = sound_pending s t stays s.pending sound.pending;
         ticketed = All-weaker (λ x. x.ticket < s.next_id) (λ x. x.ticket < s.next_id + 1) (λ x less. omega (arith, less)) s.pending sound.ticketed;
+        later = sound.later;
         reserved = λ k d within.
             in_order-All (λ x. x.id) (λ y. y.id ≢ (get_or s.pending k d).ticket) _ s.objects
             (λ same. let less = sound.ticketed k d within in omega (arith, less, same)) (sound.reserved k d within);
@@ -306,6 +308,7 @@ module _ {K T F I : Type 0} where
     descending = All-append (λ r. r.directory < r.object) s.rows (new_rows spot s.next_stamp o) sound.descending (below spot inside);
     pending = sound.pending;
     ticketed = sound.ticketed;
+    later = sound.later;
     reserved = sound.reserved;
     awaited = sound.awaited;
     rising = last spot;
@@ -366,6 +369,7 @@ module _ {K T F I : Type 0} where
     descending = sound.descending;
     pending = sound.pending;
     ticketed = All-weaker (λ x. x.ticket < s.next_id) (λ x. x.ticket < id) (λ x less. omega (arith, less, later)) s.pending sound.ticketed;
+    later = sound.later;
     reserved = sound.reserved;
     awaited = sound.awaited;
     rising = sound.rising;
@@ -392,6 +396,7 @@ module _ {K T F I : Type 0} where
     descending = sound.descending;
     pending = sound.pending;
     ticketed = sound.ticketed;
+    later = sound.later;
     reserved = sound.reserved;
     awaited = sound.awaited;
     rising = sound.rising;
@@ -441,6 +446,7 @@ module _ {K T F I : Type 0} (g : Procedures K T F I) where
         (list_any_at (λ x. x.object == (get_or s.pending k d).object) s.pending k d within (eq-eqb (get_or s.pending k d).object (get_or s.pending k d).object refl)))
         (sound.pending k d within);
     ticketed = sound.ticketed;
+    later = sound.later;
     reserved = λ k d within. All-filter (λ x. is_alive s x.id) (λ y. y.id ≢ (get_or s.pending k d).ticket) s.objects (sound.reserved k d within);
     awaited = sound.awaited;
     rising = AllPairs-filter (λ a b. a.stamp < b.stamp) (is_kept s) s.rows sound.rising;
@@ -471,6 +477,7 @@ module _ {K T F I : Type 0} (g : Procedures K T F I) where
         descending = sound.descending;
         pending = sound_pending s t stays s.pending sound.pending;
         ticketed = sound.ticketed;
+        later = sound.later;
         reserved = λ k d within.
             reserved_map (opened_object g s.set o reason) (opened_object-id g s.set o reason) (get_or s.pending k d).ticket s.objects (sound.reserved k d within);
         awaited = sound.awaited;
@@ -515,6 +522,7 @@ module _ {K T F I : Type 0} (g : Procedures K T F I) where
         descending = sound.descending;
         pending = sound_pending s t stays s.pending sound.pending;
         ticketed = sound.ticketed;
+        later = sound.later;
         reserved = λ k d within.
             reserved_map (closed_object g s.set h.object _ _) (closed_object-id g s.set h.object _ _) (get_or s.pending k d).ticket s.objects (sound.reserved k d within);
         awaited = sound.awaited;

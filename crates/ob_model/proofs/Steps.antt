@@ -21,7 +21,7 @@ use Rattle.ob_model.specs.declared.state.Wanted.{Wanted}
 use Rattle.ob_model.specs.declared.state.Wanted.TheVariants as wanted
 use Rattle.ob_model.specs.State.{State, is_live, is_directory, is_store_full, held_of, object_of}
 use Rattle.ob_model.specs.Looks.{Look, At, Vacant, Parse, Refused, LooksUp, most_reparses}
-use Rattle.ob_model.specs.Procedures.{Procedures, ParseOutcome, EndsItself, EndsMade, EndsReparse, EndsRefused, Opened, Created, without_parse}
+use Rattle.ob_model.specs.Procedures.{Procedures, ParseOutcome, EndsItself, EndsMade, EndsReparse, EndsRefused, Opened, Created}
 use Rattle.ob_model.specs.Settle.{settle}
 use Rattle.ob_model.specs.Grants.{first_refusal, IsFreeValue, open_refusal_of}
 use Rattle.ob_model.specs.Closing.{closed_handle}
@@ -152,7 +152,7 @@ module _ {K T F I : Type 0} (g : Procedures K T F I) where
       go (Some k) h = refused_sound s t (TypeRefused k) answer sound h
 
   creates_sound : (s t : State K T F I) (p attrs : ℕ) (making : Making K) (look : Look) (answer : Answer)
-      → IsSound s → is_live s p ≡ true → IsUsableEnd s (create_mode attrs) look → HasComponent look → Creates g s p attrs making look answer t → IsSound t
+      → IsSound s → is_live s p ≡ true → IsUsableEnd g s (create_mode attrs) look → HasComponent look → Creates g s p attrs making look answer t → IsSound t
   creates_sound s t p attrs making (Refused status) answer sound live usable has h = refused_sound s t status answer sound h
   creates_sound s t p attrs making (At o) answer sound live usable has h = go (has_flag open_if_flag attrs) h
     where
@@ -167,10 +167,10 @@ module _ {K T F I : Type 0} (g : Procedures K T F I) where
       → IsSound s → is_live s p ≡ true → CreatesIn g s p where_to attrs making answer t → IsSound t
   creates_in_sound s t p (place.At root name) attrs making answer sound live h =
       with_root_sound s t p root answer
-      (λ at. (look : Look) × LooksUp (without_parse g) s p (create_mode attrs) most_reparses at name look × Creates g s p attrs making look answer t) sound
+      (λ at. (look : Look) × LooksUp g s p (create_mode attrs) most_reparses at name look × Creates g s p attrs making look answer t) sound
       (λ at does.
       creates_sound s t p attrs making does.0 answer sound live (usable_end g s p (create_mode attrs) most_reparses at name does.0 does.1)
-      (vacant_name (without_parse g) s p (create_mode attrs) most_reparses at name does.0 does.1) does.2) h
+      (vacant_name g s p (create_mode attrs) most_reparses at name does.0 does.1) does.2) h
   creates_in_sound s t p place.Unnamed attrs making answer sound live h = makes_sound s t p attrs making None answer sound live tt h
 
   creates_at_sound : (s t : State K T F I) (p : ℕ) (where_to : Place) (attrs : ℕ) (making : Making K) (answer : Answer)
@@ -185,10 +185,10 @@ module _ {K T F I : Type 0} (g : Procedures K T F I) where
       unless_sound (open_refusals (is_live s p) name attrs) s t answer (WithRoot s p root answer t Does) sound
       (λ e. with_root_sound s t p root answer Does sound (λ at does.
       opens_sound s t p attrs wanted does.0 answer sound (live_to_open (is_live s p) name attrs e)
-      (open_end (without_parse g) s p (open_mode wanted attrs) refl most_reparses at name does.0 does.1) does.2)) h
+      (open_end g s p (open_mode wanted attrs) refl most_reparses at name does.0 does.1) does.2)) h
     where
       Does : Option ℕ → Type 0
-      Does at = (look : Look) × LooksUp (without_parse g) s p (open_mode wanted attrs) most_reparses at name look × Opens g s p attrs wanted look answer t
+      Does at = (look : Look) × LooksUp g s p (open_mode wanted attrs) most_reparses at name look × Opens g s p attrs wanted look answer t
 
   turns_sound : (s t : State K T F I) (p handle : ℕ) (permanent : Bool) (answer : Answer) → IsSound s → Turns g s p handle permanent answer t → IsSound t
   turns_sound s t p handle permanent answer sound h =

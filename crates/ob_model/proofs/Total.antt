@@ -26,7 +26,7 @@ use Rattle.ob_model.specs.declared.state.Wanted.{Wanted}
 use Rattle.ob_model.specs.declared.state.Wanted.TheVariants as wanted
 use Rattle.ob_model.specs.State.{State, root_id, is_live, is_store_full, held_of, body_of, table_size, most_handles, greatest_number, is_directory}
 use Rattle.ob_model.specs.Looks.{Look, At, Vacant, Parse, Refused, LooksUp, most_reparses}
-use Rattle.ob_model.specs.Procedures.{Procedures, ParseOutcome, EndsItself, EndsMade, EndsReparse, EndsRefused, Reason, Opened, Created, Duplicated, without_parse}
+use Rattle.ob_model.specs.Procedures.{Procedures, ParseOutcome, EndsItself, EndsMade, EndsReparse, EndsRefused, Reason, Opened, Created, Duplicated}
 use Rattle.ob_model.specs.Settle.{settle}
 use Rattle.ob_model.specs.Grants.{first_refusal, IsFreeValue, Asked, is_table_full, is_exclusive, has_other_holder, grant_refusal, open_refusal, open_refusal_of, with_open, with_handle}
 use Rattle.ob_model.specs.Closing.{closed_handle}
@@ -234,25 +234,25 @@ module _ {K T F I : Type 0} (g : Procedures K T F I) where
       made None free = opened (open_refusal_of g s.set (body_made g making) Created) free
       made (Some k) free = refused_total s (TypeRefused k)
 
-  creates_total : (s : State K T F I) (p attrs : ℕ) (making : Making K) (look : Look) → IsUsableEnd s (create_mode attrs) look → Has (Creates g s p attrs making look)
+  creates_total : (s : State K T F I) (p attrs : ℕ) (making : Making K) (look : Look) → IsUsableEnd g s (create_mode attrs) look → Has (Creates g s p attrs making look)
   creates_total s p attrs making (Refused status) usable = refused_total s status
   creates_total s p attrs making (At o) usable = go (has_flag open_if_flag attrs)
     where
       go : (opens : Bool) → Has (λ answer t. MatchBool opens (OpensAt g s p attrs (type_made making) ObjectNameExists o answer t) (IsRefused s ObjectNameCollision answer t))
       go true = opens_at_total s p attrs (type_made making) ObjectNameExists o
       go false = refused_total s ObjectNameCollision
-  creates_total s p attrs making (Parse o rest n) usable = absurd usable
+  creates_total s p attrs making (Parse o rest n) usable = let never : true ≡ false = usable.0 in cc
   creates_total s p attrs making (Vacant d c) usable = makes_total s p attrs making (Some (d, c))
 
   creates_in_total : (s : State K T F I) (p : ℕ) (where_to : Place) (attrs : ℕ) (making : Making K) → IsSound s → Has (CreatesIn g s p where_to attrs making)
   creates_in_total s p (place.At root name) attrs making sound = with_root_total s p root Does sound looked
     where
       Does : Option ℕ → Answer → State K T F I → Type 0
-      Does at answer t = (look : Look) × LooksUp (without_parse g) s p (create_mode attrs) most_reparses at name look × Creates g s p attrs making look answer t
+      Does at answer t = (look : Look) × LooksUp g s p (create_mode attrs) most_reparses at name look × Creates g s p attrs making look answer t
 
       looked : (at : Option ℕ) → MatchOption at (Unit {0}) (Stands s) → Has (Does at)
       looked at stands =
-          let look = looks_up_total (without_parse g) s p (create_mode attrs) most_reparses at name sound stands in
+          let look = looks_up_total g s p (create_mode attrs) most_reparses at name sound stands in
           let done = creates_total s p attrs making look.0 (usable_end g s p (create_mode attrs) most_reparses at name look.0 look.1) in
           (done.0, done.1, (look.0, look.1, done.2))
   creates_in_total s p place.Unnamed attrs making sound = makes_total s p attrs making None
@@ -266,12 +266,12 @@ module _ {K T F I : Type 0} (g : Procedures K T F I) where
       unless_total (open_refusals (is_live s p) name attrs) s (λ answer t. WithRoot s p root answer t (λ at. Does at answer t)) (λ e. with_root_total s p root Does sound looked)
     where
       Does : Option ℕ → Answer → State K T F I → Type 0
-      Does at answer t = (look : Look) × LooksUp (without_parse g) s p (open_mode wanted attrs) most_reparses at name look × Opens g s p attrs wanted look answer t
+      Does at answer t = (look : Look) × LooksUp g s p (open_mode wanted attrs) most_reparses at name look × Opens g s p attrs wanted look answer t
 
       looked : (at : Option ℕ) → MatchOption at (Unit {0}) (Stands s) → Has (Does at)
       looked at stands =
-          let look = looks_up_total (without_parse g) s p (open_mode wanted attrs) most_reparses at name sound stands in
-          let done = opens_total s p attrs wanted look.0 (open_end (without_parse g) s p (open_mode wanted attrs) refl most_reparses at name look.0 look.1) in
+          let look = looks_up_total g s p (open_mode wanted attrs) most_reparses at name sound stands in
+          let done = opens_total s p attrs wanted look.0 (open_end g s p (open_mode wanted attrs) refl most_reparses at name look.0 look.1) in
           (done.0, done.1, (look.0, look.1, done.2))
 
   turns_total : (s : State K T F I) (p handle : ℕ) (permanent : Bool) → IsSound s → Has (Turns g s p handle permanent)

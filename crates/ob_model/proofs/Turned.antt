@@ -71,6 +71,7 @@ module _ {K T F I : Type 0} where
         descending = sound.descending;
         pending = sound_pending s t stays s.pending sound.pending;
         ticketed = sound.ticketed;
+        later = sound.later;
         reserved = λ k d within. reserved_map (turned_object o permanent) (turned_object-id o permanent) (get_or s.pending k d).ticket s.objects (sound.reserved k d within);
         awaited = sound.awaited;
         rising = sound.rising;

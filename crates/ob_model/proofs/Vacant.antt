@@ -1,10 +1,10 @@
--- What the end of a lookup is good for, where no kind parses: a vacant place is told to a create, in a
--- directory in which nothing is found under the component and which may have an entry of that name, and no
--- object is to parse. A create that begins in a view walks more than one component, so that no place is
+-- What the end of a lookup is good for: a vacant place is told to a create, in a directory in which nothing
+-- is found under the component and which may have an entry of that name, and an object parses for an open
+-- alone, and its kind does. A create that begins in a view walks more than one component, so that no place is
 -- vacant in a view itself.
 use Rattle.std.proofs.Common.{◌≡◌, ◌≢◌, ℕ, zero, suc, ◌==◌, Bool, true, false, ◌&&◌, not, List, [], ◌∷◌, length, drop, refl, ◌∙◌, sym, subst, inl, inr, ◌⊎◌, nat_eq, eq-eqb}
 use Rattle.std.specs.Prelude.{codes, if◌then◌else◌, nat_lt, Option, None, Some, MatchOption, MatchBool}
-use Rattle.std.specs.Option.{option_map}
+use Rattle.std.specs.Option.{option_map, option_and_then}
 use Rattle.std.specs.List.{starts_with}
 use Rattle.std.specs.Str.{bytes_eq}
 use Rattle.ob_base.specs.declared.status.Status.{Status}
@@ -14,19 +14,23 @@ use Rattle.ob_model.specs.declared.state.Body.TheVariants.{Directory, Link, Othe
 use Rattle.ob_model.specs.declared.state.Row.{Row}
 use Rattle.ob_model.specs.Names.{longest_name, substituted, begins_with_separator, IsRest, IsSplit, next_component, after_component}
 use Rattle.ob_model.specs.State.{State, root_id, is_directory, body_of}
+use Rattle.ob_model.specs.PendingOpens.{face_in, face_of}
 use Rattle.ob_model.specs.Sound.{is_barred}
 use Rattle.ob_model.specs.Paths.{Origin, InDirectory, ViewOf, IsPath, entry, found, local, place_behind, origin_of, is_one_component}
-use Rattle.ob_model.specs.Procedures.{Procedures, without_parse}
+use Rattle.ob_model.specs.Procedures.{Procedures}
 use Rattle.ob_model.specs.Looks.{Mode, Look, At, Vacant, Parse, Refused, Stop, Missed, Reached, Next, Over, Follow, at_miss, at_link, named_or_mismatch, at_body, IsNext, IsStop, Again, Ends, Looks, LooksFrom, LooksUp}
 
-module _ {K T F I : Type 0} (s : State K T F I) (mode : Mode) where
+-- an object is one of the set, of a kind that parses
+abbrev pub IsParsing : {K T F I : Type 0} → Procedures K T F I → State K T F I → ℕ → Type 0
+IsParsing g s o = MatchOption (face_of s o) ⊥ (λ face. g.parses (g.kind_of face) ≡ true)
+
+module _ {K T F I : Type 0} (g : Procedures K T F I) (s : State K T F I) (mode : Mode) where
   -- a vacant place is told to a create, in a directory in which nothing is found under the component and
-  -- which may have an entry of that name; no
-  -- object is to parse
+  -- which may have an entry of that name; an object that parses is told to an open
   abbrev pub IsUsableEnd : Look → Type 0
   IsUsableEnd (At o) = Unit {0}
   IsUsableEnd (Vacant d c) = (mode.create ≡ true) × (is_directory s d ≡ true) × (found s d c mode.fold ≡ None) × (is_barred d c ≡ false)
-  IsUsableEnd (Parse o rest n) = ⊥
+  IsUsableEnd (Parse o rest n) = (mode.create ≡ false) × IsParsing g s o
   IsUsableEnd (Refused status) = Unit {0}
 
   -- the same of what is to be done next, where the lookup is over
@@ -107,98 +111,111 @@ module _ {K T F I : Type 0} (g : Procedures K T F I) (s : State K T F I) (p : �
       absurd (cc)
 
   -- so that a miss of the last component is a vacant place for a create
-  usable_miss : (d : ℕ) (c : List ℕ) (last : Bool) → is_directory s d ≡ true → (c ≢ [] → mode.create ≡ true → last ≡ true → found s d c mode.fold ≡ None) → IsUsableNext s mode (at_miss mode d c last)
+  usable_miss : (d : ℕ) (c : List ℕ) (last : Bool) → is_directory s d ≡ true → (c ≢ [] → mode.create ≡ true → last ≡ true → found s d c mode.fold ≡ None) → IsUsableNext g s mode (at_miss mode d c last)
   usable_miss d [] last inside free = tt
   usable_miss d (b ∷ bs) false inside free = tt
   usable_miss d (b ∷ bs) true inside free = go mode.create ((d == root_id) && bytes_eq (b ∷ bs) (codes "??")) refl refl
     where
       go : (create other : Bool) → mode.create ≡ create → is_barred d (b ∷ bs) ≡ other
-          → IsUsableNext s mode (if not create then Over (Refused ObjectNameNotFound) else if other then Over (Refused ObjectNameInvalid) else Over (Vacant d (b ∷ bs)))
+          → IsUsableNext g s mode (if not create then Over (Refused ObjectNameNotFound) else if other then Over (Refused ObjectNameInvalid) else Over (Vacant d (b ∷ bs)))
       go false other e f = tt
       go true true e f = tt
       go true false e f = (e, inside, free (λ empty. cc) e refl, f)
 
-  usable_named : (o : ℕ) (rest : List ℕ) → IsUsableEnd s mode (named_or_mismatch o rest)
+  usable_named : (o : ℕ) (rest : List ℕ) → IsUsableEnd g s mode (named_or_mismatch o rest)
   usable_named o [] = tt
   usable_named o (b ∷ bs) = tt
 
-  usable_link : (o : ℕ) (target rest : List ℕ) → IsUsableNext s mode (at_link mode o target rest)
+  usable_link : (o : ℕ) (target rest : List ℕ) → IsUsableNext g s mode (at_link mode o target rest)
   usable_link o target [] = go (mode.follow && not mode.create)
     where
-      go : (follows : Bool) → IsUsableNext s mode (if follows then Follow target [] else Over (At o))
+      go : (follows : Bool) → IsUsableNext g s mode (if follows then Follow target [] else Over (At o))
       go true = tt
       go false = tt
   usable_link o target (b ∷ bs) = tt
 
-  usable_body : (o : ℕ) (body : Body F I) (rest : List ℕ) (n : ℕ) → IsUsableNext s mode (at_body (without_parse g) mode o body rest n)
-  usable_body o Directory rest n = tt
-  usable_body o (Link target) rest n = usable_link o target rest
-  usable_body o (Other face inner) rest n = usable_named o rest
+  parsing : (o : ℕ) (face : F) (inner : I) → body_of s o ≡ Some (Other face inner) → g.parses (g.kind_of face) ≡ true → IsParsing g s o
+  parsing o face inner is parses = subst (λ (b : Option (Body F I)). MatchOption (option_and_then face_in b) ⊥ (λ face. g.parses (g.kind_of face) ≡ true)) (sym is) parses
+
+  -- an object of the set is what was named, or parses for an open
+  usable_other : (o : ℕ) (face : F) (inner : I) (rest : List ℕ) (n : ℕ) (otherwise : Look) → body_of s o ≡ Some (Other face inner) → IsUsableEnd g s mode otherwise
+      → IsUsableEnd g s mode (if g.parses (g.kind_of face) && not mode.create then Parse o rest n else otherwise)
+  usable_other o face inner rest n otherwise is usable = go (g.parses (g.kind_of face)) mode.create refl refl
+    where
+      go : (parses create : Bool) → g.parses (g.kind_of face) ≡ parses → mode.create ≡ create → IsUsableEnd g s mode (if parses && not create then Parse o rest n else otherwise)
+      go true false e f = (f, parsing o face inner is e)
+      go true true e f = usable
+      go false create e f = usable
+
+  usable_body : (o : ℕ) (body : Body F I) (rest : List ℕ) (n : ℕ) → body_of s o ≡ Some body → IsUsableNext g s mode (at_body g mode o body rest n)
+  usable_body o Directory rest n is = tt
+  usable_body o (Link target) rest n is = usable_link o target rest
+  usable_body o (Other face inner) rest n is = usable_other o face inner rest n (named_or_mismatch o rest) is (usable_named o rest)
 
   usable_next : (place : Origin) (text : List ℕ) (n : ℕ) (stop : Stop) (next : Next) → IsFit mode.create place text
-      → IsStop s place text mode.fold stop → IsNext (without_parse g) s mode n stop next → IsUsableNext s mode next
-  usable_next place text n (Missed d c last) next fit stop h = subst (IsUsableNext s mode) (sym h) (usable_miss d c last stop.5 (free stop.7))
+      → IsStop s place text mode.fold stop → IsNext g s mode n stop next → IsUsableNext g s mode next
+  usable_next place text n (Missed d c last) next fit stop h = subst (IsUsableNext g s mode) (sym h) (usable_miss d c last stop.5 (free stop.7))
     where
       free : (c ≡ []) ⊎ (entry s (place_behind place stop.0 d) c mode.fold ≡ None) → c ≢ [] → mode.create ≡ true → last ≡ true → found s d c mode.fold ≡ None
       free (inl empty) some create is_last = absurd (some empty)
       free (inr none) some create is_last = not_found place text stop.0 stop.1 d c fit stop.2 stop.3 stop.4 stop.6 none some create (sym stop.8 ∙ is_last)
-  usable_next place text n (Reached o rest) next fit stop h = go (body_of s o) h
+  usable_next place text n (Reached o rest) next fit stop h = go (body_of s o) refl h
     where
-      go : (body : Option (Body F I)) → MatchOption body ⊥ (λ body. next ≡ at_body (without_parse g) mode o body rest n) → IsUsableNext s mode next
-      go None h = absurd h
-      go (Some body) h = subst (IsUsableNext s mode) (sym h) (usable_body o body rest n)
+      go : (body : Option (Body F I)) → body_of s o ≡ body → MatchOption body ⊥ (λ body. next ≡ at_body g mode o body rest n) → IsUsableNext g s mode next
+      go None e h = absurd h
+      go (Some body) e h = subst (IsUsableNext g s mode) (sym h) (usable_body o body rest n e)
 
   -- a refusal is usable
-  usable_refusal : (look : Look) (status : Status) → look ≡ Refused status → IsUsableEnd s mode look
-  usable_refusal look status h = subst (IsUsableEnd s mode) (sym h) tt
+  usable_refusal : (look : Look) (status : Status) → look ≡ Refused status → IsUsableEnd g s mode look
+  usable_refusal look status h = subst (IsUsableEnd g s mode) (sym h) tt
 
   -- what a lookup ends with where it is over, or follows a link
-  usable_ends : (next : Next) (followed : List ℕ → List ℕ → Type 0) (look : Look) → IsUsableNext s mode next → ((target rest : List ℕ) → followed target rest → IsUsableEnd s mode look) → Ends next followed look → IsUsableEnd s mode look
-  usable_ends (Over end) followed look usable goes h = subst (IsUsableEnd s mode) (sym h) usable
+  usable_ends : (next : Next) (followed : List ℕ → List ℕ → Type 0) (look : Look) → IsUsableNext g s mode next → ((target rest : List ℕ) → followed target rest → IsUsableEnd g s mode look) → Ends next followed look → IsUsableEnd g s mode look
+  usable_ends (Over end) followed look usable goes h = subst (IsUsableEnd g s mode) (sym h) usable
   usable_ends (Follow target rest) followed look usable goes h = goes target rest h
 
   usable_origin : (text : List ℕ) (Goes : Origin × List ℕ → Type 0) (look : Look)
-      → ((at : Origin × List ℕ) → IsFit mode.create at.0 at.1 → Goes at → IsUsableEnd s mode look)
-      → MatchOption (origin_of s p mode.create text) (look ≡ Refused ObjectPathSyntaxBad) Goes → IsUsableEnd s mode look
+      → ((at : Origin × List ℕ) → IsFit mode.create at.0 at.1 → Goes at → IsUsableEnd g s mode look)
+      → MatchOption (origin_of s p mode.create text) (look ≡ Refused ObjectPathSyntaxBad) Goes → IsUsableEnd g s mode look
   usable_origin text Goes look goes h = go (origin_of s p mode.create text) (fit_origin s p mode.create text) h
     where
-      go : (o : Option (Origin × List ℕ)) → IsFitOrigin mode.create o → MatchOption o (look ≡ Refused ObjectPathSyntaxBad) Goes → IsUsableEnd s mode look
+      go : (o : Option (Origin × List ℕ)) → IsFitOrigin mode.create o → MatchOption o (look ≡ Refused ObjectPathSyntaxBad) Goes → IsUsableEnd g s mode look
       go None fit h = usable_refusal look ObjectPathSyntaxBad h
       go (Some at) fit h = goes at fit h
 
   usable_again : (text : List ℕ) (Goes : Origin → List ℕ → Type 0) (look : Look)
-      → ((place : Origin) (rest : List ℕ) → IsFit mode.create place rest → Goes place rest → IsUsableEnd s mode look)
-      → Again s p mode text Goes (λ status. look ≡ Refused status) → IsUsableEnd s mode look
+      → ((place : Origin) (rest : List ℕ) → IsFit mode.create place rest → Goes place rest → IsUsableEnd g s mode look)
+      → Again s p mode text Goes (λ status. look ≡ Refused status) → IsUsableEnd g s mode look
   usable_again text Goes look goes h = go (nat_lt longest_name (length text)) h
     where
-      go : (long : Bool) → MatchBool long (look ≡ Refused NameTooLong) (MatchOption (origin_of s p mode.create text) (look ≡ Refused ObjectPathSyntaxBad) (λ at. Goes at.0 at.1)) → IsUsableEnd s mode look
+      go : (long : Bool) → MatchBool long (look ≡ Refused NameTooLong) (MatchOption (origin_of s p mode.create text) (look ≡ Refused ObjectPathSyntaxBad) (λ at. Goes at.0 at.1)) → IsUsableEnd g s mode look
       go true h = usable_refusal look NameTooLong h
       go false h = usable_origin text (λ at. Goes at.0 at.1) look (λ at fit k. goes at.0 at.1 fit k) h
 
-  usable_looks : (n : ℕ) (place : Origin) (text : List ℕ) (look : Look) → IsFit mode.create place text → Looks (without_parse g) s p mode n place text look → IsUsableEnd s mode look
+  usable_looks : (n : ℕ) (place : Origin) (text : List ℕ) (look : Look) → IsFit mode.create place text → Looks g s p mode n place text look → IsUsableEnd g s mode look
   usable_looks zero place text look fit h =
       usable_ends h.1 (λ target rest. look ≡ Refused ReparseLimit) look (usable_next place text zero h.0 h.1 fit h.2 h.3) (λ target rest told. usable_refusal look ReparseLimit told) h.4
   usable_looks (suc n) place text look fit h =
-      usable_ends h.1 (λ target rest. Again s p mode (substituted target rest) (λ place' text'. Looks (without_parse g) s p mode n place' text' look) (λ status. look ≡ Refused status)) look
+      usable_ends h.1 (λ target rest. Again s p mode (substituted target rest) (λ place' text'. Looks g s p mode n place' text' look) (λ status. look ≡ Refused status)) look
       (usable_next place text (suc n) h.0 h.1 fit h.2 h.3)
-      (λ target rest again. usable_again (substituted target rest) (λ place' text'. Looks (without_parse g) s p mode n place' text' look) look
+      (λ target rest again. usable_again (substituted target rest) (λ place' text'. Looks g s p mode n place' text' look) look
       (λ place' text' fit' goes. usable_looks n place' text' look fit' goes) again) h.4
 
-  usable_from : (n root : ℕ) (body : Body F I) (name : List ℕ) (look : Look) → LooksFrom (without_parse g) s p mode n root body name look → IsUsableEnd s mode look
-  usable_from n root Directory [] look h = usable_looks n (InDirectory root) [] look tt h
-  usable_from n root Directory (b ∷ bs) look h = usable_looks n (InDirectory root) _ look tt h
-  usable_from n root (Link target) name look h = usable_refusal look ObjectTypeMismatch h
-  usable_from n root (Other face inner) name look h = usable_refusal look ObjectTypeMismatch h
+  usable_from : (n root : ℕ) (body : Body F I) (name : List ℕ) (look : Look) → body_of s root ≡ Some body → LooksFrom g s p mode n root body name look → IsUsableEnd g s mode look
+  usable_from n root Directory [] look is h = usable_looks n (InDirectory root) [] look tt h
+  usable_from n root Directory (b ∷ bs) look is h = usable_looks n (InDirectory root) _ look tt h
+  usable_from n root (Link target) name look is h = usable_refusal look ObjectTypeMismatch h
+  usable_from n root (Other face inner) name look is h = subst (IsUsableEnd g s mode) (sym h) (usable_other root face inner name n (Refused ObjectTypeMismatch) is tt)
 
   -- the end of the lookup of a name is usable
-  pub usable_end : (n : ℕ) (root : Option ℕ) (name : List ℕ) (look : Look) → LooksUp (without_parse g) s p mode n root name look → IsUsableEnd s mode look
-  usable_end n None name look h = usable_origin name (λ at. Looks (without_parse g) s p mode n at.0 at.1 look) look (λ at fit k. usable_looks n at.0 at.1 look fit k) h
+  pub usable_end : (n : ℕ) (root : Option ℕ) (name : List ℕ) (look : Look) → LooksUp g s p mode n root name look → IsUsableEnd g s mode look
+  usable_end n None name look h = usable_origin name (λ at. Looks g s p mode n at.0 at.1 look) look (λ at fit k. usable_looks n at.0 at.1 look fit k) h
   usable_end n (Some root) name look h = go (begins_with_separator name) h
     where
-      there : (body : Option (Body F I)) → MatchOption body ⊥ (λ body. LooksFrom (without_parse g) s p mode n root body name look) → IsUsableEnd s mode look
-      there None h = absurd h
-      there (Some body) h = usable_from n root body name look h
+      there : (body : Option (Body F I)) → body_of s root ≡ body → MatchOption body ⊥ (λ body. LooksFrom g s p mode n root body name look) → IsUsableEnd g s mode look
+      there None is h = absurd h
+      there (Some body) is h = usable_from n root body name look is h
 
-      go : (separated : Bool) → MatchBool separated (look ≡ Refused ObjectPathSyntaxBad) (MatchOption (body_of s root) ⊥ (λ body. LooksFrom (without_parse g) s p mode n root body name look)) → IsUsableEnd s mode look
+      go : (separated : Bool) → MatchBool separated (look ≡ Refused ObjectPathSyntaxBad) (MatchOption (body_of s root) ⊥ (λ body. LooksFrom g s p mode n root body name look)) → IsUsableEnd g s mode look
       go true h = usable_refusal look ObjectPathSyntaxBad h
-      go false h = there (body_of s root) h
+      go false h = there (body_of s root) refl h

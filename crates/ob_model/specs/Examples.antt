@@ -19,7 +19,7 @@ use Rattle.ob_model.specs.Names.{separator, same_name, IsSplit, substituted}
 use Rattle.ob_model.specs.State.{State, object_of, global_id}
 use Rattle.ob_model.specs.Opening.{opening, standing, root_row}
 use Rattle.ob_model.specs.Paths.{origin_of, InDirectory, ViewOf}
-use Rattle.ob_model.specs.Procedures.{Procedures, Created, ParseAnswer, Itself, Front, Reparse, Refused as ParseRefused, EndsItself, EndsMade, EndsReparse, EndsRefused, ParseEnds, without_parse}
+use Rattle.ob_model.specs.Procedures.{Procedures, Created, ParseAnswer, Itself, Front, Reparse, Refused as ParseRefused, EndsItself, EndsMade, EndsReparse, EndsRefused, ParseEnds}
 use Rattle.ob_model.specs.Looks.{Look, At, Vacant, Parse, Refused, Mode, most_reparses, LooksUp}
 use Rattle.ob_model.specs.Settle.{settle, has_name}
 use Rattle.ob_model.specs.Closing.{closed_handle}
@@ -161,14 +161,11 @@ FirstInsertedIsFound =
 abbrev pub with_volume : Numbers
 with_volume = opening_with (standing 7 (Other 1 0) ∷ []) (root_row 6 (codes "Volume") 7 ∷ [])
 
--- an open hands what follows a parsing object to its parse, separators and all; a create never
--- parses, and where no kind parses an open ends at the object too
+-- an open hands what follows a parsing object to its parse, separators and all; a create never parses
 abbrev pub RestIsParsed : Type 0
 RestIsParsed =
     EndsAt with_volume opens (codes "\\Volume\\a\\\\b") (Parse 7 (codes "\\a\\\\b") most_reparses) × EndsAt with_volume opens (codes "\\Volume") (Parse 7 [] most_reparses)
     × EndsAt with_volume creates (codes "\\Volume") (At 7) × EndsAt with_volume creates (codes "\\Volume\\a") (Refused ObjectTypeMismatch)
-    × LooksUp (without_parse numbers) with_volume 1 opens most_reparses None (codes "\\Volume") (At 7)
-    × LooksUp (without_parse numbers) with_volume 1 opens most_reparses None (codes "\\Volume\\a") (Refused ObjectTypeMismatch)
 
 -- ---- lookups through links
 

@@ -2,7 +2,7 @@
 --
 -- Sources: Windows Internals, Object Manager (object types and their methods: open, close, delete,
 -- parse). Each procedure's form, and the laws, are this profile.
-use Rattle.std.specs.Prelude.{◌≡◌, ◌≢◌, ℕ, ◌≤◌, ◌<◌, Bool, true, false, List, [], length, drop, Option, None, Some}
+use Rattle.std.specs.Prelude.{◌≡◌, ◌≢◌, ℕ, ◌≤◌, ◌<◌, Bool, true, List, [], length, drop, Option, None, Some}
 
 -- why a handle is opened
 pub data Reason : Type 0 where
@@ -52,11 +52,6 @@ pub record Procedures (K T F I : Type 0) : Type 0 where
   pub closed : T → I → ℕ → ℕ → T × I
   -- the set's value that a delete leaves
   pub deleted : T → I → T
-
--- the same procedures without a parsing kind: what a build goes by whose parse procedures have not
--- come yet, so that an object which parses is as any other
-abbrev pub without_parse : {K T F I : Type 0} → Procedures K T F I → Procedures K T F I
-without_parse g = record g { parses = λ kind. false }
 
 module _ {K T F I : Type 0} (g : Procedures K T F I) where
   -- the parse run from a face over a rest ends so: by the answers of the faces on the way

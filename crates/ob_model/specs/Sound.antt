@@ -33,7 +33,7 @@ module _ {K T F I : Type 0} where
   -- were drawn; each stands in a directory, its name is a component, no row has the name, with case, of an
   -- earlier one of its directory, and none of the root is called `??`. The process of each handle is live,
   -- and has no two handles of one value. The number of each process was drawn. The tickets of pending opens rise,
-  -- were drawn, and are no object's numbers.
+  -- were drawn after the objects that they pin, and are no object's numbers.
   pub record IsSound (s : State K T F I) : Type 0 where
     pub root : IsDirectory s root_id
     pub global : IsDirectory s global_id
@@ -44,6 +44,7 @@ module _ {K T F I : Type 0} where
     pub descending : All (λ r. r.directory < r.object) s.rows
     pub pending : All (λ x. Stands s x.object) s.pending
     pub ticketed : All (λ x. x.ticket < s.next_id) s.pending
+    pub later : All (λ x. x.object < x.ticket) s.pending
     pub reserved : All (λ x. All (λ y. y.id ≢ x.ticket) s.objects) s.pending
     pub awaited : AllPairs (λ a b. a.ticket < b.ticket) s.pending
     pub rising : AllPairs (λ a b. a.stamp < b.stamp) s.rows

@@ -24,7 +24,7 @@ use Rattle.ob_model.specs.State.{State, is_live, is_directory, held_of}
 use Rattle.ob_model.specs.Looks.{Look, LooksUp, most_reparses}
 use Rattle.ob_model.specs.PendingOpens.{pending_of}
 use Rattle.ob_model.specs.Parses.{IsBrought, Resumes, Abandons}
-use Rattle.ob_model.specs.Procedures.{Procedures, ParseOutcome, without_parse}
+use Rattle.ob_model.specs.Procedures.{Procedures, ParseOutcome}
 use Rattle.ob_model.specs.Settle.{settle}
 use Rattle.ob_model.specs.Closing.{closed_handle}
 use Rattle.ob_model.specs.Permanence.{turned}
@@ -63,7 +63,7 @@ module _ {K T F I : Type 0} (g : Procedures K T F I) where
   abbrev pub CreatesIn : State K T F I → ℕ → Place → ℕ → Making K → Answer → State K T F I → Type 0
   CreatesIn s p (place.At root name) attrs making answer t =
       WithRoot s p root answer t
-      (λ at. (look : Look) × LooksUp (without_parse g) s p (create_mode attrs) most_reparses at name look × Creates g s p attrs making look answer t)
+      (λ at. (look : Look) × LooksUp g s p (create_mode attrs) most_reparses at name look × Creates g s p attrs making look answer t)
   CreatesIn s p place.Unnamed attrs making answer t = Makes g s p attrs making None answer t
 
   -- a create
@@ -76,7 +76,7 @@ module _ {K T F I : Type 0} (g : Procedures K T F I) where
   OpensName s p root name attrs wanted answer t =
       Unless (open_refusals (is_live s p) name attrs) s answer t
       (WithRoot s p root answer t
-      (λ at. (look : Look) × LooksUp (without_parse g) s p (open_mode wanted attrs) most_reparses at name look × Opens g s p attrs wanted look answer t))
+      (λ at. (look : Look) × LooksUp g s p (open_mode wanted attrs) most_reparses at name look × Opens g s p attrs wanted look answer t))
 
   -- a close takes a handle of the caller
   abbrev pub Closes : State K T F I → ℕ → ℕ → Answer → State K T F I → Type 0

@@ -83,8 +83,7 @@ pub fn first_inserted_is_found()
     ensures { FirstInsertedIsFound }
 {}
 
-/// An open hands what follows a parsing object to its parse, separators and all; a create never
-/// parses, and where no kind parses an open ends at the object too.
+/// An open hands what follows a parsing object to its parse, separators and all; a create never parses.
 pub fn rest_is_parsed()
     ensures { RestIsParsed }
 {}

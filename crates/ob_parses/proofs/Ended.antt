@@ -10,7 +10,7 @@ use Rattle.ob_model.specs.declared.state.Row.{Row}
 use Rattle.ob_model.specs.Procedures.{Procedures}
 use Rattle.ob_model.specs.State.{State, root_id}
 use Rattle.ob_model.specs.PendingOpens.{pending_of, without_pending}
-use Rattle.ob_model.specs.Settle.{IsSettled, settle, has_handle, is_pinned, is_mapped, is_permanent, is_kept, has_name, holds_kept}
+use Rattle.ob_model.specs.Settle.{IsSettled, settle, has_handle, is_pinned, is_mapped, is_permanent, is_kept, has_name, holds_kept, is_alive}
 use Rattle.ob_model.proofs.Finds.{filter_all, not_found, list_any_weaker}
 use Rattle.ob_model.proofs.Staying.{settled_itself}
 use Rattle.ob_objects.proofs.ByStamp.{pairs_head, pairs_tail}
@@ -109,14 +109,44 @@ module _ {K T F I : Type 0} (s : State K T F I) (ticket : ℕ) (x : Pending K) (
         (held_still o) (pinned_or_held o) (holds_still o) (settled.objects k d below);
   }
 
+-- where the object has a handle, nothing goes when the open that pins it ends
+module _ {K T F I : Type 0} (s : State K T F I) (ticket : ℕ) (x : Pending K) (rising : AllPairs (λ a b. a.ticket < b.ticket) s.pending) (found : pending_of s ticket ≡ Some x) where
+  pub unpinned_settled : IsSettled s → has_handle s x.object ≡ true → IsSettled (without_pending s ticket)
+  unpinned_settled settled held = record {
+    names = settled.names;
+    objects = λ k d below.
+        let o : ℕ = (get_or s.objects k d).id in
+        moves (o == root_id) (has_handle s o) (is_pinned s o) (is_mapped s o) (is_permanent s o && has_name s o) (holds_kept s o) (has_handle s o) (is_pinned (without_pending s ticket) o) (holds_kept s o)
+        (λ e. e) (pinned_or_held o) (λ e. e) (settled.objects k d below);
+  }
+    where
+      pinned_or_held : (o : ℕ) → is_pinned s o ≡ true → (has_handle s o || is_pinned (without_pending s ticket) o) ≡ true
+      pinned_or_held o e = go (x.object == o) refl (pinned_apart ticket o x s.pending rising found e)
+        where
+          go : (b : Bool) → (x.object == o) ≡ b → (b || is_pinned (without_pending s ticket) o) ≡ true → (has_handle s o || is_pinned (without_pending s ticket) o) ≡ true
+          go true same h = or_left (has_handle s o) _ (subst (λ n. has_handle s n ≡ true) (eqb-true x.object o same) held)
+          go false other h = ap (λ b. has_handle s o || b) h ∙ or_true (has_handle s o)
+
+  -- and else only the object that it pinned can go
+  pub only_pinned_goes : (o : ℕ) → is_alive s o ≡ true → is_alive (without_pending s ticket) o ≡ false → x.object ≡ o
+  only_pinned_goes o alive gone = go (x.object == o) refl (pinned_apart ticket o x s.pending rising found)
+    where
+      go : (b : Bool) → (x.object == o) ≡ b → (is_pinned s o ≡ true → (b || is_pinned (without_pending s ticket) o) ≡ true) → x.object ≡ o
+      go true same h = eqb-true x.object o same
+      go false other h =
+          let still : is_alive (without_pending s ticket) o ≡ true =
+          moves (o == root_id) (has_handle s o) (is_pinned s o) (is_mapped s o) (is_permanent s o && has_name s o) (holds_kept s o) (has_handle s o) (is_pinned (without_pending s ticket) o) (holds_kept s o)
+          (λ e. e) (λ e. ap (λ b. has_handle s o || b) (h e) ∙ or_true (has_handle s o)) (λ e. e) alive in
+          cc
+
 -- where no open is pending under the ticket nothing changes
 module _ {K T F I : Type 0} (g : Procedures K T F I) (s : State K T F I) (ticket : ℕ) (none : pending_of s ticket ≡ None) (settled : IsSettled s) where
-  same : without_pending s ticket ≡ s
-  same =
+  pub nothing_pending : without_pending s ticket ≡ s
+  nothing_pending =
       λ i. record s {
         pending = filter_all (λ x. not (x.ticket == ticket)) s.pending
             (All-weaker (λ x. (x.ticket == ticket) ≡ false) (λ x. not (x.ticket == ticket) ≡ true) (λ x e. ap not e) s.pending (not_found (λ x. x.ticket == ticket) s.pending none)) i;
       }
 
   pub nothing_ends : without_pending s ticket ≡ settle g (without_pending s ticket)
-  nothing_ends = sym (settled_itself g (without_pending s ticket) (subst IsSettled (sym same) settled))
+  nothing_ends = sym (settled_itself g (without_pending s ticket) (subst IsSettled (sym nothing_pending) settled))

@@ -4,7 +4,7 @@
 ghost use Rattle.std.specs.Prelude.{◌<◌};
 
 use ob_base::{Handle, Proc, Status};
-use ob_core::{Bytes, Command, Core, Given, OpenTable, Place, Reply, Started};
+use ob_core::{Brought, Bytes, Command, Core, Given, OpenTable, Place, Reply, Started};
 use ob_plain::{Counting, Plain, PlainKind, Standard};
 use std::alloc::{AllocError, Global};
 use std::test::Fail;
@@ -547,7 +547,13 @@ fn is_agreed(
     ask: Ask,
     command: &Command<PlainKind>,
 ) -> Result<bool, Fail> {
-    let Started::Done(reply) = core.start(Proc(process), command)?;
+    let reply = match core.start(Proc(process), command)? {
+        Started::Done(reply) => reply,
+        Started::Parsing(parsing) => {
+            core.abandon(Brought::Unrun(parsing));
+            return Err(Fail::from("an open waits for a parse"));
+        }
+    };
     let agrees = model.agrees(process, ask, &reply)?;
     let sizes = (core.objects(), core.handles());
     Ok(agrees && sizes == (model.events.len().wrapping_add(6), model.handles.len()))

@@ -11,4 +11,6 @@ mod entries;
 #[cfg(test)]
 mod keys;
 #[cfg(test)]
+mod parsing;
+#[cfg(test)]
 mod sum;

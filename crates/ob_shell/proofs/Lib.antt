@@ -7,3 +7,4 @@ pub mod Totals
 pub mod Behind
 pub mod Offsets
 pub mod AlikeShown
+pub mod Replied

@@ -25,7 +25,7 @@ use Rattle.ob_model.specs.State.{State, is_live, is_directory, held_of, body_of,
 use Rattle.ob_model.specs.PendingOpens.{with_pending}
 use Rattle.ob_model.specs.Names.{longest_name}
 use Rattle.ob_model.specs.Looks.{Look, At, Vacant, Parse, Refused, LooksUp, most_reparses}
-use Rattle.ob_model.specs.Procedures.{Procedures, Reason, Opened, Created, Duplicated, without_parse}
+use Rattle.ob_model.specs.Procedures.{Procedures, Reason, Opened, Created, Duplicated}
 use Rattle.ob_model.specs.Settle.{settle}
 use Rattle.ob_model.specs.Grants.{first_refusal, Grants, IsFreeValue, Asked, open_refusal_of, greatest_handle}
 use Rattle.ob_model.specs.Closing.{closed_handle}
@@ -165,7 +165,7 @@ module _ {K T F I : Type 0} (g : Procedures K T F I) where
       → CreatesIn g s p where_to attrs making answer t → GivesHandle answer
   creates_in_gives s t p (place.At root name) attrs making answer h =
       with_root_gives s t p root answer
-      (λ at. (look : Look) × LooksUp (without_parse g) s p (create_mode attrs) most_reparses at name look × Creates g s p attrs making look answer t)
+      (λ at. (look : Look) × LooksUp g s p (create_mode attrs) most_reparses at name look × Creates g s p attrs making look answer t)
       (λ at does. creates_gives s t p attrs making does.0 answer does.2) h
   creates_in_gives s t p place.Unnamed attrs making answer h = makes_gives s t p attrs making None answer h
 
@@ -182,7 +182,7 @@ module _ {K T F I : Type 0} (g : Procedures K T F I) where
       (with_root_gives s t p root answer Does (λ at does. opens_gives s t p attrs wanted does.0 answer does.2)) h
     where
       Does : Option ℕ → Type 0
-      Does at = (look : Look) × LooksUp (without_parse g) s p (open_mode wanted attrs) most_reparses at name look × Opens g s p attrs wanted look answer t
+      Does at = (look : Look) × LooksUp g s p (open_mode wanted attrs) most_reparses at name look × Opens g s p attrs wanted look answer t
 
   -- so does each start
   start_gives : (s t : State K T F I) (p : ℕ) (c : Command K) (answer : Answer) → Step g s (Start p c) answer t → GivesHandle answer

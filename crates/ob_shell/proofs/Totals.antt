@@ -64,7 +64,7 @@ command_total ExitProcess words process text = (command.ExitProcess, refl)
 reply_total : (s : Space) (p : ℕ) (c : Command PlainKind) → IsSound s → (reply : Reply) × (t : Space) × Step standard s (Start p c) (Done reply) t × IsSound t
 reply_total s p c sound =
     let done = start_total standard s p c sound in
-    let told = start_replies standard s done.1 done.0 p c done.2 in
+    let told = start_replies standard (λ kind. refl) s done.1 done.0 p c done.2 in
     (told.0, done.1, subst (λ answer. Step standard s (Start p c) answer done.1) told.1 done.2, step_sound standard s done.1 (Start p c) done.0 sound done.2)
 
 -- lines of any forms show something

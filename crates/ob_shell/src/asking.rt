@@ -41,8 +41,11 @@ pub fn ask(
 fn start(core: &mut Space, process: Proc, command: &Command<PlainKind>) -> Result<Reply, Fault>
     ensures { IfOk result (λ reply. Step standard core.old (Start process command.now) (Done reply) core.new) }
 {
-    let Started::Done(reply) = core.start(process, command)?;
-    Ok(reply)
+    // No kind that scripts know parses yet, so no open waits for one.
+    match core.start(process, command)? {
+        Started::Done(reply) => Ok(reply),
+        Started::Parsing(_parsing) => unreachable!(),
+    }
 }
 
 // Runs the request of a process, and sets a word of its owner to the handle that was given, or to 0.

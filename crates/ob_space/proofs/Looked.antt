@@ -7,6 +7,7 @@ use Rattle.ob_base.specs.Handle.{key_of}
 use Rattle.ob_model.specs.declared.state.Object.{Object}
 use Rattle.ob_model.specs.declared.state.Held.{Held}
 use Rattle.ob_model.specs.State.{State, held_of, object_of}
+use Rattle.ob_model.specs.Procedures.{Procedures}
 use Rattle.ob_model.specs.Sound.{IsSound, Stands}
 use Rattle.ob_model.specs.Looks.{Mode, Look, At, Vacant, Parse, Refused}
 use Rattle.ob_model.proofs.Vacant.{IsUsableEnd}
@@ -28,11 +29,11 @@ module _ {K T F I : Type 0} (s : State K T F I) where
   root_there store is (Some id) h = stored (object_of s id) (stored_at store id) id (is id) h
 
   -- the end of a lookup is good for what the core does with it
-  pub usable : (mode : Mode) (look : Look) → IsUsableEnd s mode look → IsUsable s mode look
-  usable mode (At o) h = tt
-  usable mode (Vacant d c) h = (h.0, (h.1, (mode.fold, h.2)))
-  usable mode (Parse o rest n) h = h
-  usable mode (Refused status) h = tt
+  pub usable : (g : Procedures K T F I) (mode : Mode) (look : Look) → IsUsableEnd g s mode look → IsUsable g s mode look
+  usable g mode (At o) h = tt
+  usable g mode (Vacant d c) h = (h.0, (h.1, (mode.fold, h.2)))
+  usable g mode (Parse o rest n) h = h
+  usable g mode (Refused status) h = tt
 
   -- a handle that is found leads to an object that stands
   found_stands : (test : Held → Bool) (hs : List Held) → All (λ h. Stands s h.object) hs → (o : Option Held) → find test hs ≡ o → IsRoot s (option_map (λ h. h.object) o)

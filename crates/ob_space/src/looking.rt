@@ -3,7 +3,6 @@
 ghost use Rattle.std.specs.Prelude.{◌≡◌, IfOk, IfErr, Some};
 ghost use Rattle.ob_base.specs.declared.Fault.TheVariants.{Memory};
 ghost use Rattle.ob_model.specs.Looks as machine;
-ghost use Rattle.ob_model.specs.Procedures.{without_parse};
 ghost use Rattle.ob_model.specs.Sound.{IsSound};
 ghost use Rattle.ob_lookup.specs.Look.{mode_of, look_of};
 ghost use Rattle.ob_space.specs.Looking.{IsRoot, IsUsable};
@@ -21,15 +20,16 @@ use ob_types::TypeSet;
 const MOST_REPARSES: u32 = 32;
 
 /// Looks a name up, relative to the object of a root handle of the process, where one is given, and
-/// follows links, with at most 32 reparses: to an object, a vacant place, or the status of a refusal.
+/// follows links, with at most 32 reparses: to an object, a vacant place, an object that is to parse what is left
+/// of the name, or the status of a refusal.
 /// `\??` is what the process sees of the DOS device names.
 ///
 /// It asks that the state is sound, so that every name in it leads somewhere, and that the root object
-/// is there. A vacant place is told only to a create, and then a name may be put there. Nothing is
-/// changed. The only fault is want of memory.
+/// is there. A vacant place is told only to a create, and then a name may be put there; an object that is to parse
+/// only to an open, and then its kind does. Nothing is changed. The only fault is want of memory.
 ///
-/// Source: Windows Internals, Object Manager (object names, symbolic links, session namespace); the limit
-/// is this profile.
+/// Source: Windows Internals, Object Manager (object names, symbolic links, parse methods, session namespace);
+/// the limit is this profile.
 pub fn look_up<T: TypeSet, H: HandleTable>(
     space: &Space<T, H>,
     process: Proc,
@@ -40,9 +40,9 @@ pub fn look_up<T: TypeSet, H: HandleTable>(
     requires sound { IsSound (state_of T.Kind space.now) }
     requires root { IsRoot (state_of T.Kind space.now) root }
     ensures end { IfOk result (λ look.
-        machine.LooksUp (without_parse T.procedures) (state_of T.Kind space.now) process (mode_of mode) machine.most_reparses root name.entry
+        machine.LooksUp T.procedures (state_of T.Kind space.now) process (mode_of mode) machine.most_reparses root name.entry
         (look_of look)) }
-    ensures usable { IfOk result (λ look. IsUsable (state_of T.Kind space.now) (mode_of mode) (look_of look)) }
+    ensures usable { IfOk result (λ look. IsUsable T.procedures (state_of T.Kind space.now) (mode_of mode) (look_of look)) }
     ensures memory { IfErr result (λ fault. fault ≡ Memory) }
 {
     sound_is_closed::<T::Kind, T, T::Face, T::Inner>();

@@ -1,7 +1,6 @@
 -- What comes of the turns so far ends the lookup of the name, in each state that shows the store.
 use Rattle.std.proofs.Common.{ℕ, ◌<◌}
 use Rattle.ob_model.specs.State.{State}
-use Rattle.ob_model.specs.Procedures.{without_parse}
 use Rattle.ob_model.specs.Looks as machine
 use Rattle.ob_devmap.specs.View.{IsViewOf}
 use Rattle.ob_objects.specs.Store.{Shows}
@@ -12,10 +11,10 @@ abbrev pub invariant-loop-next : goal.invariant-loop-next
 invariant-loop-next g l = record {
   left : IfAgain l.next (0 < l.left);
   goes : (s : State g.row.T-Kind.Denot g.row.T.Denot g.row.T-Face.Denot g.row.T-Inner.Denot) (p : ℕ) (end : machine.Look) → Shows s l.store → IsViewOf s p l.view
-      → Goes (without_parse g.T.TypeSet.procedures) s p (mode_of l.mode) l.left (turn_of l.next) end
-      → machine.LooksUp (without_parse g.T.TypeSet.procedures) s p (mode_of l.mode) l.budget l.fn.root l.fn.name end;
+      → Goes g.T.TypeSet.procedures s p (mode_of l.mode) l.left (turn_of l.next) end
+      → machine.LooksUp g.T.TypeSet.procedures s p (mode_of l.mode) l.budget l.fn.root l.fn.name end;
   wants : IfAgain l.next ((s : State g.row.T-Kind.Denot g.row.T.Denot g.row.T-Face.Denot g.row.T-Inner.Denot) (p : ℕ) → Shows s l.store → IsViewOf s p l.view
-      → (end : machine.Look) × MayWantMemory end × machine.LooksUp (without_parse g.T.TypeSet.procedures) s p (mode_of l.mode) 0 l.fn.root l.fn.name end);
+      → (end : machine.Look) × MayWantMemory end × machine.LooksUp g.T.TypeSet.procedures s p (mode_of l.mode) 0 l.fn.root l.fn.name end);
 }
 
 abbrev pub decreases-loop-next : goal.decreases-loop-next

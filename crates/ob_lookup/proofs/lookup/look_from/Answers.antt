@@ -2,13 +2,12 @@
 use Rattle.std.proofs.Common.{subst}
 use Rattle.ob_lookup.specs.Look.{mode_of, next_at, Turn, Goes}
 use Rattle.ob_lookup.specs.Walk.{place_of, text_of}
-use Rattle.ob_lookup.proofs.Turns.{if_ok, if_again, on_err, again_left, again_wants, looks_by_turn, wants_by_turn}
-use Rattle.ob_model.specs.Procedures.{without_parse}
+use Rattle.ob_lookup.proofs.Turns.{if_ok, if_again, on_err, again_left, stop_wants, looks_by_turn, wants_by_turn}
 use Rattle.ob_lookup.proofs.lookup.look_from.Goals as goal
 
 pub returns-clause-left : goal.returns-clause-left
 returns-clause-left g c =
-    if_ok _ _ c.at_stop.result (λ next turn. again_left next c.args.left (next_at (mode_of c.args.mode) c.walk.result) turn) c.at_stop.ensures.turn
+    if_ok _ _ c.at_stop.result (λ next turn. again_left next c.args.left (next_at (mode_of c.args.mode) c.args.left c.walk.result) turn) c.at_stop.ensures.turn
 
 pub returns-clause-goes : goal.returns-clause-goes
 returns-clause-goes g c =
@@ -16,7 +15,7 @@ returns-clause-goes g c =
     (λ next turn s p end shows of goes.
     looks_by_turn g.T.TypeSet.procedures s p (mode_of c.args.mode) c.args.left (place_of p c.args.start) (text_of c.args.start) c.walk.result end
     (c.walk.ensures.stop s p shows of) (c.walk.ensures.meets s shows)
-    (subst (λ (t : Turn). Goes (without_parse g.T.TypeSet.procedures) s p (mode_of c.args.mode) c.args.left t end) turn goes)) c.at_stop.ensures.turn
+    (subst (λ (t : Turn). Goes g.T.TypeSet.procedures s p (mode_of c.args.mode) c.args.left t end) turn goes)) c.at_stop.ensures.turn
 
 pub returns-clause-again : goal.returns-clause-again
 returns-clause-again g c =
@@ -24,7 +23,7 @@ returns-clause-again g c =
     (λ next turn. if_again next _ _
     (λ wants s p shows of.
     wants_by_turn g.T.TypeSet.procedures s p (mode_of c.args.mode) (place_of p c.args.start) (text_of c.args.start) c.walk.result (c.walk.ensures.stop s p shows of) (c.walk.ensures.meets s shows) wants)
-    (again_wants next c.args.left (next_at (mode_of c.args.mode) c.walk.result) turn)) c.at_stop.ensures.turn
+    (stop_wants next (mode_of c.args.mode) c.args.left c.walk.result turn)) c.at_stop.ensures.turn
 
 pub returns-clause-wants : goal.returns-clause-wants
 returns-clause-wants g c =

@@ -77,7 +77,7 @@ returns-in-Other-clause-stop g c = λ s p shows of.
 pub returns-in-Other-clause-meets : goal.returns-in-Other-clause-meets
 returns-in-Other-clause-meets g c = λ s shows.
     let body = body_is s c.args.store.now shows c.in-Some-named_at.object (Other c.in-Other.face c.in-Other.inner) (c.body.ensures.body ∙ ap Some c.in-Other.is) in
-    (arc_value c.in-Other.face, c.in-Other.inner, body)
+    (arc_value c.in-Other.face, c.in-Other.inner, body, c.parses.ensures ∙ ap g.T.TypeSet.procedures.parses (c.kind_of.ensures ∙ ap g.T.TypeSet.procedures.kind_of c.deref.ensures))
 
 pub returns-clause-stop : goal.returns-clause-stop
 returns-clause-stop g c = λ s p shows of.

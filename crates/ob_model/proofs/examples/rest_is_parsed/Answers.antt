@@ -2,7 +2,6 @@
 use Rattle.std.proofs.Common.{codes, refl}
 use Rattle.ob_model.specs.Examples.{numbers, with_volume, opens, creates}
 use Rattle.ob_model.specs.Looks.{most_reparses}
-use Rattle.ob_model.specs.Procedures.{without_parse}
 use Rattle.ob_model.proofs.Walk.{walk}
 use Rattle.ob_model.proofs.Lookup.{looked_up}
 use Rattle.ob_model.proofs.Computed.{ends_as_computed}
@@ -12,12 +11,9 @@ pub returns : goal.returns
 unfolding walk looked_up
 returns c =
     let opens_ends = ends_as_computed numbers with_volume refl 1 opens most_reparses in
-    let creates_ends = ends_as_computed numbers with_volume refl 1 creates most_reparses in
-    let ends_without_parse = ends_as_computed (without_parse numbers) with_volume refl 1 opens most_reparses in (
+    let creates_ends = ends_as_computed numbers with_volume refl 1 creates most_reparses in (
       opens_ends (codes "\\Volume\\a\\\\b") _ refl,
       opens_ends (codes "\\Volume") _ refl,
       creates_ends (codes "\\Volume") _ refl,
       creates_ends (codes "\\Volume\\a") _ refl,
-      ends_without_parse (codes "\\Volume") _ refl,
-      ends_without_parse (codes "\\Volume\\a") _ refl,
     )

@@ -25,5 +25,5 @@ pub returns-clause-usable : goal.returns-clause-usable
 returns-clause-usable g c =
     let s = state_of g.row.T-Kind.Denot c.args.space.now in
     IfOk-map _ _ c.look.result (λ look told.
-    usable s (mode_of c.args.mode) (look_of look)
+    usable s g.T.TypeSet.procedures (mode_of c.args.mode) (look_of look)
     (usable_end g.T.TypeSet.procedures s c.args.process (mode_of c.args.mode) most_reparses c.args.root c.args.name (look_of look) (told s c.args.process (record { objects = refl; rows = refl }) (c.view-view.ensures.local, c.view-view.ensures.global)))) c.look.ensures.end

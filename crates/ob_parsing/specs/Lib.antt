@@ -1,0 +1,2 @@
+pub mod Parse
+pub mod Brought
