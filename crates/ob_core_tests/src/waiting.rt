@@ -3,7 +3,7 @@
 
 use crate::replies::reply_of;
 use ob_base::{Fault, Handle, Proc, Status};
-use ob_core::{Brought, Bytes, Command, Core, Given, OpenTable, Parsing, Place, Started};
+use ob_core::{Brought, Bytes, Command, Core, Given, OpenTable, Parsing, Place, Reply, Started};
 use ob_device::{DeviceKind, DeviceSet};
 use std::alloc::{AllocError, Global};
 use std::test::Fail;
@@ -30,15 +30,22 @@ fn open(alloc: Global) -> Result<Command<DeviceKind>, AllocError> {
     })
 }
 
-// A namespace with the device, whose handle is given.
-fn with_device(alloc: Global) -> Result<(Devices, Handle), Fault> {
-    let mut core: Devices = Core::new(alloc, DeviceSet)?;
-    let made = reply_of(&mut core, Proc(1), &make(alloc)?)?;
-    let handle = match made.given {
+// A new namespace of devices.
+fn devices(alloc: Global) -> Result<Devices, Fault> {
+    Core::new(alloc, DeviceSet)
+}
+
+// Makes the device, and gives its handle.
+fn make_device(alloc: Global, core: &mut Devices) -> Result<Handle, Fault> {
+    let made = reply_of(core, Proc(1), &make(alloc)?)?;
+    Ok(handle_of(&made))
+}
+
+fn handle_of(reply: &Reply) -> Handle {
+    match reply.given {
         Given::Handle(handle) => handle,
         _ => Handle(0),
-    };
-    Ok((core, handle))
+    }
 }
 
 // The parse that an open of the file waits for.
@@ -51,7 +58,8 @@ fn waiting(alloc: Global, core: &mut Devices) -> Result<Parsing<DeviceSet>, Faul
 
 #[test]
 fn the_rest_of_the_name_is_to_be_parsed(rt: HostRuntime) -> Result<(), Fail> {
-    let (mut core, _) = with_device(rt.alloc())?;
+    let mut core = devices(rt.alloc())?;
+    make_device(rt.alloc(), &mut core)?;
     let parsing = waiting(rt.alloc(), &mut core)?;
     let told = (parsing.ticket(), parsing.rest() == b"\\a".as_slice());
     let given_up = core.abandon(Brought::Unrun(parsing));
@@ -62,7 +70,8 @@ fn the_rest_of_the_name_is_to_be_parsed(rt: HostRuntime) -> Result<(), Fail> {
 
 #[test]
 fn what_an_open_pins_stays(rt: HostRuntime) -> Result<(), Fail> {
-    let (mut core, handle) = with_device(rt.alloc())?;
+    let mut core = devices(rt.alloc())?;
+    let handle = make_device(rt.alloc(), &mut core)?;
     let parsing = waiting(rt.alloc(), &mut core)?;
     let closed = reply_of(&mut core, Proc(1), &Command::Close { handle });
     let pinned = core.objects();
@@ -76,8 +85,10 @@ fn what_an_open_pins_stays(rt: HostRuntime) -> Result<(), Fail> {
 
 #[test]
 fn a_strangers_parse_gives_nothing_up(rt: HostRuntime) -> Result<(), Fail> {
-    let (mut core, _) = with_device(rt.alloc())?;
-    let (mut other, _) = with_device(rt.alloc())?;
+    let mut core = devices(rt.alloc())?;
+    let mut other = devices(rt.alloc())?;
+    make_device(rt.alloc(), &mut core)?;
+    make_device(rt.alloc(), &mut other)?;
     let parsing = waiting(rt.alloc(), &mut other)?;
     let given_up = core.abandon(Brought::Unrun(parsing));
     assert!(rt; !given_up);
