@@ -4,8 +4,7 @@ pub mod Made
 pub mod Mapped
 pub mod Opened
 pub mod Queries
+pub mod Listings
 pub mod Stepping
 pub mod Turned
 pub mod WaysUp
-pub mod Awaiting
-pub mod Abandoned

@@ -1,16 +1,17 @@
 -- The commands that are answered without memory: those that take none, and what is refused before its
 -- lookup.
 use Rattle.std.specs.Prelude.{ℕ, Bool, false, ◌||◌, not, nat_le, nat_lt, List, length, Option, is_some}
-use Rattle.std.specs.Option.{option_and_then}
+use Rattle.std.specs.Option.{option_and_then, option_map_or}
 use Rattle.ob_base.specs.Handle.{key_of}
 use Rattle.ob_model.specs.declared.command.Command.{Command}
-use Rattle.ob_model.specs.declared.command.Command.TheVariants.{CreateDirectory, CreateLink, CreateObject, OpenDirectory, OpenLink, OpenObject, Close, QueryLink, QueryName, Duplicate, MakeTemporary, MakePermanent, SetDeviceMap, NewProcess, ExitProcess}
+use Rattle.ob_model.specs.declared.command.Command.TheVariants.{CreateDirectory, CreateLink, CreateObject, OpenDirectory, OpenLink, OpenObject, Close, QueryLink, QueryName, QueryDirectory, Duplicate, MakeTemporary, MakePermanent, SetDeviceMap, NewProcess, ExitProcess}
 use Rattle.ob_model.specs.declared.command.Place.{Place}
 use Rattle.ob_model.specs.declared.command.Place.TheVariants.{At, Unnamed}
 use Rattle.ob_model.specs.Creates.{Making, MakesDirectory, MakesLink, MakesObject, is_fit}
 use Rattle.ob_model.specs.Grants.{first_refusal}
 use Rattle.ob_model.specs.Refusals.{create_refusals, open_refusals}
-use Rattle.ob_model.specs.State.{State, is_live, held_of, greatest_process}
+use Rattle.ob_model.specs.State.{State, is_live, is_directory, held_of, greatest_process}
+use Rattle.ob_model.specs.Enumeration.{largest_room}
 use Rattle.ob_model.specs.Processes.{most_processes}
 use Rattle.ob_space.specs.Roots.{root_of}
 
@@ -25,6 +26,7 @@ TakesNoMemory (OpenObject root name attrs want) = ⊥
 TakesNoMemory (Close handle) = Unit {0}
 TakesNoMemory (QueryLink handle) = ⊥
 TakesNoMemory (QueryName handle) = ⊥
+TakesNoMemory (QueryDirectory handle context room single restart) = ⊥
 TakesNoMemory (Duplicate handle to inherit) = ⊥
 TakesNoMemory (MakeTemporary handle) = Unit {0}
 TakesNoMemory (MakePermanent handle) = Unit {0}
@@ -60,6 +62,13 @@ module _ {K T F I : Type 0} where
   abbrev pub is_use_refused : State K T F I → ℕ → ℕ → Bool
   is_use_refused s p handle = not (is_live s p) || lacks_handle s p handle
 
+  -- so is a page of a directory, whose room may be too great, or whose handle lead to no directory
+  abbrev pub lacks_directory : State K T F I → ℕ → ℕ → Bool
+  lacks_directory s p handle = option_map_or (λ h. not (is_directory s h.object)) (option_and_then (held_of s p) (key_of handle)) false
+
+  abbrev pub is_page_refused : State K T F I → ℕ → ℕ → ℕ → Bool
+  is_page_refused s p handle room = not (is_live s p) || nat_lt largest_room room || lacks_handle s p handle || lacks_directory s p handle
+
   -- so is a duplicate, whose process or the one that is to get the handle may be gone
   abbrev pub is_duplicate_refused : State K T F I → ℕ → ℕ → ℕ → Bool
   is_duplicate_refused s p handle to = not (is_live s p) || not (is_live s to) || lacks_handle s p handle
@@ -79,6 +88,7 @@ module _ {K T F I : Type 0} where
   is_refused_early s p (Close handle) = is_use_refused s p handle
   is_refused_early s p (QueryLink handle) = is_use_refused s p handle
   is_refused_early s p (QueryName handle) = is_use_refused s p handle
+  is_refused_early s p (QueryDirectory handle context room single restart) = is_page_refused s p handle room
   is_refused_early s p (Duplicate handle to inherit) = is_duplicate_refused s p handle to
   is_refused_early s p (MakeTemporary handle) = is_use_refused s p handle
   is_refused_early s p (MakePermanent handle) = is_use_refused s p handle

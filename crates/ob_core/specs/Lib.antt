@@ -1,4 +1,3 @@
 pub mod Early
 pub mod Kept
 pub mod Making
-pub mod Starting

@@ -3,8 +3,8 @@
 ghost use Rattle.std.specs.Prelude.{◌≡◌, ◌↔◌, length, true, false, IsTrue, IsOk, IfOk, IfErr, OnErr};
 ghost use Rattle.ob_base.specs.declared.Fault.TheVariants.{Memory};
 ghost use Rattle.ob_base.specs.declared.status.Status.TheVariants.{Success};
-ghost use Rattle.ob_model.specs.declared.reply.Event.TheVariants.{Start, Abandon};
-ghost use Rattle.std.specs.Option.{is_some};
+ghost use Rattle.ob_model.specs.declared.reply.Event.TheVariants.{Start, Resume, Abandon};
+ghost use Rattle.std.specs.Option.{is_some, option_map};
 ghost use Rattle.ob_model.specs.State.{held_of, table_size};
 ghost use Rattle.ob_model.specs.Opening.{opening};
 ghost use Rattle.ob_model.specs.Settle.{IsSettled};
@@ -15,27 +15,29 @@ ghost use Rattle.ob_space.specs.Orderly.{IsOrderly};
 ghost use Rattle.ob_core.specs.Early.{TakesNoMemory, is_refused_early};
 ghost use Rattle.ob_model.specs.Refusals.{answers};
 ghost use Rattle.ob_parsing.specs.Parse.{asked_of};
-ghost use Rattle.ob_parsing.specs.Brought.{run_of, brought as end_of};
-ghost use Rattle.ob_core.specs.Starting.{answer_of, IfParsing, IsParseOf, IsAwaited};
+ghost use Rattle.ob_model.specs.PendingOpens.{pending_of};
+ghost use Rattle.ob_parsing.specs.Brought.{run_of, run_of_end, brought as end_of};
+ghost use Rattle.ob_waiting.specs.Waiting.{answer_of, IfParsing, IsParseOf, IsAwaited, IsNotTaken, opens_nothing};
 
 use crate::closing::close;
 use crate::creating::create;
 use crate::device_maps::set_device_map;
 use crate::duplicating::duplicate;
+use crate::listing::{Asked, query_directory};
 use crate::lives::{exit_process, new_process};
 use crate::making::{Making, link_to, object_of};
 use crate::naming::{query_link, query_name};
 use crate::opens::{open_name, type_wanted};
-use crate::parses::abandon;
 use crate::permanence::turn;
 use ob_base::{Fault, Handle, Proc};
 use ob_handles::HandleTable;
 use ob_model::{Command, Reply, Wanted};
-use ob_parsing::{Brought, Parsing};
+use ob_parsing::{Brought, Parsed};
 use ob_pending::PendingOpens;
 use ob_processes::Processes;
 use ob_space::{Namespace, Space, opening_store};
 use ob_types::TypeSet;
+use ob_waiting::{Started, abandon, resume};
 use std::alloc::Global;
 use std::marker::Model;
 
@@ -60,18 +62,6 @@ impl<T: TypeSet, H: HandleTable> Model for Core<T, H> {
     ghost view = { λ a. state_of T.Kind a.space };
 
     ghost invariant = { λ a. IsCore T.idle (state_of T.Kind a.space) };
-}
-
-/// How the start of a command ends. A parse that is to be run can't be let go.
-pub enum Started<T: TypeSet> {
-    /// The command is done, and this is its reply.
-    Done(Reply),
-    /// An open reached an object whose kind parses. It is pending under the ticket of this parse, which its caller
-    /// is to run, and then to bring, or to give up.
-    ///
-    /// Source: Windows Internals, Object Manager (parse methods); that the parse is run between two steps is this
-    /// profile.
-    Parsing(Parsing<T>),
 }
 
 impl<T: TypeSet, H: HandleTable> Core<T, H> {
@@ -119,6 +109,32 @@ impl<T: TypeSet, H: HandleTable> Core<T, H> {
         step_for(&mut self.space, process, command)
     }
 
+    /// Brings a parse to the open that waits for it: makes one step of the machine, and answers what it answers. The
+    /// state is judged as it is now, not as it was when the open began; docs/namespace.md has what each end of a parse
+    /// leads to, and the order of the refusals, which are replies. The open is pending no longer, whatever it is
+    /// answered, an instance that isn't opened is deleted, and what the open alone held goes. Where the text that the
+    /// parse ended with leads to an object whose kind parses, the open is pending again, under another ticket, with
+    /// one reparse less, and that parse is handed out.
+    ///
+    /// The faults hand the parse back, and then nothing has changed: `Refused` with `InvalidParameter` exactly where the
+    /// parse is a stranger's, as `abandon` says; and `Memory`, where memory was wanted. A parse that found no
+    /// memory, or was refused, takes none.
+    ///
+    /// Source: Windows Internals, Object Manager (parse methods; object retention); that a parse is judged when it is
+    /// brought, and the order of refusals, are this profile.
+    pub fn resume(&mut self, parsed: Parsed<T>) -> Result<Started<T>, (Fault, Parsed<T>)>
+        ensures step { IfOk result (λ started.
+            Step T.procedures self.old (Resume parsed.ticket (run_of_end parsed.outcome)) (answer_of started) self.new) }
+        ensures awaited { IfOk result (λ _. IsAwaited T.procedures self.old (asked_of parsed)) }
+        ensures parse { IfOk result (λ started. IfParsing started (IsParseOf self.new)) }
+        ensures without_memory { opens_nothing parsed.outcome ≡ true → IsAwaited T.procedures self.old (asked_of parsed) → IsOk result }
+        ensures err { OnErr result (self.new ≡ self.old) }
+        ensures fault { IfErr result (λ back. IsNotTaken T.procedures self.old (asked_of parsed) (back.0)) }
+        ensures back { IfErr result (λ back. back.1 ≡ parsed) }
+    {
+        resume(&mut self.space, parsed)
+    }
+
     /// Gives up an open that waits for this parse, whether it was run or not, and tells whether one does: that open
     /// is pending no longer, an instance that the parse made is deleted, and the object that the open pinned goes
     /// where nothing else holds it. No memory is taken.
@@ -134,6 +150,14 @@ impl<T: TypeSet, H: HandleTable> Core<T, H> {
         ensures stranger { result ≡ false → self.new ≡ self.old }
     {
         abandon(&mut self.space, brought)
+    }
+
+    /// How many reparses are left to a pending open, from 0 to 32; none where no open is pending under this ticket. Takes
+    /// no memory. Source: this profile.
+    pub fn left(&self, ticket: u64) -> Option<u32>
+        ensures { result ≡ option_map (λ pending. pending.left) (pending_of self.now ticket) }
+    {
+        self.space.pending.get(ticket).map(|pending| pending.left)
     }
 
     /// How many objects there are: at most 1,048,576.
@@ -245,6 +269,21 @@ fn step_for<T: TypeSet, H: HandleTable>(
         Command::Close { handle } => Ok(Started::Done(close(space, process, *handle))),
         Command::QueryLink { handle } => Ok(Started::Done(query_link(space, process, *handle)?)),
         Command::QueryName { handle } => Ok(Started::Done(query_name(space, process, *handle)?)),
+        Command::QueryDirectory {
+            handle,
+            context,
+            room,
+            single,
+            restart,
+        } => {
+            let asked = Asked {
+                context: *context,
+                room: *room,
+                single: *single,
+                restart: *restart,
+            };
+            Ok(Started::Done(query_directory(space, process, *handle, asked)?))
+        }
         Command::Duplicate {
             handle,
             to,

@@ -15,10 +15,8 @@ ghost use Rattle.ob_lookup.specs.Look.{mode_of, look_of};
 ghost use Rattle.ob_space.specs.Namespace.{state_of};
 ghost use Rattle.ob_space.specs.Orderly.{IsOrderly};
 ghost use Rattle.ob_core.specs.Early.{is_open_refused};
-ghost use Rattle.ob_core.specs.Starting.{answer_of, IfParsing, IsParseOf};
+ghost use Rattle.ob_waiting.specs.Waiting.{answer_of, IfParsing, IsParseOf};
 
-use crate::Started;
-use crate::parses::begin;
 use crate::replies::{status_alone, with_handle};
 use ob_base::{Attrs, Fault, Handle, ObjId, Proc, Status};
 use ob_handles::HandleTable;
@@ -28,6 +26,7 @@ use ob_names::Name;
 use ob_parses::Asking;
 use ob_space::{Asked, Space, grant, is_live, is_wanted_at, judge_open, look_up, root_object};
 use ob_types::{Reason, TypeSet};
+use ob_waiting::{Started, begin};
 
 /// The type that an open of an object asks for.
 pub(crate) fn type_wanted<K: Copy>(want: Option<K>) -> Wanted<K>

@@ -6,6 +6,7 @@ ghost use Rattle.ob_model.specs.declared.reply.Given.TheVariants as given;
 use ob_base::{Handle, Status};
 use ob_life::Child;
 use ob_model::{Bytes, Given, Reply};
+use ob_objects::Page;
 
 /// A reply that is a status alone.
 pub(crate) fn status_alone(status: Status) -> Reply
@@ -45,5 +46,20 @@ pub(crate) fn with_process(child: Child) -> Reply
     Reply {
         status: Status::Success,
         given: Given::Process(process, values),
+    }
+}
+
+/// The reply that gives a page, with its status.
+pub(crate) fn with_page(page: Page) -> Reply
+    ensures { result ≡ record { status = page.status; given = given.Page page.entries page.context } }
+{
+    let Page {
+        status,
+        entries,
+        context,
+    } = page;
+    Reply {
+        status,
+        given: Given::Page { entries, context },
     }
 }

@@ -3,3 +3,4 @@ pub mod Removed
 pub mod Stamps
 pub mod Rows
 pub mod Laws
+pub mod Behind

@@ -4,6 +4,7 @@
 
 mod dir;
 mod entry;
+mod page;
 
 pub use dir::{Dir, dir_finds_what_the_state_finds, entries_follow_the_rows, not_found_is_free};
 pub use entry::DirEntry;

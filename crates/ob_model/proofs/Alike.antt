@@ -31,8 +31,9 @@ use Rattle.ob_model.specs.Refusals.{gives, answers, IsRefused, Unless, create_re
 use Rattle.ob_model.specs.Opens.{GivesHandle, OpensAt, Opens, asked_by, open_mode}
 use Rattle.ob_model.specs.Creates.{Making, is_fit, create_mode, type_made, Spot, room_refusals, make_refusal, body_made, with_object, with_row, created, dropped, Makes, Creates}
 use Rattle.ob_model.specs.Naming.{IsWayUp, path_text, path_answer, target_of, TellsName, TellsTarget}
+use Rattle.ob_model.specs.Enumeration.{enumerated, context_used, page_answer}
 use Rattle.ob_model.specs.Processes.{values_in, is_crowded, begun, Duplicates, MakesChild}
-use Rattle.ob_model.specs.Step.{WithHandle, WithRoot, CreatesIn, CreatesAt, OpensName, Closes, QueriesLink, QueriesName, Turns, SetsMap}
+use Rattle.ob_model.specs.Step.{WithHandle, WithRoot, CreatesIn, CreatesAt, OpensName, Closes, QueriesLink, QueriesName, Turns, SetsMap, page_refusals, TellsPage, QueriesDirectory}
 use Rattle.ob_model.specs.Sound.{IsSound}
 use Rattle.ob_model.specs.Alike.{unvalued_handle, unvalued_answer, AreAlikeAnswers, is_named, unvalued, handle_given, process_given, AreAlike, LeadAlike, LeadOn, HoldOn, AreAlikeRoots, no_root, roots, AreAlikePlaces, no_name, names}
 use Rattle.ob_model.proofs.Lookup.{looks_up_unique}
@@ -147,7 +148,7 @@ module _ {K T F I : Type 0} (g : Procedures K T F I) (s t : State K T F I) (alik
 -- two steps, each with its end, for commands of a process q that give a handle to a process r
 module _ {K T F I : Type 0} (g : Procedures K T F I) (s t : State K T F I) (alike : AreAlike s t) (a b : Answer) (u v : State K T F I) (q r : ℕ) (IsClosed : ℕ → ℕ → Type 0) where
   -- both end alike
-  abbrev EndAlike : Type 0
+  abbrev pub EndAlike : Type 0
   EndAlike = AreAlikeAnswers a b × AreAlike u v × LeadOn s t q r a b u v × HoldOn s IsClosed r a u
 
   -- ends that are told by equations
@@ -162,18 +163,18 @@ module _ {K T F I : Type 0} (g : Procedures K T F I) (s t : State K T F I) (alik
   )
 
   -- and give nothing, and leave the handles
-  same_hold : (a_told : Answer) (u_told : State K T F I) → handle_given a_told ≡ None → process_given a_told ≡ None → u_told.handles ≡ s.handles → HoldOn s IsClosed r a_told u_told
+  pub same_hold : (a_told : Answer) (u_told : State K T F I) → handle_given a_told ≡ None → process_given a_told ≡ None → u_told.handles ≡ s.handles → HoldOn s IsClosed r a_told u_told
   same_hold a_told u_told no_handle no_process u_is =
       hold_on_with_nothing s IsClosed r a_told u_told no_handle no_process (λ p value held left. ap (list_any (is_named p value)) u_is ∙ held)
 
-  same_lead : (a_told b_told : Answer) (u_told v_told : State K T F I) → handle_given a_told ≡ None → process_given a_told ≡ None → u_told.handles ≡ s.handles → v_told.handles ≡ t.handles
+  pub same_lead : (a_told b_told : Answer) (u_told v_told : State K T F I) → handle_given a_told ≡ None → process_given a_told ≡ None → u_told.handles ≡ s.handles → v_told.handles ≡ t.handles
       → LeadOn s t q r a_told b_told u_told v_told
   same_lead a_told b_told u_told v_told no_handle no_process u_is v_is =
       lead_on_with_nothing s t q r a_told b_told u_told v_told no_handle no_process
       (λ p value other held lead. (λ i. map (is_named p value) (u_is i)) ∙ lead ∙ (λ i. map (is_named p other) (sym v_is i)))
 
   -- two refusals with one status
-  refused_alike : (status : Status) → IsRefused s status a u → IsRefused t status b v → EndAlike
+  pub refused_alike : (status : Status) → IsRefused s status a u → IsRefused t status b v → EndAlike
   refused_alike status h k = ends_alike (answers status) (answers status) s t h.0 h.1 k.0 k.1 refl alike (same_lead (answers status) (answers status) s t refl refl refl refl) (same_hold (answers status) s refl refl refl)
 
   -- two steps that are refused for the same, or else do what ends alike
@@ -268,13 +269,13 @@ module _ {K T F I : Type 0} (g : Procedures K T F I) (s t : State K T F I) (alik
       → GivesHandle g s r o asked reason status a u → GivesHandle g t r o asked reason status b v → EndAlike
   gives_handle_alike o asked reason status h k = granted_alike o asked reason status h.0 k.0 h.1 k.1 h.2 h.3 k.2 k.3
 
-  opens_at_alike : (attrs : ℕ) (wanted : Wanted K) (status : Status) (o : ℕ) → OpensAt g s r attrs wanted status o a u → OpensAt g t r attrs wanted status o b v → EndAlike
+  pub opens_at_alike : (attrs : ℕ) (wanted : Wanted K) (status : Status) (o : ℕ) → OpensAt g s r attrs wanted status o a u → OpensAt g t r attrs wanted status o b v → EndAlike
   opens_at_alike attrs wanted status o h k =
       unless_alike ((not (is_wanted_at g s o wanted), ObjectTypeMismatch) ∷ []) ((not (is_wanted_at g t o wanted), ObjectTypeMismatch) ∷ [])
       (GivesHandle g s r o (asked_by attrs) Opened status a u) (GivesHandle g t r o (asked_by attrs) Opened status b v)
       (ap (λ x. (not (is_wanted_at g x o wanted), ObjectTypeMismatch) ∷ []) alike) (gives_handle_alike o (asked_by attrs) Opened status) h k
 
-  opens_alike : (attrs : ℕ) (wanted : Wanted K) (look : Look) → Opens g s r attrs wanted look a u → Opens g t r attrs wanted look b v → EndAlike
+  pub opens_alike : (attrs : ℕ) (wanted : Wanted K) (look : Look) → Opens g s r attrs wanted look a u → Opens g t r attrs wanted look b v → EndAlike
   opens_alike attrs wanted (Refused status) h k = refused_alike status h k
   opens_alike attrs wanted (Vacant d c) h k = absurd h
   opens_alike attrs wanted (Parse o rest n) h k =
@@ -352,7 +353,7 @@ module _ {K T F I : Type 0} (g : Procedures K T F I) (s t : State K T F I) (alik
   creates_alike attrs making (Vacant d c) h k = makes_alike attrs making (Some (d, c)) h k
 
   -- a name ends the same in both states
-  look_alike : (p : ℕ) (mode : Mode) (n : ℕ) (at : Option ℕ) (name : List ℕ) (one other : Look)
+  pub look_alike : (p : ℕ) (mode : Mode) (n : ℕ) (at : Option ℕ) (name : List ℕ) (one other : Look)
       → LooksUp g s p mode n at name one → LooksUp g t p mode n at name other → other ≡ one
   look_alike p mode n at name one other h k =
       looks_up_unique g s p mode n at name other one
@@ -458,6 +459,30 @@ module _ {K T F I : Type 0} (g : Procedures K T F I) (s t : State K T F I) (alik
 
       Sets : State K T F I → Answer → State K T F I → Held → Type 0
       Sets x answer end y = Unless ((not (is_directory x y.object), ObjectTypeMismatch) ∷ []) x answer end (Done x answer end y)
+
+  pub queries_directory_alike : (p value other context room : ℕ) (single restart : Bool) → LeadAlike s t p value other
+      → QueriesDirectory g s p value context room single restart a u → QueriesDirectory g t p other context room single restart b v → EndAlike
+  queries_directory_alike p value other context room single restart lead h k =
+      unless_alike (page_refusals (is_live s p) room) (page_refusals (is_live t p) room)
+      (MatchOption (option_and_then (held_of s p) (key_of value)) (IsRefused s InvalidHandle a u) (Pages s a u))
+      (MatchOption (option_and_then (held_of t p) (key_of other)) (IsRefused t InvalidHandle b v) (Pages t b v))
+      (λ i. page_refusals (is_live_alike p i) room)
+      (found_handle_alike p value other (Pages s a u) (Pages t b v) lead
+      (λ x y first second same h k.
+      unless_alike ((not (is_directory s x.object), ObjectTypeMismatch) ∷ []) ((not (is_directory t y.object), ObjectTypeMismatch) ∷ []) (Told s a u x) (Told t b v y)
+      (λ i. (not (is_directory (alike i) (same i).object), ObjectTypeMismatch) ∷ [])
+      (λ h k.
+      ends_alike (told s x) (told t y) s t h.0 h.1 k.0 k.1 (λ i. told (alike i) (same i)) alike
+      (same_lead (told s x) (told t y) s t refl refl refl refl) (same_hold (told s x) s refl refl refl)) h k)) h k
+    where
+      told : State K T F I → Held → Answer
+      told x y = page_answer (enumerated g x y.object (context_used restart context) room single)
+
+      Told : State K T F I → Answer → State K T F I → Held → Type 0
+      Told x answer end y = (answer ≡ told x y) × (end ≡ x)
+
+      Pages : State K T F I → Answer → State K T F I → Held → Type 0
+      Pages x answer end y = TellsPage g x y.object (context_used restart context) room single answer end
 
   pub duplicates_alike : (p value other : ℕ) (inherit : Bool) → LeadAlike s t p value other → Duplicates g s p value r inherit a u → Duplicates g t p other r inherit b v → EndAlike
   duplicates_alike p value other inherit lead h k =

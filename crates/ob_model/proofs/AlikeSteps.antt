@@ -5,7 +5,7 @@ use Rattle.ob_base.specs.declared.status.Status.TheVariants.{Success, ProcessGon
 use Rattle.ob_model.specs.declared.command.Place.{Place}
 use Rattle.ob_model.specs.declared.command.Place.TheVariants as place
 use Rattle.ob_model.specs.declared.command.Command.{Command}
-use Rattle.ob_model.specs.declared.command.Command.TheVariants.{CreateDirectory, CreateLink, CreateObject, OpenDirectory, OpenLink, OpenObject, Close, QueryLink, QueryName, Duplicate, MakeTemporary, MakePermanent, SetDeviceMap, NewProcess, ExitProcess}
+use Rattle.ob_model.specs.declared.command.Command.TheVariants.{CreateDirectory, CreateLink, CreateObject, OpenDirectory, OpenLink, OpenObject, Close, QueryLink, QueryName, QueryDirectory, Duplicate, MakeTemporary, MakePermanent, SetDeviceMap, NewProcess, ExitProcess}
 use Rattle.ob_model.specs.declared.reply.Answer.{Answer}
 use Rattle.ob_model.specs.declared.reply.Event.TheVariants.{Start}
 use Rattle.ob_model.specs.declared.state.Wanted.TheVariants as wanted
@@ -18,8 +18,8 @@ use Rattle.ob_model.specs.Creates.{MakesDirectory, MakesLink, MakesObject}
 use Rattle.ob_model.specs.Processes.{ended}
 use Rattle.ob_model.specs.Step.{Step}
 use Rattle.ob_model.specs.Sound.{IsSound}
-use Rattle.ob_model.specs.Alike.{AreAlikeAnswers, AreAlike, LeadOn, HoldOn, IsClosedBy, receiver, AreAlikeRoots, no_root, roots, AreAlikePlaces, no_name, names, AreAlikeCommands, create_directories, create_links, create_objects, open_directories, open_links, open_objects, closes, queries_of_links, queries_of_names, duplicates, temporaries, permanents, device_maps, new_processes, exits}
-use Rattle.ob_model.proofs.Alike.{ends_alike, settle_alike, unless_alike, is_live_alike, creates_at_alike, opens_name_alike, closes_alike, queries_link_alike, queries_name_alike, turns_alike, sets_map_alike, duplicates_alike, makes_child_alike}
+use Rattle.ob_model.specs.Alike.{AreAlikeAnswers, AreAlike, LeadOn, HoldOn, IsClosedBy, receiver, AreAlikeRoots, no_root, roots, AreAlikePlaces, no_name, names, AreAlikeCommands, create_directories, create_links, create_objects, open_directories, open_links, open_objects, closes, queries_of_links, queries_of_names, queries_of_directories, duplicates, temporaries, permanents, device_maps, new_processes, exits}
+use Rattle.ob_model.proofs.Alike.{ends_alike, settle_alike, unless_alike, is_live_alike, creates_at_alike, opens_name_alike, closes_alike, queries_link_alike, queries_name_alike, queries_directory_alike, turns_alike, sets_map_alike, duplicates_alike, makes_child_alike}
 use Rattle.ob_model.proofs.AlikeLeads.{lead_on_with_nothing}
 use Rattle.ob_model.proofs.AlikeHeld.{hold_on_with_nothing, ended_held}
 use Rattle.ob_model.proofs.AlikeExits.{ended_alike}
@@ -47,6 +47,8 @@ module _ {K T F I : Type 0} where
   steps_alike g s t p one other a b u v s_sound t_sound alike (closes {value = value} {other = second} lead) h k = closes_alike g s t alike a b u v p p (λ q value'. (q ≡ p) × (key_of value' ≡ key_of value)) p value second (λ q named owner key. (owner, key)) lead h k
   steps_alike g s t p one other a b u v s_sound t_sound alike (queries_of_links {value = value} {other = second} lead) h k = queries_link_alike g s t alike a b u v p p none p value second lead h k
   steps_alike g s t p one other a b u v s_sound t_sound alike (queries_of_names {value = value} {other = second} lead) h k = queries_name_alike g s t alike a b u v p p none p value second lead h k
+  steps_alike g s t p one other a b u v s_sound t_sound alike (queries_of_directories {value = value} {other = second} {context = context} {room = room} {single = single} {restart = restart} lead) h k =
+      queries_directory_alike g s t alike a b u v p p none p value second context room single restart lead h k
   steps_alike g s t p one other a b u v s_sound t_sound alike (duplicates {value = value} {other = second} {to = to} {inherit = inherit} lead) h k =
       duplicates_alike g s t alike a b u v p to none p value second inherit lead h k
   steps_alike g s t p one other a b u v s_sound t_sound alike (temporaries {value = value} {other = second} lead) h k = turns_alike g s t alike a b u v p p none p value second false lead h k
@@ -96,6 +98,7 @@ module _ {K T F I : Type 0} where
   command_itself s p (Close handle) = closes refl
   command_itself s p (QueryLink handle) = queries_of_links refl
   command_itself s p (QueryName handle) = queries_of_names refl
+  command_itself s p (QueryDirectory handle context room single restart) = queries_of_directories refl
   command_itself s p (Duplicate handle to inherit) = duplicates refl
   command_itself s p (MakeTemporary handle) = temporaries refl
   command_itself s p (MakePermanent handle) = permanents refl

@@ -8,7 +8,7 @@ use Rattle.ob_base.specs.Attrs.{has_flag, open_if_flag}
 use Rattle.ob_base.specs.Handle.{key_of}
 use Rattle.ob_model.specs.declared.command.Place.{Place}
 use Rattle.ob_model.specs.declared.command.Place.TheVariants as place
-use Rattle.ob_model.specs.declared.command.Command.TheVariants.{CreateDirectory, CreateLink, CreateObject, OpenDirectory, OpenLink, OpenObject, Close, QueryLink, QueryName, Duplicate, MakeTemporary, MakePermanent, SetDeviceMap, NewProcess, ExitProcess}
+use Rattle.ob_model.specs.declared.command.Command.TheVariants.{CreateDirectory, CreateLink, CreateObject, OpenDirectory, OpenLink, OpenObject, Close, QueryLink, QueryName, QueryDirectory, Duplicate, MakeTemporary, MakePermanent, SetDeviceMap, NewProcess, ExitProcess}
 use Rattle.ob_model.specs.declared.reply.Answer.{Answer}
 use Rattle.ob_model.specs.declared.reply.Event.{Event}
 use Rattle.ob_model.specs.declared.reply.Event.TheVariants.{Start, Resume, Abandon}
@@ -36,8 +36,9 @@ use Rattle.ob_model.specs.Parses.{parsed_state, IsParsed, IsBrought, LooksAgain,
 use Rattle.ob_model.specs.Opens.{GivesHandle, OpensAt, Opens, asked_by, type_wanted, open_mode}
 use Rattle.ob_model.specs.Creates.{Making, MakesDirectory, MakesLink, MakesObject, is_fit, create_mode, type_made, Spot, room_refusals, make_refusal, body_made, created, dropped, Makes, Creates}
 use Rattle.ob_model.specs.Naming.{TellsName, TellsTarget}
+use Rattle.ob_model.specs.Enumeration.{enumerated, context_used, page_answer}
 use Rattle.ob_model.specs.Processes.{values_in, is_crowded, begun, ended}
-use Rattle.ob_model.specs.Step.{WithHandle, WithRoot, CreatesIn, CreatesAt, OpensName, Turns, SetsMap, Step}
+use Rattle.ob_model.specs.Step.{WithHandle, WithRoot, CreatesIn, CreatesAt, OpensName, Turns, SetsMap, page_refusals, TellsPage, QueriesDirectory, Step}
 use Rattle.ob_model.specs.Run.{Entry, RunFrom}
 use Rattle.ob_model.proofs.Lookup.{Again-unique, looks_unique, looks_up_unique}
 use Rattle.ob_model.proofs.ParseRuns.{parse_unique}
@@ -211,6 +212,24 @@ module _ {K T F I : Type 0} (g : Procedures K T F I) where
       Sets : State K T F I → Held → Type 0
       Sets end x = Unless ((not (is_directory s x.object), ObjectTypeMismatch) ∷ []) s answer end ((answer ≡ answers Success) × (end ≡ settle g (with_map s p x.object)))
 
+  queries_directory_end : (s t u : State K T F I) (p handle context room : ℕ) (single restart : Bool) (answer : Answer)
+      → QueriesDirectory g s p handle context room single restart answer t → QueriesDirectory g s p handle context room single restart answer u → t ≡ u
+  queries_directory_end s t u p handle context room single restart answer h k =
+      unless_end (page_refusals (is_live s p) room) s t u answer
+      (MatchOption (option_and_then (held_of s p) (key_of handle)) (IsRefused s InvalidHandle answer t) (Pages t))
+      (MatchOption (option_and_then (held_of s p) (key_of handle)) (IsRefused s InvalidHandle answer u) (Pages u))
+      (go (option_and_then (held_of s p) (key_of handle))) h k
+    where
+      Pages : State K T F I → Held → Type 0
+      Pages end x = TellsPage g s x.object (context_used restart context) room single answer end
+
+      Told : State K T F I → Held → Type 0
+      Told end x = (answer ≡ page_answer (enumerated g s x.object (context_used restart context) room single)) × (end ≡ s)
+
+      go : (o : Option Held) → MatchOption o (IsRefused s InvalidHandle answer t) (Pages t) → MatchOption o (IsRefused s InvalidHandle answer u) (Pages u) → t ≡ u
+      go None h k = refused_end s t u InvalidHandle InvalidHandle answer h k
+      go (Some x) h k = unless_end ((not (is_directory s x.object), ObjectTypeMismatch) ∷ []) s t u answer (Told t x) (Told u x) (λ a b. a.1 ∙ sym b.1) h k
+
   -- ---- the end of a pending open
 
   -- one thing is brought of its parse
@@ -278,6 +297,7 @@ module _ {K T F I : Type 0} (g : Procedures K T F I) where
       with_handle_end s t u p handle answer (λ x. TellsTarget s x.object answer × (t ≡ s)) (λ x. TellsTarget s x.object answer × (u ≡ s)) (λ x a b. a.1 ∙ sym b.1) h k
   step_end s t u (Start p (QueryName handle)) answer h k =
       with_handle_end s t u p handle answer (λ x. TellsName s x.object answer × (t ≡ s)) (λ x. TellsName s x.object answer × (u ≡ s)) (λ x a b. a.1 ∙ sym b.1) h k
+  step_end s t u (Start p (QueryDirectory handle context room single restart)) answer h k = queries_directory_end s t u p handle context room single restart answer h k
   step_end s t u (Start p (Duplicate handle to inherit)) answer h k =
       unless_end ((not (is_live s p), ProcessGone) ∷ (not (is_live s to), ProcessGone) ∷ []) s t u answer
       (MatchOption (option_and_then (held_of s p) (key_of handle)) (IsRefused s InvalidHandle answer t) (Given t))

@@ -10,7 +10,7 @@ use Rattle.ob_base.specs.Attrs.{has_flag, open_if_flag, are_lawful}
 use Rattle.ob_base.specs.Handle.{key_of}
 use Rattle.ob_model.specs.declared.command.Place.{Place}
 use Rattle.ob_model.specs.declared.command.Place.TheVariants as place
-use Rattle.ob_model.specs.declared.command.Command.TheVariants.{CreateDirectory, CreateLink, CreateObject, OpenDirectory, OpenLink, OpenObject, Close, QueryLink, QueryName, Duplicate, MakeTemporary, MakePermanent, SetDeviceMap, NewProcess, ExitProcess}
+use Rattle.ob_model.specs.declared.command.Command.TheVariants.{CreateDirectory, CreateLink, CreateObject, OpenDirectory, OpenLink, OpenObject, Close, QueryLink, QueryName, QueryDirectory, Duplicate, MakeTemporary, MakePermanent, SetDeviceMap, NewProcess, ExitProcess}
 use Rattle.ob_model.specs.declared.command.Command.{Command}
 use Rattle.ob_model.specs.declared.reply.Answer.{Answer}
 use Rattle.ob_model.specs.declared.reply.Answer.TheVariants.{Ticket}
@@ -36,8 +36,9 @@ use Rattle.ob_model.specs.Parses.{EndsOpen}
 use Rattle.ob_model.specs.Opens.{GivesHandle, OpensAt, Opens, asked_by, type_wanted, open_mode}
 use Rattle.ob_model.specs.Creates.{Making, MakesDirectory, MakesLink, MakesObject, is_fit, create_mode, type_made, Spot, room_refusals, make_refusal, body_made, created, dropped, Makes, Creates}
 use Rattle.ob_model.specs.Naming.{TellsName, TellsTarget}
+use Rattle.ob_model.specs.Enumeration.{enumerated, context_used, page_answer}
 use Rattle.ob_model.specs.Processes.{values_in, is_crowded, begun, ended}
-use Rattle.ob_model.specs.Step.{WithHandle, WithRoot, CreatesIn, CreatesAt, OpensName, Turns, SetsMap, Step}
+use Rattle.ob_model.specs.Step.{WithHandle, WithRoot, CreatesIn, CreatesAt, OpensName, Turns, SetsMap, page_refusals, TellsPage, QueriesDirectory, Step}
 
 -- where a create isn't refused at first, its flags are lawful
 lawful_to_create : (live fit : Bool) (where_to : Place) (attrs : ℕ) → first_refusal (create_refusals live fit where_to attrs) ≡ None → are_lawful attrs ≡ true
@@ -184,6 +185,18 @@ module _ {K T F I : Type 0} (g : Procedures K T F I) (s : State K T F I) (P : St
       unless_leads ((not (is_directory s x.object), ObjectTypeMismatch) ∷ []) t answer ((answer ≡ answers Success) × (t ≡ settle g (with_map s p x.object)))
       (λ e does. subst P (sym does.1) (sets_map p x.object))) h
 
+  queries_directory_leads : (t : State K T F I) (p handle context room : ℕ) (single restart : Bool) (answer : Answer) → QueriesDirectory g s p handle context room single restart answer t → P t
+  queries_directory_leads t p handle context room single restart answer h =
+      unless_leads (page_refusals (is_live s p) room) t answer
+      (MatchOption (option_and_then (held_of s p) (key_of handle)) (IsRefused s InvalidHandle answer t) (λ x. TellsPage g s x.object (context_used restart context) room single answer t))
+      (λ e. go (option_and_then (held_of s p) (key_of handle))) h
+    where
+      go : (o : Option Held) → MatchOption o (IsRefused s InvalidHandle answer t) (λ x. TellsPage g s x.object (context_used restart context) room single answer t) → P t
+      go None h = refused_leads t InvalidHandle answer h
+      go (Some x) h =
+          unless_leads ((not (is_directory s x.object), ObjectTypeMismatch) ∷ []) t answer
+          ((answer ≡ page_answer (enumerated g s x.object (context_used restart context) room single)) × (t ≡ s)) (λ e does. subst P (sym does.1) same) h
+
   -- a start leads there
   start_leads : (t : State K T F I) (p : ℕ) (command : Command K) (answer : Answer) → Step g s (Start p command) answer t → P t
   start_leads t p (CreateDirectory where_to attrs) answer h = creates_at_leads t p where_to attrs MakesDirectory answer h
@@ -198,6 +211,7 @@ module _ {K T F I : Type 0} (g : Procedures K T F I) (s : State K T F I) (P : St
       with_handle_leads t p handle answer (λ x. TellsTarget s x.object answer × (t ≡ s)) (λ x does. subst P (sym does.1) same) h
   start_leads t p (QueryName handle) answer h =
       with_handle_leads t p handle answer (λ x. TellsName s x.object answer × (t ≡ s)) (λ x does. subst P (sym does.1) same) h
+  start_leads t p (QueryDirectory handle context room single restart) answer h = queries_directory_leads t p handle context room single restart answer h
   start_leads t p (Duplicate handle to inherit) answer h =
       unless_leads ((not (is_live s p), ProcessGone) ∷ (not (is_live s to), ProcessGone) ∷ []) t answer
       (MatchOption (option_and_then (held_of s p) (key_of handle)) (IsRefused s InvalidHandle answer t) Given) (λ e. go (option_and_then (held_of s p) (key_of handle))) h

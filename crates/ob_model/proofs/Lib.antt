@@ -38,3 +38,4 @@ pub mod AlikeHeld
 pub mod Alike
 pub mod AlikeExits
 pub mod AlikeSteps
+pub mod AlikeResumes

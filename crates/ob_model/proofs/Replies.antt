@@ -7,7 +7,7 @@ use Rattle.ob_base.specs.declared.status.Status.TheVariants.{Success, InvalidHan
 use Rattle.ob_base.specs.Attrs.{has_flag, open_if_flag}
 use Rattle.ob_base.specs.Handle.{key_of}
 use Rattle.ob_model.specs.declared.command.Command.{Command}
-use Rattle.ob_model.specs.declared.command.Command.TheVariants.{CreateDirectory, CreateLink, CreateObject, OpenDirectory, OpenLink, OpenObject, Close, QueryLink, QueryName, Duplicate, MakeTemporary, MakePermanent, SetDeviceMap, NewProcess, ExitProcess}
+use Rattle.ob_model.specs.declared.command.Command.TheVariants.{CreateDirectory, CreateLink, CreateObject, OpenDirectory, OpenLink, OpenObject, Close, QueryLink, QueryName, QueryDirectory, Duplicate, MakeTemporary, MakePermanent, SetDeviceMap, NewProcess, ExitProcess}
 use Rattle.ob_model.specs.declared.command.Place.{Place}
 use Rattle.ob_model.specs.declared.command.Place.TheVariants as place
 use Rattle.ob_model.specs.declared.reply.Answer.{Answer}
@@ -33,8 +33,9 @@ use Rattle.ob_model.specs.Refusals.{gives, answers, IsRefused, Unless, create_re
 use Rattle.ob_model.specs.Opens.{GivesHandle, OpensAt, Opens, asked_by, type_wanted, open_mode}
 use Rattle.ob_model.specs.Creates.{Making, MakesDirectory, MakesLink, MakesObject, is_fit, create_mode, type_made, Spot, room_refusals, make_refusal, body_made, created, dropped, Makes, Creates}
 use Rattle.ob_model.specs.Naming.{path_text, TellsName, TellsTarget}
+use Rattle.ob_model.specs.Enumeration.{enumerated, context_used, page_answer}
 use Rattle.ob_model.specs.Processes.{values_in, is_crowded, begun, ended}
-use Rattle.ob_model.specs.Step.{WithHandle, WithRoot, CreatesIn, CreatesAt, OpensName, Turns, Step}
+use Rattle.ob_model.specs.Step.{WithHandle, WithRoot, CreatesIn, CreatesAt, OpensName, Turns, page_refusals, TellsPage, Step}
 use Rattle.ob_model.proofs.Vacant.{IsParsing, IsUsableEnd, usable_end}
 
 abbrev IsReply : Answer → Type 0
@@ -172,6 +173,17 @@ module _ {K T F I : Type 0} (g : Procedures K T F I) (never : (kind : K) → g.p
       with_handle_reply s t answer p handle (λ x. TellsTarget s x.object answer × (t ≡ s)) (λ x does. target_reply s t answer x.object does.0) h
   start_replies p (QueryName handle) h =
       with_handle_reply s t answer p handle (λ x. TellsName s x.object answer × (t ≡ s)) (λ x does. name_reply s t answer x.object does.0) h
+  start_replies p (QueryDirectory handle context room single restart) h =
+      unless_reply s t answer (page_refusals (is_live s p) room)
+      (MatchOption (option_and_then (held_of s p) (key_of handle)) (IsRefused s InvalidHandle answer t) Pages)
+      (held_reply s t answer (option_and_then (held_of s p) (key_of handle)) Pages
+      (λ x. unless_reply s t answer ((not (is_directory s x.object), ObjectTypeMismatch) ∷ []) (Told x) (λ does. (_, does.0)))) h
+    where
+      Told : Held → Type 0
+      Told x = (answer ≡ page_answer (enumerated g s x.object (context_used restart context) room single)) × (t ≡ s)
+
+      Pages : Held → Type 0
+      Pages x = TellsPage g s x.object (context_used restart context) room single answer t
   start_replies p (Duplicate handle to inherit) h =
       unless_reply s t answer ((not (is_live s p), ProcessGone) ∷ (not (is_live s to), ProcessGone) ∷ [])
       (MatchOption (option_and_then (held_of s p) (key_of handle)) (IsRefused s InvalidHandle answer t) Given)

@@ -8,7 +8,7 @@ use Rattle.ob_base.specs.Attrs.{has_flag, open_if_flag}
 use Rattle.ob_base.specs.Handle.{key_of}
 use Rattle.ob_model.specs.declared.command.Place.{Place}
 use Rattle.ob_model.specs.declared.command.Place.TheVariants as place
-use Rattle.ob_model.specs.declared.command.Command.TheVariants.{CreateDirectory, CreateLink, CreateObject, OpenDirectory, OpenLink, OpenObject, Close, QueryLink, QueryName, Duplicate, MakeTemporary, MakePermanent, SetDeviceMap, NewProcess, ExitProcess}
+use Rattle.ob_model.specs.declared.command.Command.TheVariants.{CreateDirectory, CreateLink, CreateObject, OpenDirectory, OpenLink, OpenObject, Close, QueryLink, QueryName, QueryDirectory, Duplicate, MakeTemporary, MakePermanent, SetDeviceMap, NewProcess, ExitProcess}
 use Rattle.ob_model.specs.declared.reply.Answer.{Answer}
 use Rattle.ob_model.specs.declared.reply.Answer.TheVariants.{Ticket}
 use Rattle.ob_model.specs.declared.reply.Event.{Event}
@@ -34,8 +34,9 @@ use Rattle.ob_model.specs.Parses.{parsed_state, EndsOpen, Resumes, Abandons}
 use Rattle.ob_model.specs.Opens.{GivesHandle, OpensAt, Begins, Opens, asked_by, type_wanted, open_mode}
 use Rattle.ob_model.specs.Creates.{Making, MakesDirectory, MakesLink, MakesObject, is_fit, create_mode, type_made, Spot, room_refusals, make_refusal, body_made, created, dropped, Makes, Creates}
 use Rattle.ob_model.specs.Naming.{TellsName, TellsTarget}
+use Rattle.ob_model.specs.Enumeration.{enumerated, context_used, page_answer}
 use Rattle.ob_model.specs.Processes.{values_in, is_crowded, begun, ended}
-use Rattle.ob_model.specs.Step.{WithHandle, WithRoot, CreatesIn, CreatesAt, OpensName, Turns, SetsMap, Step}
+use Rattle.ob_model.specs.Step.{WithHandle, WithRoot, CreatesIn, CreatesAt, OpensName, Turns, SetsMap, page_refusals, TellsPage, QueriesDirectory, Step}
 use Rattle.ob_model.specs.Sound.{IsSound, Stands}
 use Rattle.ob_model.proofs.Vacant.{IsUsableEnd, usable_end}
 use Rattle.ob_model.proofs.VacantNames.{HasComponent, vacant_name}
@@ -203,6 +204,21 @@ module _ {K T F I : Type 0} (g : Procedures K T F I) where
       tested_sound (is_directory s x.object) ObjectTypeMismatch s t answer ((answer ≡ answers Success) × (t ≡ settle g (with_map s p x.object))) sound
       (λ directory does. subst IsSound (sym does.1) (settled_sound g (with_map s p x.object) (mapped_sound s p x.object directory sound)))) h
 
+  queries_directory_sound : (s t : State K T F I) (p handle context room : ℕ) (single restart : Bool) (answer : Answer)
+      → IsSound s → QueriesDirectory g s p handle context room single restart answer t → IsSound t
+  queries_directory_sound s t p handle context room single restart answer sound h =
+      unless_sound (page_refusals (is_live s p) room) s t answer
+      (MatchOption (option_and_then (held_of s p) (key_of handle)) (IsRefused s InvalidHandle answer t) Pages) sound (λ e. go (option_and_then (held_of s p) (key_of handle))) h
+    where
+      Pages : Held → Type 0
+      Pages x = TellsPage g s x.object (context_used restart context) room single answer t
+
+      go : (o : Option Held) → MatchOption o (IsRefused s InvalidHandle answer t) Pages → IsSound t
+      go None h = refused_sound s t InvalidHandle answer sound h
+      go (Some x) h =
+          unless_sound ((not (is_directory s x.object), ObjectTypeMismatch) ∷ []) s t answer
+          ((answer ≡ page_answer (enumerated g s x.object (context_used restart context) room single)) × (t ≡ s)) sound (λ e does. subst IsSound (sym does.1) sound) h
+
   -- ---- the end of a pending open
 
   -- what a parse leads to, in the state in which it is judged
@@ -247,6 +263,7 @@ module _ {K T F I : Type 0} (g : Procedures K T F I) where
       with_handle_sound s t p handle answer (λ x. TellsTarget s x.object answer × (t ≡ s)) sound (λ x does. subst IsSound (sym does.1) sound) h
   step_sound s t (Start p (QueryName handle)) answer sound h =
       with_handle_sound s t p handle answer (λ x. TellsName s x.object answer × (t ≡ s)) sound (λ x does. subst IsSound (sym does.1) sound) h
+  step_sound s t (Start p (QueryDirectory handle context room single restart)) answer sound h = queries_directory_sound s t p handle context room single restart answer sound h
   step_sound s t (Start p (Duplicate handle to inherit)) answer sound h = duplicates_sound g s t p handle to inherit answer sound h
   step_sound s t (Start p (MakeTemporary handle)) answer sound h = turns_sound s t p handle false answer sound h
   step_sound s t (Start p (MakePermanent handle)) answer sound h = turns_sound s t p handle true answer sound h

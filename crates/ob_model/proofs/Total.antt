@@ -10,7 +10,7 @@ use Rattle.ob_base.specs.Attrs.{has_flag, open_if_flag}
 use Rattle.ob_base.specs.Handle.{key_of}
 use Rattle.ob_model.specs.declared.command.Place.{Place}
 use Rattle.ob_model.specs.declared.command.Place.TheVariants as place
-use Rattle.ob_model.specs.declared.command.Command.TheVariants.{CreateDirectory, CreateLink, CreateObject, OpenDirectory, OpenLink, OpenObject, Close, QueryLink, QueryName, Duplicate, MakeTemporary, MakePermanent, SetDeviceMap, NewProcess, ExitProcess}
+use Rattle.ob_model.specs.declared.command.Command.TheVariants.{CreateDirectory, CreateLink, CreateObject, OpenDirectory, OpenLink, OpenObject, Close, QueryLink, QueryName, QueryDirectory, Duplicate, MakeTemporary, MakePermanent, SetDeviceMap, NewProcess, ExitProcess}
 use Rattle.ob_model.specs.declared.command.Command.{Command}
 use Rattle.ob_model.specs.declared.reply.Answer.{Answer}
 use Rattle.ob_model.specs.declared.reply.Answer.TheVariants.{Ticket}
@@ -39,8 +39,9 @@ use Rattle.ob_model.specs.Parses.{parsed_state, IsParsed, IsBrought, EndsOpen, R
 use Rattle.ob_model.specs.Opens.{GivesHandle, OpensAt, Begins, Opens, asked_by, type_wanted, open_mode}
 use Rattle.ob_model.specs.Creates.{Making, MakesDirectory, MakesLink, MakesObject, is_fit, create_mode, type_made, Spot, is_stampless, room_refusals, make_refusal, body_made, created, dropped, Makes, MakesInRoom, Creates}
 use Rattle.ob_model.specs.Naming.{IsWayUp, row_of, path_text, path_answer, target_of, TellsName, TellsTarget}
+use Rattle.ob_model.specs.Enumeration.{enumerated, context_used, page_answer}
 use Rattle.ob_model.specs.Processes.{values_in, is_crowded, begun, ended}
-use Rattle.ob_model.specs.Step.{WithHandle, WithRoot, CreatesIn, CreatesAt, OpensName, Turns, SetsMap, Step}
+use Rattle.ob_model.specs.Step.{WithHandle, WithRoot, CreatesIn, CreatesAt, OpensName, Turns, SetsMap, page_refusals, TellsPage, QueriesDirectory, Step}
 use Rattle.ob_model.specs.Sound.{IsSound, Stands}
 use Rattle.ob_model.proofs.SoundPaths.{find_of}
 use Rattle.ob_model.proofs.Lookup.{looks_up_total, looks_again_total}
@@ -287,6 +288,21 @@ module _ {K T F I : Type 0} (g : Procedures K T F I) where
       unless_total ((not (is_directory s h.object), ObjectTypeMismatch) ∷ []) s (λ answer t. (answer ≡ answers Success) × (t ≡ settle g (with_map s p h.object)))
       (λ e. (answers Success, settle g (with_map s p h.object), (refl, refl))))
 
+  queries_directory_total : (s : State K T F I) (p handle context room : ℕ) (single restart : Bool) → IsSound s → Has (QueriesDirectory g s p handle context room single restart)
+  queries_directory_total s p handle context room single restart sound =
+      unless_total (page_refusals (is_live s p) room) s
+      (λ answer t. MatchOption (option_and_then (held_of s p) (key_of handle)) (IsRefused s InvalidHandle answer t) (λ h. Pages h answer t))
+      (λ e.
+      held_total s p handle Pages sound
+      (λ h stands.
+      unless_total ((not (is_directory s h.object), ObjectTypeMismatch) ∷ []) s (λ answer t. (answer ≡ told h) × (t ≡ s)) (λ e. (told h, s, (refl, refl)))))
+    where
+      told : Held → Answer
+      told h = page_answer (enumerated g s h.object (context_used restart context) room single)
+
+      Pages : Held → Answer → State K T F I → Type 0
+      Pages h answer t = TellsPage g s h.object (context_used restart context) room single answer t
+
   -- in a sound state every start has an answer
   pub start_total : (s : State K T F I) (p : ℕ) (command : Command K) → IsSound s → (answer : Answer) × (t : State K T F I) × Step g s (Start p command) answer t
   start_total s p (CreateDirectory where_to attrs) sound = creates_at_total s p where_to attrs MakesDirectory sound
@@ -301,6 +317,7 @@ module _ {K T F I : Type 0} (g : Procedures K T F I) where
       with_handle_total s p handle (λ h answer t. TellsTarget s h.object answer × (t ≡ s)) sound (λ h stands. let told = tells_target_total s h.object in (told.0, s, (told.1, refl)))
   start_total s p (QueryName handle) sound =
       with_handle_total s p handle (λ h answer t. TellsName s h.object answer × (t ≡ s)) sound (λ h stands. let told = tells_name_total s h.object sound in (told.0, s, (told.1, refl)))
+  start_total s p (QueryDirectory handle context room single restart) sound = queries_directory_total s p handle context room single restart sound
   start_total s p (Duplicate handle to inherit) sound =
       unless_total ((not (is_live s p), ProcessGone) ∷ (not (is_live s to), ProcessGone) ∷ []) s
       (λ answer t. MatchOption (option_and_then (held_of s p) (key_of handle)) (IsRefused s InvalidHandle answer t) (λ h. Given h answer t))

@@ -12,7 +12,7 @@ use Rattle.ob_base.specs.Handle.{key_of}
 use Rattle.ob_model.specs.declared.reply.Answer.{Answer}
 use Rattle.ob_model.specs.declared.reply.Answer.TheVariants.{Done, Ticket}
 use Rattle.ob_model.specs.declared.reply.Given.{Given}
-use Rattle.ob_model.specs.declared.reply.Given.TheVariants.{Nothing, Handle, Text, Process}
+use Rattle.ob_model.specs.declared.reply.Given.TheVariants.{Nothing, Handle, Text, Process, Page}
 use Rattle.ob_model.specs.declared.state.Held.{Held}
 use Rattle.ob_model.specs.declared.state.Body.{Body}
 use Rattle.ob_model.specs.declared.state.Body.TheVariants.{Directory, Link, Other}
@@ -247,6 +247,7 @@ text_in Nothing = []
 text_in (Handle value) = []
 text_in (Text text) = text
 text_in (Process number values) = []
+text_in (Page entries context) = []
 
 abbrev text_of : Answer → List ℕ
 text_of (Done reply) = text_in reply.given

@@ -8,11 +8,11 @@ use Rattle.ob_base.specs.Handle.{key_of}
 use Rattle.ob_model.specs.declared.command.Place.{Place}
 use Rattle.ob_model.specs.declared.command.Place.TheVariants.{At, Unnamed}
 use Rattle.ob_model.specs.declared.command.Command.{Command}
-use Rattle.ob_model.specs.declared.command.Command.TheVariants.{CreateDirectory, CreateLink, CreateObject, OpenDirectory, OpenLink, OpenObject, Close, QueryLink, QueryName, Duplicate, MakeTemporary, MakePermanent, SetDeviceMap, NewProcess, ExitProcess}
+use Rattle.ob_model.specs.declared.command.Command.TheVariants.{CreateDirectory, CreateLink, CreateObject, OpenDirectory, OpenLink, OpenObject, Close, QueryLink, QueryName, QueryDirectory, Duplicate, MakeTemporary, MakePermanent, SetDeviceMap, NewProcess, ExitProcess}
 use Rattle.ob_model.specs.declared.reply.Answer.{Answer}
 use Rattle.ob_model.specs.declared.reply.Answer.TheVariants.{Done, Ticket}
 use Rattle.ob_model.specs.declared.reply.Given.{Given}
-use Rattle.ob_model.specs.declared.reply.Given.TheVariants.{Nothing, Handle, Text, Process}
+use Rattle.ob_model.specs.declared.reply.Given.TheVariants.{Nothing, Handle, Text, Process, Page}
 use Rattle.ob_model.specs.declared.state.Held.{Held}
 use Rattle.ob_model.specs.State.{State}
 use Rattle.ob_model.specs.Closing.{is_handle}
@@ -29,13 +29,14 @@ unvalued_given Nothing = Nothing
 unvalued_given (Handle value) = Handle 0
 unvalued_given (Text text) = Text text
 unvalued_given (Process number values) = Process number (map (λ value. 0) values)
+unvalued_given (Page entries context) = Page entries context
 
 abbrev pub unvalued_answer : Answer → Answer
 unvalued_answer (Done reply) = Done (record reply { given = unvalued_given reply.given })
 unvalued_answer (Ticket number) = Ticket number
 
--- two answers have the same status, and give handles, the same text, the same process with as many
--- handles, or nothing
+-- two answers have the same status, and give handles, the same text, the same page, the same process with as
+-- many handles, or nothing
 abbrev pub AreAlikeAnswers : Answer → Answer → Type 0
 AreAlikeAnswers a b = unvalued_answer a ≡ unvalued_answer b
 
@@ -45,12 +46,14 @@ handle_in Nothing = None
 handle_in (Handle value) = Some value
 handle_in (Text text) = None
 handle_in (Process number values) = None
+handle_in (Page entries context) = None
 
 abbrev pub process_in : Given → Option ℕ
 process_in Nothing = None
 process_in (Handle value) = None
 process_in (Text text) = None
 process_in (Process number values) = Some number
+process_in (Page entries context) = None
 
 abbrev pub handle_given : Answer → Option ℕ
 handle_given (Done reply) = handle_in reply.given
@@ -66,6 +69,7 @@ values_in_given Nothing = []
 values_in_given (Handle value) = []
 values_in_given (Text text) = []
 values_in_given (Process number values) = values
+values_in_given (Page entries context) = []
 
 abbrev pub values_given : Answer → List ℕ
 values_given (Done reply) = values_in_given reply.given
@@ -145,6 +149,8 @@ module _ {K T F I : Type 0} (s t : State K T F I) (p : ℕ) where
     closes : {value other : ℕ} → LeadAlike s t p value other → AreAlikeCommands (Close value) (Close other)
     queries_of_links : {value other : ℕ} → LeadAlike s t p value other → AreAlikeCommands (QueryLink value) (QueryLink other)
     queries_of_names : {value other : ℕ} → LeadAlike s t p value other → AreAlikeCommands (QueryName value) (QueryName other)
+    queries_of_directories : {value other context room : ℕ} {single restart : Bool} → LeadAlike s t p value other
+        → AreAlikeCommands (QueryDirectory value context room single restart) (QueryDirectory other context room single restart)
     duplicates : {value other to : ℕ} {inherit : Bool} → LeadAlike s t p value other → AreAlikeCommands (Duplicate value to inherit) (Duplicate other to inherit)
     temporaries : {value other : ℕ} → LeadAlike s t p value other → AreAlikeCommands (MakeTemporary value) (MakeTemporary other)
     permanents : {value other : ℕ} → LeadAlike s t p value other → AreAlikeCommands (MakePermanent value) (MakePermanent other)

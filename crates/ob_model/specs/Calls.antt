@@ -9,13 +9,13 @@ use Rattle.std.specs.Prelude.{◌≡◌, ℕ, ◌+◌, Bool, true, false, ◌&&�
 use Rattle.std.specs.Option.{is_some, option_and_then, option_map_or}
 use Rattle.ob_base.specs.Handle.{key_of}
 use Rattle.ob_model.specs.declared.command.Command.{Command}
-use Rattle.ob_model.specs.declared.command.Command.TheVariants.{CreateDirectory, CreateLink, CreateObject, OpenDirectory, OpenLink, OpenObject, Close, QueryLink, QueryName, Duplicate, MakeTemporary, MakePermanent, SetDeviceMap, NewProcess, ExitProcess}
+use Rattle.ob_model.specs.declared.command.Command.TheVariants.{CreateDirectory, CreateLink, CreateObject, OpenDirectory, OpenLink, OpenObject, Close, QueryLink, QueryName, QueryDirectory, Duplicate, MakeTemporary, MakePermanent, SetDeviceMap, NewProcess, ExitProcess}
 use Rattle.ob_model.specs.declared.reply.Answer.{Answer}
 use Rattle.ob_model.specs.declared.reply.Answer.TheVariants.{Done, Ticket}
 use Rattle.ob_model.specs.declared.reply.Event.{Event}
 use Rattle.ob_model.specs.declared.reply.Event.TheVariants.{Start, Resume, Abandon}
 use Rattle.ob_model.specs.declared.reply.Given.{Given}
-use Rattle.ob_model.specs.declared.reply.Given.TheVariants.{Nothing, Handle, Text, Process}
+use Rattle.ob_model.specs.declared.reply.Given.TheVariants.{Nothing, Handle, Text, Process, Page}
 use Rattle.ob_model.specs.declared.state.Body.{Body}
 use Rattle.ob_model.specs.declared.state.Body.TheVariants.{Directory, Link, Other}
 use Rattle.ob_model.specs.declared.state.Held.{Held}
@@ -40,6 +40,7 @@ handle_in Nothing = None
 handle_in (Handle value) = Some value
 handle_in (Text text) = None
 handle_in (Process child values) = None
+handle_in (Page entries context) = None
 
 abbrev pub handle_given : Answer → Option ℕ
 handle_given (Done reply) = handle_in reply.given
@@ -66,6 +67,7 @@ is_set_create (OpenObject root name attrs want) = false
 is_set_create (Close handle) = false
 is_set_create (QueryLink handle) = false
 is_set_create (QueryName handle) = false
+is_set_create (QueryDirectory handle context room single restart) = false
 is_set_create (Duplicate handle to inherit) = false
 is_set_create (MakeTemporary handle) = false
 is_set_create (MakePermanent handle) = false
@@ -146,6 +148,7 @@ module _ {K T F I : Type 0} where
   calls_of_command s t p (Close handle) given o = calls_of_close s t p handle o
   calls_of_command s t p (QueryLink handle) given o = []
   calls_of_command s t p (QueryName handle) given o = []
+  calls_of_command s t p (QueryDirectory handle context room single restart) given o = []
   calls_of_command s t p (Duplicate handle to inherit) given o = calls_of_grant ForDuplicate t to given o
   calls_of_command s t p (MakeTemporary handle) given o = []
   calls_of_command s t p (MakePermanent handle) given o = []

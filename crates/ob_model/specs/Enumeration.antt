@@ -11,6 +11,10 @@ use Rattle.ob_base.specs.declared.status.Status.TheVariants.{Success, MoreEntrie
 use Rattle.ob_model.specs.declared.state.Body.{Body}
 use Rattle.ob_model.specs.declared.state.Body.TheVariants.{Directory, Link, Other}
 use Rattle.ob_model.specs.declared.state.Row.{Row}
+use Rattle.ob_model.specs.declared.entries.Listed.{Listed}
+use Rattle.ob_model.specs.declared.reply.Answer.{Answer}
+use Rattle.ob_model.specs.declared.reply.Given.TheVariants as given
+use Rattle.ob_model.specs.Refusals.{gives}
 use Rattle.ob_model.specs.State.{State, body_of}
 use Rattle.ob_model.specs.Procedures.{Procedures}
 
@@ -51,6 +55,22 @@ page_of (e ∷ es) context room single =
       entries = shown;
       context = last_stamp context shown;
     }
+
+-- the greatest room that may be asked for, in bytes
+abbrev pub largest_room : ℕ
+largest_room = 1048576
+
+-- the context that a page begins behind: 0 where it restarts
+abbrev pub context_used : (restart : Bool) → ℕ → ℕ
+context_used restart context = if restart then 0 else context
+
+-- an entry as an answer tells it: its stamp is left out
+abbrev pub listed : Shown → Listed
+listed e = record { name = e.name; type_name = e.type_name }
+
+-- the answer that gives a page
+abbrev pub page_answer : Page → Answer
+page_answer page = gives page.status (given.Page (map listed page.entries) page.context)
 
 module _ {K T F I : Type 0} (g : Procedures K T F I) where
   -- the name of an object's type

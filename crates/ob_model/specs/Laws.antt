@@ -12,7 +12,8 @@ use Rattle.ob_model.specs.declared.state.Row.{Row}
 use Rattle.ob_model.specs.declared.reply.Answer.{Answer}
 use Rattle.ob_model.specs.declared.reply.Given.TheVariants.{Text}
 use Rattle.ob_model.specs.declared.reply.Event.{Event}
-use Rattle.ob_model.specs.declared.reply.Event.TheVariants.{Start}
+use Rattle.ob_model.specs.declared.reply.Event.TheVariants.{Start, Resume, Abandon}
+use Rattle.ob_model.specs.declared.reply.ParseRun.{ParseRun}
 use Rattle.ob_model.specs.declared.command.Command.{Command}
 use Rattle.ob_model.specs.declared.command.Command.TheVariants.{QueryName, SetDeviceMap}
 use Rattle.ob_model.specs.Names.{separator, joined, IsRest, IsSplit, substituted, ends_in_separator, begins_with_separator}
@@ -32,6 +33,7 @@ use Rattle.ob_model.specs.Creates.{Spot, created}
 use Rattle.ob_model.specs.Naming.{IsWayUp, path_text}
 use Rattle.ob_model.specs.Sound.{IsSound, IsDirectory, Stands}
 use Rattle.ob_model.specs.Exclusive.{AreAlone}
+use Rattle.ob_model.specs.PendingOpens.{pending_of}
 use Rattle.ob_model.specs.Alike.{AreAlike, AreAlikeCommands, AreAlikeAnswers, LeadOn, HoldOn, IsClosedBy, receiver}
 use Rattle.ob_model.specs.Processes.{handles_in, inherited_from, with_child, accepted, begun, ended, Duplicates}
 use Rattle.ob_model.specs.Step.{Step}
@@ -352,6 +354,23 @@ module _ (K T F I : Type 0) where
       (g : Procedures K T F I) (s t : State K T F I) (p : ℕ) (one other : Command K) (a b : Answer) (u v : State K T F I)
       → IsSound s → IsSound t → AreAlike s t → AreAlikeCommands s t p one other → Step g s (Start p one) a u → Step g t (Start p other) b v
       → LeadOn s t p (receiver p one) a b u v
+
+  -- So it is where one pending open is resumed, or given up, in both, and the same became of its parse: the answers
+  -- and the states are alike, and for the process that asked what led alike goes on to, and all is held on.
+  abbrev pub StaysAlike : State K T F I → State K T F I → ℕ → Answer → Answer → State K T F I → State K T F I → Type 0
+  StaysAlike s t ticket a b u v =
+      MatchOption (pending_of s ticket) ⊥
+      (λ x. AreAlikeAnswers a b × AreAlike u v × LeadOn s t x.process x.process a b u v × HoldOn s (λ p value. ⊥) x.process a u)
+
+  abbrev pub ResumesStayAlike : Type 0
+  ResumesStayAlike =
+      (g : Procedures K T F I) (s t : State K T F I) (ticket : ℕ) (parse : ParseRun) (a b : Answer) (u v : State K T F I)
+      → AreAlike s t → Step g s (Resume ticket parse) a u → Step g t (Resume ticket parse) b v → StaysAlike s t ticket a b u v
+
+  abbrev pub AbandonsStayAlike : Type 0
+  AbandonsStayAlike =
+      (g : Procedures K T F I) (s t : State K T F I) (ticket : ℕ) (parse : ParseRun) (a b : Answer) (u v : State K T F I)
+      → AreAlike s t → Step g s (Abandon ticket parse) a u → Step g t (Abandon ticket parse) b v → StaysAlike s t ticket a b u v
 
   -- what a step doesn't close is held on, and the handle that it gives is new
   abbrev pub HandlesHoldOn : Type 0

@@ -2,18 +2,19 @@
 -- answers and what it leaves; and how a pending open ends. The value of a new handle is the one free choice.
 --
 -- Sources: ZwCreateDirectoryObject, ZwOpenDirectoryObject, ZwCreateSymbolicLinkObject,
--- ZwOpenSymbolicLinkObject, ZwQuerySymbolicLinkObject, ZwCreateEvent, ZwOpenEvent, ZwClose, ZwDuplicateObject,
+-- ZwOpenSymbolicLinkObject, ZwQuerySymbolicLinkObject, ZwQueryDirectoryObject, ZwCreateEvent, ZwOpenEvent, ZwClose, ZwDuplicateObject,
 -- ZwMakeTemporaryObject, ZwMakePermanentObject, ObQueryNameString and OBJECT_ATTRIBUTES structure (Windows Driver Kit);
 -- NtSetInformationProcess (ProcessDeviceMap); Windows Internals, Object Manager and Processes.
 -- The order of refusals is this profile.
-use Rattle.std.specs.Prelude.{◌≡◌, ℕ, Bool, true, false, not, [], ◌∷◌, List, Option, None, Some, MatchOption}
+use Rattle.std.specs.Prelude.{◌≡◌, ℕ, Bool, true, false, not, nat_lt, [], ◌∷◌, List, Option, None, Some, MatchOption}
 use Rattle.std.specs.Option.{option_and_then}
-use Rattle.ob_base.specs.declared.status.Status.TheVariants.{Success, InvalidHandle, ObjectTypeMismatch, ProcessGone}
+use Rattle.ob_base.specs.declared.status.Status.{Status}
+use Rattle.ob_base.specs.declared.status.Status.TheVariants.{Success, InvalidParameter, InvalidHandle, ObjectTypeMismatch, ProcessGone}
 use Rattle.ob_base.specs.Handle.{key_of}
 use Rattle.ob_model.specs.declared.command.Place.{Place}
 use Rattle.ob_model.specs.declared.command.Place.TheVariants as place
 use Rattle.ob_model.specs.declared.command.Command.{Command}
-use Rattle.ob_model.specs.declared.command.Command.TheVariants.{CreateDirectory, CreateLink, CreateObject, OpenDirectory, OpenLink, OpenObject, Close, QueryLink, QueryName, Duplicate, MakeTemporary, MakePermanent, SetDeviceMap, NewProcess, ExitProcess}
+use Rattle.ob_model.specs.declared.command.Command.TheVariants.{CreateDirectory, CreateLink, CreateObject, OpenDirectory, OpenLink, OpenObject, Close, QueryLink, QueryName, QueryDirectory, Duplicate, MakeTemporary, MakePermanent, SetDeviceMap, NewProcess, ExitProcess}
 use Rattle.ob_model.specs.declared.reply.Answer.{Answer}
 use Rattle.ob_model.specs.declared.reply.Event.{Event}
 use Rattle.ob_model.specs.declared.reply.Event.TheVariants.{Start, Resume, Abandon}
@@ -33,6 +34,7 @@ use Rattle.ob_model.specs.Refusals.{answers, create_refusals, open_refusals, IsR
 use Rattle.ob_model.specs.Creates.{Making, MakesDirectory, MakesLink, MakesObject, is_fit, create_mode, Makes, Creates}
 use Rattle.ob_model.specs.Opens.{Opens, type_wanted, open_mode}
 use Rattle.ob_model.specs.Naming.{TellsName, TellsTarget}
+use Rattle.ob_model.specs.Enumeration.{enumerated, largest_room, context_used, page_answer}
 use Rattle.ob_model.specs.Processes.{Duplicates, MakesChild, Exits}
 
 module _ {K T F I : Type 0} where
@@ -57,6 +59,10 @@ module _ {K T F I : Type 0} where
   -- nor does one of an object's path
   abbrev pub QueriesName : State K T F I → ℕ → ℕ → Answer → State K T F I → Type 0
   QueriesName s p handle answer t = WithHandle s p handle answer t (λ h. TellsName s h.object answer × (t ≡ s))
+
+-- the refusals of a page before its handle is looked at, for a process that is live or isn't
+abbrev pub page_refusals : Bool → ℕ → List (Bool × Status)
+page_refusals live room = (not live, ProcessGone) ∷ (nat_lt largest_room room, InvalidParameter) ∷ []
 
 module _ {K T F I : Type 0} (g : Procedures K T F I) where
   -- what a create does past its refusals, at a name and without one
@@ -92,6 +98,18 @@ module _ {K T F I : Type 0} (g : Procedures K T F I) where
       WithHandle s p handle answer t
       (λ h. Unless ((not (is_directory s h.object), ObjectTypeMismatch) ∷ []) s answer t ((answer ≡ answers Success) × (t ≡ settle g (with_map s p h.object))))
 
+  -- A page of the directory of a handle of the caller changes nothing. The room is judged before the handle;
+  -- what isn't a directory is of another type.
+  abbrev pub TellsPage : State K T F I → (o context room : ℕ) → (single : Bool) → Answer → State K T F I → Type 0
+  TellsPage s o context room single answer t =
+      Unless ((not (is_directory s o), ObjectTypeMismatch) ∷ []) s answer t ((answer ≡ page_answer (enumerated g s o context room single)) × (t ≡ s))
+
+  abbrev pub QueriesDirectory : State K T F I → (p handle context room : ℕ) → (single restart : Bool) → Answer → State K T F I → Type 0
+  QueriesDirectory s p handle context room single restart answer t =
+      Unless (page_refusals (is_live s p) room) s answer t
+      (MatchOption (option_and_then (held_of s p) (key_of handle)) (IsRefused s InvalidHandle answer t)
+      (λ h. TellsPage s h.object (context_used restart context) room single answer t))
+
   -- a step for a command that a process starts
   abbrev pub Starts : State K T F I → ℕ → Command K → Answer → State K T F I → Type 0
   Starts s p (CreateDirectory where_to attrs) answer t = CreatesAt s p where_to attrs MakesDirectory answer t
@@ -103,6 +121,7 @@ module _ {K T F I : Type 0} (g : Procedures K T F I) where
   Starts s p (Close handle) answer t = Closes s p handle answer t
   Starts s p (QueryLink handle) answer t = QueriesLink s p handle answer t
   Starts s p (QueryName handle) answer t = QueriesName s p handle answer t
+  Starts s p (QueryDirectory handle context room single restart) answer t = QueriesDirectory s p handle context room single restart answer t
   Starts s p (Duplicate handle to inherit) answer t = Duplicates g s p handle to inherit answer t
   Starts s p (MakeTemporary handle) answer t = Turns s p handle false answer t
   Starts s p (MakePermanent handle) answer t = Turns s p handle true answer t

@@ -20,7 +20,7 @@ pub enum Place {
 /// A command of a process. Flags are raw: a lookup and its refusals judge them. The commands are
 /// those of the Windows Driver Kit's `Zw` routines (`ZwCreateDirectoryObject`,
 /// `ZwCreateSymbolicLinkObject`, `ZwCreateEvent` and its like, `ZwOpenDirectoryObject`,
-/// `ZwOpenSymbolicLinkObject`, `ZwClose`, `ZwQuerySymbolicLinkObject`, `ZwDuplicateObject`,
+/// `ZwOpenSymbolicLinkObject`, `ZwClose`, `ZwQuerySymbolicLinkObject`, `ZwQueryDirectoryObject`, `ZwDuplicateObject`,
 /// `ZwMakeTemporaryObject`, `ZwMakePermanentObject`), of `ObQueryNameString` and of
 /// `NtSetInformationProcess` with `ProcessDeviceMap`, without access masks, and the beginning and the end of
 /// a process (Windows Internals, Processes). `K` is the kind of an object of the set of types.
@@ -101,6 +101,21 @@ pub enum Command<K> {
     QueryName {
         /// The handle.
         handle: Handle,
+    },
+    /// Asks for a page of the directory of a handle of the caller: of its entries behind a context, as many as
+    /// fit into a room. The low two bits of the value are ignored.
+    QueryDirectory {
+        /// The handle, which must lead to a directory.
+        handle: Handle,
+        /// The context: the stamp behind which the page begins, as the page before it gave it, 0 at first;
+        /// any number.
+        context: u64,
+        /// The room, in bytes: 0 to 1,048,576. An entry takes 4 and the lengths of both its names.
+        room: u32,
+        /// Whether one entry is asked for, and no more.
+        single: bool,
+        /// Whether the page begins with the first entry, whatever the context.
+        restart: bool,
     },
     /// Duplicates a handle of the caller into a process, which may be the caller itself. The low two
     /// bits of the value are ignored.

@@ -64,6 +64,8 @@ ghost use Rattle.ob_model.specs.Laws.{
   TurnStaysSettled,
   CloseStaysSettled,
   StepsStayAlike,
+  ResumesStayAlike,
+  AbandonsStayAlike,
   HandlesLeadOn,
   HandlesHoldOn,
 };
@@ -300,6 +302,14 @@ pub fn what_is_kept_stays<K, T, F, I>()
 pub fn steps_stay_alike<K, T, F, I>()
     ensures steps { StepsStayAlike K T F I }
     ensures handles { HandlesLeadOn K T F I }
+{}
+
+/// So it is where a pending open is resumed, or given up, in two states that differ in the values of handles alone, and
+/// the same became of its parse: the answers and the states that are left differ in the values of handles alone, and
+/// values of the process that asked that lead to a handle at the same place go on to.
+pub fn resumes_stay_alike<K, T, F, I>()
+    ensures resumes { ResumesStayAlike K T F I }
+    ensures abandons { AbandonsStayAlike K T F I }
 {}
 
 /// A step leaves each handle that it doesn't close under the value that names it; the value of a handle that it

@@ -7,6 +7,7 @@
 
 mod bytes;
 mod command;
+mod entries;
 pub mod examples;
 mod handles;
 pub mod laws;
@@ -15,6 +16,7 @@ mod state;
 
 pub use bytes::Bytes;
 pub use command::{Command, Place};
+pub use entries::{Entries, Listed, TypeName};
 pub use handles::Handles;
 pub use reply::{Answer, Event, Given, ParseRun, Reply};
 pub use state::{Body, Held, Object, Pending, Process, Row, Wanted};

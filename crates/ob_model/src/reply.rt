@@ -1,6 +1,6 @@
 //! What the namespace answers, and the events of its history.
 
-use crate::{Bytes, Command, Handles};
+use crate::{Bytes, Command, Entries, Handles};
 use ob_base::{Handle, Proc, Status};
 
 /// What a reply gives beside its status.
@@ -15,9 +15,18 @@ pub enum Given {
     /// A new process, with the values of the handles that it inherited, in the order in which they were
     /// opened: each is the value of a handle of its parent's too.
     Process(Proc, Handles),
+    /// A page of a directory.
+    Page {
+        /// The entries that it shows, by rising stamps.
+        entries: Entries,
+        /// The context that the next page begins behind: the stamp of the last entry shown, or the one that
+        /// was used where none is.
+        context: u64,
+    },
 }
 
-/// The reply to a command: a status, and what is given with it. A refusal gives nothing.
+/// The reply to a command: a status, and what is given with it. A refusal gives nothing; a page of a
+/// directory is given with each of its four statuses.
 #[derive(Debug, Drop)]
 pub struct Reply {
     /// How the command ended.

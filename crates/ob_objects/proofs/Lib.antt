@@ -8,3 +8,4 @@ pub mod Stands
 pub mod LastBefore
 pub mod Follow
 pub mod Free
+pub mod Pages

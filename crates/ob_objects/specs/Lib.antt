@@ -3,3 +3,4 @@ pub mod Named
 pub mod Store
 pub mod Changes
 pub mod Laws
+pub mod Listing

@@ -4,11 +4,13 @@
 
 mod changes;
 pub mod laws;
+mod listing;
 mod named;
 mod object;
 mod places;
 mod store;
 
+pub use listing::Page;
 pub use named::{Named, Place};
 pub use object::{StoredBody, StoredObject};
 pub use store::Store;

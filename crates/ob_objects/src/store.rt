@@ -193,8 +193,32 @@ impl<T: TypeSet> Store<T> {
         ensures memory { IfErr result (λ fault. fault ≡ Fault.Memory) }
         ensures unchanged { OnErr result (self.new ≡ self.old) }
     {
-        self.objects.insert(id.0, object)?;
-        Ok(())
+        match self.try_insert(id, object) {
+            Ok(()) => Ok(()),
+            Err(_) => Err(Fault::Memory),
+        }
+    }
+
+    /// Stores an object under an id that no object has, as [`Store::insert`] does, and hands it back where
+    /// memory is wanted: then nothing has changed, and the caller may try again.
+    ///
+    /// Source: the ids are this profile.
+    pub fn try_insert(
+        &mut self,
+        id: ObjId,
+        object: StoredObject<T::Face, T::Inner>,
+    ) -> Result<(), StoredObject<T::Face, T::Inner>>
+        requires free { stored_at self.old id ≡ None }
+        requires empty { entries_in object.body ≡ [] }
+        ensures put { IfOk result (λ _. self.new ≡ with_entry self.old id object) }
+        ensures returned { IfErr result (λ back. back ≡ object) }
+        ensures unchanged { OnErr result (self.new ≡ self.old) }
+    {
+        let Err(want) = self.objects.insert(id.0, object) else {
+            return Ok(());
+        };
+        let (_, back) = want.value;
+        Err(back)
     }
 
     /// Takes an object out, with any entries that lie in it, and hands it back; `None` where nothing

@@ -7,7 +7,7 @@ use Rattle.ob_base.specs.declared.status.Status.{Status}
 use Rattle.ob_base.specs.declared.status.Status.TheVariants.{TypeRefused}
 use Rattle.ob_base.specs.Status.{text_of}
 use Rattle.ob_model.specs.declared.reply.Given.{Given}
-use Rattle.ob_model.specs.declared.reply.Given.TheVariants.{Nothing, Handle, Text, Process}
+use Rattle.ob_model.specs.declared.reply.Given.TheVariants.{Nothing, Handle, Text, Process, Page}
 use Rattle.ob_model.specs.declared.reply.Reply.{Reply}
 use Rattle.ob_output.specs.declared.counts.Counts.{Counts}
 
@@ -33,12 +33,13 @@ printed_bytes [] = []
 printed_bytes (byte ∷ bytes) = printed_byte byte ++ printed_bytes bytes
 
 -- what stands behind the status of a reply: a text that is given, between double quotes behind a space;
--- handles and processes are never printed
+-- handles and processes are never printed, and no line of a script asks for a page
 abbrev pub given_text : Given → List ℕ
 given_text Nothing = []
 given_text (Handle handle) = []
 given_text (Text text) = codes " \"" ++ printed_bytes text ++ codes "\""
 given_text (Process process values) = []
+given_text (Page entries context) = []
 
 -- the text of a reply
 abbrev pub reply_text : Reply → List ℕ

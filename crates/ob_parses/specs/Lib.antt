@@ -1,1 +1,3 @@
+pub mod Instance
 pub mod Refused
+pub mod Again

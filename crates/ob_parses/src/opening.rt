@@ -69,7 +69,7 @@ pub fn open_pinned<T: TypeSet, H: HandleTable>(
 }
 
 /// What the flags of a pending open ask of its handle.
-fn asked_by(attrs: u32) -> Asked
+pub(crate) fn asked_by(attrs: u32) -> Asked
     ensures { asked_of result ≡ asked_by attrs }
 {
     Asked {
@@ -79,7 +79,7 @@ fn asked_by(attrs: u32) -> Asked
 }
 
 /// Ends the open of a ticket with a refusal, and gives its answer: what the open alone held goes.
-fn refuse<T: TypeSet, H: HandleTable>(
+pub(crate) fn refuse<T: TypeSet, H: HandleTable>(
     space: &mut Space<T, H>,
     ticket: u64,
     status: Status,

@@ -157,6 +157,7 @@ module _ {T F I : Type 0} where
   given_is_new s r (given.Handle value) free old (inr held) e = absurd (free_unheld s r value (free value refl) (subst (λ x. IsHeld s r x) e held))
   given_is_new s r (given.Text text) free old held e = refl
   given_is_new s r (given.Process process values) free old held e = refl
+  given_is_new s r (given.Page entries context) free old held e = refl
 
   module _ (s t u v : State PlainKind T F I) (p r : ℕ) (a b : Reply) (Closed : ℕ → ℕ → Type 0) (on : LeadOn s t p r (Done a) (Done b) u v) (hold : HoldOn s Closed r (Done a) u)
       (same : unvalued_given a.given ≡ unvalued_given b.given) (words others : Words) (before : AreAlikeWords s t words others) where
@@ -182,6 +183,7 @@ module _ {T F I : Type 0} where
     given_alike given.Nothing given.Nothing e lead first then = unset refl refl
     given_alike (given.Text text) (given.Text other) e lead first then = unset refl refl
     given_alike (given.Process n values) (given.Process m others) e lead first then = unset refl refl
+    given_alike (given.Page entries context) (given.Page others second) e lead first then = unset refl refl
     given_alike thing other e lead first then = cc
 
     -- a word is set to what is given
@@ -293,6 +295,7 @@ module _ {T F I : Type 0} where
     begins left word inherit given.Nothing given.Nothing e inherited told told_too = named_alike u v words others word 0 0 refl u v (words_stay left)
     begins left word inherit (given.Handle value) (given.Handle second) e inherited told told_too = named_alike u v words others word 0 0 refl u v (words_stay left)
     begins left word inherit (given.Text text) (given.Text second) e inherited told told_too = named_alike u v words others word 0 0 refl u v (words_stay left)
+    begins left word inherit (given.Page entries context) (given.Page others' second) e inherited told told_too = named_alike u v words others word 0 0 refl u v (words_stay left)
     begins left word inherit thing other e inherited told told_too = cc
 
 module _ {T F I : Type 0} (g : Procedures PlainKind T F I) (s t u v : State PlainKind T F I) (p : ℕ) (a b : Reply) (words others : Words) (before : AreAlikeWords s t words others) where

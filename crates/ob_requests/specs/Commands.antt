@@ -102,6 +102,7 @@ given_handle given.Nothing = 0
 given_handle (given.Handle handle) = handle
 given_handle (given.Text text) = 0
 given_handle (given.Process process values) = 0
+given_handle (given.Page entries context) = 0
 
 -- the words with a child, where the reply gives one: a process word names it, and it has the words of its
 -- parent that are handed on to it; where none is given the process word is 0
@@ -111,6 +112,7 @@ with_child words parent word inherit (given.Process process handles) =
 with_child words parent word inherit given.Nothing = with_process words word 0
 with_child words parent word inherit (given.Handle handle) = with_process words word 0
 with_child words parent word inherit (given.Text text) = with_process words word 0
+with_child words parent word inherit (given.Page entries context) = with_process words word 0
 
 -- the words after the reply to a process, which changes these of them
 abbrev pub changed : Change (List ℕ) → ℕ → Reply → Words → Words

@@ -44,6 +44,7 @@ given_text_alike given.Nothing = refl
 given_text_alike (given.Handle value) = refl
 given_text_alike (given.Text text) = refl
 given_text_alike (given.Process number values) = refl
+given_text_alike (given.Page entries context) = refl
 
 text_alike : (a b : Reply) → (a.status ≡ b.status) × (unvalued_given a.given ≡ unvalued_given b.given) → reply_text a ≡ reply_text b
 text_alike a b (status, things) = λ i. status_text (status i) ++ (sym (given_text_alike a.given) ∙ ap given_text things ∙ given_text_alike b.given) i

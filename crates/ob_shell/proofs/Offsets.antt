@@ -16,7 +16,7 @@ use Rattle.ob_model.specs.declared.reply.Answer.TheVariants.{Done, Ticket}
 use Rattle.ob_model.specs.declared.reply.Event.{Event}
 use Rattle.ob_model.specs.declared.reply.Event.TheVariants.{Start}
 use Rattle.ob_model.specs.declared.reply.Given.{Given}
-use Rattle.ob_model.specs.declared.reply.Given.TheVariants.{Nothing, Handle, Text, Process}
+use Rattle.ob_model.specs.declared.reply.Given.TheVariants.{Nothing, Handle, Text, Process, Page}
 use Rattle.ob_model.specs.declared.reply.Reply.{Reply}
 use Rattle.ob_model.specs.declared.state.Held.{Held}
 use Rattle.ob_model.specs.declared.state.Wanted.{Wanted}
@@ -37,7 +37,8 @@ use Rattle.ob_model.specs.Processes.{values_in, is_crowded, begun, ended}
 use Rattle.ob_model.specs.Permanence.{turned}
 use Rattle.ob_model.specs.Maps.{with_map}
 use Rattle.ob_model.specs.Naming.{TellsName, TellsTarget, target_of, path_text}
-use Rattle.ob_model.specs.Step.{WithHandle, WithRoot, CreatesIn, CreatesAt, OpensName, Step}
+use Rattle.ob_model.specs.Enumeration.{enumerated, context_used, page_answer}
+use Rattle.ob_model.specs.Step.{WithHandle, WithRoot, CreatesIn, CreatesAt, OpensName, page_refusals, TellsPage, Step}
 use Rattle.ob_lines.specs.declared.handle.Offset.{Offset}
 use Rattle.ob_lines.specs.declared.handle.Offset.TheVariants.{Zero, One, Two, Three}
 use Rattle.ob_lines.specs.declared.request.Request.{Request}
@@ -199,6 +200,18 @@ module _ {K T F I : Type 0} (g : Procedures K T F I) where
       with_handle_gives s t p handle answer (λ x. TellsTarget s x.object answer × (t ≡ s)) (λ x does. target_gives s x.object answer does.0) h
   start_gives s t p (command.QueryName handle) answer h =
       with_handle_gives s t p handle answer (λ x. TellsName s x.object answer × (t ≡ s)) (λ x does. name_gives s x.object answer does.0) h
+  start_gives s t p (command.QueryDirectory handle context room single restart) answer h =
+      unless_gives (page_refusals (is_live s p) room) s t answer
+      (MatchOption (option_and_then (held_of s p) (key_of handle)) (IsRefused s InvalidHandle answer t) Pages) (go (option_and_then (held_of s p) (key_of handle))) h
+    where
+      Pages : Held → Type 0
+      Pages x = TellsPage g s x.object (context_used restart context) room single answer t
+
+      go : (o : Option Held) → MatchOption o (IsRefused s InvalidHandle answer t) Pages → GivesHandle answer
+      go None h = refused_gives s t InvalidHandle answer h
+      go (Some x) h =
+          unless_gives ((not (is_directory s x.object), ObjectTypeMismatch) ∷ []) s t answer
+          ((answer ≡ page_answer (enumerated g s x.object (context_used restart context) room single)) × (t ≡ s)) (λ told. subst GivesHandle (sym told.0) (omega arith)) h
   start_gives s t p (command.Duplicate handle to inherit) answer h =
       unless_gives ((not (is_live s p), ProcessGone) ∷ (not (is_live s to), ProcessGone) ∷ []) s t answer
       (MatchOption (option_and_then (held_of s p) (key_of handle)) (IsRefused s InvalidHandle answer t) Given) (go (option_and_then (held_of s p) (key_of handle))) h
@@ -257,6 +270,7 @@ with_child_kept words parent word inherit (Process process handles) had =
 with_child_kept words parent word inherit Nothing had = had
 with_child_kept words parent word inherit (Handle handle) had = had
 with_child_kept words parent word inherit (Text text) had = had
+with_child_kept words parent word inherit (Page entries context) had = had
 
 -- a reply that gives a handle leaves handles
 changed_kept : (change : Change (List ℕ)) (process : ℕ) (reply : Reply) (words : Words) → HoldHandles words → given_handle reply.given ≤ greatest_handle

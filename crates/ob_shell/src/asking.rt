@@ -76,6 +76,7 @@ fn given_handle(given: &Given) -> Handle
         Given::Nothing => Handle(0),
         Given::Text(_) => Handle(0),
         Given::Process(_, _) => Handle(0),
+        Given::Page { .. } => Handle(0),
     }
 }
 
@@ -144,6 +145,7 @@ pub fn begin_child(
         Given::Nothing => words.set_process(word, Proc(0)),
         Given::Handle(_) => words.set_process(word, Proc(0)),
         Given::Text(_) => words.set_process(word, Proc(0)),
+        Given::Page { .. } => words.set_process(word, Proc(0)),
     }
     Ok(reply)
 }

@@ -65,6 +65,7 @@ fn write_reply<W: Write>(
         Given::Nothing => gather(writer, block, status_line(number, reply.status).as_slice()),
         Given::Handle(_) => gather(writer, block, status_line(number, reply.status).as_slice()),
         Given::Process(..) => gather(writer, block, status_line(number, reply.status).as_slice()),
+        Given::Page { .. } => gather(writer, block, status_line(number, reply.status).as_slice()),
         Given::Text(text) => write_text(writer, block, number, reply.status, text.as_slice()),
     }
 }

@@ -7,6 +7,7 @@ pub mod Opened
 pub mod Orders
 pub mod Placed
 pub mod Results
+pub mod Waiting
 pub mod Walked
 pub mod Stored
 pub mod Turns

@@ -1,15 +1,19 @@
 -- Lookups of the core: the store is closed, and the object of a root handle is there.
-use Rattle.std.proofs.Common.{◌≡◌, ℕ, suc, ◌==◌, Bool, true, false, ◌&&◌, cond, List, [], ◌∷◌, refl, sym, subst, arith}
-use Rattle.std.specs.Prelude.{Option, None, Some, IsSome, All}
+use Rattle.std.proofs.Common.{◌≡◌, ℕ, suc, ◌+◌, ◌≤◌, ◌==◌, Bool, true, false, ◌&&◌, cond, List, [], ◌∷◌, length, refl, sym, subst, arith}
+use Rattle.std.specs.Prelude.{Option, None, Some, IsSome, All, MatchBool}
 use Rattle.std.specs.List.{find}
 use Rattle.std.specs.Option.{option_and_then, option_map, is_some}
+use Rattle.std.proofs.lemmas.Bool.{le-ltb}
 use Rattle.ob_base.specs.Handle.{key_of}
+use Rattle.ob_base.specs.declared.status.Status.TheVariants.{NameTooLong}
 use Rattle.ob_model.specs.declared.state.Object.{Object}
 use Rattle.ob_model.specs.declared.state.Held.{Held}
 use Rattle.ob_model.specs.State.{State, held_of, object_of}
 use Rattle.ob_model.specs.Procedures.{Procedures}
 use Rattle.ob_model.specs.Sound.{IsSound, Stands}
-use Rattle.ob_model.specs.Looks.{Mode, Look, At, Vacant, Parse, Refused}
+use Rattle.ob_model.specs.Looks.{Mode, Look, At, Vacant, Parse, Refused, LooksUp}
+use Rattle.ob_model.specs.Names.{longest_name}
+use Rattle.ob_model.specs.Parses.{LooksAgain}
 use Rattle.ob_model.proofs.Vacant.{IsUsableEnd}
 use Rattle.ob_objects.specs.declared.object.StoredObject.{StoredObject}
 use Rattle.ob_objects.specs.Store.{Entries, stored_at, object_of_stored}
@@ -57,6 +61,14 @@ module _ {K T F I : Type 0} (s : State K T F I) where
       go : (o : Option Held) → IsRoot s (option_map (λ h. h.object) o) → option_map (λ h. Some h.object) o ≡ Some at → IsRoot s at
       go None there e = cc
       go (Some h) there e = let is : Some h.object ≡ at = cc in subst (IsRoot s) is there
+
+-- a text that is no longer than a name is looked up again as a name is, with one reparse less
+module _ {K T F I : Type 0} (g : Procedures K T F I) (s : State K T F I) (p : ℕ) (mode : Mode) (text : List ℕ) (look : Look) where
+  pub looks_again : (n m : ℕ) → n ≡ m + 1 → length text ≤ longest_name → LooksUp g s p mode m None text look → LooksAgain g s p mode n text look
+  looks_again n m is short up =
+      let next : n ≡ suc m = omega (arith, is) in
+      subst (λ k. LooksAgain g s p mode k text look) (sym next)
+      (subst (λ long. MatchBool long (look ≡ Refused NameTooLong) (LooksUp g s p mode m None text look)) (sym (le-ltb longest_name (length text) short)) up)
 
 -- the same state is sound
 pub same_sound : {K T F I : Type 0} (s t : State K T F I) → IsSound s → t ≡ s → IsSound t

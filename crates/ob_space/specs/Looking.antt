@@ -1,5 +1,6 @@
 -- What a lookup of the core rests on, and what its end is good for.
-use Rattle.std.specs.Prelude.{◌≡◌, ℕ, true, false, Option, MatchOption}
+use Rattle.std.specs.Prelude.{◌≡◌, ℕ, true, false, List, Option, MatchOption}
+use Rattle.ob_model.specs.declared.state.Pending.{Pending}
 use Rattle.ob_model.specs.State.{State}
 use Rattle.ob_model.specs.PendingOpens.{face_of}
 use Rattle.ob_model.specs.Procedures.{Procedures}
@@ -11,6 +12,10 @@ module _ {K T F I : Type 0} where
   -- the object of a root handle, where one is given, is there
   abbrev pub IsRoot : State K T F I → Option ℕ → Type 0
   IsRoot s root = MatchOption root (Unit {0}) (Stands s)
+
+  -- the state with these opens pending in place of its own
+  abbrev pub with_these_opens : State K T F I → List (Pending K) → State K T F I
+  with_these_opens s opens = record s { pending = opens }
 
 module _ {K T F I : Type 0} (g : Procedures K T F I) where
   -- an object is one of the set, of a kind that parses

@@ -25,10 +25,12 @@ mod wanted;
 pub use closing::close_handle;
 pub use granting::{Asked, grant};
 pub use judge::{judge_create, judge_open};
-pub use looking::look_up;
+pub use looking::{look_up, look_up_again};
 pub use opening::opening_store;
 pub use placing::{Spot, place_new};
 pub use roots::root_object;
 pub use settling::{settle_after_end, settle_after_loss};
-pub use space::{Namespace, ROOT, Space, held_of, is_full, is_live, is_stampless, is_store_full};
+pub use space::{
+    Namespace, ROOT, Space, held_of, is_full, is_full_without, is_live, is_stampless, is_store_full,
+};
 pub use wanted::is_wanted_at;

@@ -1,15 +1,18 @@
 //! Looking a name up in the namespace.
 
-ghost use Rattle.std.specs.Prelude.{◌≡◌, IfOk, IfErr, Some};
+ghost use Rattle.std.specs.Prelude.{◌≡◌, ℕ, List, IfOk, IfErr, Some};
 ghost use Rattle.ob_base.specs.declared.Fault.TheVariants.{Memory};
 ghost use Rattle.ob_model.specs.Looks as machine;
+ghost use Rattle.ob_model.specs.declared.state.Pending.{Pending};
+ghost use Rattle.ob_model.specs.Parses.{LooksAgain};
+ghost use Rattle.ob_model.specs.PendingOpens.{without_pending};
 ghost use Rattle.ob_model.specs.Sound.{IsSound};
 ghost use Rattle.ob_lookup.specs.Look.{mode_of, look_of};
-ghost use Rattle.ob_space.specs.Looking.{IsRoot, IsUsable};
+ghost use Rattle.ob_space.specs.Looking.{IsRoot, IsUsable, with_these_opens};
 ghost use Rattle.ob_space.specs.Namespace.{state_of};
 
 use crate::space::Space;
-use ob_base::{Fault, ObjId, Proc};
+use ob_base::{Fault, ObjId, Proc, Status};
 use ob_handles::HandleTable;
 use ob_lookup::{Look, Mode, look, sound_has_views, sound_is_closed};
 use ob_names::Name;
@@ -45,17 +48,61 @@ pub fn look_up<T: TypeSet, H: HandleTable>(
     ensures usable { IfOk result (λ look. IsUsable T.procedures (state_of T.Kind space.now) (mode_of mode) (look_of look)) }
     ensures memory { IfErr result (λ fault. fault ≡ Memory) }
 {
+    look_with(space, process, root, name, mode, MOST_REPARSES)
+}
+
+/// Looks up the absolute name that a parse ended with, where so many reparses are left to the lookup: it takes
+/// one of them. It is looked up as [`look_up`] does, in the state as it is now, whatever opens are pending in it,
+/// and so also as when the open that waited for the parse is pending no longer.
+///
+/// It asks that the state is sound. What it ends with is what a lookup ends with: `Refused` with `ReparseLimit`
+/// where no reparse is left, and with `ObjectPathSyntaxBad` where the name doesn't begin with a separator; no
+/// name is too long. Nothing is changed. The only fault is want of memory.
+///
+/// Source: Windows Internals, Object Manager (parse methods, symbolic links); that a parse's text takes one of
+/// the reparses of its lookup, and is looked up in the state as it is when the parse has ended, are this profile.
+pub fn look_up_again<T: TypeSet, H: HandleTable>(
+    space: &Space<T, H>,
+    process: Proc,
+    text: Name<'_>,
+    mode: Mode,
+    left: u32,
+) -> Result<Look, Fault>
+    requires sound { IsSound (state_of T.Kind space.now) }
+    ensures end { IfOk result (λ look. (ticket : ℕ) →
+        LooksAgain T.procedures (without_pending (state_of T.Kind space.now) ticket) process (mode_of mode) left text.entry
+        (look_of look)) }
+    ensures usable { IfOk result (λ look. IsUsable T.procedures (state_of T.Kind space.now) (mode_of mode) (look_of look)) }
+    ensures memory { IfErr result (λ fault. fault ≡ Memory) }
+{
+    // A name is no longer than a lookup takes.
+    let _ = text.as_slice();
+    if left == 0 {
+        return Ok(Look::Refused(Status::ReparseLimit));
+    }
+    look_with(space, process, None, text, mode, left - 1)
+}
+
+/// Looks a name up with so many reparses left, whatever opens are pending.
+fn look_with<T: TypeSet, H: HandleTable>(
+    space: &Space<T, H>,
+    process: Proc,
+    root: Option<ObjId>,
+    name: Name<'_>,
+    mode: Mode,
+    left: u32,
+) -> Result<Look, Fault>
+    requires sound { IsSound (state_of T.Kind space.now) }
+    requires root { IsRoot (state_of T.Kind space.now) root }
+    ensures end { IfOk result (λ look. (opens : List (Pending T.Kind)) →
+        machine.LooksUp T.procedures (with_these_opens (state_of T.Kind space.now) opens) process (mode_of mode) left root name.entry
+        (look_of look)) }
+    ensures usable { IfOk result (λ look. IsUsable T.procedures (state_of T.Kind space.now) (mode_of mode) (look_of look)) }
+    ensures memory { IfErr result (λ fault. fault ≡ Memory) }
+{
     sound_is_closed::<T::Kind, T, T::Face, T::Inner>();
     laws::stored_is_the_object::<T::Kind, T, T::Face, T::Inner>();
     sound_has_views::<T::Kind, T, T::Face, T::Inner>();
     let view = space.processes.view(process);
-    look(
-        space.alloc,
-        &space.store,
-        view,
-        root,
-        name,
-        mode,
-        MOST_REPARSES,
-    )
+    look(space.alloc, &space.store, view, root, name, mode, left)
 }

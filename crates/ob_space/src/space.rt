@@ -1,9 +1,10 @@
 //! The parts of a namespace, and what can be read off them.
 
-ghost use Rattle.std.specs.Prelude.{◌≡◌, ◌||◌};
+ghost use Rattle.std.specs.Prelude.{◌≡◌, ◌||◌, length};
 ghost use Rattle.std.specs.Option.{option_and_then};
 ghost use Rattle.ob_base.specs.Handle.{key_of};
 ghost use Rattle.ob_model.specs.State.{is_live, held_of, is_store_full};
+ghost use Rattle.ob_model.specs.PendingOpens.{without_pending};
 ghost use Rattle.ob_model.specs.Grants.{is_table_full};
 ghost use Rattle.ob_model.specs.Creates.{is_stampless};
 ghost use Rattle.ob_space.specs.Namespace.{state_of};
@@ -101,6 +102,29 @@ pub fn is_store_full<T: TypeSet, H: HandleTable>(space: &Space<T, H>) -> bool
 {
     let there = space.store.len().saturating_add(space.pending.len());
     there >= MOST_OBJECTS || space.next_id > GREATEST_NUMBER
+}
+
+/// Whether no object and no pending open more fits, or no id is left, once no open is pending under a ticket: the
+/// one that is, where there is one, takes no room.
+///
+/// Source: this profile.
+pub fn is_full_without<T: TypeSet, H: HandleTable>(space: &Space<T, H>, ticket: u64) -> bool
+    ensures { result ≡ is_store_full (without_pending (state_of T.Kind space.now) ticket) }
+{
+    let opens = opens_without(space, ticket);
+    let there_then = space.store.len().saturating_add(opens);
+    there_then >= MOST_OBJECTS || space.next_id > GREATEST_NUMBER
+}
+
+/// How many opens are pending under other tickets.
+fn opens_without<T: TypeSet, H: HandleTable>(space: &Space<T, H>, ticket: u64) -> usize
+    ensures { result ≡ length (without_pending (state_of T.Kind space.now) ticket).pending }
+{
+    let opens = space.pending.len();
+    match space.pending.get(ticket) {
+        Some(_) => opens - 1,
+        None => opens,
+    }
 }
 
 /// Whether a process can be given no handle to a new object: its table is full, with 65,535 handles,

@@ -9,7 +9,7 @@ use Rattle.ob_model.specs.Step.{Step, OpensName}
 use Rattle.ob_space.specs.Namespace.{state_of}
 use Rattle.ob_space.proofs.Results.{IfOk-map}
 use Rattle.ob_model.specs.declared.reply.Answer.TheVariants.{Done}
-use Rattle.ob_core.specs.Starting.{answer_of}
+use Rattle.ob_waiting.specs.Waiting.{answer_of}
 use Rattle.ob_core.proofs.commands.step_for.Goals as goal
 
 pub returns-in-OpenDirectory-clause-step : goal.returns-in-OpenDirectory-clause-step

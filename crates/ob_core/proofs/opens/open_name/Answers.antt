@@ -5,7 +5,7 @@ use Rattle.ob_model.specs.Looks.{At, Parse, Refused, LooksUp, most_reparses}
 use Rattle.ob_model.specs.Opens.{Begins}
 use Rattle.ob_lookup.specs.Look.{mode_of, look_of}
 use Rattle.ob_space.specs.Namespace.{state_of}
-use Rattle.ob_core.specs.Starting.{answer_of}
+use Rattle.ob_waiting.specs.Waiting.{answer_of}
 use Rattle.ob_core.proofs.Judged.{judged_live, opens_served, opens_looked}
 use Rattle.ob_space.proofs.Looked.{root_stands}
 use Rattle.ob_core.proofs.opens.open_name.Goals as goal

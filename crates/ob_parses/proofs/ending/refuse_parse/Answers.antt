@@ -1,6 +1,6 @@
 -- The open that was pending is refused; or none was pending, and nothing changes.
-use Rattle.std.proofs.Common.{◌≡◌, ◌∙◌, ℕ, Option, Some, ap, sym, subst}
-use Rattle.ob_model.specs.PendingOpens.{pending_of, without_pending}
+use Rattle.std.proofs.Common.{◌∙◌, ℕ, ap, sym}
+use Rattle.ob_model.specs.PendingOpens.{without_pending}
 use Rattle.ob_model.specs.Refusals.{answers}
 use Rattle.ob_model.specs.Settle.{settle}
 use Rattle.ob_model.specs.State.{is_live}

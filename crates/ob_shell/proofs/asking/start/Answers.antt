@@ -1,6 +1,6 @@
 -- No open waits for a parse.
 use Rattle.std.proofs.Common.{ap}
-use Rattle.ob_core.specs.Starting.{answer_of}
+use Rattle.ob_waiting.specs.Waiting.{answer_of}
 use Rattle.ob_shell.proofs.Replied.{never_waits}
 use Rattle.ob_shell.proofs.asking.start.Goals as goal
 

@@ -9,7 +9,7 @@ use Rattle.ob_model.proofs.Staying.{step_settled}
 use Rattle.ob_parsing.specs.Brought.{run_of, brought as end_of}
 use Rattle.ob_space.specs.Namespace.{state_of}
 use Rattle.ob_space.proofs.Looked.{same_sound}
-use Rattle.ob_core.proofs.Abandoned.{either_way}
+use Rattle.ob_waiting.proofs.Abandoned.{either_way}
 use Rattle.ob_core.proofs.commands.Core.abandon.Goals as goal
 
 pub invariant_of-self : goal.invariant_of-self

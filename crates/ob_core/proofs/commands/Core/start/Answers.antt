@@ -7,7 +7,7 @@ use Rattle.ob_model.proofs.Staying.{step_settled}
 use Rattle.ob_space.specs.Namespace.{state_of}
 use Rattle.ob_space.proofs.Results.{from_result}
 use Rattle.ob_space.proofs.Looked.{same_sound}
-use Rattle.ob_core.specs.Starting.{answer_of}
+use Rattle.ob_waiting.specs.Waiting.{answer_of}
 use Rattle.ob_core.proofs.commands.Core.start.Goals as goal
 
 pub invariant_of-self : goal.invariant_of-self

@@ -1,0 +1,4 @@
+pub mod Begun
+pub mod Abandoned
+pub mod Told
+pub mod Resumed
