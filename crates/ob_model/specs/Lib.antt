@@ -8,6 +8,8 @@ pub mod Settle
 pub mod Grants
 pub mod Enumeration
 pub mod Calls
+pub mod Lifetimes
+pub mod Scans
 pub mod Closing
 pub mod Permanence
 pub mod Maps
