@@ -136,23 +136,42 @@ def owner_of(header):
     return type_name(header[cut.end() :]) + type_name(header[: cut.start()])
 
 
-def functions_of(crate, file, text):
-    """The functions with a body of a source file."""
+def module_of(file):
+    """The module that a source file is."""
     parts = Path(file).with_suffix("").parts[1:]
-    module = [part for part in parts if part not in ("lib", "main", "mod")]
+    return [part for part in parts if part not in ("lib", "main", "mod")]
+
+
+@cache
+def homes(crate):
+    """The modules of a crate that declare its types, by the types' names."""
+    found = {}
+    for path in sorted((ROOT / "crates" / crate / "src").rglob("*.rt")):
+        module = module_of(path.relative_to(ROOT / "crates" / crate))
+        for match in re.finditer(r"\b(?:struct|enum)\s+(\w+)", blanked(path.read_text())):
+            found.setdefault(match.group(1), module)
+    return found
+
+
+def functions_of(crate, file, text):
+    """The functions with a body of a source file. A type's own functions have the path of the module that declares it,
+    wherever they stand; those of a trait have that of their file."""
+    module = module_of(file)
     plain = blanked(text)
     blocks = []
     for match in re.finditer(r"\b(?:impl\b([^{;]*)|mod\s+(\w+)\s*|trait\s+(\w+)[^{;]*)\{", plain):
         name = owner_of(match.group(1)) if match.group(1) is not None else match.group(2) or match.group(3)
         open_at = match.end() - 1
-        blocks.append((open_at, closing(plain, open_at), name))
+        home = homes(crate).get(name, module) if match.group(1) is not None else module
+        blocks.append((open_at, closing(plain, open_at), name, home))
     found = []
     for match in re.finditer(r"\bfn\s+(\w+)", plain):
         open_at = body_of(plain, match.end())
         if open_at is None:
             continue
-        around = [name for start, end, name in blocks if start < match.start() < end]
-        path = "::".join([crate, *module, *around, match.group(1)])
+        around = [(name, home) for start, end, name, home in blocks if start < match.start() < end]
+        home = around[-1][1] if around else module
+        path = "::".join([crate, *home, *(name for name, _ in around), match.group(1)])
         found.append(Function(path, match.start(), closing(plain, open_at) + 1))
     return found
 
