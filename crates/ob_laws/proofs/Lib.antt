@@ -1,0 +1,3 @@
+pub mod Fronts
+pub mod Stamps
+pub mod ScanSteps
