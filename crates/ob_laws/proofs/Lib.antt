@@ -1,0 +1,10 @@
+pub mod CallCounts
+pub mod LifeOf
+pub mod SetCounts
+pub mod ClosedHandles
+pub mod InheritedHandles
+pub mod TakenNumbers
+pub mod GrantSteps
+pub mod GrantCalls
+pub mod StepCalls
+pub mod WholeLives
