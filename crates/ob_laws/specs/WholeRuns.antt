@@ -1,5 +1,5 @@
 -- The statements of the laws of whole runs, which the functions of this crate prove.
-use Rattle.std.specs.Prelude.{◌≡◌, ℕ, ◌+◌, Bool, List, [], ◌∷◌, ◌++◌, AllPairs, Contains, Option, Some, count_by, ◌==◌, ◌<◌}
+use Rattle.std.specs.Prelude.{◌≡◌, ℕ, List, ◌++◌, AllPairs, Contains, Option, Some, count_by, ◌==◌, ◌<◌}
 use Rattle.ob_base.specs.declared.status.Status.TheVariants.{NoMoreEntries}
 use Rattle.ob_model.specs.declared.state.Row.{Row}
 use Rattle.ob_model.specs.State.{State}
