@@ -1,0 +1,156 @@
+-- What a create, an open, a duplicate and the end of a pending open lead to, with what they answer.
+use Rattle.std.proofs.Common.{◌≡◌, ℕ, Bool, true, false, not, List, [], ◌∷◌, Option, None, Some, Result, Ok, Err, MatchOption, MatchResult, sym, subst}
+use Rattle.std.specs.Prelude.{MatchBool}
+use Rattle.std.specs.Option.{option_and_then}
+use Rattle.ob_base.specs.declared.status.Status.{Status}
+use Rattle.ob_base.specs.declared.status.Status.TheVariants.{NoMemory, Success, InvalidHandle, InsufficientResources, ObjectTypeMismatch, ObjectNameExists, ObjectNameCollision, ProcessGone, TypeRefused}
+use Rattle.ob_base.specs.Attrs.{has_flag, open_if_flag}
+use Rattle.ob_base.specs.Handle.{key_of}
+use Rattle.ob_model.specs.declared.command.Place.{Place}
+use Rattle.ob_model.specs.declared.command.Place.TheVariants as place
+use Rattle.ob_model.specs.declared.reply.Answer.{Answer}
+use Rattle.ob_model.specs.declared.reply.Answer.TheVariants.{Ticket}
+use Rattle.ob_model.specs.declared.reply.Given.TheVariants.{Handle}
+use Rattle.ob_model.specs.declared.state.Held.{Held}
+use Rattle.ob_model.specs.declared.state.Body.{Body}
+use Rattle.ob_model.specs.declared.state.Pending.{Pending}
+use Rattle.ob_model.specs.declared.state.Wanted.{Wanted}
+use Rattle.ob_model.specs.State.{State, is_live, is_store_full, held_of}
+use Rattle.ob_model.specs.Looks.{Look, At, Vacant, Parse, Refused, LooksUp, most_reparses}
+use Rattle.ob_model.specs.Procedures.{Procedures, ParseOutcome, EndsItself, EndsMade, EndsReparse, EndsRefused, Reason, Opened, Created, Duplicated}
+use Rattle.ob_model.specs.Settle.{settle}
+use Rattle.ob_model.specs.Grants.{Asked, first_refusal, Grants, IsFreeValue, open_refusal_of, with_open, with_handle}
+use Rattle.ob_model.specs.Types.{is_wanted_at}
+use Rattle.ob_model.specs.Refusals.{gives, answers, IsRefused, Unless, create_refusals, open_refusals}
+use Rattle.ob_model.specs.PendingOpens.{with_pending}
+use Rattle.ob_model.specs.Parses.{EndsOpen}
+use Rattle.ob_model.specs.Opens.{GivesHandle, OpensAt, Opens, asked_by, open_mode}
+use Rattle.ob_model.specs.Creates.{Making, is_fit, create_mode, type_made, Spot, room_refusals, make_refusal, body_made, created, dropped, Makes, Creates}
+use Rattle.ob_model.specs.Processes.{Duplicates}
+use Rattle.ob_model.specs.Step.{WithRoot, CreatesIn, CreatesAt, OpensName}
+
+module _ {K T F I : Type 0} (g : Procedures K T F I) (s : State K T F I) (p : ℕ) (P : Answer → State K T F I → Type 0)
+    (refuses : (status : Status) → P (answers status) s)
+    (drops : (status : Status) (body : Body F I) → P (answers status) (dropped g s body))
+    (grants : (status : Status) (value m : ℕ) (asked : Asked) (reason : Reason) → IsFreeValue s p value
+    → P (gives status (Handle value)) (settle g (with_handle (with_open g s m reason) p value m asked.inherit)))
+    (makes : (spot : Spot) (body : Body F I) (attrs value : ℕ) → IsFreeValue s p value → P (gives Success (Handle value)) (settle g (created g s p spot body attrs value))) where
+  -- an answer and a state that are those
+  lands : (answer other : Answer) (t u : State K T F I) → answer ≡ other → t ≡ u → P other u → P answer t
+  lands answer other t u same_answer same_state h = subst (λ a. P a t) (sym same_answer) (subst (P other) (sym same_state) h)
+
+  refused_lands : (t : State K T F I) (status : Status) (answer : Answer) → IsRefused s status answer t → P answer t
+  refused_lands t status answer h = lands answer (answers status) t s h.0 h.1 (refuses status)
+
+  pub unless_lands : (refusals : List (Bool × Status)) (t : State K T F I) (answer : Answer) (Does : Type 0) → (Does → P answer t) → Unless refusals s answer t Does → P answer t
+  unless_lands refusals t answer Does does h = go (first_refusal refusals) h
+    where
+      go : (refusal : Option Status) → MatchOption refusal Does (λ status. IsRefused s status answer t) → P answer t
+      go None h = does h
+      go (Some status) h = refused_lands t status answer h
+
+  with_root_lands : (t : State K T F I) (root : Option ℕ) (answer : Answer) (Does : Option ℕ → Type 0) → ((at : Option ℕ) → Does at → P answer t) → WithRoot s p root answer t Does → P answer t
+  with_root_lands t None answer Does does h = does None h
+  with_root_lands t (Some handle) answer Does does h = go (option_and_then (held_of s p) (key_of handle)) h
+    where
+      go : (o : Option Held) → MatchOption o (IsRefused s InvalidHandle answer t) (λ x. Does (Some x.object)) → P answer t
+      go None h = refused_lands t InvalidHandle answer h
+      go (Some x) h = does (Some x.object) h
+
+  gives_handle_lands : (t : State K T F I) (m : ℕ) (asked : Asked) (reason : Reason) (status : Status) (answer : Answer) → GivesHandle g s p m asked reason status answer t → P answer t
+  gives_handle_lands t m asked reason status answer h = go h.0 h.1 h.2 h.3
+    where
+      go : (result : Result ℕ Status) (u : State K T F I) → Grants g s p m asked reason result u
+          → MatchResult result (λ value. (answer ≡ gives status (Handle value)) × (t ≡ settle g u)) (λ refusal. IsRefused s refusal answer t) → P answer t
+      go (Ok value) u granted h =
+          lands answer (gives status (Handle value)) t (settle g u) h.0 h.1 (subst (λ v. P (gives status (Handle value)) (settle g v)) (sym granted.2) (grants status value m asked reason granted.1))
+      go (Err refusal) u granted h = refused_lands t refusal answer h
+
+  opens_at_lands : (t : State K T F I) (attrs : ℕ) (wanted : Wanted K) (status : Status) (m : ℕ) (answer : Answer) → OpensAt g s p attrs wanted status m answer t → P answer t
+  opens_at_lands t attrs wanted status m answer h =
+      unless_lands ((not (is_wanted_at g s m wanted), ObjectTypeMismatch) ∷ []) t answer
+      (GivesHandle g s p m (asked_by attrs) Opened status answer t)
+      (λ does. gives_handle_lands t m (asked_by attrs) Opened status answer does) h
+
+  makes_lands : (t : State K T F I) (attrs : ℕ) (making : Making K) (spot : Spot) (answer : Answer) → Makes g s p attrs making spot answer t → P answer t
+  makes_lands t attrs making spot answer h = unless_lands (room_refusals s p spot) t answer _ (go (make_refusal g making)) h
+    where
+      Made : Type 0
+      Made = (value : ℕ) × IsFreeValue s p value × (answer ≡ gives Success (Handle value)) × (t ≡ settle g (created g s p spot (body_made g making) attrs value))
+
+      DroppedFor : ℕ → Type 0
+      DroppedFor k = (answer ≡ answers (TypeRefused k)) × (t ≡ dropped g s (body_made g making))
+
+      opened : (refusal : Option ℕ) → MatchOption refusal Made DroppedFor → P answer t
+      opened None h =
+          lands answer (gives Success (Handle h.0)) t (settle g (created g s p spot (body_made g making) attrs h.0)) h.2 h.3 (makes spot (body_made g making) attrs h.0 h.1)
+      opened (Some k) h = lands answer (answers (TypeRefused k)) t (dropped g s (body_made g making)) h.0 h.1 (drops (TypeRefused k) (body_made g making))
+
+      go : (refusal : Option ℕ)
+          → MatchOption refusal (MatchOption (open_refusal_of g s.set (body_made g making) Created) Made DroppedFor) (λ k. IsRefused s (TypeRefused k) answer t) → P answer t
+      go None h = opened (open_refusal_of g s.set (body_made g making) Created) h
+      go (Some k) h = refused_lands t (TypeRefused k) answer h
+
+  creates_lands : (t : State K T F I) (attrs : ℕ) (making : Making K) (look : Look) (answer : Answer) → Creates g s p attrs making look answer t → P answer t
+  creates_lands t attrs making (Refused status) answer h = refused_lands t status answer h
+  creates_lands t attrs making (At m) answer h = go (has_flag open_if_flag attrs) h
+    where
+      go : (opens : Bool) → MatchBool opens (OpensAt g s p attrs (type_made making) ObjectNameExists m answer t) (IsRefused s ObjectNameCollision answer t) → P answer t
+      go true h = opens_at_lands t attrs (type_made making) ObjectNameExists m answer h
+      go false h = refused_lands t ObjectNameCollision answer h
+  creates_lands t attrs making (Parse m rest n) answer h = absurd h
+  creates_lands t attrs making (Vacant d c) answer h = makes_lands t attrs making (Some (d, c)) answer h
+
+  creates_in_lands : (t : State K T F I) (where_to : Place) (attrs : ℕ) (making : Making K) (answer : Answer) → CreatesIn g s p where_to attrs making answer t → P answer t
+  creates_in_lands t (place.At root name) attrs making answer h =
+      with_root_lands t root answer
+      (λ at. (look : Look) × LooksUp g s p (create_mode attrs) most_reparses at name look × Creates g s p attrs making look answer t)
+      (λ at does. creates_lands t attrs making does.0 answer does.2) h
+  creates_in_lands t place.Unnamed attrs making answer h = makes_lands t attrs making None answer h
+
+  -- a create
+  pub creates_at_lands : (t : State K T F I) (where_to : Place) (attrs : ℕ) (making : Making K) (answer : Answer) → CreatesAt g s p where_to attrs making answer t → P answer t
+  creates_at_lands t where_to attrs making answer h =
+      unless_lands (create_refusals (is_live s p) (is_fit making) where_to attrs) t answer (CreatesIn g s p where_to attrs making answer t) (creates_in_lands t where_to attrs making answer) h
+
+  -- a duplicate into this process
+  pub duplicates_lands : (t : State K T F I) (from handle : ℕ) (inherit : Bool) (answer : Answer) → Duplicates g s from handle p inherit answer t → P answer t
+  duplicates_lands t from handle inherit answer h =
+      unless_lands ((not (is_live s from), ProcessGone) ∷ (not (is_live s p), ProcessGone) ∷ []) t answer
+      (MatchOption (option_and_then (held_of s from) (key_of handle)) (IsRefused s InvalidHandle answer t) Given) (go (option_and_then (held_of s from) (key_of handle))) h
+    where
+      Given : Held → Type 0
+      Given x = GivesHandle g s p x.object (record { inherit = inherit; exclusive = false }) Duplicated Success answer t
+
+      go : (o : Option Held) → MatchOption o (IsRefused s InvalidHandle answer t) Given → P answer t
+      go None h = refused_lands t InvalidHandle answer h
+      go (Some x) h = gives_handle_lands t x.object (record { inherit = inherit; exclusive = false }) Duplicated Success answer h
+
+  module _ (waits : (attrs : ℕ) (wanted : Wanted K) (m : ℕ) (rest : List ℕ) (n : ℕ) → P (Ticket s.next_id) (settle g (with_pending s p attrs wanted m rest n))) where
+    opens_lands : (t : State K T F I) (attrs : ℕ) (wanted : Wanted K) (look : Look) (answer : Answer) → Opens g s p attrs wanted look answer t → P answer t
+    opens_lands t attrs wanted (Refused status) answer h = refused_lands t status answer h
+    opens_lands t attrs wanted (Vacant d c) answer h = absurd h
+    opens_lands t attrs wanted (Parse m rest n) answer h =
+        unless_lands ((is_store_full s, InsufficientResources) ∷ []) t answer ((answer ≡ Ticket s.next_id) × (t ≡ settle g (with_pending s p attrs wanted m rest n)))
+        (λ does. lands answer (Ticket s.next_id) t (settle g (with_pending s p attrs wanted m rest n)) does.0 does.1 (waits attrs wanted m rest n)) h
+    opens_lands t attrs wanted (At m) answer h = opens_at_lands t attrs wanted Success m answer h
+
+    -- an open
+    pub opens_name_lands : (t : State K T F I) (root : Option ℕ) (name : List ℕ) (attrs : ℕ) (wanted : Wanted K) (answer : Answer) → OpensName g s p root name attrs wanted answer t → P answer t
+    opens_name_lands t root name attrs wanted answer h =
+        unless_lands (open_refusals (is_live s p) name attrs) t answer (WithRoot s p root answer t Does)
+        (with_root_lands t root answer Does (λ at does. opens_lands t attrs wanted does.0 answer does.2)) h
+      where
+        Does : Option ℕ → Type 0
+        Does at = (look : Look) × LooksUp g s p (open_mode wanted attrs) most_reparses at name look × Opens g s p attrs wanted look answer t
+
+    -- what a parse leads to, in the state in which it is judged
+    pub ends_open_lands : (t : State K T F I) (x : Pending K) (outcome : Option (ParseOutcome F I)) (answer : Answer) → x.process ≡ p → EndsOpen g s x outcome answer t → P answer t
+    ends_open_lands t x None answer e h = refused_lands t NoMemory answer h
+    ends_open_lands t x (Some EndsItself) answer e h =
+        opens_at_lands t x.attrs x.wanted Success x.object answer (subst (λ q. OpensAt g s q x.attrs x.wanted Success x.object answer t) e h)
+    ends_open_lands t x (Some (EndsMade face inner)) answer e h =
+        opens_at_lands t x.attrs x.wanted Success x.ticket answer (subst (λ q. OpensAt g s q x.attrs x.wanted Success x.ticket answer t) e h)
+    ends_open_lands t x (Some (EndsReparse text)) answer e h =
+        opens_lands t x.attrs x.wanted h.0 answer (subst (λ q. Opens g s q x.attrs x.wanted h.0 answer t) e h.2)
+    ends_open_lands t x (Some (EndsRefused k)) answer e h = refused_lands t (TypeRefused k) answer h

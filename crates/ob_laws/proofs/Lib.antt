@@ -1,0 +1,13 @@
+pub mod Fronts
+pub mod Stamps
+pub mod ScanSteps
+pub mod CallCounts
+pub mod LifeOf
+pub mod SetCounts
+pub mod ClosedHandles
+pub mod InheritedHandles
+pub mod TakenNumbers
+pub mod GrantSteps
+pub mod GrantCalls
+pub mod StepCalls
+pub mod WholeLives
