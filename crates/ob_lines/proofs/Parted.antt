@@ -3,16 +3,16 @@ use Rattle.std.proofs.Common.{◌≡◌, ◌≢◌, ℕ, List, [], ◌∷◌, �
 use Rattle.std.specs.Str.{bytes_eq}
 use Rattle.std.proofs.lemmas.Bool.{both_ways}
 use Rattle.std.proofs.lemmas.Slice.Eq.{bytes_eq-Decides}
-use Rattle.ob_plain.specs.declared.plain.PlainKind.{PlainKind}
-use Rattle.ob_plain.specs.declared.plain.PlainKind.TheVariants.{Event, Mutant, Section}
-use Rattle.ob_plain.specs.Plain.{name_of}
 use Rattle.ob_lines.specs.declared.handle.HandleForm.{HandleForm}
+use Rattle.ob_lines.specs.declared.kind.KindForm.{KindForm}
+use Rattle.ob_lines.specs.declared.kind.KindForm.TheVariants.{Event, Mutant, Section, Device, File, Key}
 use Rattle.ob_lines.specs.declared.request.NameForm.{NameForm}
 use Rattle.ob_lines.specs.declared.request.NameForm.TheVariants.{Absolute, Relative}
 use Rattle.ob_lines.specs.declared.request.PlaceForm.{PlaceForm}
 use Rattle.ob_lines.specs.declared.request.PlaceForm.TheVariants.{Named, Unnamed}
 use Rattle.ob_lines.specs.Text.{Lacks}
 use Rattle.ob_lines.specs.Flags.{IsFlags}
+use Rattle.ob_lines.specs.Kinds.{name_of}
 use Rattle.ob_lines.specs.Parts.{IsHandle, BeginsWithText, BeginsWithName, BeginsWithPlace, BeginsWithKind, BeginsWithWant, BeginsWithFlags, SetsWord}
 use Rattle.ob_lines.specs.Grammar.{IsFlagsAndWord, IsFlagsTextAndWord, IsNameFlagsAndWord, IsPlaceFlagsTextAndWord}
 use Rattle.ob_lines.proofs.Cuts.{cut_alike, cuts_apart, lacks_no_cut}
@@ -132,32 +132,41 @@ no_place bytes none name (Named n) r b = name n r b
 no_place bytes none name Unnamed r e = none r e
 
 -- the names of kinds have no space, and no two kinds share one
-pub kind_lacks : (kind : PlainKind) → Lacks 0x20 (name_of kind)
+pub kind_lacks : (kind : KindForm) → Lacks 0x20 (name_of kind)
 kind_lacks Event = lacks_from_test 0x20 (codes "Event") refl
 kind_lacks Mutant = lacks_from_test 0x20 (codes "Mutant") refl
 kind_lacks Section = lacks_from_test 0x20 (codes "Section") refl
+kind_lacks Device = lacks_from_test 0x20 (codes "Device") refl
+kind_lacks File = lacks_from_test 0x20 (codes "File") refl
+kind_lacks Key = lacks_from_test 0x20 (codes "Key") refl
 
-kind_same : (a b : PlainKind) → name_of a ≡ name_of b → a ≡ b
+kind_same : (a b : KindForm) → name_of a ≡ name_of b → a ≡ b
 kind_same Event Event e = refl
 kind_same Mutant Mutant e = refl
 kind_same Section Section e = refl
+kind_same Device Device e = refl
+kind_same File File e = refl
+kind_same Key Key e = refl
 kind_same a b e = absurd (differ (name_of a) (name_of b) refl e)
 
 -- bytes begin with one kind at most
-pub kind_alike : (bytes : List ℕ) (k : PlainKind) (r : List ℕ) (k' : PlainKind) (r' : List ℕ) → BeginsWithKind bytes k r → BeginsWithKind bytes k' r'
+pub kind_alike : (bytes : List ℕ) (k : KindForm) (r : List ℕ) (k' : KindForm) (r' : List ℕ) → BeginsWithKind bytes k r → BeginsWithKind bytes k' r'
     → (k ≡ k') × (r ≡ r')
 kind_alike bytes k r k' r' e f =
     let same = spaced_alike bytes (name_of k) r (name_of k') r' (kind_lacks k) (kind_lacks k') (spaced bytes (name_of k) r e) f in
     (kind_same k k' same.0, same.1)
 
 -- `any` is no kind
-any_no_kind : (bytes rest : List ℕ) (k : PlainKind) (r : List ℕ) → bytes ≡ codes "any " ++ rest → ¬ BeginsWithKind bytes k r
+any_no_kind : (bytes rest : List ℕ) (k : KindForm) (r : List ℕ) → bytes ≡ codes "any " ++ rest → ¬ BeginsWithKind bytes k r
 any_no_kind bytes rest Event r e f = apart 0x61 0x45 (sym e ∙ f) (omega arith)
 any_no_kind bytes rest Mutant r e f = apart 0x61 0x4D (sym e ∙ f) (omega arith)
 any_no_kind bytes rest Section r e f = apart 0x61 0x53 (sym e ∙ f) (omega arith)
+any_no_kind bytes rest Device r e f = apart 0x61 0x44 (sym e ∙ f) (omega arith)
+any_no_kind bytes rest File r e f = apart 0x61 0x46 (sym e ∙ f) (omega arith)
+any_no_kind bytes rest Key r e f = apart 0x61 0x4B (sym e ∙ f) (omega arith)
 
 -- and with one thing that is wanted
-pub want_alike : (bytes : List ℕ) (k : Option PlainKind) (r : List ℕ) (k' : Option PlainKind) (r' : List ℕ) → BeginsWithWant bytes k r → BeginsWithWant bytes k' r'
+pub want_alike : (bytes : List ℕ) (k : Option KindForm) (r : List ℕ) (k' : Option KindForm) (r' : List ℕ) → BeginsWithWant bytes k r → BeginsWithWant bytes k' r'
     → (k ≡ k') × (r ≡ r')
 want_alike bytes None r None r' e f =
     (refl, ap (drop 4) (sym e ∙ f))
@@ -166,17 +175,17 @@ want_alike bytes (Some k) r None r' e f = absurd (any_no_kind bytes r' k r f e)
 want_alike bytes (Some k) r (Some k') r' e f = let same = kind_alike bytes k r k' r' e f in (ap Some same.0, same.1)
 
 -- bytes that begin with neither `any` nor a kind begin with nothing that is wanted
-pub no_want : (bytes : List ℕ) → ((rest : List ℕ) → bytes ≢ codes "any " ++ rest) → ((k : PlainKind) (r : List ℕ) → ¬ BeginsWithKind bytes k r)
-    → (k : Option PlainKind) (r : List ℕ) → ¬ BeginsWithWant bytes k r
+pub no_want : (bytes : List ℕ) → ((rest : List ℕ) → bytes ≢ codes "any " ++ rest) → ((k : KindForm) (r : List ℕ) → ¬ BeginsWithKind bytes k r)
+    → (k : Option KindForm) (r : List ℕ) → ¬ BeginsWithWant bytes k r
 no_want bytes any kind None r e = any r e
 no_want bytes any kind (Some k) r b = kind k r b
 
 -- bytes that are cut at their first space begin with no other kind, and with no other flags
-pub kind_parts : (bytes word rest : List ℕ) (k : PlainKind) (r : List ℕ) → bytes ≡ word ++ (0x20 ∷ rest) → Lacks 0x20 word → BeginsWithKind bytes k r
+pub kind_parts : (bytes word rest : List ℕ) (k : KindForm) (r : List ℕ) → bytes ≡ word ++ (0x20 ∷ rest) → Lacks 0x20 word → BeginsWithKind bytes k r
     → (word ≡ name_of k) × (rest ≡ r)
 kind_parts bytes word rest k r e l f = spaced_alike bytes word rest (name_of k) r l (kind_lacks k) e f
 
-pub kind_uncut : (bytes : List ℕ) (k : PlainKind) (r : List ℕ) → Lacks 0x20 bytes → ¬ BeginsWithKind bytes k r
+pub kind_uncut : (bytes : List ℕ) (k : KindForm) (r : List ℕ) → Lacks 0x20 bytes → ¬ BeginsWithKind bytes k r
 kind_uncut bytes k r l e = lacks_no_cut 0x20 bytes (name_of k) r l (spaced bytes (name_of k) r e)
 
 pub flags_parts : (bytes flags rest : List ℕ) (a : ℕ) (r : List ℕ) → bytes ≡ flags ++ (0x20 ∷ rest) → Lacks 0x20 flags → BeginsWithFlags bytes a r

@@ -1,8 +1,8 @@
 -- Verbs: their words, and the requests of each.
 use Rattle.std.proofs.Common.{◌≡◌, ℕ, Bool, List, Option, if◌then◌else◌, refl, ap, sym, subst, ◌∙◌, codes}
 use Rattle.std.specs.Str.{bytes_eq}
-use Rattle.ob_plain.specs.declared.plain.PlainKind.{PlainKind}
 use Rattle.ob_lines.specs.declared.handle.HandleForm.{HandleForm}
+use Rattle.ob_lines.specs.declared.kind.KindForm.{KindForm}
 use Rattle.ob_lines.specs.declared.request.NameForm.{NameForm}
 use Rattle.ob_lines.specs.declared.request.PlaceForm.{PlaceForm}
 use Rattle.ob_lines.specs.declared.request.Request.{Request}
@@ -75,10 +75,10 @@ verb_same a b e = sym (reads_back a) ∙ (ap read e ∙ reads_back b)
 abbrev pub Each : Verb → (Request (List ℕ) → Type 0) → Type 0
 Each verb.Dir P = (p : PlaceForm (List ℕ)) (a : ℕ) (w : List ℕ) → P (CreateDirectory p a w)
 Each verb.Link P = (p : PlaceForm (List ℕ)) (a : ℕ) (t w : List ℕ) → P (CreateLink p a t w)
-Each verb.Make P = (k : PlainKind) (p : PlaceForm (List ℕ)) (a : ℕ) (t w : List ℕ) → P (CreateObject k p a t w)
+Each verb.Make P = (k : KindForm) (p : PlaceForm (List ℕ)) (a : ℕ) (t w : List ℕ) → P (CreateObject k p a t w)
 Each verb.OpenDir P = (n : NameForm (List ℕ)) (a : ℕ) (w : List ℕ) → P (OpenDirectory n a w)
 Each verb.OpenLink P = (n : NameForm (List ℕ)) (a : ℕ) (w : List ℕ) → P (OpenLink n a w)
-Each verb.Open P = (k : Option PlainKind) (n : NameForm (List ℕ)) (a : ℕ) (w : List ℕ) → P (OpenObject k n a w)
+Each verb.Open P = (k : Option KindForm) (n : NameForm (List ℕ)) (a : ℕ) (w : List ℕ) → P (OpenObject k n a w)
 Each verb.Close P = (h : HandleForm (List ℕ)) → P (Close h)
 Each verb.Target P = (h : HandleForm (List ℕ)) → P (QueryLink h)
 Each verb.Name P = (h : HandleForm (List ℕ)) → P (QueryName h)

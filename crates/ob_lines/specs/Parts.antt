@@ -6,17 +6,17 @@
 -- Source: this profile.
 use Rattle.std.specs.Prelude.{◌≡◌, ℕ, Bool, true, false, List, [], ◌++◌, Option, None, Some, codes}
 use Rattle.std.specs.Borrow.{Bor}
-use Rattle.ob_plain.specs.declared.plain.PlainKind.{PlainKind}
-use Rattle.ob_plain.specs.Plain.{name_of}
 use Rattle.ob_lines.specs.declared.handle.HandleForm.{HandleForm}
 use Rattle.ob_lines.specs.declared.handle.Offset.{Offset}
 use Rattle.ob_lines.specs.declared.handle.Offset.TheVariants.{Zero, One, Two, Three}
+use Rattle.ob_lines.specs.declared.kind.KindForm.{KindForm}
 use Rattle.ob_lines.specs.declared.request.NameForm.{NameForm}
 use Rattle.ob_lines.specs.declared.request.NameForm.TheVariants.{Absolute, Relative}
 use Rattle.ob_lines.specs.declared.request.PlaceForm.{PlaceForm}
 use Rattle.ob_lines.specs.declared.request.PlaceForm.TheVariants.{Named, Unnamed}
 use Rattle.ob_lines.specs.Text.{IsWord, IsProcessWord, IsText}
 use Rattle.ob_lines.specs.Flags.{IsFlags}
+use Rattle.ob_lines.specs.Kinds.{name_of}
 
 -- a text between double quotes
 abbrev pub BeginsWithText : List ℕ → List ℕ → List ℕ → Type 0
@@ -60,11 +60,11 @@ BeginsWithPlace bytes (Named name) rest = BeginsWithName bytes name rest
 BeginsWithPlace bytes Unnamed rest = bytes ≡ codes "none " ++ rest
 
 -- a kind, by the name of its type
-abbrev pub BeginsWithKind : List ℕ → PlainKind → List ℕ → Type 0
+abbrev pub BeginsWithKind : List ℕ → KindForm → List ℕ → Type 0
 BeginsWithKind bytes kind rest = bytes ≡ name_of kind ++ codes " " ++ rest
 
 -- what an open wants: a kind, or `any` for each object
-abbrev pub BeginsWithWant : List ℕ → Option PlainKind → List ℕ → Type 0
+abbrev pub BeginsWithWant : List ℕ → Option KindForm → List ℕ → Type 0
 BeginsWithWant bytes None rest = bytes ≡ codes "any " ++ rest
 BeginsWithWant bytes (Some kind) rest = BeginsWithKind bytes kind rest
 

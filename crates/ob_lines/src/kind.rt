@@ -1,18 +1,34 @@
 //! Kinds of objects.
 
 ghost use Rattle.std.specs.Prelude.{◌≡◌, ◌≢◌, ◌≤◌, ℕ, List, Option, length, IfSome, IfNone};
-ghost use Rattle.ob_plain.specs.Plain.{name_of};
-ghost use Rattle.ob_plain.specs.declared.plain.PlainKind.{PlainKind};
+ghost use Rattle.ob_lines.specs.declared.kind.KindForm.{KindForm};
+ghost use Rattle.ob_lines.specs.Kinds.{name_of};
 ghost use Rattle.ob_lines.specs.Parts.{BeginsWithKind, BeginsWithWant};
 
 use crate::split::{behind, split_at};
-use ob_plain::PlainKind;
+
+/// A kind of objects as a line names it: by the name of its type. (this profile)
+#[derive(Clone, Copy, PartialEq, Eq, Debug)]
+pub enum KindForm {
+    /// `Event`.
+    Event,
+    /// `Mutant`.
+    Mutant,
+    /// `Section`.
+    Section,
+    /// `Device`.
+    Device,
+    /// `File`.
+    File,
+    /// `Key`.
+    Key,
+}
 
 // The kind with which the bytes begin, and what stands behind it and a space.
-pub fn take_kind(bytes: &[u8]) -> Option<(PlainKind, &[u8])>
+pub fn take_kind(bytes: &[u8]) -> Option<(KindForm, &[u8])>
     ensures found { IfSome result (λ found. BeginsWithKind bytes.now found.0 found.1.now) }
     ensures shorter { IfSome result (λ found. length found.1.now ≤ length bytes.now) }
-    ensures none { IfNone result ((kind : PlainKind) (rest : List ℕ) → ¬ BeginsWithKind bytes.now kind rest) }
+    ensures none { IfNone result ((kind : KindForm) (rest : List ℕ) → ¬ BeginsWithKind bytes.now kind rest) }
 {
     let (word, rest) = split_at(bytes, b' ')?;
     let kind = kind_of(word)?;
@@ -21,10 +37,10 @@ pub fn take_kind(bytes: &[u8]) -> Option<(PlainKind, &[u8])>
 
 // What an open wants, with which the bytes begin, and what stands behind it and a space: a kind, or
 // none for `any`.
-pub fn take_want(bytes: &[u8]) -> Option<(Option<PlainKind>, &[u8])>
+pub fn take_want(bytes: &[u8]) -> Option<(Option<KindForm>, &[u8])>
     ensures found { IfSome result (λ found. BeginsWithWant bytes.now found.0 found.1.now) }
     ensures shorter { IfSome result (λ found. length found.1.now ≤ length bytes.now) }
-    ensures none { IfNone result ((want : Option PlainKind) (rest : List ℕ) → ¬ BeginsWithWant bytes.now want rest) }
+    ensures none { IfNone result ((want : Option KindForm) (rest : List ℕ) → ¬ BeginsWithWant bytes.now want rest) }
 {
     if let Some(rest) = behind(bytes, b"any ") {
         return Some((None, rest));
@@ -34,18 +50,27 @@ pub fn take_want(bytes: &[u8]) -> Option<(Option<PlainKind>, &[u8])>
 }
 
 // The kind of a word.
-fn kind_of(word: &[u8]) -> Option<PlainKind>
+fn kind_of(word: &[u8]) -> Option<KindForm>
     ensures found { IfSome result (λ kind. word.now ≡ name_of kind) }
-    ensures none { IfNone result ((kind : PlainKind) → word.now ≢ name_of kind) }
+    ensures none { IfNone result ((kind : KindForm) → word.now ≢ name_of kind) }
 {
     if word == b"Event".as_slice() {
-        return Some(PlainKind::Event);
+        return Some(KindForm::Event);
     }
     if word == b"Mutant".as_slice() {
-        return Some(PlainKind::Mutant);
+        return Some(KindForm::Mutant);
     }
     if word == b"Section".as_slice() {
-        return Some(PlainKind::Section);
+        return Some(KindForm::Section);
+    }
+    if word == b"Device".as_slice() {
+        return Some(KindForm::Device);
+    }
+    if word == b"File".as_slice() {
+        return Some(KindForm::File);
+    }
+    if word == b"Key".as_slice() {
+        return Some(KindForm::Key);
     }
     None
 }

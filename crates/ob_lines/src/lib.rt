@@ -21,6 +21,7 @@ mod verb;
 pub use change::{Change, change_of};
 pub use form::{Form, LONGEST_LINE, form_of, lines_have_one_form};
 pub use handle::{HandleForm, Offset, offset_value};
+pub use kind::KindForm;
 pub use request::{NameForm, PlaceForm, Request};
 pub use script::{every_script_has_a_reading, read_line, scripts_have_one_reading};
 pub use text::{decode, texts_spell_one_thing};

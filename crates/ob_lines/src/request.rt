@@ -1,8 +1,8 @@
 //! What a process asks for in a line.
 
 ghost use Rattle.std.specs.Prelude.{◌≡◌, ◌≤◌, ℕ, Bool, List, Option, length, IfSome, IfNone};
-ghost use Rattle.ob_plain.specs.declared.plain.PlainKind.{PlainKind};
 ghost use Rattle.ob_lines.specs.declared.handle.HandleForm.{HandleForm};
+ghost use Rattle.ob_lines.specs.declared.kind.KindForm.{KindForm};
 ghost use Rattle.ob_lines.specs.declared.request.NameForm.{NameForm};
 ghost use Rattle.ob_lines.specs.declared.request.PlaceForm.{PlaceForm};
 ghost use Rattle.ob_lines.specs.declared.request.Request.{Request};
@@ -10,14 +10,13 @@ ghost use Rattle.ob_lines.specs.declared.verb.Verb.{Verb};
 ghost use Rattle.ob_lines.specs.Grammar.{IsOperands, IsRequest, IsVerbAndOperands, request_seen, verb_of};
 
 use crate::handle::{HandleForm, handle_of};
-use crate::kind::{take_kind, take_want};
+use crate::kind::{KindForm, take_kind, take_want};
 use crate::parts::{
     flags_and_word, name_flags_and_word, place_flags_text_and_word, take_place, word_set,
 };
 use crate::process::{process_set, take_handle, take_inherit, take_process};
 use crate::split::split_at;
 use crate::verb::{Verb, verb_of};
-use ob_plain::PlainKind;
 
 /// A name in a line. `T` is how bytes are held: as slices of the line, or, in contracts, as lists.
 #[derive(Clone, Copy, PartialEq, Eq, Debug)]
@@ -70,7 +69,7 @@ pub enum Request<T> {
     /// `make KIND PLACE FLAGS TEXT =V`: a new object.
     CreateObject {
         /// The kind of the object.
-        kind: PlainKind,
+        kind: KindForm,
         /// Where the object is to stand.
         place: PlaceForm<T>,
         /// The attribute flags, as raw bits.
@@ -101,7 +100,7 @@ pub enum Request<T> {
     /// `open WANT NAME FLAGS =V`: a handle to an object.
     OpenObject {
         /// The kind that the object must have; none for `any`.
-        want: Option<PlainKind>,
+        want: Option<KindForm>,
         /// The object's name.
         name: NameForm<T>,
         /// The attribute flags, as raw bits.
@@ -246,7 +245,7 @@ fn object_of(operands: &[u8]) -> Option<Request<&[u8]>>
     requires { length operands.now ≤ 262144 }
     ensures verb { IfSome result (λ request. verb_of (request_seen request) ≡ Verb.Make) }
     ensures found { IfSome result (λ request. IsOperands operands.now (request_seen request)) }
-    ensures none { IfNone result ((kind : PlainKind) (place : PlaceForm (List ℕ)) (attrs : ℕ) (args word : List ℕ)
+    ensures none { IfNone result ((kind : KindForm) (place : PlaceForm (List ℕ)) (attrs : ℕ) (args word : List ℕ)
         → ¬ IsOperands operands.now (Request.CreateObject kind place attrs args word)) }
 {
     let (kind, rest) = take_kind(operands)?;
@@ -289,7 +288,7 @@ fn open_object_of(operands: &[u8]) -> Option<Request<&[u8]>>
     requires { length operands.now ≤ 262144 }
     ensures verb { IfSome result (λ request. verb_of (request_seen request) ≡ Verb.Open) }
     ensures found { IfSome result (λ request. IsOperands operands.now (request_seen request)) }
-    ensures none { IfNone result ((want : Option PlainKind) (name : NameForm (List ℕ)) (attrs : ℕ) (word : List ℕ)
+    ensures none { IfNone result ((want : Option KindForm) (name : NameForm (List ℕ)) (attrs : ℕ) (word : List ℕ)
         → ¬ IsOperands operands.now (Request.OpenObject want name attrs word)) }
 {
     let (want, rest) = take_want(operands)?;

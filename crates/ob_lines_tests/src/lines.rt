@@ -2,10 +2,9 @@
 
 use ob_base::Attrs;
 use ob_lines::{
-    Form, HandleForm, NameForm, Offset, PlaceForm, Request, decode, every_script_has_a_reading,
-    form_of, read_line, scripts_have_one_reading,
+    Form, HandleForm, KindForm, NameForm, Offset, PlaceForm, Request, decode,
+    every_script_has_a_reading, form_of, read_line, scripts_have_one_reading,
 };
-use ob_plain::PlainKind;
 use std::test::Fail;
 
 // The handle of a word alone.
@@ -30,7 +29,7 @@ fn relative<'a>(root: &'a [u8], text: &'a [u8]) -> NameForm<&'a [u8]> {
 
 #[test]
 fn creates_have_their_parts_in_order(rt: HostRuntime) {
-    let table: [(&[u8], Request<&[u8]>); 8] = [
+    let table: [(&[u8], Request<&[u8]>); 9] = [
         (
             b"p1 dir \"\\A\" PC =a",
             Request::CreateDirectory {
@@ -93,11 +92,21 @@ fn creates_have_their_parts_in_order(rt: HostRuntime) {
         (
             b"p1 make Event stat:\"E:\" x40 \"1\" =e",
             Request::CreateObject {
-                kind: PlainKind::Event,
+                kind: KindForm::Event,
                 place: PlaceForm::Named(relative(b"stat", b"E:")),
                 attrs: 64,
                 args: b"1",
                 word: b"e",
+            },
+        ),
+        (
+            b"p1 make Device \"\\D\" - \"a;b\" =d",
+            Request::CreateObject {
+                kind: KindForm::Device,
+                place: PlaceForm::Named(absolute(b"\\D")),
+                attrs: 0,
+                args: b"a;b",
+                word: b"d",
             },
         ),
     ];
@@ -112,7 +121,7 @@ fn creates_have_their_parts_in_order(rt: HostRuntime) {
 
 #[test]
 fn opens_and_queries_have_their_parts_in_order(rt: HostRuntime) {
-    let table: [(&[u8], Request<&[u8]>); 9] = [
+    let table: [(&[u8], Request<&[u8]>); 11] = [
         (
             b"p1 opendir \"\\A:\" L =a",
             Request::OpenDirectory {
@@ -157,10 +166,28 @@ fn opens_and_queries_have_their_parts_in_order(rt: HostRuntime) {
         (
             b"p1 open Mutant any:\"M%3a\" - =m",
             Request::OpenObject {
-                want: Some(PlainKind::Mutant),
+                want: Some(KindForm::Mutant),
                 name: relative(b"any", b"M%3a"),
                 attrs: 0,
                 word: b"m",
+            },
+        ),
+        (
+            b"p1 open File \"\\D\\a\" - =f",
+            Request::OpenObject {
+                want: Some(KindForm::File),
+                name: absolute(b"\\D\\a"),
+                attrs: 0,
+                word: b"f",
+            },
+        ),
+        (
+            b"p1 open Key k:\"a\" - =c",
+            Request::OpenObject {
+                want: Some(KindForm::Key),
+                name: relative(b"k", b"a"),
+                attrs: 0,
+                word: b"c",
             },
         ),
         (
@@ -326,10 +353,11 @@ fn a_relative_name_is_a_word_a_colon_and_a_text(rt: HostRuntime) {
 
 #[test]
 fn creates_and_opens_want_all_their_parts(rt: HostRuntime) {
-    let lines: [&[u8]; 22] = [
+    let lines: [&[u8]; 23] = [
         b"p1 dir a:none - =x",
         b"p1 dir none: - =x",
         b"p1 make Event a:- \"\" =x",
+        b"p1 make device \"\\D\" - \"\" =x",
         b"p1 open any a: - =x",
         b"p1 link",
         b"p1 link ",

@@ -1,6 +1,6 @@
 -- Alike words ask alike: what a handle in a line means leads to what its word's value leads to.
 use Rattle.std.proofs.Common.{◌≡◌, ◌∙◌, ℕ, ◌+◌, ◌*◌, ◌<◌, ◌≤◌, ◌==◌, min, false, cond, List, map, None, Some, refl, ap, sym, subst, arith}
-use Rattle.std.specs.Option.{option_map_or}
+use Rattle.std.specs.Option.{option_map, option_map_or}
 use Rattle.std.proofs.lemmas.Bool.{ne_eqb}
 use Rattle.ob_base.specs.Handle.{key_of, without_low_bits}
 use Rattle.ob_model.specs.declared.command.Command.{Command}
@@ -12,7 +12,7 @@ use Rattle.ob_model.specs.Closing.{is_handle}
 use Rattle.ob_model.specs.Grants.{IsHandleValue}
 use Rattle.ob_model.specs.Alike.{is_named, AreAlike, LeadAlike, AreAlikeRoots, no_root, roots, AreAlikePlaces, no_name, names, AreAlikeCommands, create_directories, create_links, create_objects, open_directories, open_links, open_objects, closes, queries_of_links, queries_of_names, duplicates, temporaries, permanents, device_maps, new_processes, exits}
 use Rattle.ob_model.proofs.AlikeHandles.{plain_places}
-use Rattle.ob_plain.specs.declared.plain.PlainKind.{PlainKind}
+use Rattle.ob_standard.specs.Standard.{StandardKind}
 use Rattle.ob_lines.specs.declared.handle.HandleForm.{HandleForm}
 use Rattle.ob_lines.specs.declared.handle.Offset.{Offset}
 use Rattle.ob_lines.specs.declared.handle.Offset.TheVariants.{Zero, One, Two, Three}
@@ -25,7 +25,7 @@ use Rattle.ob_lines.specs.declared.request.Request.TheVariants.{CreateDirectory,
 use Rattle.ob_lines.specs.Parts.{offset_value, text_of}
 use Rattle.ob_lines.proofs.Spelled.{spells_alike}
 use Rattle.ob_requests.specs.Words.{Words}
-use Rattle.ob_requests.specs.Commands.{greatest_named, handle_meant, root_of, IsPlace, IsCommand}
+use Rattle.ob_requests.specs.Commands.{kind_meant, greatest_named, handle_meant, root_of, IsPlace, IsCommand}
 use Rattle.ob_requests.specs.Alike.{AreAlikeValues, unset, set, AreAlikeWords}
 
 -- an offset is at most 3
@@ -59,9 +59,9 @@ own_key value is =
     let sum : min (value + 0) greatest_named ≡ value = omega (arith, least) in
     sym (ap key_of sum) ∙ key_of_value value 0 is (omega arith)
 
-module _ {T F I : Type 0} (s t : State PlainKind T F I) (alike : AreAlike s t) (p : ℕ) where
+module _ {T F I : Type 0} (s t : State StandardKind T F I) (alike : AreAlike s t) (p : ℕ) where
   -- a value leads where another of the same key does
-  same_key : (value other : ℕ) → key_of value ≡ key_of other → (u : State PlainKind T F I) → map (is_named p value) u.handles ≡ map (is_named p other) u.handles
+  same_key : (value other : ℕ) → key_of value ≡ key_of other → (u : State StandardKind T F I) → map (is_named p value) u.handles ≡ map (is_named p other) u.handles
   same_key value other same u = λ i. map (λ h. option_map_or (λ key. is_handle p key h) (same i) false) u.handles
 
   -- and one without a key leads nowhere
@@ -78,7 +78,7 @@ module _ {T F I : Type 0} (s t : State PlainKind T F I) (alike : AreAlike s t) (
       same_key (min (value + more) greatest_named) value (key_of_value value more is small ∙ sym (own_key value is)) s ∙ lead
       ∙ same_key other (min (other + more) greatest_named) (own_key other is_too ∙ sym (key_of_value other more is_too small)) t
 
-module _ {T F I : Type 0} (s t : State PlainKind T F I) (alike : AreAlike s t) (p : ℕ) (words others : Words) (same : AreAlikeWords s t words others) where
+module _ {T F I : Type 0} (s t : State StandardKind T F I) (alike : AreAlike s t) (p : ℕ) (words others : Words) (same : AreAlikeWords s t words others) where
   handles_alike : (handle : HandleForm (List ℕ)) → LeadAlike s t p (handle_meant handle (words.values p)) (handle_meant handle (others.values p))
   handles_alike handle =
       meant_alike s t alike p (words.values p handle.word) (others.values p handle.word) (offset_value handle.offset) (offset_small handle.offset) (same.values p handle.word)
@@ -95,10 +95,10 @@ module _ {T F I : Type 0} (s t : State PlainKind T F I) (alike : AreAlike s t) (
   places_alike Unnamed where_to where_else h k =
       subst (λ x. AreAlikePlaces s t p x where_else) (sym h) (subst (λ x. AreAlikePlaces s t p place.Unnamed x) (sym k) no_name)
 
-  told : (c d c_told d_told : Command PlainKind) → c ≡ c_told → d ≡ d_told → AreAlikeCommands s t p c_told d_told → AreAlikeCommands s t p c d
+  told : (c d c_told d_told : Command StandardKind) → c ≡ c_told → d ≡ d_told → AreAlikeCommands s t p c_told d_told → AreAlikeCommands s t p c d
   told c d c_told d_told c_is d_is is = subst (λ x. AreAlikeCommands s t p x d) (sym c_is) (subst (λ x. AreAlikeCommands s t p c_told x) (sym d_is) is)
 
-  commands_alike : (request : Request (List ℕ)) (c d : Command PlainKind) → IsCommand request words p c → IsCommand request others p d → AreAlikeCommands s t p c d
+  commands_alike : (request : Request (List ℕ)) (c d : Command StandardKind) → IsCommand request words p c → IsCommand request others p d → AreAlikeCommands s t p c d
   commands_alike (CreateDirectory form attrs word) c d h k =
       told c d (command.CreateDirectory h.0 attrs) (command.CreateDirectory k.0 attrs) h.2 k.2 (create_directories (places_alike form h.0 k.0 h.1 k.1))
   commands_alike (CreateLink form attrs target word) c d h k =
@@ -107,7 +107,7 @@ module _ {T F I : Type 0} (s t : State PlainKind T F I) (alike : AreAlike s t) (
       (create_links (places_alike form h.0 k.0 h.2 k.2))
   commands_alike (CreateObject kind form attrs args word) c d h k =
       let bytes : k.1 ≡ h.1 = spells_alike args k.1 h.1 k.3 h.3 in
-      told c d (command.CreateObject h.0 attrs kind h.1) (command.CreateObject k.0 attrs kind h.1) h.4 (k.4 ∙ ap (λ (b : List ℕ). command.CreateObject k.0 attrs kind b) bytes)
+      told c d (command.CreateObject h.0 attrs (kind_meant kind) h.1) (command.CreateObject k.0 attrs (kind_meant kind) h.1) h.4 (k.4 ∙ ap (λ (b : List ℕ). command.CreateObject k.0 attrs (kind_meant kind) b) bytes)
       (create_objects (places_alike form h.0 k.0 h.2 k.2))
   commands_alike (OpenDirectory name attrs word) c d h k =
       let bytes : k.0 ≡ h.0 = spells_alike (text_of name) k.0 h.0 k.1 h.1 in
@@ -119,8 +119,8 @@ module _ {T F I : Type 0} (s t : State PlainKind T F I) (alike : AreAlike s t) (
       (k.2 ∙ ap (λ (b : List ℕ). command.OpenLink (root_of name (others.values p)) b attrs) bytes) (open_links (roots_alike name))
   commands_alike (OpenObject want name attrs word) c d h k =
       let bytes : k.0 ≡ h.0 = spells_alike (text_of name) k.0 h.0 k.1 h.1 in
-      told c d (command.OpenObject (root_of name (words.values p)) h.0 attrs want) (command.OpenObject (root_of name (others.values p)) h.0 attrs want) h.2
-      (k.2 ∙ ap (λ (b : List ℕ). command.OpenObject (root_of name (others.values p)) b attrs want) bytes) (open_objects (roots_alike name))
+      told c d (command.OpenObject (root_of name (words.values p)) h.0 attrs (option_map kind_meant want)) (command.OpenObject (root_of name (others.values p)) h.0 attrs (option_map kind_meant want)) h.2
+      (k.2 ∙ ap (λ (b : List ℕ). command.OpenObject (root_of name (others.values p)) b attrs (option_map kind_meant want)) bytes) (open_objects (roots_alike name))
   commands_alike (Close handle) c d h k = told c d _ _ h k (closes (handles_alike handle))
   commands_alike (QueryLink handle) c d h k = told c d _ _ h k (queries_of_links (handles_alike handle))
   commands_alike (QueryName handle) c d h k = told c d _ _ h k (queries_of_names (handles_alike handle))
@@ -132,6 +132,6 @@ module _ {T F I : Type 0} (s t : State PlainKind T F I) (alike : AreAlike s t) (
   commands_alike (NewProcess inherit child) c d h k = told c d _ _ h k new_processes
   commands_alike ExitProcess c d h k = told c d _ _ h k exits
 
-pub asks_alike : {T F I : Type 0} (s t : State PlainKind T F I) (p : ℕ) (request : Request (List ℕ)) (words others : Words) (c d : Command PlainKind)
+pub asks_alike : {T F I : Type 0} (s t : State StandardKind T F I) (p : ℕ) (request : Request (List ℕ)) (words others : Words) (c d : Command StandardKind)
     → AreAlike s t → AreAlikeWords s t words others → IsCommand request words p c → IsCommand request others p d → AreAlikeCommands s t p c d
 asks_alike s t p request words others c d alike same h k = commands_alike s t alike p words others same request c d h k

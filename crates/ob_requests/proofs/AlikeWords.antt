@@ -27,13 +27,13 @@ use Rattle.ob_model.specs.Step.{Step}
 use Rattle.ob_model.specs.Alike.{is_named, AreAlike, AreAlikeAnswers, AreAlikeCommands, IsHeld, LeadAlike, LeadOn, HoldOn, IsClosedBy, receiver, handle_in, process_in, unvalued_given, values_in_given}
 use Rattle.ob_model.proofs.AlikeHandles.{from_one, none_is_named, somewhere_too}
 use Rattle.ob_model.proofs.AlikeSteps.{steps_stay, steps_lead, step_holds}
-use Rattle.ob_plain.specs.declared.plain.PlainKind.{PlainKind}
+use Rattle.ob_standard.specs.Standard.{StandardKind}
 use Rattle.ob_lines.specs.declared.handle.HandleForm.{HandleForm}
 use Rattle.ob_lines.specs.declared.request.Request.{Request}
 use Rattle.ob_lines.specs.declared.request.Request.TheVariants.{CreateDirectory, CreateLink, CreateObject, OpenDirectory, OpenLink, OpenObject, Close, QueryLink, QueryName, Duplicate, MakeTemporary, MakePermanent, SetDeviceMap, NewProcess, ExitProcess}
 use Rattle.ob_lines.specs.Parts.{offset_value}
 use Rattle.ob_requests.specs.Words.{Words, with_number, with_process, with_words, with_word, without_words, is_among, handed_on}
-use Rattle.ob_requests.specs.Commands.{handle_meant, is_success, given_handle, with_child, IsCommand, words_after}
+use Rattle.ob_requests.specs.Commands.{kind_meant, handle_meant, is_success, given_handle, with_child, IsCommand, words_after}
 use Rattle.ob_requests.specs.Alike.{AreAlikeValues, unset, set, AreAlikeWords}
 use Rattle.ob_requests.proofs.Alike.{offset_small, key_of_value, key_of_zero, own_key, asks_alike}
 use Rattle.ob_requests.proofs.Tables.{same_bytes, own_bytes, flipped, both_same}
@@ -83,18 +83,18 @@ among_held n value (h ∷ hs) = go (h.process == n) (among_held n value hs)
     go false e = e
 
 module _ {T F I : Type 0} where
-  among_values : (u : State PlainKind T F I) (n value : ℕ) → IsHandleValue value → is_among (values_in u n) value ≡ list_any (is_named n value) u.handles
+  among_values : (u : State StandardKind T F I) (n value : ℕ) → IsHandleValue value → is_among (values_in u n) value ≡ list_any (is_named n value) u.handles
   among_values u n value is =
       among_held n value u.handles ∙ (λ i. list_any (λ h. option_map_or (λ key. is_handle n key h) (sym (own_key value is) i) false) u.handles)
 
   -- a free value is no held one
-  free_unheld : (s : State PlainKind T F I) (r value : ℕ) → IsFreeValue s r value → IsHeld s r value → ⊥
+  free_unheld : (s : State StandardKind T F I) (r value : ℕ) → IsFreeValue s r value → IsHeld s r value → ⊥
   free_unheld s r value free held =
       from_one {Goal = ⊥} (is_named r value) s.handles
       (λ k d within named. let other = none_is_named r value s.handles (own_key value free.0) free.1 k d within in cc) held
 
   -- a close and an exit that are refused leave the state
-  close_refused : (g : Procedures PlainKind T F I) (s u : State PlainKind T F I) (a : Reply) (live : Bool) (found : Option Held)
+  close_refused : (g : Procedures StandardKind T F I) (s u : State StandardKind T F I) (a : Reply) (live : Bool) (found : Option Held)
       → MatchOption (first_refusal ((not live, ProcessGone) ∷ []))
       (MatchOption found (IsRefused s InvalidHandle (Done a) u) (λ h. (Done a ≡ answers Success) × (u ≡ settle g (closed_handle g s h))))
       (λ status. IsRefused s status (Done a) u)
@@ -104,15 +104,15 @@ module _ {T F I : Type 0} where
   close_refused g s u a true (Some handle) h failed =
       let done : a.status ≡ Success = cc (h.0) in let yes : is_success a.status ≡ true = ap is_success done in cc
 
-  exit_refused : (g : Procedures PlainKind T F I) (s u : State PlainKind T F I) (p : ℕ) (a : Reply) (live : Bool)
+  exit_refused : (g : Procedures StandardKind T F I) (s u : State StandardKind T F I) (p : ℕ) (a : Reply) (live : Bool)
       → MatchOption (first_refusal ((not live, ProcessGone) ∷ [])) ((Done a ≡ answers Success) × (u ≡ settle g (ended g s p))) (λ status. IsRefused s status (Done a) u)
       → is_success a.status ≡ false → u ≡ s
   exit_refused g s u p a false h failed = h.1
   exit_refused g s u p a true h failed = let done : a.status ≡ Success = cc (h.0) in let yes : is_success a.status ≡ true = ap is_success done in cc
 
   -- words of which some are set, given up or named anew
-  module _ (u v : State PlainKind T F I) where
-    named_alike : (words others : Words) (word : List ℕ) (n m : ℕ) → n ≡ m → (s t : State PlainKind T F I) → AreAlikeWords s t words others
+  module _ (u v : State StandardKind T F I) where
+    named_alike : (words others : Words) (word : List ℕ) (n m : ℕ) → n ≡ m → (s t : State StandardKind T F I) → AreAlikeWords s t words others
         → AreAlikeWords s t (with_process words word n) (with_process others word m)
     named_alike words others word n m same s t alike = record {
       processes = λ w. λ i. cond (bytes_eq word w) (same i) (alike.processes w i);
@@ -121,7 +121,7 @@ module _ {T F I : Type 0} where
       apart_too = alike.apart_too;
     }
 
-    words_of_alike : (words others : Words) (s t : State PlainKind T F I) → AreAlikeWords s t words others → (q : ℕ) (mine theirs : List ℕ → ℕ)
+    words_of_alike : (words others : Words) (s t : State StandardKind T F I) → AreAlikeWords s t words others → (q : ℕ) (mine theirs : List ℕ → ℕ)
         → ((p : ℕ) (w : List ℕ) → (p ≡ q → ⊥) → AreAlikeValues u v p (words.values p w) (others.values p w))
         → ((w : List ℕ) → AreAlikeValues u v q (mine w) (theirs w)) → AreApart mine → AreApart theirs
         → AreAlikeWords u v (with_words words q mine) (with_words others q theirs)
@@ -141,16 +141,16 @@ module _ {T F I : Type 0} where
         apart_at all new old apart p false = old p
 
   -- a value of alike ones is that of no word or is held, in both states
-  held_first : (s t : State PlainKind T F I) (p value other : ℕ) → AreAlikeValues s t p value other → (value ≡ 0) ⊎ IsHeld s p value
+  held_first : (s t : State StandardKind T F I) (p value other : ℕ) → AreAlikeValues s t p value other → (value ≡ 0) ⊎ IsHeld s p value
   held_first s t p value other (unset zero zero_too) = inl zero
   held_first s t p value other (set held lead is is_too) = inr held
 
-  held_second : (s t : State PlainKind T F I) (p value other : ℕ) → AreAlikeValues s t p value other → (other ≡ 0) ⊎ IsHeld t p other
+  held_second : (s t : State StandardKind T F I) (p value other : ℕ) → AreAlikeValues s t p value other → (other ≡ 0) ⊎ IsHeld t p other
   held_second s t p value other (unset zero zero_too) = inl zero_too
   held_second s t p value other (set held lead is is_too) = inr (somewhere_too (is_named p value) (is_named p other) s.handles t.handles lead held)
 
   -- a handle that is given is none that a word names
-  given_is_new : (s : State PlainKind T F I) (r : ℕ) (thing : Given) → ((value : ℕ) → handle_in thing ≡ Some value → IsFreeValue s r value)
+  given_is_new : (s : State StandardKind T F I) (r : ℕ) (thing : Given) → ((value : ℕ) → handle_in thing ≡ Some value → IsFreeValue s r value)
       → (old : ℕ) → (old ≡ 0) ⊎ IsHeld s r old → old ≡ given_handle thing → given_handle thing ≡ 0
   given_is_new s r given.Nothing free old held e = refl
   given_is_new s r (given.Handle value) free old (inl zero) e = sym e ∙ zero
@@ -159,7 +159,7 @@ module _ {T F I : Type 0} where
   given_is_new s r (given.Process process values) free old held e = refl
   given_is_new s r (given.Page entries context) free old held e = refl
 
-  module _ (s t u v : State PlainKind T F I) (p r : ℕ) (a b : Reply) (Closed : ℕ → ℕ → Type 0) (on : LeadOn s t p r (Done a) (Done b) u v) (hold : HoldOn s Closed r (Done a) u)
+  module _ (s t u v : State StandardKind T F I) (p r : ℕ) (a b : Reply) (Closed : ℕ → ℕ → Type 0) (on : LeadOn s t p r (Done a) (Done b) u v) (hold : HoldOn s Closed r (Done a) u)
       (same : unvalued_given a.given ≡ unvalued_given b.given) (words others : Words) (before : AreAlikeWords s t words others) where
     value_stays : (q value other : ℕ) → (IsHandleValue value → Closed q value → ⊥) → AreAlikeValues s t q value other → AreAlikeValues u v q value other
     value_stays q value other left (unset zero zero_too) = unset zero zero_too
@@ -298,20 +298,20 @@ module _ {T F I : Type 0} where
     begins left word inherit (given.Page entries context) (given.Page others' second) e inherited told told_too = named_alike u v words others word 0 0 refl u v (words_stay left)
     begins left word inherit thing other e inherited told told_too = cc
 
-module _ {T F I : Type 0} (g : Procedures PlainKind T F I) (s t u v : State PlainKind T F I) (p : ℕ) (a b : Reply) (words others : Words) (before : AreAlikeWords s t words others) where
+module _ {T F I : Type 0} (g : Procedures StandardKind T F I) (s t u v : State StandardKind T F I) (p : ℕ) (a b : Reply) (words others : Words) (before : AreAlikeWords s t words others) where
   -- what is known of the commands of both: who gets a handle, and what is closed
-  idle : (c k : Command PlainKind) → c ≡ k → ((q value : ℕ) → IsClosedBy p k q value → ⊥) → (q value : ℕ) → IsClosedBy p c q value → ⊥
+  idle : (c k : Command StandardKind) → c ≡ k → ((q value : ℕ) → IsClosedBy p k q value → ⊥) → (q value : ℕ) → IsClosedBy p c q value → ⊥
   idle c k is none q value closed = none q value (subst (λ x. IsClosedBy p x q value) is closed)
 
-  module _ (c d : Command PlainKind) (on : LeadOn s t p (receiver p c) (Done a) (Done b) u v) (hold : HoldOn s (IsClosedBy p c) (receiver p c) (Done a) u)
+  module _ (c d : Command StandardKind) (on : LeadOn s t p (receiver p c) (Done a) (Done b) u v) (hold : HoldOn s (IsClosedBy p c) (receiver p c) (Done a) u)
       (hold_too : HoldOn t (IsClosedBy p d) (receiver p d) (Done b) v) (status : a.status ≡ b.status) (same : unvalued_given a.given ≡ unvalued_given b.given) where
-    sets_for : (r : ℕ) (k : Command PlainKind) → c ≡ k → receiver p c ≡ r → receiver p d ≡ r → ((q value : ℕ) → IsClosedBy p k q value → ⊥) → (word : List ℕ)
+    sets_for : (r : ℕ) (k : Command StandardKind) → c ≡ k → receiver p c ≡ r → receiver p d ≡ r → ((q value : ℕ) → IsClosedBy p k q value → ⊥) → (word : List ℕ)
         → AreAlikeWords u v (with_word words r word (given_handle a.given)) (with_word others r word (given_handle b.given))
     sets_for r k is one two none word =
         sets s t u v p r a b (IsClosedBy p c) (subst (λ x. LeadOn s t p x (Done a) (Done b) u v) one on) (subst (λ x. HoldOn s (IsClosedBy p c) x (Done a) u) one hold) same words others before
         (IsClosedBy p d) (subst (λ x. HoldOn t (IsClosedBy p d) x (Done b) v) two hold_too) (idle c k is none) word
 
-    nothing : (k : Command PlainKind) → c ≡ k → ((q value : ℕ) → IsClosedBy p k q value → ⊥) → AreAlikeWords u v words others
+    nothing : (k : Command StandardKind) → c ≡ k → ((q value : ℕ) → IsClosedBy p k q value → ⊥) → AreAlikeWords u v words others
     nothing k is none = words_stay s t u v p (receiver p c) a b (IsClosedBy p c) on hold same words others before (idle c k is none)
 
     refused : u ≡ s → v ≡ t → AreAlikeWords u v words others
@@ -360,7 +360,7 @@ module _ {T F I : Type 0} (g : Procedures PlainKind T F I) (s t u v : State Plai
         → AreAlikeWords u v (words_after request p a words) (words_after request p b others)
     done (CreateDirectory form attrs word) f e h k = sets_for p (command.CreateDirectory f.0 attrs) f.2 (ap (receiver p) f.2) (ap (receiver p) e.2) (λ q value closed. closed) word
     done (CreateLink form attrs target word) f e h k = sets_for p (command.CreateLink f.0 attrs f.1) f.4 (ap (receiver p) f.4) (ap (receiver p) e.4) (λ q value closed. closed) word
-    done (CreateObject kind form attrs args word) f e h k = sets_for p (command.CreateObject f.0 attrs kind f.1) f.4 (ap (receiver p) f.4) (ap (receiver p) e.4) (λ q value closed. closed) word
+    done (CreateObject kind form attrs args word) f e h k = sets_for p (command.CreateObject f.0 attrs (kind_meant kind) f.1) f.4 (ap (receiver p) f.4) (ap (receiver p) e.4) (λ q value closed. closed) word
     done (OpenDirectory name attrs word) f e h k = sets_for p _ f.2 (ap (receiver p) f.2) (ap (receiver p) e.2) (λ q value closed. closed) word
     done (OpenLink name attrs word) f e h k = sets_for p _ f.2 (ap (receiver p) f.2) (ap (receiver p) e.2) (λ q value closed. closed) word
     done (OpenObject want name attrs word) f e h k = sets_for p _ f.2 (ap (receiver p) f.2) (ap (receiver p) e.2) (λ q value closed. closed) word
@@ -387,8 +387,8 @@ pub replies_alike : (a b : Reply) → AreAlikeAnswers (Done a) (Done b) → (a.s
 unfolding reply_in
 replies_alike a b same = (ap (λ x. (reply_in a x).status) same, ap (λ x. (reply_in a x).given) same)
 
-pub words_stay_alike : {T F I : Type 0} (g : Procedures PlainKind T F I) (s t u v : State PlainKind T F I) (p : ℕ) (request : Request (List ℕ)) (words others : Words)
-    (c d : Command PlainKind) (a b : Reply)
+pub words_stay_alike : {T F I : Type 0} (g : Procedures StandardKind T F I) (s t u v : State StandardKind T F I) (p : ℕ) (request : Request (List ℕ)) (words others : Words)
+    (c d : Command StandardKind) (a b : Reply)
     → IsSound s → IsSound t → AreAlike s t → AreAlikeWords s t words others → IsCommand request words p c → IsCommand request others p d
     → Step g s (Start p c) (Done a) u → Step g t (Start p d) (Done b) v → AreAlikeWords u v (words_after request p a words) (words_after request p b others)
 words_stay_alike g s t u v p request words others c d a b s_sound t_sound alike before f e h k =

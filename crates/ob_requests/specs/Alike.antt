@@ -14,7 +14,7 @@ use Rattle.ob_model.specs.Sound.{IsSound}
 use Rattle.ob_model.specs.Step.{Step}
 use Rattle.ob_model.specs.Grants.{IsHandleValue}
 use Rattle.ob_model.specs.Alike.{AreAlike, IsHeld, LeadAlike, AreAlikeCommands}
-use Rattle.ob_plain.specs.declared.plain.PlainKind.{PlainKind}
+use Rattle.ob_standard.specs.Standard.{StandardKind}
 use Rattle.ob_lines.specs.declared.request.Request.{Request}
 use Rattle.ob_requests.specs.Words.{Words}
 use Rattle.ob_requests.specs.Commands.{IsCommand, words_after}
@@ -35,15 +35,15 @@ module _ {K T F I : Type 0} where
 -- in alike states, with alike words, a request of a process spells alike commands
 abbrev pub RequestsAskAlike : (T F I : Type 0) → Type 0
 RequestsAskAlike T F I =
-    (s t : State PlainKind T F I) (p : ℕ) (request : Request (List ℕ)) (words others : Words) (c d : Command PlainKind)
+    (s t : State StandardKind T F I) (p : ℕ) (request : Request (List ℕ)) (words others : Words) (c d : Command StandardKind)
     → AreAlike s t → AreAlikeWords s t words others → IsCommand request words p c → IsCommand request others p d → AreAlikeCommands s t p c d
 
 -- and whatever steps the machine makes for those commands, the words after their replies are alike in the states that
 -- it leaves
 abbrev pub RepliesLeaveAlikeWords : (T F I : Type 0) → Type 0
 RepliesLeaveAlikeWords T F I =
-    (g : Procedures PlainKind T F I) (s t u v : State PlainKind T F I) (p : ℕ) (request : Request (List ℕ)) (words others : Words)
-    (c d : Command PlainKind) (a b : Reply)
+    (g : Procedures StandardKind T F I) (s t u v : State StandardKind T F I) (p : ℕ) (request : Request (List ℕ)) (words others : Words)
+    (c d : Command StandardKind) (a b : Reply)
     → IsSound s → IsSound t → AreAlike s t → AreAlikeWords s t words others → IsCommand request words p c → IsCommand request others p d
     → Step g s (Start p c) (Done a) u → Step g t (Start p d) (Done b) v
     → AreAlikeWords u v (words_after request p a words) (words_after request p b others)

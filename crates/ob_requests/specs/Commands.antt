@@ -2,6 +2,8 @@
 --
 -- Source: this profile.
 use Rattle.std.specs.Prelude.{◌≡◌, ℕ, ◌+◌, min, List, Bool, true, false, Option, None, Some, if◌then◌else◌}
+use Rattle.std.specs.Option.{option_map}
+use Rattle.either.specs.declared.Either.TheVariants.{Left, Right}
 use Rattle.ob_base.specs.declared.status.Status.{Status}
 use Rattle.ob_base.specs.declared.status.Status.TheVariants.{Success}
 use Rattle.ob_model.specs.declared.command.Command.{Command}
@@ -11,8 +13,13 @@ use Rattle.ob_model.specs.declared.command.Place.TheVariants as place
 use Rattle.ob_model.specs.declared.reply.Given.{Given}
 use Rattle.ob_model.specs.declared.reply.Given.TheVariants as given
 use Rattle.ob_model.specs.declared.reply.Reply.{Reply}
-use Rattle.ob_plain.specs.declared.plain.PlainKind.{PlainKind}
+use Rattle.ob_plain.specs.declared.plain.PlainKind.TheVariants as plain
+use Rattle.ob_device.specs.declared.device.DeviceKind.TheVariants as device
+use Rattle.ob_key.specs.declared.key.KeyKind.TheVariants as key
+use Rattle.ob_standard.specs.Standard.{StandardKind}
 use Rattle.ob_lines.specs.declared.handle.HandleForm.{HandleForm}
+use Rattle.ob_lines.specs.declared.kind.KindForm.{KindForm}
+use Rattle.ob_lines.specs.declared.kind.KindForm.TheVariants.{Event, Mutant, Section, Device, File, Key}
 use Rattle.ob_lines.specs.declared.request.NameForm.{NameForm}
 use Rattle.ob_lines.specs.declared.request.NameForm.TheVariants.{Absolute, Relative}
 use Rattle.ob_lines.specs.declared.request.PlaceForm.{PlaceForm}
@@ -25,6 +32,15 @@ use Rattle.ob_lines.specs.declared.change.Change.{Change}
 use Rattle.ob_lines.specs.declared.change.Change.TheVariants as change
 use Rattle.ob_lines.specs.Changes.{change_of}
 use Rattle.ob_requests.specs.Words.{Words, with_process, with_words, with_word, without_words, handed_on}
+
+-- the kind of the standard set that a line names
+abbrev pub kind_meant : KindForm → StandardKind
+kind_meant Event = Left plain.Event
+kind_meant Mutant = Left plain.Mutant
+kind_meant Section = Left plain.Section
+kind_meant Device = Right (Left device.Device)
+kind_meant File = Right (Left device.File)
+kind_meant Key = Right (Right key.Key)
 
 -- the greatest number that a handle is named by
 abbrev pub greatest_named : ℕ
@@ -47,33 +63,33 @@ IsPlace (Named name) values where_to = (bytes : List ℕ) × Spells (text_of nam
 IsPlace Unnamed values where_to = where_to ≡ place.Unnamed
 
 -- the creates, and the opens, that these parts of a line spell
-abbrev pub IsCreateDirectory : PlaceForm (List ℕ) → ℕ → (List ℕ → ℕ) → Command PlainKind → Type 0
+abbrev pub IsCreateDirectory : PlaceForm (List ℕ) → ℕ → (List ℕ → ℕ) → Command StandardKind → Type 0
 IsCreateDirectory place attrs values c = (where_to : Place) × IsPlace place values where_to × (c ≡ command.CreateDirectory where_to attrs)
 
-abbrev pub IsCreateLink : PlaceForm (List ℕ) → ℕ → List ℕ → (List ℕ → ℕ) → Command PlainKind → Type 0
+abbrev pub IsCreateLink : PlaceForm (List ℕ) → ℕ → List ℕ → (List ℕ → ℕ) → Command StandardKind → Type 0
 IsCreateLink place attrs target values c =
     (where_to : Place) × (bytes : List ℕ) × IsPlace place values where_to × Spells target bytes
     × (c ≡ command.CreateLink where_to attrs bytes)
 
-abbrev pub IsCreateObject : PlainKind → PlaceForm (List ℕ) → ℕ → List ℕ → (List ℕ → ℕ) → Command PlainKind → Type 0
+abbrev pub IsCreateObject : KindForm → PlaceForm (List ℕ) → ℕ → List ℕ → (List ℕ → ℕ) → Command StandardKind → Type 0
 IsCreateObject kind place attrs args values c =
     (where_to : Place) × (bytes : List ℕ) × IsPlace place values where_to × Spells args bytes
-    × (c ≡ command.CreateObject where_to attrs kind bytes)
+    × (c ≡ command.CreateObject where_to attrs (kind_meant kind) bytes)
 
-abbrev pub IsOpenDirectory : NameForm (List ℕ) → ℕ → (List ℕ → ℕ) → Command PlainKind → Type 0
+abbrev pub IsOpenDirectory : NameForm (List ℕ) → ℕ → (List ℕ → ℕ) → Command StandardKind → Type 0
 IsOpenDirectory name attrs values c =
     (bytes : List ℕ) × Spells (text_of name) bytes × (c ≡ command.OpenDirectory (root_of name values) bytes attrs)
 
-abbrev pub IsOpenLink : NameForm (List ℕ) → ℕ → (List ℕ → ℕ) → Command PlainKind → Type 0
+abbrev pub IsOpenLink : NameForm (List ℕ) → ℕ → (List ℕ → ℕ) → Command StandardKind → Type 0
 IsOpenLink name attrs values c =
     (bytes : List ℕ) × Spells (text_of name) bytes × (c ≡ command.OpenLink (root_of name values) bytes attrs)
 
-abbrev pub IsOpenObject : Option PlainKind → NameForm (List ℕ) → ℕ → (List ℕ → ℕ) → Command PlainKind → Type 0
+abbrev pub IsOpenObject : Option KindForm → NameForm (List ℕ) → ℕ → (List ℕ → ℕ) → Command StandardKind → Type 0
 IsOpenObject want name attrs values c =
-    (bytes : List ℕ) × Spells (text_of name) bytes × (c ≡ command.OpenObject (root_of name values) bytes attrs want)
+    (bytes : List ℕ) × Spells (text_of name) bytes × (c ≡ command.OpenObject (root_of name values) bytes attrs (option_map kind_meant want))
 
 -- the command that a request of a process spells, with these words
-abbrev pub IsCommand : Request (List ℕ) → Words → ℕ → Command PlainKind → Type 0
+abbrev pub IsCommand : Request (List ℕ) → Words → ℕ → Command StandardKind → Type 0
 IsCommand (CreateDirectory place attrs word) words process c = IsCreateDirectory place attrs (words.values process) c
 IsCommand (CreateLink place attrs target word) words process c = IsCreateLink place attrs target (words.values process) c
 IsCommand (CreateObject kind place attrs args word) words process c = IsCreateObject kind place attrs args (words.values process) c

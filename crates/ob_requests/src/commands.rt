@@ -5,13 +5,17 @@ ghost use Rattle.ob_lines.specs.Parts.{offset_value, text_of, name_seen, place_s
 ghost use Rattle.ob_lines.specs.Grammar.{HasPlaceText, HasTexts, request_seen};
 ghost use Rattle.ob_lines.specs.Text.{IsText, Spells};
 ghost use Rattle.ob_requests.specs.Tables.{words_in};
-ghost use Rattle.ob_requests.specs.Commands.{greatest_named, handle_meant, root_of, IsCommand, IsCreateDirectory, IsCreateLink, IsCreateObject, IsOpenDirectory, IsOpenLink, IsOpenObject, IsPlace};
+ghost use Rattle.ob_requests.specs.Commands.{greatest_named, kind_meant, handle_meant, root_of, IsCommand, IsCreateDirectory, IsCreateLink, IsCreateObject, IsOpenDirectory, IsOpenLink, IsOpenObject, IsPlace};
 
 use crate::words::Words;
+use either::Either;
 use ob_base::{Handle, Proc};
-use ob_lines::{HandleForm, NameForm, Offset, PlaceForm, Request, decode, offset_value};
+use ob_device::DeviceKind;
+use ob_key::KeyKind;
+use ob_lines::{HandleForm, KindForm, NameForm, Offset, PlaceForm, Request, decode, offset_value};
 use ob_model::{Bytes, Command, Place};
 use ob_plain::PlainKind;
+use ob_standard::StandardKind;
 use std::alloc::AllocError;
 
 /// A process that asks for something, and the words of the script. (this profile)
@@ -24,7 +28,7 @@ pub struct Asker<'a> {
 }
 
 /// The command that a request spells, or want of memory. (this profile)
-pub type Asked = Result<Command<PlainKind>, AllocError>;
+pub type Asked = Result<Command<StandardKind>, AllocError>;
 
 /// The command that a request of a process spells, with the words of the script. The only fault is want
 /// of memory. Source: this profile.
@@ -125,7 +129,7 @@ fn create_link(asker: &Asker<'_>, place: PlaceForm<&[u8]>, attrs: u32, target: &
 // The create of an object.
 fn create_object(
     asker: &Asker<'_>,
-    kind: PlainKind,
+    kind: KindForm,
     place: PlaceForm<&[u8]>,
     attrs: u32,
     args: &[u8],
@@ -136,6 +140,7 @@ fn create_object(
 {
     let place = place_of(asker, place)?;
     let args = decode(asker.words.alloc, args)?;
+    let kind = kind_meant(kind);
     Ok(Command::CreateObject {
         place,
         attrs,
@@ -167,7 +172,7 @@ fn open_link(asker: &Asker<'_>, name: NameForm<&[u8]>, attrs: u32) -> Asked
 // The open of an object.
 fn open_object(
     asker: &Asker<'_>,
-    want: Option<PlainKind>,
+    want: Option<KindForm>,
     name: NameForm<&[u8]>,
     attrs: u32,
 ) -> Asked
@@ -176,12 +181,27 @@ fn open_object(
 {
     let root = root_of(asker, name);
     let name = bytes_of(asker, name)?;
+    let want = want.map(kind_meant);
     Ok(Command::OpenObject {
         root,
         name,
         attrs,
         want,
     })
+}
+
+// The kind of the standard set that a line names.
+fn kind_meant(kind: KindForm) -> StandardKind
+    ensures { result ≡ kind_meant kind }
+{
+    match kind {
+        KindForm::Event => Either::Left(PlainKind::Event),
+        KindForm::Mutant => Either::Left(PlainKind::Mutant),
+        KindForm::Section => Either::Left(PlainKind::Section),
+        KindForm::Device => Either::Right(Either::Left(DeviceKind::Device)),
+        KindForm::File => Either::Right(Either::Left(DeviceKind::File)),
+        KindForm::Key => Either::Right(Either::Right(KeyKind::Key)),
+    }
 }
 
 // The place that a line means.
