@@ -201,6 +201,14 @@ impl<T: TypeSet, H: HandleTable> Core<T, H> {
         Proc(self.space.next_process)
     }
 
+    /// The law that the state of every core is sound: what its names, handles, maps and pending opens lead to is there,
+    /// and each number is below the next one. The call does nothing; a caller makes it to have the fact. (this profile)
+    pub fn state_is_sound(&self)
+        ensures { IsSound self.now }
+    {
+        let _space = &self.space;
+    }
+
     /// The set of types, as the calls of its procedures have left it.
     pub fn set(&self) -> &T
         ensures { result.now ≡ self.now.set }

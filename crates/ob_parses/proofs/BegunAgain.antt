@@ -29,7 +29,7 @@ or_right true b e = refl
 or_right false b e = e
 
 -- the open of the greatest ticket is found under it
-last_found : {K : Type 0} (n : ℕ) (y : Pending K) (xs : List (Pending K)) → All (λ x. x.ticket < n) xs → y.ticket ≡ n → find (λ x. x.ticket == n) (xs ++ y ∷ []) ≡ Some y
+pub last_found : {K : Type 0} (n : ℕ) (y : Pending K) (xs : List (Pending K)) → All (λ x. x.ticket < n) xs → y.ticket ≡ n → find (λ x. x.ticket == n) (xs ++ y ∷ []) ≡ Some y
 last_found n y [] all is = rw (eq-eqb y.ticket n is) refl
 last_found {K} n y (x ∷ xs) all is = go (x.ticket == n) refl (last_found n y xs (All-tail (λ z. z.ticket < n) x xs all) is)
   where

@@ -24,6 +24,7 @@ use Rattle.ob_objects.specs.declared.object.StoredObject.{StoredObject}
 use Rattle.ob_objects.specs.Store.{Entries, Shows, stored_at, body_of_stored}
 use Rattle.ob_lookup.proofs.Seen.{body_shown}
 use Rattle.ob_parses.proofs.Begun.{pending_settled}
+use Rattle.ob_parses.proofs.BegunAgain.{last_found}
 use Rattle.ob_space.specs.Looking.{IsParsing}
 use Rattle.ob_waiting.specs.Waiting.{IsParseOf}
 
@@ -60,15 +61,6 @@ module _ {K T F I : Type 0} (g : Procedures K T F I) (s : State K T F I) (store 
 pub where_ok : {X E : Type 0} (P Q : X → Type 0) (N : E → Type 0) (r : Result X E) → ((x : X) → Q x → P x) → MatchResult r Q N → IfOk r P
 where_ok P Q N (Ok x) follows h = follows x h
 where_ok P Q N (Err e) follows h = tt
-
--- the open of the greatest ticket is found under it
-last_found : {K : Type 0} (n : ℕ) (y : Pending K) (xs : List (Pending K)) → All (λ x. x.ticket < n) xs → y.ticket ≡ n → find (λ x. x.ticket == n) (xs ++ y ∷ []) ≡ Some y
-last_found n y [] all is = rw (eq-eqb y.ticket n is) refl
-last_found {K} n y (x ∷ xs) all is = go (x.ticket == n) refl (last_found n y xs (All-tail (λ z. z.ticket < n) x xs all) is)
-  where
-    go : (b : Bool) → (x.ticket == n) ≡ b → find (λ z. z.ticket == n) (xs ++ y ∷ []) ≡ Some y → cond b (Some x) (find (λ z. z.ticket == n) (xs ++ y ∷ [])) ≡ Some y
-    go true e rest = let less : x.ticket < n = All-head (λ z. z.ticket < n) x xs all in absurd (omega (arith, less, eqb-true x.ticket n e))
-    go false e rest = rest
 
 module _ {K T F I : Type 0} (g : Procedures K T F I) (s t : State K T F I) (p attrs : ℕ) (wanted : Wanted K) (o : ℕ) (rest : List ℕ) (n : ℕ) (face : F) (ticket : ℕ)
     (sound : IsSound s) (settled : IsSettled s) (is : face_of s o ≡ Some face) where
