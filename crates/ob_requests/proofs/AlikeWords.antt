@@ -187,7 +187,7 @@ module _ {T F I : Type 0} where
     given_alike thing other e lead first then = cc
 
     -- a word is set to what is given
-    sets : (Later : ℕ → ℕ → Type 0) → HoldOn t Later r (Done b) v → ((q value : ℕ) → Closed q value → ⊥) → (word : List ℕ)
+    pub sets : (Later : ℕ → ℕ → Type 0) → HoldOn t Later r (Done b) v → ((q value : ℕ) → Closed q value → ⊥) → (word : List ℕ)
         → AreAlikeWords u v (with_word words r word (given_handle a.given)) (with_word others r word (given_handle b.given))
     sets Later second left word =
         words_of_alike u v words others s t before r (with_number (words.values r) word (given_handle a.given)) (with_number (others.values r) word (given_handle b.given))

@@ -1,7 +1,7 @@
--- A request that a step answers, and the words after it.
+-- A request that is answered, and the words after it.
 use Rattle.std.proofs.Common.{◌≡◌, ℕ, ◌==◌, ◌&&◌, Bool, true, false, cond, List, [], ◌∷◌, Option, Some, None, refl, sym, ap, ◌∙◌, subst, inl, inr}
 use Rattle.std.specs.Borrow.{Bor}
-use Rattle.std.specs.List.{list_any, find, filter}
+use Rattle.std.specs.List.{find, filter}
 use Rattle.std.specs.Option.{is_some}
 use Rattle.std.specs.Prelude.{MatchOption, map, not}
 use Rattle.ob_base.specs.declared.status.Status.{Status}
@@ -9,7 +9,6 @@ use Rattle.ob_base.specs.declared.status.Status.TheVariants.{Success, ProcessGon
 use Rattle.ob_model.specs.declared.command.Command.{Command}
 use Rattle.ob_model.specs.declared.command.Command.TheVariants as command
 use Rattle.ob_model.specs.declared.reply.Reply.{Reply}
-use Rattle.ob_model.specs.declared.reply.Answer.{Answer}
 use Rattle.ob_model.specs.declared.reply.Answer.TheVariants.{Done}
 use Rattle.ob_model.specs.declared.reply.Event.TheVariants.{Start}
 use Rattle.ob_model.specs.declared.reply.Given.{Given}
@@ -20,8 +19,11 @@ use Rattle.ob_model.specs.Processes.{values_in, is_crowded, begun}
 use Rattle.ob_model.specs.Refusals.{gives, IsRefused}
 use Rattle.ob_model.specs.Settle.{settle}
 use Rattle.ob_model.specs.State.{held_of, is_live}
+use Rattle.ob_model.specs.Sound.{IsSound}
 use Rattle.ob_model.specs.Step.{Step}
-use Rattle.ob_plain.specs.declared.plain.PlainKind.{PlainKind}
+use Rattle.ob_complete.specs.Completes.{Completes}
+use Rattle.ob_complete.proofs.Chains.{completes_at_once}
+use Rattle.ob_standard.specs.Standard.{StandardKind, standard}
 use Rattle.ob_lines.specs.declared.change.Change.{Change}
 use Rattle.ob_lines.specs.declared.change.Change.TheVariants as change
 use Rattle.ob_lines.specs.declared.form.Form.{Form}
@@ -33,13 +35,16 @@ use Rattle.ob_lines.specs.Script.{found_seen}
 use Rattle.ob_lines.specs.Grammar.{form_seen, request_seen}
 use Rattle.ob_requests.specs.Words.{Words, handed_on, is_among, with_process, with_words}
 use Rattle.ob_requests.specs.Tables.{IsKept}
-use Rattle.ob_requests.specs.Commands.{IsCommand, changed, with_child}
-use Rattle.ob_shell.specs.Machine.{standard, Space}
-use Rattle.ob_shell.specs.Running.{IsAsked, IsAnswered}
+use Rattle.ob_requests.specs.Commands.{changed, with_child}
+use Rattle.ob_shell.specs.Machine.{Space}
+use Rattle.ob_shell.specs.Running.{IsAsked, IsAnswered, IsUnanswered}
 
 -- a request is asked with words that are the same
 pub asked_with : (r : Request (List ℕ)) (p : ℕ) (words mid : Words) (s s' : Space) (reply : Reply) → mid ≡ words → IsAsked r p mid s reply s' → IsAsked r p words s reply s'
 asked_with r p words mid s s' reply same is = let P : Words → Type 0 = λ x. IsAsked r p x s reply s' in subst P same is
+
+pub unanswered_with : (r : Request (List ℕ)) (p : ℕ) (words mid : Words) (s s' : Space) → mid ≡ words → IsUnanswered r p mid s s' → IsUnanswered r p words s s'
+unanswered_with r p words mid s s' same is = let P : Words → Type 0 = λ x. IsUnanswered r p x s s' in subst P same is
 
 -- and leaves the words that its change says
 pub answered : (r : Request (List ℕ)) (p : ℕ) (words words' : Words) (s s' : Space) (reply : Reply) (ch : Change (List ℕ)) → ch ≡ change_of r → IsAsked r p words s reply s'
@@ -98,14 +103,15 @@ child_given s t p inherit reply n hs step given = go (first_refusal (child_refus
         let none : Nothing ≡ Process n hs = sym (ap (λ (r : Reply). r.given) it) ∙ given in cc
 
 -- so it has where a request asks for it
-pub child_told : (r : Request (List ℕ)) (p : ℕ) (words : Words) (s t : Space) (reply : Reply) (word : List ℕ) (inherit : Bool) (n : ℕ) (hs : List ℕ) → r ≡ request.NewProcess inherit word
+pub child_told : (r : Request (List ℕ)) (p : ℕ) (words : Words) (s t : Space) (reply : Reply) (word : List ℕ) (inherit : Bool) (n : ℕ) (hs : List ℕ) → IsSound s → r ≡ request.NewProcess inherit word
     → IsAsked r p words s reply t → reply.given ≡ Process n hs → (n ≡ s.next_process) × (hs ≡ values_in t n)
-child_told r p words s t reply word inherit n hs is asked given =
+child_told r p words s t reply word inherit n hs sound is asked given =
     let P : Request (List ℕ) → Type 0 = λ x. IsAsked x p words s reply t in go (subst P is asked)
   where
     go : IsAsked (request.NewProcess inherit word) p words s reply t → (n ≡ s.next_process) × (hs ≡ values_in t n)
-    go (c, spelled, step) =
-        let Q : Command PlainKind → Type 0 = λ x. Step standard s (Start p x) (Done reply) t in child_given s t p inherit reply n hs (subst Q spelled step) given
+    go (c, steps, spelled, chain) =
+        let Q : Command StandardKind → Type 0 = λ x. Completes standard (Start p x) steps s reply t in
+        child_given s t p inherit reply n hs (completes_at_once standard p (command.NewProcess inherit) steps s t reply sound refl (subst Q spelled chain)) given
 
 -- a value is among those of a process where it holds a handle of that value
 holds_among : (handles : List Held) (n v : ℕ) → is_some (find (λ h. h.process == n && h.value == v) handles) ≡ is_among (map (λ h. h.value) (filter (λ h. h.process == n) handles)) v

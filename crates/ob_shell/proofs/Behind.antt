@@ -1,17 +1,13 @@
 -- What the rest of a script shows, behind what was shown so far.
-use Rattle.std.proofs.Common.{◌≡◌, ℕ, ◌+◌, List, [], ◌∷◌, ◌++◌, Option, Some, None, refl, sym, ap, ◌∙◌, subst, append_assoc, append-nil, inl, inr}
+use Rattle.std.proofs.Common.{◌≡◌, ℕ, ◌+◌, List, [], ◌∷◌, ◌++◌, map, Option, Some, None, refl, sym, ap, ◌∙◌, subst, append_assoc, append-nil, inl, inr}
 use Rattle.std.specs.Io.KnownBytes.{Appends}
-use Rattle.ob_model.specs.declared.command.Command.{Command}
-use Rattle.ob_model.specs.declared.reply.Reply.{Reply}
-use Rattle.ob_model.specs.declared.reply.Answer.TheVariants.{Done}
 use Rattle.ob_model.specs.declared.reply.Event.TheVariants.{Start}
 use Rattle.ob_model.specs.Opening.{opening}
-use Rattle.ob_model.specs.Run.{Entry, RunFrom}
+use Rattle.ob_model.specs.Run.{RunFrom}
 use Rattle.ob_model.specs.Sound.{IsSound}
 use Rattle.ob_model.proofs.Soundness.{opening_sound}
-use Rattle.ob_model.proofs.Steps.{step_sound}
-use Rattle.ob_plain.specs.declared.plain.PlainKind.{PlainKind}
-use Rattle.ob_plain.specs.Counting.{opens_of, closes_of, deletes_of}
+use Rattle.ob_complete.specs.Completes.{step_of}
+use Rattle.ob_complete.proofs.Chains.{completes_sound, completes_run, falters_run, entered, behind as count_behind, entered_steps}
 use Rattle.ob_output.specs.declared.counts.Counts.{Counts}
 use Rattle.ob_shell.specs.declared.line.Outcome.{Outcome}
 use Rattle.ob_shell.specs.declared.line.Outcome.TheVariants as outcome
@@ -23,10 +19,11 @@ use Rattle.ob_lines.proofs.Scripted.{HaveTexts, begins_more, goes_on}
 use Rattle.ob_requests.specs.Words.{Words, first_words}
 use Rattle.ob_shell.specs.Writing.{AppendsFront, Gathers}
 use Rattle.ob_shell.proofs.Gathered.{gathers_nothing, gathers_more, gathers_front, gathers_out, gathers_out_front}
-use Rattle.ob_shell.specs.Machine.{Standard, standard, Space, IsFresh}
+use Rattle.ob_standard.specs.Standard.{Standard, standard, IsFresh}
+use Rattle.ob_shell.specs.Machine.{Space}
 use Rattle.ob_output.specs.Printed.{output_line, reply_text, counts_text}
-use Rattle.ob_shell.specs.Shown.{Entries, Shows, PlaysForms, PlaysOn, PlaysFirst, PlaysTo, PlaysPartTo}
-use Rattle.ob_shell.proofs.Totals.{shows_total}
+use Rattle.ob_shell.specs.Shown.{Entries, AreOfSeat0, Steps, WantsMemory, Shows, PlaysForms, Plays, PlaysOn, PlaysFirst, PlaysTo, PlaysPartTo}
+use Rattle.ob_shell.proofs.Totals.{entered_seat, shows_total}
 use Rattle.ob_shell.specs.Running.{IsDone, outcome_text, outcome_end, GathersRun}
 
 -- the rest of the script stands behind the lines that were run, which show so much: whatever forms come,
@@ -34,8 +31,8 @@ use Rattle.ob_shell.specs.Running.{IsDone, outcome_text, outcome_end, GathersRun
 pub record RunsBehind (script rest : List ℕ) (number : ℕ) (words : Words) (s : Space) (done : Forms) (so_far : List ℕ) (count : ℕ) : Type 0 where
   pub read : BeginsWithForms script done rest
   pub sound : IsSound s
-  pub onward : (forms : Forms) (entries : Entries) (t : Space) (output : List ℕ) (end : Ending) → RunFrom standard s count entries t
-      → Shows (number + 1) forms words s entries output end → PlaysForms (done ++ forms) (so_far ++ output) end
+  pub onward : (forms : Forms) (entries : Entries) (t : Space) (output : List ℕ) (end : Ending) → RunFrom standard s count entries t → AreOfSeat0 entries
+      → Shows (number + 1) forms words s (map step_of entries) output end → PlaysForms (done ++ forms) (so_far ++ output) end
 
 -- so it does, and what they show was gathered: of it a block has the rest
 pub record StandsBehind (old new : Option (List ℕ)) (has script rest : List ℕ) (number : ℕ) (words : Words) (s : Space) : Type 0 where
@@ -44,10 +41,6 @@ pub record StandsBehind (old new : Option (List ℕ)) (has script rest : List �
   pub count : ℕ
   pub runs : RunsBehind script rest number words s done so_far count
   pub gathered : Gathers old new [] so_far has
-
--- a set of which nothing is counted is fresh
-pub is_fresh : (set : Standard) → opens_of set ≡ 0 → closes_of set ≡ 0 → deletes_of set ≡ 0 → IsFresh set
-is_fresh set o c d = record { no_opens = o; no_closes = c; no_deletes = d }
 
 -- at first nothing was run and gathered
 pub stands_first : (old : Option (List ℕ)) (has script : List ℕ) (words : Words) (first : Standard) (s : Space) → has ≡ [] → IsFresh first → words ≡ first_words → s ≡ opening first
@@ -59,72 +52,69 @@ stands_first old has script words first s none f w e = record {
   runs = record {
     read = refl;
     sound = subst IsSound (sym e) (opening_sound first);
-    onward = λ forms entries t output end run shows.
+    onward = λ forms entries t output end run seats shows.
         let P : Space → Type 0 = λ x. RunFrom standard x 0 entries t in
-        let Q : Space → Type 0 = λ x. Shows 1 forms words x entries output end in
-        let R : Words → Type 0 = λ x. Shows 1 forms x (opening first) entries output end in
-        (first, entries, t, f, subst P e run, subst R w (subst Q e shows));
+        let Q : Space → Type 0 = λ x. Shows 1 forms words x (map step_of entries) output end in
+        let R : Words → Type 0 = λ x. Shows 1 forms x (opening first) (map step_of entries) output end in
+        (map step_of entries, (first, entries, t, f, subst P e run, seats, refl, subst R w (subst Q e shows)));
   };
   gathered = let G : List ℕ → Type 0 = λ x. Gathers old old [] [] x in subst G (sym none) (gathers_nothing old []);
 }
 
--- the entry of a line's step
-abbrev entry_of : ℕ → ℕ → Command PlainKind → Reply → Entry PlainKind
-entry_of count p c reply = record { number = count + 1; seat = 0; event = Start p c; answer = Done reply }
-
 -- how many entries there are behind a line
-abbrev count_after : ℕ → Outcome → ℕ
-count_after count outcome.Idle = count
-count_after count (outcome.Counted counts) = count
-count_after count (outcome.Replied reply) = count + 1
-count_after count outcome.NoLine = count
-count_after count outcome.NoMemory = count
+abbrev count_after : (count : ℕ) (form : Option (Form (List ℕ))) (words words' : Words) (s s' : Space) (o : Outcome) → IsDone form words s o words' s' → ℕ
+count_after count form words words' s s' outcome.Idle d = count
+count_after count form words words' s s' (outcome.Counted counts) d = count
+count_after count form words words' s s' (outcome.Replied reply) (p, r, l, ((c, steps, command, chain), w)) = count_behind count steps
+count_after count form words words' s s' outcome.NoLine d = count
+count_after count form words words' s s' outcome.NoMemory d = count
 
 -- a line that goes on leaves a sound state sound
 sound_after : (form : Option (Form (List ℕ))) (number : ℕ) (words words' : Words) (s s' : Space) (o : Outcome) → IsDone form words s o words' s' → None ≡ outcome_end number o
     → IsSound s → IsSound s'
 sound_after form number words words' s s' outcome.Idle (l, w, e) n sound = subst IsSound (sym e) sound
 sound_after form number words words' s s' (outcome.Counted counts) (l, k, w, e) n sound = subst IsSound (sym e) sound
-sound_after form number words words' s s' (outcome.Replied reply) (p, r, l, ((c, command, step), w)) n sound =
-    step_sound standard s s' (Start (words.processes p) c) (Done reply) sound step
+sound_after form number words words' s s' (outcome.Replied reply) (p, r, l, ((c, steps, command, chain), w)) n sound =
+    completes_sound standard (Start (words.processes p) c) steps s s' reply sound chain
 sound_after form number words words' s s' outcome.NoLine d n sound = cc
 sound_after form number words words' s s' outcome.NoMemory d n sound = cc
 
 -- a line that goes on stands behind what was shown before it
 runs_more : (script rest behind : List ℕ) (form : Option (Form (List ℕ))) (number : ℕ) (words words' : Words) (s s' : Space) (o : Outcome) (done : Forms) (so_far : List ℕ) (count : ℕ)
-    → RunsBehind script rest number words s done so_far count → BeginsWithLine rest form behind → IsDone form words s o words' s' → None ≡ outcome_end (number + 1) o
-    → RunsBehind script behind (number + 1) words' s' (done ++ form ∷ []) (so_far ++ outcome_text (number + 1) o) (count_after count o)
+    → RunsBehind script rest number words s done so_far count → BeginsWithLine rest form behind → (d : IsDone form words s o words' s') → None ≡ outcome_end (number + 1) o
+    → RunsBehind script behind (number + 1) words' s' (done ++ form ∷ []) (so_far ++ outcome_text (number + 1) o) (count_after count form words words' s s' o d)
 runs_more script rest behind form number words words' s s' o done so_far count b e d n = record {
   read = begins_more script rest behind done form b.read e;
   sound = sound_after form (number + 1) words words' s s' o d n b.sound;
-  onward = λ forms entries t output end run shows.
-      rw (append_assoc done (form ∷ []) forms, append_assoc so_far (outcome_text (number + 1) o) output) (go o d n forms entries t output end run shows);
+  onward = λ forms entries t output end run seats shows.
+      rw (append_assoc done (form ∷ []) forms, append_assoc so_far (outcome_text (number + 1) o) output) (go o d n forms entries t output end run seats shows);
 }
   where
     -- a line that leaves the words and the state
-    same : (forms : Forms) (entries : Entries) (output : List ℕ) (end : Ending) → words' ≡ words → s' ≡ s
-        → Shows (number + 1 + 1) forms words' s' entries output end → Shows (number + 1 + 1) forms words s entries output end
-    same forms entries output end w e shows =
-        let Q : Words → Type 0 = λ x. Shows (number + 1 + 1) forms x s' entries output end in
-        let R : Space → Type 0 = λ x. Shows (number + 1 + 1) forms words x entries output end in
+    same : (forms : Forms) (steps : Steps) (output : List ℕ) (end : Ending) → words' ≡ words → s' ≡ s
+        → Shows (number + 1 + 1) forms words' s' steps output end → Shows (number + 1 + 1) forms words s steps output end
+    same forms steps output end w e shows =
+        let Q : Words → Type 0 = λ x. Shows (number + 1 + 1) forms x s' steps output end in
+        let R : Space → Type 0 = λ x. Shows (number + 1 + 1) forms words x steps output end in
         subst R e (subst Q w shows)
 
-    go : (o : Outcome) → IsDone form words s o words' s' → None ≡ outcome_end (number + 1) o
-        → (forms : Forms) (entries : Entries) (t : Space) (output : List ℕ) (end : Ending) → RunFrom standard s' (count_after count o) entries t
-        → Shows (number + 1 + 1) forms words' s' entries output end → PlaysForms (done ++ (form ∷ forms)) (so_far ++ (outcome_text (number + 1) o ++ output)) end
-    go outcome.Idle (l, w, e) n forms entries t output end run shows =
+    go : (o : Outcome) (d : IsDone form words s o words' s') → None ≡ outcome_end (number + 1) o
+        → (forms : Forms) (entries : Entries) (t : Space) (output : List ℕ) (end : Ending) → RunFrom standard s' (count_after count form words words' s s' o d) entries t → AreOfSeat0 entries
+        → Shows (number + 1 + 1) forms words' s' (map step_of entries) output end → PlaysForms (done ++ (form ∷ forms)) (so_far ++ (outcome_text (number + 1) o ++ output)) end
+    go outcome.Idle (l, w, e) n forms entries t output end run seats shows =
         let P : Space → Type 0 = λ x. RunFrom standard x count entries t in
-        b.onward (form ∷ forms) entries t output end (subst P e run) (rw l (same forms entries output end w e shows))
-    go (outcome.Counted counts) (l, k, w, e) n forms entries t output end run shows =
+        b.onward (form ∷ forms) entries t output end (subst P e run) seats (rw l (same forms (map step_of entries) output end w e shows))
+    go (outcome.Counted counts) (l, k, w, e) n forms entries t output end run seats shows =
         let P : Space → Type 0 = λ x. RunFrom standard x count entries t in
-        b.onward (form ∷ forms) entries t (output_line (number + 1) (counts_text counts) ++ output) end (subst P e run)
-        (rw l (output, ap (λ (x : Counts). output_line (number + 1) (counts_text x) ++ output) k, same forms entries output end w e shows))
-    go (outcome.Replied reply) (p, r, l, ((c, command, step), w)) n forms entries t output end run shows =
-        let Q : Words → Type 0 = λ x. Shows (number + 1 + 1) forms x s' entries output end in
-        b.onward (form ∷ forms) (entry_of count (words.processes p) c reply ∷ entries) t (output_line (number + 1) (reply_text reply) ++ output) end (s', refl, step, run)
-        (rw l (inl (entry_of count (words.processes p) c reply, entries, output, c, reply, s', command, refl, refl, refl, step, refl, refl, subst Q w shows)))
-    go outcome.NoLine h n forms entries t output end run shows = cc
-    go outcome.NoMemory d n forms entries t output end run shows = cc
+        b.onward (form ∷ forms) entries t (output_line (number + 1) (counts_text counts) ++ output) end (subst P e run) seats
+        (rw l (output, ap (λ (x : Counts). output_line (number + 1) (counts_text x) ++ output) k, same forms (map step_of entries) output end w e shows))
+    go (outcome.Replied reply) (p, r, l, ((c, own, command, chain), w)) n forms entries t output end run seats shows =
+        let Q : Words → Type 0 = λ x. Shows (number + 1 + 1) forms x s' (map step_of entries) output end in
+        b.onward (form ∷ forms) (entered count own ++ entries) t (output_line (number + 1) (reply_text reply) ++ output) end
+        (completes_run standard (Start (words.processes p) c) own s s' reply count entries t chain run) (entered_seat count own entries seats)
+        (rw l (inl (c, own, map step_of entries, output, reply, s', command, chain, entered_steps count own entries, refl, subst Q w shows)))
+    go outcome.NoLine h n forms entries t output end run seats shows = cc
+    go outcome.NoMemory d n forms entries t output end run seats shows = cc
 
 -- a line that ends the run, whatever lines stand behind it
 runs_end : (script rest : List ℕ) (form : Option (Form (List ℕ))) (number : ℕ) (words words' : Words) (s s' : Space) (o : Outcome) (end : Ending) (done : Forms) (so_far : List ℕ) (count : ℕ)
@@ -135,10 +125,16 @@ runs_end script rest form number words words' s s' (outcome.Counted counts) end 
 runs_end script rest form number words words' s s' (outcome.Replied reply) end done so_far count b d n later = cc
 runs_end script rest form number words words' s s' outcome.NoLine end done so_far count b l n later =
     let same : end ≡ ending.BadLine (number + 1) = cc in
-    b.onward (form ∷ later) [] s (outcome_text (number + 1) outcome.NoLine) end refl (rw l (refl, refl, same))
-runs_end script rest form number words words' s s' outcome.NoMemory end done so_far count b (p, r, l) n later =
+    b.onward (form ∷ later) [] s (outcome_text (number + 1) outcome.NoLine) end refl tt (rw l (refl, refl, same))
+runs_end script rest form number words words' s s' outcome.NoMemory end done so_far count b (p, r, l, (steps, wants)) n later =
     let same : end ≡ ending.NoMemoryAt (number + 1) = cc in
-    b.onward (form ∷ later) [] s (outcome_text (number + 1) outcome.NoMemory) end refl (rw l (inr (refl, refl, same)))
+    b.onward (form ∷ later) (entered count steps ++ []) s' (outcome_text (number + 1) outcome.NoMemory) end (run wants) (entered_seat count steps [] tt)
+    (rw l (inr (s', subst (λ x. WantsMemory r (words.processes p) words x s s') (sym (entered_steps count steps [] ∙ append-nil steps)) wants, refl, same)))
+  where
+    run : WantsMemory r (words.processes p) words steps s s' → RunFrom standard s count (entered count steps ++ []) s'
+    run (inl (none, left)) =
+        subst (λ x. RunFrom standard s count (entered count x ++ []) s') (sym none) left
+    run (inr (c, command, falters)) = falters_run standard (Start (words.processes p) c) steps s s' count [] s' falters refl
 
 -- the lines that were run, where none ended the run, and where the last one did
 plays_done : (script rest : List ℕ) (number : ℕ) (words : Words) (s : Space) (done : Forms) (so_far : List ℕ) (count : ℕ) → RunsBehind script rest number words s done so_far count
@@ -146,7 +142,7 @@ plays_done : (script rest : List ℕ) (number : ℕ) (words : Words) (s : Space)
 plays_done script rest number words s done so_far count b =
     let P : Forms → Type 0 = λ x. PlaysForms x (so_far ++ []) ending.Done in
     let Q : List ℕ → Type 0 = λ x. PlaysForms done x ending.Done in
-    subst Q (append-nil so_far) (subst P (append-nil done) (b.onward [] [] s [] ending.Done refl (refl, refl, refl)))
+    subst Q (append-nil so_far) (subst P (append-nil done) (b.onward [] [] s [] ending.Done refl tt (refl, refl, refl)))
 
 first_done : (script rest : List ℕ) (number : ℕ) (words : Words) (s : Space) (done : Forms) (so_far : List ℕ) (count : ℕ) → RunsBehind script rest number words s done so_far count
     → PlaysFirst script so_far ending.Done
@@ -157,7 +153,7 @@ first_done script rest number words s done so_far count b =
     on all (later, e, texts) =
         let rest = shows_total later (number + 1) words s count texts b.sound in
         let P : Forms → Type 0 = λ x. PlaysForms x (so_far ++ rest.2) rest.3 in
-        (rest.2, rest.3, rest.4, subst P (sym e) (b.onward later rest.0 rest.1 rest.2 rest.3 rest.5 rest.6))
+        (rest.2, rest.3, rest.4, subst P (sym e) (b.onward later rest.0 rest.1 rest.2 rest.3 rest.5 rest.6 rest.7))
 
 -- all lines play what those play of which the last ended the run
 on_ended : (all : Forms) (output : List ℕ) (number : ℕ) (o : Outcome) (end : Ending) → Some end ≡ outcome_end number o → PlaysForms all output end → PlaysOn all output end
@@ -189,12 +185,17 @@ first_ended script rest behind form number words words' s s' o end done so_far c
         on_ended all (so_far ++ outcome_text (number + 1) o) (number + 1) o end n
         (subst P (sym (e ∙ append_assoc done (form ∷ []) later)) (runs_end script rest form number words words' s s' o end done so_far count b d n later))
 
+-- what lines of a script play, it plays
+as_plays : (script : List ℕ) (forms : Forms) (rest output : List ℕ) (end : Ending) → BeginsWithForms script forms rest → (end ≡ ending.Done → rest ≡ []) → PlaysForms forms output end
+    → Plays script output end
+as_plays script forms rest output end read whole (steps, plays) = (steps, (forms, rest, read, whole, plays))
+
 -- the last line was run
 pub stands_last : (old new : Option (List ℕ)) (has script rest : List ℕ) (number : ℕ) (words : Words) (s : Space) → StandsBehind old new has script rest number words s
     → rest ≡ [] → GathersRun old new script has ending.Done
 stands_last old new has script rest number words s b none = (
   b.so_far,
-  (b.done, rest, b.runs.read, λ _. none, plays_done script rest number words s b.done b.so_far b.count b.runs),
+  as_plays script b.done rest b.so_far ending.Done b.runs.read (λ _. none) (plays_done script rest number words s b.done b.so_far b.count b.runs),
   first_done script rest number words s b.done b.so_far b.count b.runs,
   b.gathered,
 )
@@ -206,7 +207,7 @@ pub stands_more : (old mid new : Option (List ℕ)) (had has script rest behind 
 stands_more old mid new had has script rest behind form number words words' s s' o b e d n a = record {
   done = b.done ++ form ∷ [];
   so_far = b.so_far ++ outcome_text (number + 1) o;
-  count = count_after b.count o;
+  count = count_after b.count form words words' s s' o d;
   runs = runs_more script rest behind form number words words' s s' o b.done b.so_far b.count b.runs e d n;
   gathered = gathers_more old mid new [] had has b.so_far (outcome_text (number + 1) o) b.gathered a;
 }
@@ -219,13 +220,8 @@ stands_end old mid new had has script rest behind form number words words' s s' 
     let first : PlaysFirst script (b.so_far ++ outcome_text (number + 1) o) end =
     first_ended script rest behind form number words words' s s' o end b.done b.so_far b.count b.runs e d n in (
       b.so_far ++ outcome_text (number + 1) o,
-      (
-        b.done ++ form ∷ [],
-        behind,
-        begins_more script rest behind b.done form b.runs.read e,
-        not_done o n,
-        runs_end script rest form number words words' s s' o end b.done b.so_far b.count b.runs d n [],
-      ),
+      as_plays script (b.done ++ form ∷ []) behind (b.so_far ++ outcome_text (number + 1) o) end (begins_more script rest behind b.done form b.runs.read e) (not_done o n)
+          (runs_end script rest form number words words' s s' o end b.done b.so_far b.count b.runs d n []),
       first,
       gathers_more old mid new [] had has b.so_far (outcome_text (number + 1) o) b.gathered a,
     )
@@ -255,7 +251,7 @@ stands_part old mid new had script rest behind form number words words' s s' o b
     go : (end : Option Ending) → end ≡ outcome_end (number + 1) o → PlaysPartTo old new script
     go None n =
         part_of old new script (b.so_far ++ outcome_text (number + 1) o) ending.Done
-        (first_done script behind (number + 1) words' s' (b.done ++ form ∷ []) (b.so_far ++ outcome_text (number + 1) o) (count_after b.count o)
+        (first_done script behind (number + 1) words' s' (b.done ++ form ∷ []) (b.so_far ++ outcome_text (number + 1) o) (count_after b.count form words words' s s' o d)
         (runs_more script rest behind form number words words' s s' o b.done b.so_far b.count b.runs e d n))
         written
     go (Some end) n =

@@ -7,4 +7,3 @@ pub mod Totals
 pub mod Behind
 pub mod Offsets
 pub mod AlikeShown
-pub mod Replied

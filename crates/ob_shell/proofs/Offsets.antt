@@ -4,7 +4,7 @@ use Rattle.std.specs.Prelude.{MatchBool, nat_lt, length}
 use Rattle.std.specs.Str.{bytes_eq}
 use Rattle.std.specs.Option.{option_and_then}
 use Rattle.ob_base.specs.declared.status.Status.{Status}
-use Rattle.ob_base.specs.declared.status.Status.TheVariants.{Success, InvalidHandle, InsufficientResources, NameTooLong, ObjectTypeMismatch, ObjectNameExists, ObjectNameCollision, ProcessGone, TypeRefused}
+use Rattle.ob_base.specs.declared.status.Status.TheVariants.{Success, InvalidHandle, InsufficientResources, NameTooLong, ObjectTypeMismatch, ObjectNameExists, ObjectNameCollision, ProcessGone, TypeRefused, NoMemory}
 use Rattle.ob_base.specs.Attrs.{has_flag, open_if_flag}
 use Rattle.ob_base.specs.Handle.{key_of}
 use Rattle.ob_model.specs.declared.command.Command.{Command}
@@ -13,19 +13,21 @@ use Rattle.ob_model.specs.declared.command.Place.{Place}
 use Rattle.ob_model.specs.declared.command.Place.TheVariants as place
 use Rattle.ob_model.specs.declared.reply.Answer.{Answer}
 use Rattle.ob_model.specs.declared.reply.Answer.TheVariants.{Done, Ticket}
-use Rattle.ob_model.specs.declared.reply.Event.{Event}
-use Rattle.ob_model.specs.declared.reply.Event.TheVariants.{Start}
+use Rattle.ob_model.specs.declared.reply.Event.TheVariants.{Start, Resume}
+use Rattle.ob_model.specs.declared.reply.ParseRun.{ParseRun}
 use Rattle.ob_model.specs.declared.reply.Given.{Given}
 use Rattle.ob_model.specs.declared.reply.Given.TheVariants.{Nothing, Handle, Text, Process, Page}
 use Rattle.ob_model.specs.declared.reply.Reply.{Reply}
 use Rattle.ob_model.specs.declared.state.Held.{Held}
+use Rattle.ob_model.specs.declared.state.Pending.{Pending}
 use Rattle.ob_model.specs.declared.state.Wanted.{Wanted}
 use Rattle.ob_model.specs.declared.state.Wanted.TheVariants as wanted
 use Rattle.ob_model.specs.State.{State, is_live, is_directory, held_of, body_of, is_store_full}
-use Rattle.ob_model.specs.PendingOpens.{with_pending}
+use Rattle.ob_model.specs.PendingOpens.{pending_of, with_pending}
+use Rattle.ob_model.specs.Parses.{EndsOpen, Resumes, parsed_state}
 use Rattle.ob_model.specs.Names.{longest_name}
 use Rattle.ob_model.specs.Looks.{Look, At, Vacant, Parse, Refused, LooksUp, most_reparses}
-use Rattle.ob_model.specs.Procedures.{Procedures, Reason, Opened, Created, Duplicated}
+use Rattle.ob_model.specs.Procedures.{Procedures, ParseOutcome, EndsItself, EndsMade, EndsReparse, EndsRefused, Reason, Opened, Created, Duplicated}
 use Rattle.ob_model.specs.Settle.{settle}
 use Rattle.ob_model.specs.Grants.{first_refusal, Grants, IsFreeValue, Asked, open_refusal_of, greatest_handle}
 use Rattle.ob_model.specs.Closing.{closed_handle}
@@ -41,10 +43,10 @@ use Rattle.ob_model.specs.Enumeration.{enumerated, context_used, page_answer}
 use Rattle.ob_model.specs.Step.{WithHandle, WithRoot, CreatesIn, CreatesAt, OpensName, page_refusals, TellsPage, Step}
 use Rattle.ob_lines.specs.declared.handle.Offset.{Offset}
 use Rattle.ob_lines.specs.declared.handle.Offset.TheVariants.{Zero, One, Two, Three}
-use Rattle.ob_lines.specs.declared.request.Request.{Request}
-use Rattle.ob_requests.specs.Words.{Words, with_process, with_words, with_word, without_words, handed_on, is_among}
-use Rattle.ob_shell.specs.Machine.{standard}
-use Rattle.ob_requests.specs.Commands.{is_success, given_handle, with_child, changed, words_after}
+use Rattle.ob_requests.specs.Words.{Words, with_process, with_words, with_word, without_words, is_among}
+use Rattle.ob_complete.specs.Completes.{Made, Leads, HasRun, Completes}
+use Rattle.ob_standard.specs.Standard.{standard}
+use Rattle.ob_requests.specs.Commands.{is_success, given_handle, with_child, changed}
 use Rattle.ob_lines.specs.declared.change.Change.{Change}
 use Rattle.ob_lines.specs.declared.change.Change.TheVariants as change
 use Rattle.ob_lines.specs.Changes.{change_of}
@@ -240,6 +242,44 @@ module _ {K T F I : Type 0} (g : Procedures K T F I) where
   start_gives s t p command.ExitProcess answer h =
       unless_gives ((not (is_live s p), ProcessGone) ∷ []) s t answer ((answer ≡ answers Success) × (t ≡ settle g (ended g s p))) (λ does. subst GivesHandle (sym does.0) (omega arith)) h
 
+  -- so does each resume
+  ends_open_gives : (s t : State K T F I) (x : Pending K) (outcome : Option (ParseOutcome F I)) (answer : Answer) → EndsOpen g s x outcome answer t → GivesHandle answer
+  ends_open_gives s t x None answer h = refused_gives s t NoMemory answer h
+  ends_open_gives s t x (Some EndsItself) answer h = opens_at_gives s t x.process x.attrs x.wanted Success x.object answer h
+  ends_open_gives s t x (Some (EndsMade face inner)) answer h = opens_at_gives s t x.process x.attrs x.wanted Success x.ticket answer h
+  ends_open_gives s t x (Some (EndsReparse text)) answer h = opens_gives s t x.process x.attrs x.wanted h.0 answer h.2
+  ends_open_gives s t x (Some (EndsRefused k)) answer h = refused_gives s t (TypeRefused k) answer h
+
+  resume_gives : (s t : State K T F I) (n : ℕ) (parse : ParseRun) (answer : Answer) → Step g s (Resume n parse) answer t → GivesHandle answer
+  resume_gives s t n parse answer (outcome, brought, h) = go (pending_of s n) h
+    where
+      go : (found : Option (Pending K)) → MatchOption found ⊥ (λ x. Resumes g s x outcome answer t) → GivesHandle answer
+      go None h = absurd h
+      go (Some x) (v, h, left) =
+          let u = parsed_state s x.ticket outcome in
+          unless_gives ((not (is_live s x.process), ProcessGone) ∷ []) u v answer (EndsOpen g u x outcome answer v) (ends_open_gives u v x outcome answer) h
+
+  -- and so do the steps that run a command to its reply
+  resumed_gives : (n : ℕ) (parse : ParseRun) (steps : List (Made K)) (s t : State K T F I) (reply : Reply) → Completes g (Resume n parse) steps s reply t → given_handle reply.given ≤ greatest_handle
+  resumed_gives n parse [] s t reply h = absurd h
+  resumed_gives n parse (step ∷ steps) s t reply (u, asked, made, h) = go step.1 (resume_gives s u n parse step.1 made) (λ m again more. resumed_gives m again steps u t reply more) h
+    where
+      go : (answer : Answer) → GivesHandle answer → ((m : ℕ) (again : ParseRun) → Completes g (Resume m again) steps u reply t → given_handle reply.given ≤ greatest_handle)
+          → Leads answer (λ given. (given ≡ reply) × (steps ≡ []) × (t ≡ u)) (λ m. (again : ParseRun) × HasRun again × Completes g (Resume m again) steps u reply t)
+          → given_handle reply.given ≤ greatest_handle
+      go (Done given) gives on (same, none, is) = subst (λ r. given_handle r.given ≤ greatest_handle) same gives
+      go (Ticket m) gives on (again, ran, h) = on m again h
+
+  completes_gives : (p : ℕ) (c : Command K) (steps : List (Made K)) (s t : State K T F I) (reply : Reply) → Completes g (Start p c) steps s reply t → given_handle reply.given ≤ greatest_handle
+  completes_gives p c [] s t reply h = absurd h
+  completes_gives p c (step ∷ steps) s t reply (u, asked, made, h) = go step.1 (start_gives s u p c step.1 made) h
+    where
+      go : (answer : Answer) → GivesHandle answer
+          → Leads answer (λ given. (given ≡ reply) × (steps ≡ []) × (t ≡ u)) (λ m. (again : ParseRun) × HasRun again × Completes g (Resume m again) steps u reply t)
+          → given_handle reply.given ≤ greatest_handle
+      go (Done given) gives (same, none, is) = subst (λ r. given_handle r.given ≤ greatest_handle) same gives
+      go (Ticket m) gives (again, ran, h) = resumed_gives m again steps u t reply h
+
 -- all words of a process are set to handles, and one of them is
 with_words_kept : (words : Words) (process : ℕ) (values : List ℕ → ℕ) → HoldHandles words → ((word : List ℕ) → values word ≤ greatest_handle)
     → HoldHandles (with_words words process values)
@@ -300,7 +340,7 @@ sum_exact value Three small = omega arith
 pub added_in_full : OffsetsAreAddedInFull
 added_in_full = record {
   first = λ process word. omega arith;
-  kept = λ request process c reply words s s' had step.
-      changed_kept (change_of request) process reply words had (start_gives standard s s' process c (Done reply) step);
+  kept = λ request process c steps reply words s s' had chain.
+      changed_kept (change_of request) process reply words had (completes_gives standard process c steps s s' reply chain);
   exact = λ handle process words had. sum_exact (words.values process handle.word) handle.offset (had process handle.word);
 }

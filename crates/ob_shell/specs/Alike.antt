@@ -3,18 +3,20 @@
 --
 -- Source: this profile, by which the machine may choose the value of a new handle.
 use Rattle.std.specs.Prelude.{◌≡◌, ℕ, List}
+use Rattle.ob_complete.specs.Completes.{FindMemory}
 use Rattle.ob_lines.specs.Script.{Forms}
 use Rattle.ob_shell.specs.declared.run.Ending.{Ending}
-use Rattle.ob_shell.specs.Shown.{PlaysForms, Plays, FindsMemory}
+use Rattle.ob_shell.specs.Shown.{Steps, PlaysFormsBy, PlaysBy, FindsMemory}
 
--- whatever lines of these forms play, where they find memory, they print the same and end alike
+-- whatever steps lines of these forms play, where they find memory, and so does each parse, they print the same and
+-- end alike
 abbrev pub FormsShowTheSame : Type 0
 FormsShowTheSame =
-    (forms : Forms) (output other : List ℕ) (end second : Ending) → FindsMemory end → FindsMemory second
-    → PlaysForms forms output end → PlaysForms forms other second → (output ≡ other) × (end ≡ second)
+    (forms : Forms) (steps others : Steps) (output other : List ℕ) (end second : Ending) → FindMemory steps → FindMemory others → FindsMemory end → FindsMemory second
+    → PlaysFormsBy forms steps output end → PlaysFormsBy forms others other second → (output ≡ other) × (end ≡ second)
 
 -- and so it is for whatever a script plays
 abbrev pub ScriptsShowTheSame : Type 0
 ScriptsShowTheSame =
-    (script output other : List ℕ) (end second : Ending) → FindsMemory end → FindsMemory second
-    → Plays script output end → Plays script other second → (output ≡ other) × (end ≡ second)
+    (script : List ℕ) (steps others : Steps) (output other : List ℕ) (end second : Ending) → FindMemory steps → FindMemory others → FindsMemory end → FindsMemory second
+    → PlaysBy script steps output end → PlaysBy script others other second → (output ≡ other) × (end ≡ second)

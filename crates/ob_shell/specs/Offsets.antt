@@ -4,15 +4,15 @@
 use Rattle.std.specs.Prelude.{◌≡◌, ℕ, ◌+◌, ◌≤◌, List}
 use Rattle.ob_model.specs.declared.command.Command.{Command}
 use Rattle.ob_model.specs.declared.reply.Reply.{Reply}
-use Rattle.ob_model.specs.declared.reply.Answer.TheVariants.{Done}
 use Rattle.ob_model.specs.declared.reply.Event.TheVariants.{Start}
 use Rattle.ob_model.specs.Grants.{greatest_handle}
-use Rattle.ob_model.specs.Step.{Step}
-use Rattle.ob_plain.specs.declared.plain.PlainKind.{PlainKind}
+use Rattle.ob_complete.specs.Completes.{Completes}
+use Rattle.ob_standard.specs.Standard.{StandardKind, standard}
 use Rattle.ob_lines.specs.declared.handle.HandleForm.{HandleForm}
 use Rattle.ob_lines.specs.declared.request.Request.{Request}
 use Rattle.ob_requests.specs.Words.{Words, first_words}
-use Rattle.ob_shell.specs.Machine.{standard, Space}
+use Rattle.ob_shell.specs.Machine.{Space}
+use Rattle.ob_shell.specs.Shown.{Steps}
 use Rattle.ob_requests.specs.Commands.{handle_meant, words_after}
 use Rattle.ob_lines.specs.Parts.{offset_value}
 
@@ -20,11 +20,11 @@ use Rattle.ob_lines.specs.Parts.{offset_value}
 abbrev pub HoldHandles : Words → Type 0
 HoldHandles words = (process : ℕ) (word : List ℕ) → words.values process word ≤ greatest_handle
 
--- at first no word does, and none does after a step whose reply changes words; and with
+-- at first no word does, and none does after the steps whose reply changes words; and with
 -- such words a handle is the sum of its word's value and what is added to it
 pub record OffsetsAreAddedInFull : Type 0 where
   pub first : HoldHandles first_words
-  pub kept : (request : Request (List ℕ)) (process : ℕ) (c : Command PlainKind) (reply : Reply) (words : Words) (s s' : Space) → HoldHandles words
-      → Step standard s (Start process c) (Done reply) s' → HoldHandles (words_after request process reply words)
+  pub kept : (request : Request (List ℕ)) (process : ℕ) (c : Command StandardKind) (steps : Steps) (reply : Reply) (words : Words) (s s' : Space) → HoldHandles words
+      → Completes standard (Start process c) steps s reply s' → HoldHandles (words_after request process reply words)
   pub exact : (handle : HandleForm (List ℕ)) (process : ℕ) (words : Words) → HoldHandles words
       → handle_meant handle (words.values process) ≡ words.values process handle.word + offset_value handle.offset

@@ -2,10 +2,9 @@
 use Rattle.std.specs.Prelude.{◌≡◌, ℕ, List, [], Option, Some, None, codes}
 use Rattle.ob_model.specs.declared.command.Command.{Command}
 use Rattle.ob_model.specs.declared.reply.Reply.{Reply}
-use Rattle.ob_model.specs.declared.reply.Answer.TheVariants.{Done}
 use Rattle.ob_model.specs.declared.reply.Event.TheVariants.{Start}
-use Rattle.ob_model.specs.Step.{Step}
-use Rattle.ob_plain.specs.declared.plain.PlainKind.{PlainKind}
+use Rattle.ob_complete.specs.Completes.{Completes}
+use Rattle.ob_standard.specs.Standard.{StandardKind, standard}
 use Rattle.ob_lines.specs.declared.form.Form.{Form}
 use Rattle.ob_lines.specs.declared.form.Form.TheVariants.{Nothing, Stat, Asks}
 use Rattle.ob_lines.specs.declared.request.Request.{Request}
@@ -14,21 +13,26 @@ use Rattle.ob_shell.specs.declared.line.Outcome.TheVariants as outcome
 use Rattle.ob_shell.specs.declared.run.Ending.{Ending}
 use Rattle.ob_shell.specs.declared.run.Ending.TheVariants as ending
 use Rattle.ob_requests.specs.Words.{Words}
-use Rattle.ob_shell.specs.Machine.{standard, Space, counts_of}
+use Rattle.ob_shell.specs.Machine.{Space, counts_of}
 use Rattle.ob_requests.specs.Commands.{IsCommand, words_after}
 use Rattle.ob_output.specs.Printed.{output_line, reply_text, counts_text}
-use Rattle.ob_shell.specs.Shown.{Plays, PlaysFirst, PlaysPartTo}
+use Rattle.ob_shell.specs.Shown.{Steps, WantsMemory, Plays, PlaysFirst, PlaysPartTo}
 use Rattle.ob_shell.specs.Writing.{Gathers}
 use Rattle.ob_shell.specs.declared.fault.ShellFault.{ShellFault}
 use Rattle.ob_shell.specs.declared.fault.ShellFault.TheVariants as fault
 
--- a request of a process was asked with these words, and answered by a step of the machine
+-- a request of a process was asked with these words, and its command run to this reply by steps of the machine
 abbrev pub IsAsked : Request (List ℕ) → ℕ → Words → Space → Reply → Space → Type 0
-IsAsked request process words s reply s' = (c : Command PlainKind) × IsCommand request words process c × Step standard s (Start process c) (Done reply) s'
+IsAsked request process words s reply s' =
+    (c : Command StandardKind) × (steps : Steps) × IsCommand request words process c × Completes standard (Start process c) steps s reply s'
 
 -- so it was, and the reply left these words
 abbrev pub IsAnswered : Request (List ℕ) → ℕ → Words → Space → Reply → Words → Space → Type 0
 IsAnswered request process words s reply words' s' = IsAsked request process words s reply s' × (words' ≡ words_after request process reply words)
+
+-- or it found no memory
+abbrev pub IsUnanswered : Request (List ℕ) → ℕ → Words → Space → Space → Type 0
+IsUnanswered request process words s t = (steps : Steps) × WantsMemory request process words steps s t
 
 -- what became of a line of this form, and what it left; none: a line that is no script line
 abbrev pub IsDone : Option (Form (List ℕ)) → Words → Space → Outcome → Words → Space → Type 0
@@ -38,7 +42,8 @@ IsDone form words s (outcome.Replied reply) words' s' =
     (process : List ℕ) × (request : Request (List ℕ)) × (form ≡ Some (Asks process request))
     × IsAnswered request (words.processes process) words s reply words' s'
 IsDone form words s outcome.NoLine words' s' = form ≡ None
-IsDone form words s outcome.NoMemory words' s' = (process : List ℕ) × (request : Request (List ℕ)) × (form ≡ Some (Asks process request))
+IsDone form words s outcome.NoMemory words' s' =
+    (process : List ℕ) × (request : Request (List ℕ)) × (form ≡ Some (Asks process request)) × IsUnanswered request (words.processes process) words s s'
 
 -- what the line of this number prints for it
 abbrev pub outcome_text : ℕ → Outcome → List ℕ

@@ -1,51 +1,39 @@
 //! Requests of processes: the step of each, and the words that its reply changes.
 
-ghost use Rattle.std.specs.Prelude.{◌≡◌, true, if◌then◌else◌, IfOk};
-ghost use Rattle.ob_model.specs.declared.reply.Event.TheVariants.{Start};
-ghost use Rattle.ob_model.specs.declared.reply.Answer.TheVariants.{Done};
+ghost use Rattle.std.specs.Prelude.{◌≡◌, true, if◌then◌else◌, IfOk, OnErr};
 ghost use Rattle.ob_model.specs.Processes.{values_in};
-ghost use Rattle.ob_model.specs.Step.{Step};
 ghost use Rattle.ob_lines.specs.declared.request.Request.TheVariants.{NewProcess};
 ghost use Rattle.ob_lines.specs.Grammar.{HasTexts, request_seen};
 ghost use Rattle.ob_requests.specs.Commands.{given_handle, is_success, with_child};
 ghost use Rattle.ob_requests.specs.Tables.{words_in, number_in};
 ghost use Rattle.ob_requests.specs.Words.{handed_on, with_word, without_words};
-ghost use Rattle.ob_shell.specs.Machine.{standard};
-ghost use Rattle.ob_shell.specs.Running.{IsAsked};
+ghost use Rattle.ob_shell.specs.Running.{IsAsked, IsUnanswered};
 
-use ob_base::{Fault, Handle, Proc, Status};
-use ob_core::{Core, OpenTable, Started};
+use ob_base::{Handle, Proc, Status};
+use ob_complete::run_command;
+use ob_core::{Core, OpenTable};
 use ob_lines::Request;
-use ob_model::{Command, Given, Reply};
-use ob_plain::{PlainKind, Standard};
+use ob_model::{Given, Reply};
 use ob_requests::{Asker, Table, Words, command_of, keep};
+use ob_standard::Standard;
+use std::alloc::AllocError;
 
 // The namespace that scripts run over.
 pub type Space = Core<Standard, OpenTable>;
 
-// Runs the request of a process.
+// Runs the request of a process to its reply.
 pub fn ask(
     core: &mut Space,
     words: &Words,
     process: Proc,
     request: Request<&[u8]>,
-) -> Result<Reply, Fault>
+) -> Result<Reply, AllocError>
     requires { HasTexts (request_seen request) }
-    ensures { IfOk result (λ reply. IsAsked (request_seen request.entry) process (words_in words.now) core.old reply core.new) }
+    ensures asked { IfOk result (λ reply. IsAsked (request_seen request.entry) process (words_in words.now) core.old reply core.new) }
+    ensures wanting { OnErr result (IsUnanswered (request_seen request.entry) process (words_in words.now) core.old core.new) }
 {
     let command = command_of(&Asker { words, process }, request)?;
-    start(core, process, &command)
-}
-
-// Starts a command, and gives its reply.
-fn start(core: &mut Space, process: Proc, command: &Command<PlainKind>) -> Result<Reply, Fault>
-    ensures { IfOk result (λ reply. Step standard core.old (Start process command.now) (Done reply) core.new) }
-{
-    // No kind that scripts know parses yet, so no open waits for one.
-    match core.start(process, command)? {
-        Started::Done(reply) => Ok(reply),
-        Started::Parsing(_parsing) => unreachable!(),
-    }
+    run_command(core, words.alloc, process, &command)
 }
 
 // Runs the request of a process, and sets a word of its owner to the handle that was given, or to 0.
@@ -56,9 +44,10 @@ pub fn set_word(
     request: Request<&[u8]>,
     owner: Proc,
     word: &[u8],
-) -> Result<Reply, Fault>
+) -> Result<Reply, AllocError>
     requires { HasTexts (request_seen request) }
     ensures asked { IfOk result (λ reply. IsAsked (request_seen request.entry) process (words_in words.old) core.old reply core.new) }
+    ensures wanting { OnErr result (IsUnanswered (request_seen request.entry) process (words_in words.old) core.old core.new) }
     ensures set { IfOk result (λ reply. words_in words.new ≡ with_word (words_in words.old) owner word.now (given_handle reply.given)) }
 {
     words.room_for_handle(owner, word)?;
@@ -87,9 +76,10 @@ pub fn give_up(
     process: Proc,
     request: Request<&[u8]>,
     word: &[u8],
-) -> Result<Reply, Fault>
+) -> Result<Reply, AllocError>
     requires { HasTexts (request_seen request) }
     ensures asked { IfOk result (λ reply. IsAsked (request_seen request.entry) process (words_in words.old) core.old reply core.new) }
+    ensures wanting { OnErr result (IsUnanswered (request_seen request.entry) process (words_in words.old) core.old core.new) }
     ensures gives { IfOk result (λ reply. words_in words.new
         ≡ (if is_success reply.status then with_word (words_in words.old) process word.now 0 else words_in words.old)) }
 {
@@ -106,9 +96,10 @@ pub fn give_all_up(
     words: &mut Words,
     process: Proc,
     request: Request<&[u8]>,
-) -> Result<Reply, Fault>
+) -> Result<Reply, AllocError>
     requires { HasTexts (request_seen request) }
     ensures asked { IfOk result (λ reply. IsAsked (request_seen request.entry) process (words_in words.old) core.old reply core.new) }
+    ensures wanting { OnErr result (IsUnanswered (request_seen request.entry) process (words_in words.old) core.old core.new) }
     ensures gives { IfOk result (λ reply. words_in words.new
         ≡ (if is_success reply.status then without_words (words_in words.old) process else words_in words.old)) }
 {
@@ -128,11 +119,13 @@ pub fn begin_child(
     request: Request<&[u8]>,
     word: &[u8],
     inherit: bool,
-) -> Result<Reply, Fault>
+) -> Result<Reply, AllocError>
     requires { request_seen request ≡ NewProcess inherit word.now }
     ensures asked { IfOk result (λ reply. IsAsked (request_seen request.entry) process (words_in words.old) core.old reply core.new) }
+    ensures wanting { OnErr result (IsUnanswered (request_seen request.entry) process (words_in words.old) core.old core.new) }
     ensures begun { IfOk result (λ reply. words_in words.new ≡ with_child (words_in words.old) process word.now inherit reply.given) }
 {
+    core.state_is_sound();
     words.room_for_words(core.next_process())?;
     words.room_for_process(word)?;
     let own = words_to_hand_on(words, process, inherit)?;
@@ -151,7 +144,7 @@ pub fn begin_child(
 }
 
 // The words that a child may get: a copy of its parent's where it inherits, and else none.
-fn words_to_hand_on(words: &Words, process: Proc, inherit: bool) -> Result<Table, Fault>
+fn words_to_hand_on(words: &Words, process: Proc, inherit: bool) -> Result<Table, AllocError>
     ensures { IfOk result (λ own. number_in own ≡ (λ word. if inherit then (words_in words.now).values process word else 0)) }
 {
     if inherit {

@@ -5,7 +5,7 @@ ghost use Rattle.ob_shell.specs.Machine.{counts_of};
 
 use ob_core::{Core, OpenTable};
 use ob_output::Counts;
-use ob_plain::Standard;
+use ob_standard::Standard;
 
 // What a namespace counts now.
 pub fn counts_of(core: &Core<Standard, OpenTable>) -> Counts

@@ -1,18 +1,19 @@
 //! One line of a script.
 
-ghost use Rattle.std.specs.Prelude.{◌≡◌, IfOk, IfSome};
+ghost use Rattle.std.specs.Prelude.{◌≡◌, IfOk, OnErr, IfSome};
 ghost use Rattle.ob_lines.specs.Grammar.{HasTexts, FormHasTexts, form_seen, request_seen};
 ghost use Rattle.ob_lines.specs.Script.{found_seen};
 ghost use Rattle.ob_requests.specs.Tables.{words_in};
-ghost use Rattle.ob_shell.specs.Running.{IsAnswered, IsDone};
+ghost use Rattle.ob_shell.specs.Running.{IsAnswered, IsUnanswered, IsDone};
 
 use crate::asking::{Space, ask, begin_child, give_all_up, give_up, set_word};
 use crate::counts::counts_of;
-use ob_base::{Fault, Proc};
+use ob_base::Proc;
 use ob_lines::{Change, Form, Request, change_of};
 use ob_model::Reply;
 use ob_output::Counts;
 use ob_requests::Words;
+use std::alloc::AllocError;
 
 // What became of a line.
 #[derive(Debug, Drop)]
@@ -55,10 +56,11 @@ fn answer(
     words: &mut Words,
     process: Proc,
     request: Request<&[u8]>,
-) -> Result<Reply, Fault>
+) -> Result<Reply, AllocError>
     requires { HasTexts (request_seen request) }
-    ensures { IfOk result (λ reply. IsAnswered (request_seen request.entry) process (words_in words.old) core.old
+    ensures answered { IfOk result (λ reply. IsAnswered (request_seen request.entry) process (words_in words.old) core.old
         reply (words_in words.new) core.new) }
+    ensures wanting { OnErr result (IsUnanswered (request_seen request.entry) process (words_in words.old) core.old core.new) }
 {
     match change_of(request) {
         Change::Nothing => ask(core, words, process, request),

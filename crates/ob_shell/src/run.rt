@@ -13,8 +13,8 @@ use crate::reading::{SCRIPT_LIMIT, read_script};
 use crate::writing::write_out;
 use ob_core::Core;
 use ob_lines::read_line;
-use ob_plain::{Counting, Plain};
 use ob_requests::Words;
+use ob_standard::standard;
 use std::alloc::Global;
 use std::io::{Read, Write};
 
@@ -113,7 +113,7 @@ fn run_lines<W: Write>(
     ensures played { IfOk result (λ ending. GathersRun (W.contents writer.old) (W.contents writer.new) script.now block.new.items ending) }
     ensures fault { IfErr result (λ fault. StopsPlaying script.now fault (W.contents writer.old) (W.contents writer.new)) }
 {
-    let mut core = match Core::new(alloc, Counting::new(Plain)) {
+    let mut core = match Core::new(alloc, standard()) {
         Ok(core) => core,
         Err(_) => return Err(ShellFault::Memory),
     };

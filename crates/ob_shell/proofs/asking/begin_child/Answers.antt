@@ -11,7 +11,7 @@ use Rattle.ob_shell.proofs.asking.begin_child.Goals as goal
 pub begin-requires : goal.begin-requires
 begin-requires c =
     let told = child_told _ c.args.process (words_in c.room_for_process.new.self) c.args.core.now c.ask.new.core c.in_ok-reply.reply c.args.word.now c.args.inherit _ _
-    c.requires c.in_ok-reply.ensures c.in-Process.is in
+    c.state_is_sound.ensures c.requires c.in_ok-reply.ensures.asked c.in-Process.is in
     let child : c.in-Process.child ≡ c.next_process.result = told.0 ∙ sym c.next_process.ensures in
     record {
       room = subst (HasTable c.room_for_process.new.self.handles.entries) (sym child)
@@ -22,7 +22,7 @@ pub returns-clause-begun : goal.returns-clause-begun
 returns-clause-begun c = elim c.match-reply.branch [
   | in-Process w ↦
       let told = child_told _ c.args.process (words_in c.room_for_process.new.self) c.args.core.now c.ask.new.core c.in_ok-reply.reply c.args.word.now c.args.inherit _ _
-      c.requires c.in_ok-reply.ensures w.in-Process.is in
+      c.state_is_sound.ensures c.requires c.in_ok-reply.ensures.asked w.in-Process.is in
       ap words_in w.words-is ∙ child_words (words_in c.args.words.now) (words_in c.room_for_process.new.self) (words_in w.begin.new.self) (words_in w.set_process.new.self)
       c.args.process c.args.word.now c.args.inherit w.in-Process.child _ (values_in c.ask.new.core w.in-Process.child) (number_in c.in_ok-own.own) (number_in w.handed_on.result) _
       (c.in_ok-room_for_process.ensures.same ∙ c.in_ok-room_for_words.ensures.same)

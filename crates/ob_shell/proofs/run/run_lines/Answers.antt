@@ -1,12 +1,12 @@
 -- Each line's outcome stands behind what was run and written before it.
-use Rattle.std.proofs.Common.{◌≡◌, sym, ◌∙◌, arith, subst, List, [], ◌∷◌, ℕ, Option}
+use Rattle.std.proofs.Common.{◌≡◌, sym, ◌∙◌, arith, subst, List, ℕ, Option}
 use Rattle.ob_shell.specs.declared.fault.ShellFault.{ShellFault}
 use Rattle.ob_shell.specs.declared.fault.ShellFault.TheVariants.{Write}
 use Rattle.ob_lines.specs.Script.{found_seen}
 use Rattle.ob_requests.specs.Tables.{words_in}
 use Rattle.ob_shell.specs.Shown.{PlaysPartTo}
 use Rattle.ob_shell.specs.Running.{StopsPlaying}
-use Rattle.ob_shell.proofs.Behind.{is_fresh, stands_first, stands_more, stands_end, stands_part, stands_last}
+use Rattle.ob_shell.proofs.Behind.{stands_first, stands_more, stands_end, stands_part, stands_last}
 use Rattle.ob_shell.proofs.run.run_lines.Goals as goal
 
 stopped : (script : List ℕ) (f : ShellFault) (old new : Option (List ℕ)) → f ≡ Write → PlaysPartTo old new script → StopsPlaying script f old new
@@ -14,9 +14,8 @@ stopped script f old new e p = let P : ShellFault → Type 0 = λ x. StopsPlayin
 
 pub loop-form-init : goal.loop-form-init
 loop-form-init g c = (
-  stands_first (g.W.Write.contents c.args.writer.now) c.args.block.now.items c.args.script.now (words_in c.in-Ok-new.words) c.new.result c.in-Ok.core c.requires.empty
-      (is_fresh c.new.result c.new.ensures.opens c.new.ensures.closes c.new.ensures.deletes)
-      c.in-Ok-new.ensures c.in-Ok.ensures.opening,
+  stands_first (g.W.Write.contents c.args.writer.now) c.args.block.now.items c.args.script.now (words_in c.in-Ok-new.words) c.standard.result c.in-Ok.core c.requires.empty
+      c.standard.ensures c.in-Ok-new.ensures c.in-Ok.ensures.opening,
   omega arith,
   c.requires.capacity,
 )
