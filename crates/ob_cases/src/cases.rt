@@ -252,8 +252,8 @@ const CASES: [Case; 42] = [
         status: 1,
     },
     Case {
-        shows: b"a kind that isn't served makes no script line, behind lines that were run",
-        script: b"stat\np1 make Device \"\\D\" - \"\" =d\nstat\n",
+        shows: b"a kind that is none makes no script line, behind lines that were run",
+        script: b"stat\np1 make Timer \"\\D\" - \"\" =d\nstat\n",
         prints: b"1: objects 6 handles 0 opens 0 closes 0 deletes 0\n2: not a script line\n",
         status: 1,
     },

@@ -7,6 +7,8 @@ mod cases;
 #[cfg(test)]
 mod maps;
 #[cfg(test)]
+mod parses;
+#[cfg(test)]
 mod permanence;
 #[cfg(test)]
 mod processes;
