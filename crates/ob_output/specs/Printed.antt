@@ -6,6 +6,7 @@ use Rattle.std.specs.Fmt.{decimal}
 use Rattle.ob_base.specs.declared.status.Status.{Status}
 use Rattle.ob_base.specs.declared.status.Status.TheVariants.{TypeRefused}
 use Rattle.ob_base.specs.Status.{text_of}
+use Rattle.ob_model.specs.declared.entries.Listed.{Listed}
 use Rattle.ob_model.specs.declared.reply.Given.{Given}
 use Rattle.ob_model.specs.declared.reply.Given.TheVariants.{Nothing, Handle, Text, Process, Page}
 use Rattle.ob_model.specs.declared.reply.Reply.{Reply}
@@ -32,14 +33,22 @@ abbrev pub printed_bytes : List ℕ → List ℕ
 printed_bytes [] = []
 printed_bytes (byte ∷ bytes) = printed_byte byte ++ printed_bytes bytes
 
--- what stands behind the status of a reply: a text that is given, between double quotes behind a space;
--- handles and processes are never printed, and no line of a script asks for a page
+-- an entry of a page: its name between double quotes and its type's name, each behind a space
+abbrev pub entry_text : Listed → List ℕ
+entry_text e = codes " \"" ++ printed_bytes e.name ++ codes "\" " ++ e.type_name
+
+abbrev pub entries_text : List Listed → List ℕ
+entries_text [] = []
+entries_text (e ∷ es) = entry_text e ++ entries_text es
+
+-- what stands behind the status of a reply: a text that is given, between double quotes behind a space,
+-- or the entries that a page shows; handles, processes and the contexts of pages are never printed
 abbrev pub given_text : Given → List ℕ
 given_text Nothing = []
 given_text (Handle handle) = []
 given_text (Text text) = codes " \"" ++ printed_bytes text ++ codes "\""
 given_text (Process process values) = []
-given_text (Page entries context) = []
+given_text (Page entries context) = entries_text entries
 
 -- the text of a reply
 abbrev pub reply_text : Reply → List ℕ

@@ -5,4 +5,6 @@ mod counts;
 mod lines;
 
 pub use counts::Counts;
-pub use lines::{Line, counts_line, printed_part, status_line, text_front, text_line};
+pub use lines::{
+    Line, counts_line, printed_part, status_front, status_line, text_front, text_line,
+};

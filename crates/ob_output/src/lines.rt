@@ -55,6 +55,18 @@ pub fn text_front(number: u64, status: Status) -> Line
     front
 }
 
+/// The same line, as far as the status. Behind it stand the entries of a page that is given, and LF.
+/// (this profile)
+pub fn status_front(number: u64, status: Status) -> Line
+    ensures { result.items ≡ decimal number ++ codes ": " ++ status_text status }
+{
+    let mut start = empty_line();
+    push_number(&mut start, number);
+    push_text(&mut start, b": ");
+    push_status(&mut start, status);
+    start
+}
+
 /// The line of a number and of what the namespace counts. (this profile)
 pub fn counts_line(number: u64, counts: Counts) -> Line
     ensures { result.items ≡ output_line number (counts_text counts) }

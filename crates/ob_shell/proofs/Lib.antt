@@ -2,6 +2,7 @@ pub mod Readers
 pub mod Writers
 pub mod Gathered
 pub mod Told
+pub mod Listed
 pub mod Answered
 pub mod Totals
 pub mod Behind

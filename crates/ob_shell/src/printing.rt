@@ -3,7 +3,7 @@
 ghost use Rattle.std.specs.Prelude.{◌≡◌, ◌≤◌, ◌++◌, vec_capacity, OnOk, OnErr, IfErr};
 ghost use Rattle.ob_shell.specs.declared.fault.ShellFault.TheVariants.{Write};
 ghost use Rattle.ob_shell.specs.Writing.{AppendsFront, Gathers};
-ghost use Rattle.ob_output.specs.Printed.{output_line, status_text, printed_bytes, given_text, reply_text};
+ghost use Rattle.ob_output.specs.Printed.{output_line, status_text, printed_bytes, entry_text, entries_text, given_text, reply_text};
 ghost use Rattle.ob_shell.specs.Running.{outcome_text};
 ghost use Rattle.ob_model.specs.declared.reply.Given.TheVariants.{Text};
 
@@ -11,8 +11,8 @@ use crate::fault::ShellFault;
 use crate::line::Outcome;
 use crate::writing::gather;
 use ob_base::Status;
-use ob_model::{Given, Reply};
-use ob_output::{counts_line, printed_part, status_line, text_front, text_line};
+use ob_model::{Entries, Given, Listed, Reply};
+use ob_output::{counts_line, printed_part, status_front, status_line, text_front, text_line};
 use std::io::Write;
 
 // How many bytes of a text are printed at once.
@@ -65,7 +65,7 @@ fn write_reply<W: Write>(
         Given::Nothing => gather(writer, block, status_line(number, reply.status).as_slice()),
         Given::Handle(_) => gather(writer, block, status_line(number, reply.status).as_slice()),
         Given::Process(..) => gather(writer, block, status_line(number, reply.status).as_slice()),
-        Given::Page { .. } => gather(writer, block, status_line(number, reply.status).as_slice()),
+        Given::Page { entries, .. } => write_page(writer, block, number, reply.status, entries),
         Given::Text(text) => write_text(writer, block, number, reply.status, text.as_slice()),
     }
 }
@@ -91,6 +91,63 @@ fn write_text<W: Write>(
     gather(writer, block, b"\"\n")
 }
 
+// Writes the line of a number, a status and a page that is given, by way of the block.
+fn write_page<W: Write>(
+    writer: &mut W,
+    block: &mut Vec<u8>,
+    number: u64,
+    status: Status,
+    entries: &Entries,
+) -> Result<(), ShellFault>
+    requires { 192 ≤ vec_capacity block.old }
+    ensures ok { OnOk result (Gathers (W.contents writer.old) (W.contents writer.new) block.old.items
+        (output_line number (status_text status ++ entries_text entries.now)) block.new.items) }
+    ensures fault { IfErr result (λ fault. fault ≡ Write) }
+    ensures front { OnErr result (AppendsFront (W.contents writer.old) (W.contents writer.new)
+        (block.old.items ++ output_line number (status_text status ++ entries_text entries.now))) }
+    ensures capacity { vec_capacity block.old ≤ vec_capacity block.new }
+{
+    gather(writer, block, status_front(number, status).as_slice())?;
+    write_entries(writer, block, entries.as_slice())?;
+    gather(writer, block, b"\n")
+}
+
+// Writes the entries of a page, by way of the block.
+fn write_entries<W: Write>(
+    writer: &mut W,
+    block: &mut Vec<u8>,
+    entries: &[Listed],
+) -> Result<(), ShellFault>
+    requires { 192 ≤ vec_capacity block.old }
+    ensures ok { OnOk result (Gathers (W.contents writer.old) (W.contents writer.new) block.old.items (entries_text entries.now) block.new.items) }
+    ensures fault { IfErr result (λ fault. fault ≡ Write) }
+    ensures front { OnErr result (AppendsFront (W.contents writer.old) (W.contents writer.new) (block.old.items ++ entries_text entries.now)) }
+    ensures capacity { vec_capacity block.old ≤ vec_capacity block.new }
+{
+    for entry in entries {
+        write_entry(writer, block, entry)?;
+    }
+    Ok(())
+}
+
+// Writes an entry of a page, by way of the block.
+fn write_entry<W: Write>(
+    writer: &mut W,
+    block: &mut Vec<u8>,
+    entry: &Listed,
+) -> Result<(), ShellFault>
+    requires { 192 ≤ vec_capacity block.old }
+    ensures ok { OnOk result (Gathers (W.contents writer.old) (W.contents writer.new) block.old.items (entry_text entry.now) block.new.items) }
+    ensures fault { IfErr result (λ fault. fault ≡ Write) }
+    ensures front { OnErr result (AppendsFront (W.contents writer.old) (W.contents writer.new) (block.old.items ++ entry_text entry.now)) }
+    ensures capacity { vec_capacity block.old ≤ vec_capacity block.new }
+{
+    gather(writer, block, b" \"")?;
+    write_printed(writer, block, entry.name.as_slice())?;
+    gather(writer, block, b"\" ")?;
+    write_plain(writer, block, entry.type_name.as_str().as_bytes())
+}
+
 // Writes the bytes of a text, as they are printed, by way of the block.
 fn write_printed<W: Write>(
     writer: &mut W,
@@ -111,6 +168,23 @@ fn write_printed<W: Write>(
             Ok(()) => rest = &rest[count..],
             Err(fault) => return Err(fault),
         }
+    }
+    Ok(())
+}
+
+// Writes the bytes of a text as they are, by way of the block.
+fn write_plain<W: Write>(writer: &mut W, block: &mut Vec<u8>, text: &[u8]) -> Result<(), ShellFault>
+    requires { 192 ≤ vec_capacity block.old }
+    ensures ok { OnOk result (Gathers (W.contents writer.old) (W.contents writer.new) block.old.items text.now block.new.items) }
+    ensures fault { IfErr result (λ fault. fault ≡ Write) }
+    ensures front { OnErr result (AppendsFront (W.contents writer.old) (W.contents writer.new) (block.old.items ++ text.now)) }
+    ensures capacity { vec_capacity block.old ≤ vec_capacity block.new }
+{
+    let mut rest = text;
+    while !rest.is_empty() {
+        let count = rest.len().min(PART);
+        gather(writer, block, &rest[..count])?;
+        rest = &rest[count..];
     }
     Ok(())
 }
