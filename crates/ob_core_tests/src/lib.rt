@@ -1,0 +1,20 @@
+//! Tests of the namespace by its public functions: what no clause says, and the example of the README.
+//! The crate holds tests alone, since a crate with tests is proved twice.
+#![tactic(auto)]
+
+#[cfg(test)]
+mod example;
+#[cfg(test)]
+mod namespace;
+#[cfg(test)]
+mod pages;
+#[cfg(test)]
+mod permanence;
+#[cfg(test)]
+mod processes;
+#[cfg(test)]
+mod recorded;
+#[cfg(test)]
+mod scenes;
+#[cfg(test)]
+mod waiting;
