@@ -1,0 +1,8 @@
+//! Tests of the laws of whole runs: what they say is seen of a namespace that runs. The crate holds tests alone,
+//! since a crate with tests is proved twice.
+#![tactic(auto)]
+
+#[cfg(test)]
+mod lives;
+#[cfg(test)]
+mod scans;

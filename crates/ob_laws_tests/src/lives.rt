@@ -1,0 +1,217 @@
+//! What a recorder keeps of the calls of a namespace is as the law of lifetimes says: closes are counted, and a delete
+//! is last, behind the last close.
+
+use ob_base::{Fault, Handle, Proc, Status};
+use ob_core::{Brought, Bytes, Command, Core, OpenTable, Place, Started};
+use ob_laws::lifetime_law;
+use ob_plain::{Call, CallKind, Plain, PlainFace, PlainInner, PlainKind, Recorder};
+use std::alloc::{AllocError, Global};
+use std::test::Fail;
+
+type Namespace = Core<Recorder<Plain>, OpenTable>;
+
+// How many commands are asked, and how many calls may be kept.
+const COMMANDS: u32 = 3_000;
+
+const ROOM: usize = 20_000;
+
+// Numbers that look as if they were drawn.
+#[derive(Clone, Copy)]
+struct Draw {
+    state: u64,
+}
+
+impl Draw {
+    fn next(&mut self, below: u32) -> u32 {
+        self.state = self
+            .state
+            .wrapping_mul(6_364_136_223_846_793_005)
+            .wrapping_add(1_442_695_040_888_963_407);
+        ((self.state >> 33) as u32).checked_rem(below).unwrap_or(0)
+    }
+}
+
+// The name of an event: a letter in the root.
+fn name(draw: &mut Draw) -> [u8; 2] {
+    [
+        b'\\',
+        b'A'.wrapping_add(u8::try_from(draw.next(26)).unwrap_or(0)),
+    ]
+}
+
+fn create(alloc: Global, name: &[u8], attrs: u32) -> Result<Command<PlainKind>, AllocError> {
+    Ok(Command::CreateObject {
+        place: Place::At {
+            root: None,
+            name: Bytes::from_slice(alloc, name)?,
+        },
+        attrs,
+        kind: PlainKind::Event,
+        args: Bytes::new(Vec::new(alloc)),
+    })
+}
+
+fn open(alloc: Global, name: &[u8]) -> Result<Command<PlainKind>, AllocError> {
+    Ok(Command::OpenObject {
+        root: None,
+        name: Bytes::from_slice(alloc, name)?,
+        attrs: 0,
+        want: None,
+    })
+}
+
+// A command that is drawn: handles are the first few of a table, and are duplicated into the newest process.
+fn command(alloc: Global, draw: &mut Draw, newest: u32) -> Result<Command<PlainKind>, AllocError> {
+    let handle = Handle(draw.next(3).wrapping_mul(4).wrapping_add(4));
+    match draw.next(10) {
+        0 => create(alloc, &name(draw), 0x82),
+        1 | 2 => create(alloc, &name(draw), 0x80),
+        3 => open(alloc, &name(draw)),
+        4 => Ok(Command::Duplicate {
+            handle,
+            to: Proc(newest),
+            inherit: true,
+        }),
+        5 => Ok(Command::NewProcess { inherit: true }),
+        6 => Ok(Command::ExitProcess),
+        _ => Ok(Command::Close { handle }),
+    }
+}
+
+fn start(core: &mut Namespace, process: Proc, command: &Command<PlainKind>) -> Result<(), Fault> {
+    match core.start(process, command)? {
+        Started::Done(_) => Ok(()),
+        Started::Parsing(parsing) => {
+            core.abandon(Brought::Unrun(parsing));
+            Err(Fault::Refused(Status::InvalidParameter))
+        }
+    }
+}
+
+// Process 1 begins others, and the newest few of these ask for the rest; those before them exit.
+fn play(alloc: Global, core: &mut Namespace) -> Result<(), Fault> {
+    let mut draw = Draw { state: 7 };
+    for _ in 0..COMMANDS {
+        let newest = core.next_process().0.saturating_sub(1);
+        let process = newest.saturating_sub(draw.next(3)).max(1);
+        if process == 1 || draw.next(16) == 0 {
+            let inherit = false;
+            start(core, Proc(1), &Command::NewProcess { inherit })?;
+            let oldest = newest.saturating_sub(2);
+            if oldest > 1 {
+                start(core, Proc(oldest), &Command::ExitProcess)?;
+            }
+        } else {
+            let command = command(alloc, &mut draw, newest)?;
+            start(core, Proc(process), &command)?;
+        }
+    }
+    Ok(())
+}
+
+// What is known of an object behind some of its calls.
+#[derive(Clone, Copy)]
+struct Life {
+    opened: u32,
+    is_deleted: bool,
+    is_lawful: bool,
+}
+
+// Behind one call more of it.
+fn behind(life: Life, what: CallKind) -> Life {
+    let goes_on = life.is_lawful && !life.is_deleted;
+    match what {
+        CallKind::Opened(_) => Life {
+            opened: life.opened.saturating_add(1),
+            is_lawful: goes_on,
+            ..life
+        },
+        CallKind::Closed {
+            process_left,
+            system_left,
+        } => Life {
+            opened: system_left,
+            is_lawful: goes_on
+                && life.opened == system_left.saturating_add(1)
+                && process_left <= system_left,
+            ..life
+        },
+        CallKind::Deleted => Life {
+            is_deleted: true,
+            is_lawful: goes_on && life.opened == 0,
+            ..life
+        },
+    }
+}
+
+// What all calls on an object of a serial number leave.
+fn life_of(calls: &[Call], serial: u64) -> Life {
+    let mut life = Life {
+        opened: 0,
+        is_deleted: false,
+        is_lawful: true,
+    };
+    for call in calls {
+        if call.serial == serial {
+            life = behind(life, call.what);
+        }
+    }
+    life
+}
+
+// How many objects were deleted, of the first so many, and how many lives are none that the law allows.
+fn counted(calls: &[Call], objects: u64) -> (u32, u32) {
+    let mut deleted: u32 = 0;
+    let mut unlawful: u32 = 0;
+    for serial in 1..objects {
+        let life = life_of(calls, serial);
+        if life.is_deleted {
+            deleted = deleted.saturating_add(1);
+        }
+        if !life.is_lawful {
+            unlawful = unlawful.saturating_add(1);
+        }
+    }
+    (deleted, unlawful)
+}
+
+fn lives_in(alloc: Global, core: &mut Namespace) -> Result<(bool, u32, u64), Fault> {
+    play(alloc, core)?;
+    let set = core.set();
+    let (deleted, unlawful) = counted(set.calls(), 600);
+    Ok((deleted > 20, unlawful, set.lost()))
+}
+
+fn lives(alloc: Global) -> Result<(bool, u32, u64), Fault> {
+    let set = Recorder::new(alloc, Plain, ROOM)?;
+    let mut core = Core::new(alloc, set)?;
+    lives_in(alloc, &mut core)
+}
+
+#[test]
+fn recorded_calls_are_lives_that_the_law_allows(rt: HostRuntime) -> Result<(), Fail> {
+    lifetime_law::<PlainKind, Plain, PlainFace, PlainInner>();
+    assert_eq!(rt; lives(rt.alloc())?, (true, 0, 0));
+    Ok(())
+}
+
+#[test]
+fn a_close_that_is_counted_wrong_is_no_life(rt: HostRuntime) {
+    let opened = CallKind::Opened(ob_types::Reason::Created);
+    let closed = CallKind::Closed {
+        process_left: 0,
+        system_left: 1,
+    };
+    let calls = [
+        Call {
+            serial: 1,
+            what: opened,
+        },
+        Call {
+            serial: 1,
+            what: closed,
+        },
+    ];
+    assert!(rt; !life_of(&calls, 1).is_lawful);
+    assert!(rt; life_of(&calls, 2).is_lawful);
+}
