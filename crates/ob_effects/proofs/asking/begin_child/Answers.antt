@@ -3,9 +3,9 @@ use Rattle.std.proofs.Common.{◌≡◌, refl, cond, ap, sym, subst, ◌∙◌}
 use Rattle.ob_model.specs.Processes.{values_in}
 use Rattle.ob_requests.specs.Tables.{words_in, number_in, HasTable}
 use Rattle.ob_requests.specs.Words.{Words}
-use Rattle.ob_shell.proofs.Answered.{child_told, child_words, childless_words}
-use Rattle.ob_shell.proofs.asking.begin_child.Goals.{in-Process, in-Nothing, in-Handle, in-Text, in-Page}
-use Rattle.ob_shell.proofs.asking.begin_child.Goals as goal
+use Rattle.ob_effects.proofs.Answered.{child_told, child_words, childless_words}
+use Rattle.ob_effects.proofs.asking.begin_child.Goals.{in-Process, in-Nothing, in-Handle, in-Text, in-Page}
+use Rattle.ob_effects.proofs.asking.begin_child.Goals as goal
 
 -- the child has the number that room was made for
 pub begin-requires : goal.begin-requires

@@ -2,7 +2,7 @@
 use Rattle.std.proofs.Common.{ap, ◌∙◌}
 use Rattle.ob_requests.specs.Tables.{words_in}
 use Rattle.ob_requests.specs.Words.{with_word}
-use Rattle.ob_shell.proofs.asking.set_word.Goals as goal
+use Rattle.ob_effects.proofs.asking.set_word.Goals as goal
 
 pub returns-clause-set : goal.returns-clause-set
 returns-clause-set c =

@@ -7,7 +7,7 @@ ghost use Rattle.ob_lines.specs.Grammar.{HasTexts, request_seen};
 ghost use Rattle.ob_requests.specs.Commands.{given_handle, is_success, with_child};
 ghost use Rattle.ob_requests.specs.Tables.{words_in, number_in};
 ghost use Rattle.ob_requests.specs.Words.{handed_on, with_word, without_words};
-ghost use Rattle.ob_shell.specs.Running.{IsAsked, IsUnanswered};
+ghost use Rattle.ob_effects.specs.Effects.{IsAsked, IsUnanswered};
 
 use ob_base::{Handle, Proc, Status};
 use ob_complete::run_command;

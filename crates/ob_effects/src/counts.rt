@@ -1,7 +1,7 @@
 //! What `stat` tells.
 
 ghost use Rattle.std.specs.Prelude.{◌≡◌};
-ghost use Rattle.ob_shell.specs.Machine.{counts_of};
+ghost use Rattle.ob_effects.specs.Machine.{counts_of};
 
 use ob_core::{Core, OpenTable};
 use ob_output::Counts;

@@ -1,8 +1,8 @@
 -- A word is kept where the child holds its value.
 use Rattle.std.proofs.Common.{inl, inr, rules}
 use Rattle.ob_requests.specs.Tables.{number_in}
-use Rattle.ob_shell.proofs.Answered.{kept_words}
-use Rattle.ob_shell.proofs.asking.handed_on.Goals as goal
+use Rattle.ob_effects.proofs.Answered.{kept_words}
+use Rattle.ob_effects.proofs.asking.handed_on.Goals as goal
 
 pub returns : goal.returns
 returns c =

@@ -1,7 +1,7 @@
 -- A copy has its parent's words.
 use Rattle.std.proofs.Common.{Bool, cond, sym, ap, ◌∙◌}
 use Rattle.ob_requests.specs.Tables.{words_in}
-use Rattle.ob_shell.proofs.asking.words_to_hand_on.Goals as goal
+use Rattle.ob_effects.proofs.asking.words_to_hand_on.Goals as goal
 
 pub returns-in_ok-copy_of : goal.returns-in_ok-copy_of
 returns-in_ok-copy_of c =

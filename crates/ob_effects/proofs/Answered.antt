@@ -36,8 +36,8 @@ use Rattle.ob_lines.specs.Grammar.{form_seen, request_seen}
 use Rattle.ob_requests.specs.Words.{Words, handed_on, is_among, with_process, with_words}
 use Rattle.ob_requests.specs.Tables.{IsKept}
 use Rattle.ob_requests.specs.Commands.{changed, with_child}
-use Rattle.ob_shell.specs.Machine.{Space}
-use Rattle.ob_shell.specs.Running.{IsAsked, IsAnswered, IsUnanswered}
+use Rattle.ob_effects.specs.Machine.{Space}
+use Rattle.ob_effects.specs.Effects.{IsAsked, IsAnswered, IsUnanswered}
 
 -- a request is asked with words that are the same
 pub asked_with : (r : Request (List ℕ)) (p : ℕ) (words mid : Words) (s s' : Space) (reply : Reply) → mid ≡ words → IsAsked r p mid s reply s' → IsAsked r p words s reply s'

@@ -2,9 +2,9 @@
 use Rattle.std.proofs.Common.{subst}
 use Rattle.ob_lines.specs.Grammar.{request_seen}
 use Rattle.ob_requests.specs.Tables.{words_in}
-use Rattle.ob_shell.specs.Running.{IsUnanswered}
-use Rattle.ob_shell.proofs.Answered.{asks_seen}
-use Rattle.ob_shell.proofs.line.perform.Goals as goal
+use Rattle.ob_effects.specs.Effects.{IsUnanswered}
+use Rattle.ob_effects.proofs.Answered.{asks_seen}
+use Rattle.ob_effects.proofs.line.perform.Goals as goal
 
 pub returns-in-Err : goal.returns-in-Err
 returns-in-Err c = (

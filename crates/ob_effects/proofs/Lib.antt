@@ -1,0 +1,3 @@
+pub mod Tickets
+pub mod Waiting
+pub mod Answered
