@@ -1,7 +1,7 @@
 -- Behind what is wanted, of which there is one reading, the rest is missing.
 use Rattle.ob_lines.specs.Grammar.{IsNameFlagsAndWord}
 use Rattle.ob_lines.proofs.Parted.{moved, want_alike}
-use Rattle.ob_lines.proofs.request.open_object_of.Goals as goal
+use Rattle.ob_lines.proofs.parts.want_name_flags_and_word.Goals as goal
 
 pub returns-in_err-name-clause-none : goal.returns-in_err-name-clause-none
 returns-in_err-name-clause-none c =
