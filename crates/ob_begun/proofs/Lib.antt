@@ -1,0 +1,5 @@
+pub mod Pending
+pub mod Numbers
+pub mod Awaited
+pub mod Results
+pub mod Kept
