@@ -1,6 +1,6 @@
 //! Opens that wait under the words of a script.
 
-ghost use Rattle.std.specs.Prelude.{◌≡◌, ◌≢◌, ℕ, List, Option, true, IfOk, OnErr};
+ghost use Rattle.std.specs.Prelude.{◌≡◌, ◌==◌, ◌⊎◌, true, IfOk, OnErr};
 ghost use Rattle.std.specs.List.{list_any};
 ghost use Rattle.ob_begun.specs.Begun.{AreAwaited, answer_in, tickets_of, with_begun, without};
 ghost use Rattle.ob_lines.specs.Grammar.{PendingHasTexts, pending_seen};
@@ -10,13 +10,14 @@ ghost use Rattle.ob_lines.specs.declared.pending.PendingForm.TheVariants.{Begin,
 ghost use Rattle.ob_requests.specs.Tables.{words_in, HasRoom};
 ghost use Rattle.ob_effects.specs.Effects.{IsCarried, IsStopped, IsWaitDone};
 ghost use Rattle.ob_effects.specs.Kept.{outcome_of};
+ghost use Rattle.ob_requests.specs.Words.{with_ticket};
 ghost use Rattle.ob_effects.specs.Waiting.{words_answered};
 
 use crate::asking::{Space, given_handle};
 use crate::notice::Notice;
 use crate::outcome::Outcome;
 use crate::session::Session;
-use ob_base::{Handle, Proc, Status};
+use ob_base::{Proc, Status};
 use ob_begun::{Begun, Waits, begin_open, drop_open, end_open};
 use ob_lines::{KindForm, NameForm, PendingForm, Request};
 use ob_model::{Given, Reply};
@@ -186,8 +187,8 @@ fn keep(words: &mut Words, process: Proc, word: &[u8], begun: &Begun)
 {
     match begun {
         Begun::Replied(reply) => {
-            words.clear_ticket(process, word);
             words.set_handle(process, word, given_handle(&reply.given));
+            words.clear_ticket(process, word);
         }
         Begun::Waits(ticket) => words.set_ticket(process, word, *ticket),
     }

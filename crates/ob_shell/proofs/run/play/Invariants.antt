@@ -1,14 +1,13 @@
 use Rattle.std.proofs.Common.{◌+◌, ◌≤◌, length}
 use Rattle.std.specs.Vec.{vec_capacity}
-use Rattle.ob_requests.specs.Tables.{words_in}
 use Rattle.ob_shell.proofs.Behind.{StandsBehind}
-use Rattle.ob_shell.proofs.run.run_lines.Given as goal
+use Rattle.ob_shell.proofs.run.play.Given as goal
 
 -- the rest stands behind what was run and gathered, each line so far has a byte of its own, and the block
 -- has its room
 abbrev pub invariant-loop-form : goal.invariant-loop-form
 invariant-loop-form g l =
-    StandsBehind (g.W.Write.contents l.initial.writer) (g.W.Write.contents l.writer) l.block.items l.script l.rest l.number (words_in l.words) l.core
+    StandsBehind (g.W.Write.contents l.initial.writer) (g.W.Write.contents l.writer) l.block.items l.script l.rest l.number l.session.words l.session.space
     × (l.number + length l.rest ≤ length l.script) × (192 ≤ vec_capacity l.block)
 
 abbrev pub decreases-loop-form : goal.decreases-loop-form
