@@ -19,7 +19,7 @@ use Rattle.ob_complete.proofs.Replies.{is_open}
 use Rattle.ob_standard.specs.Standard.{StandardKind, Standard, standard, IsFresh}
 use Rattle.ob_lines.specs.declared.form.Form.TheVariants.{Nothing, Stat, Asks}
 use Rattle.ob_lines.specs.declared.request.Request.{Request}
-use Rattle.ob_lines.specs.declared.request.Request.TheVariants.{CreateDirectory, CreateLink, CreateObject, OpenDirectory, OpenLink, OpenObject, Close, QueryLink, QueryName, Duplicate, MakeTemporary, MakePermanent, SetDeviceMap, NewProcess, ExitProcess}
+use Rattle.ob_lines.specs.declared.request.Request.TheVariants.{CreateDirectory, CreateLink, CreateObject, OpenDirectory, OpenLink, OpenObject, Close, QueryLink, QueryName, QueryDirectory, Duplicate, MakeTemporary, MakePermanent, SetDeviceMap, NewProcess, ExitProcess}
 use Rattle.ob_lines.specs.Script.{Forms, BeginsWithForms}
 use Rattle.ob_lines.proofs.Scripted.{goes_on, scripts_alike as scripts_read_alike}
 use Rattle.ob_output.specs.Printed.{output_line, status_text, given_text, reply_text, counts_text}
@@ -68,6 +68,8 @@ first_alike : (s t : Space) → AreAlikeWords s t first_words first_words
 first_alike s t = record {
   processes = λ word. refl;
   values = λ p word. unset refl refl;
+  contexts = λ p word. refl;
+  tickets = λ p word. refl;
   apart = λ p a b e. inl refl;
   apart_too = λ p a b e. inl refl;
 }
@@ -88,6 +90,7 @@ opened_alike s t u v p (CreateObject kind place attrs args word) words others c 
 opened_alike s t u v p (Close handle) words others c a b before f opens lead hold second same = let none : is_open c ≡ false = ap is_open f in cc
 opened_alike s t u v p (QueryLink handle) words others c a b before f opens lead hold second same = let none : is_open c ≡ false = ap is_open f in cc
 opened_alike s t u v p (QueryName handle) words others c a b before f opens lead hold second same = let none : is_open c ≡ false = ap is_open f in cc
+opened_alike s t u v p (QueryDirectory handle room mode) words others c a b before f opens lead hold second same = let none : is_open c ≡ false = ap is_open f in cc
 opened_alike s t u v p (Duplicate handle to inherit word) words others c a b before f opens lead hold second same = let none : is_open c ≡ false = ap is_open f in cc
 opened_alike s t u v p (MakeTemporary handle) words others c a b before f opens lead hold second same = let none : is_open c ≡ false = ap is_open f in cc
 opened_alike s t u v p (MakePermanent handle) words others c a b before f opens lead hold second same = let none : is_open c ≡ false = ap is_open f in cc

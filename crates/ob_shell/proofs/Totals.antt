@@ -17,8 +17,9 @@ use Rattle.ob_lines.specs.declared.form.Form.TheVariants.{Nothing, Stat, Asks}
 use Rattle.ob_lines.specs.declared.request.PlaceForm.{PlaceForm}
 use Rattle.ob_lines.specs.declared.request.PlaceForm.TheVariants.{Named, Unnamed}
 use Rattle.ob_lines.specs.declared.request.Request.{Request}
-use Rattle.ob_lines.specs.declared.request.Request.TheVariants.{CreateDirectory, CreateLink, CreateObject, OpenDirectory, OpenLink, OpenObject, Close, QueryLink, QueryName, Duplicate, MakeTemporary, MakePermanent, SetDeviceMap, NewProcess, ExitProcess}
+use Rattle.ob_lines.specs.declared.request.Request.TheVariants.{CreateDirectory, CreateLink, CreateObject, OpenDirectory, OpenLink, OpenObject, Close, QueryLink, QueryName, QueryDirectory, Duplicate, MakeTemporary, MakePermanent, SetDeviceMap, NewProcess, ExitProcess}
 use Rattle.ob_lines.specs.Grammar.{HasPlaceText, HasTexts}
+use Rattle.ob_lines.specs.Pages.{is_first, is_single}
 use Rattle.ob_lines.specs.Script.{Forms}
 use Rattle.ob_lines.proofs.Scripted.{HaveTexts}
 use Rattle.ob_output.specs.Printed.{output_line, reply_text, counts_text}
@@ -50,6 +51,8 @@ command_total (OpenObject want name attrs word) words process (bytes, spelled) =
 command_total (Close handle) words process text = (command.Close (handle_meant handle (words.values process)), refl)
 command_total (QueryLink handle) words process text = (command.QueryLink (handle_meant handle (words.values process)), refl)
 command_total (QueryName handle) words process text = (command.QueryName (handle_meant handle (words.values process)), refl)
+command_total (QueryDirectory handle room mode) words process text =
+    (command.QueryDirectory (handle_meant handle (words.values process)) (words.contexts process handle.word) room (is_single mode) (is_first mode), refl)
 command_total (Duplicate handle to inherit word) words process text =
     (command.Duplicate (handle_meant handle (words.values process)) (words.processes to) inherit, refl)
 command_total (MakeTemporary handle) words process text = (command.MakeTemporary (handle_meant handle (words.values process)), refl)

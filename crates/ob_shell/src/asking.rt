@@ -4,7 +4,7 @@ ghost use Rattle.std.specs.Prelude.{◌≡◌, true, if◌then◌else◌, IfOk, 
 ghost use Rattle.ob_model.specs.Processes.{values_in};
 ghost use Rattle.ob_lines.specs.declared.request.Request.TheVariants.{NewProcess};
 ghost use Rattle.ob_lines.specs.Grammar.{HasTexts, request_seen};
-ghost use Rattle.ob_requests.specs.Commands.{given_handle, is_success, with_child};
+ghost use Rattle.ob_requests.specs.Commands.{given_handle, is_success, with_child, with_page};
 ghost use Rattle.ob_requests.specs.Tables.{words_in, number_in};
 ghost use Rattle.ob_requests.specs.Words.{handed_on, with_word, without_words};
 ghost use Rattle.ob_shell.specs.Running.{IsAsked, IsUnanswered};
@@ -110,6 +110,31 @@ pub fn give_all_up(
     Ok(reply)
 }
 
+// Runs the request of a process, and keeps the context of the page that was given for its word, where one was.
+pub fn turn_page(
+    core: &mut Space,
+    words: &mut Words,
+    process: Proc,
+    request: Request<&[u8]>,
+    word: &[u8],
+) -> Result<Reply, AllocError>
+    requires { HasTexts (request_seen request) }
+    ensures asked { IfOk result (λ reply. IsAsked (request_seen request.entry) process (words_in words.old) core.old reply core.new) }
+    ensures wanting { OnErr result (IsUnanswered (request_seen request.entry) process (words_in words.old) core.old core.new) }
+    ensures turned { IfOk result (λ reply. words_in words.new ≡ with_page (words_in words.old) process word.now reply.given) }
+{
+    words.room_for_context(process, word)?;
+    let reply = ask(core, words, process, request)?;
+    match &reply.given {
+        Given::Page { context, .. } => words.set_context(process, word, *context),
+        Given::Nothing => {}
+        Given::Handle(_) => {}
+        Given::Text(_) => {}
+        Given::Process(_, _) => {}
+    }
+    Ok(reply)
+}
+
 // Begins a child of a process, and sets its process word: to the child, which has the words that are
 // handed on to it, or to 0.
 pub fn begin_child(
@@ -144,7 +169,7 @@ pub fn begin_child(
 }
 
 // The words that a child may get: a copy of its parent's where it inherits, and else none.
-fn words_to_hand_on(words: &Words, process: Proc, inherit: bool) -> Result<Table, AllocError>
+fn words_to_hand_on(words: &Words, process: Proc, inherit: bool) -> Result<Table<u32>, AllocError>
     ensures { IfOk result (λ own. number_in own ≡ (λ word. if inherit then (words_in words.now).values process word else 0)) }
 {
     if inherit {
@@ -155,7 +180,7 @@ fn words_to_hand_on(words: &Words, process: Proc, inherit: bool) -> Result<Table
 }
 
 // The words of a child, from those that it may get: those whose values it holds.
-fn handed_on(core: &Space, child: Proc, own: Table) -> Table
+fn handed_on(core: &Space, child: Proc, own: Table<u32>) -> Table<u32>
     ensures { number_in result ≡ handed_on (number_in own) true (values_in core.now child) }
 {
     let mut own = own;

@@ -6,7 +6,7 @@ ghost use Rattle.ob_lines.specs.Script.{found_seen};
 ghost use Rattle.ob_requests.specs.Tables.{words_in};
 ghost use Rattle.ob_shell.specs.Running.{IsAnswered, IsUnanswered, IsDone};
 
-use crate::asking::{Space, ask, begin_child, give_all_up, give_up, set_word};
+use crate::asking::{Space, ask, begin_child, give_all_up, give_up, set_word, turn_page};
 use crate::counts::counts_of;
 use ob_base::Proc;
 use ob_lines::{Change, Form, Request, change_of};
@@ -70,6 +70,7 @@ fn answer(
             set_word(core, words, process, request, to, word)
         }
         Change::GivesUp(word) => give_up(core, words, process, request, word),
+        Change::TurnsPage(word) => turn_page(core, words, process, request, word),
         Change::GivesAllUp => give_all_up(core, words, process, request),
         Change::SetsProcess {
             process: child,
