@@ -1,6 +1,6 @@
 //! Which entries of a directory a line asks for.
 
-ghost use Rattle.std.specs.Prelude.{◌≡◌, ◌≢◌, ℕ, List, IfSome, IfNone};
+ghost use Rattle.std.specs.Prelude.{◌≡◌, ◌≢◌, ◌≤◌, ℕ, List, slice_index, IfSome, IfNone};
 ghost use Rattle.ob_lines.specs.declared.page.PageMode.{PageMode};
 ghost use Rattle.ob_lines.specs.Parts.{BeginsWithRoom};
 ghost use Rattle.ob_lines.specs.Pages.{IsRoom, is_first, is_single, mode_text};
@@ -81,10 +81,22 @@ fn room_of(spelled: &[u8]) -> Option<u32>
     ensures found { IfSome result (λ room. IsRoom spelled.now room) }
     ensures none { IfNone result ((room : ℕ) → ¬ IsRoom spelled.now room) }
 {
-    let (first, others) = spelled.split_first()?;
-    if *first == b'+' || (*first == b'0' && !others.is_empty()) {
-        return None;
+    if spelled == b"0".as_slice() {
+        return Some(0);
     }
-    let digits = std::str::from_utf8(spelled).ok()?;
-    digits.parse::<u32>().ok()
+    match *spelled.first()? {
+        b'1'..=b'9' => number_of(spelled),
+        _ => None,
+    }
+}
+
+// The number that decimal digits write of which the first is no zero. What begins so has no sign, which
+// `parse` would take.
+fn number_of(digits: &[u8]) -> Option<u32>
+    requires { 49 ≤ slice_index digits.now 0 }
+    ensures found { IfSome result (λ room. IsRoom digits.now room) }
+    ensures none { IfNone result ((room : ℕ) → ¬ IsRoom digits.now room) }
+{
+    let text = std::str::from_utf8(digits).ok()?;
+    text.parse::<u32>().ok()
 }
