@@ -198,7 +198,8 @@ FormHasTexts Stat = Unit {0}
 FormHasTexts (Asks process request) = HasTexts request
 FormHasTexts (Waits process pending) = PendingHasTexts pending
 
--- a request, what is asked of an open that waits, and a form, whose slices of bytes are seen as the lists that they hold
+-- a request, what is asked of the opens that wait, and a form, whose slices of bytes are seen as the lists that they
+-- hold
 abbrev pub request_seen : Request (Bor (List ℕ)) → Request (List ℕ)
 request_seen (CreateDirectory place attrs word) = CreateDirectory (place_seen place) attrs word.now
 request_seen (CreateLink place attrs target word) = CreateLink (place_seen place) attrs target.now word.now

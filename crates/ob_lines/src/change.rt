@@ -27,7 +27,7 @@ pub enum Change<T> {
     /// whatever was added to its value.
     GivesUp(T),
     /// `H` of a `list`: the context that is kept for this handle word of the process that asks is the one
-    /// that was given, whatever was added to the word's value.
+    /// that was given, where one was, whatever was added to the word's value.
     TurnsPage(T),
     /// `exit`: all handle words of the process that asks are set to 0 where the reply is SUCCESS.
     GivesAllUp,

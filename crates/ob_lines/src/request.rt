@@ -130,9 +130,9 @@ pub enum Request<T> {
     QueryDirectory {
         /// The handle.
         handle: HandleForm<T>,
-        /// The room for entries.
+        /// The room for the entries, in bytes.
         room: u32,
-        /// From which entry on, and whether one alone.
+        /// Whether the listing begins again, and whether one entry alone is asked for.
         mode: PageMode,
     },
     /// `dup H Q plain =V` or `dup H Q inherit =V`: a handle of another process, or of the same, to the
