@@ -8,11 +8,12 @@ use Rattle.ob_base.specs.declared.status.Status.{Status}
 use Rattle.ob_base.specs.declared.status.Status.TheVariants.{Success, ProcessGone, InsufficientResources}
 use Rattle.ob_model.specs.declared.command.Command.{Command}
 use Rattle.ob_model.specs.declared.command.Command.TheVariants as command
+use Rattle.ob_model.specs.declared.entries.Entries.{Entries}
 use Rattle.ob_model.specs.declared.reply.Reply.{Reply}
 use Rattle.ob_model.specs.declared.reply.Answer.TheVariants.{Done}
 use Rattle.ob_model.specs.declared.reply.Event.TheVariants.{Start}
 use Rattle.ob_model.specs.declared.reply.Given.{Given}
-use Rattle.ob_model.specs.declared.reply.Given.TheVariants.{Nothing, Process}
+use Rattle.ob_model.specs.declared.reply.Given.TheVariants.{Nothing, Page, Process}
 use Rattle.ob_model.specs.declared.state.Held.{Held}
 use Rattle.ob_model.specs.Grants.{first_refusal}
 use Rattle.ob_model.specs.Processes.{values_in, is_crowded, begun}
@@ -33,9 +34,9 @@ use Rattle.ob_lines.specs.declared.request.Request.TheVariants as request
 use Rattle.ob_lines.specs.Changes.{change_of}
 use Rattle.ob_lines.specs.Script.{found_seen}
 use Rattle.ob_lines.specs.Grammar.{form_seen, request_seen}
-use Rattle.ob_requests.specs.Words.{Words, handed_on, is_among, with_process, with_words}
+use Rattle.ob_requests.specs.Words.{Words, handed_on, is_among, with_process, with_words, with_context}
 use Rattle.ob_requests.specs.Tables.{IsKept}
-use Rattle.ob_requests.specs.Commands.{changed, with_child}
+use Rattle.ob_requests.specs.Commands.{changed, with_child, with_page}
 use Rattle.ob_effects.specs.Machine.{Space}
 use Rattle.ob_effects.specs.Effects.{IsAsked, IsAnswered, IsUnanswered}
 
@@ -68,6 +69,7 @@ begins (request.OpenObject want name attrs w) word inherit e = cc
 begins (request.Close handle) word inherit e = cc
 begins (request.QueryLink handle) word inherit e = cc
 begins (request.QueryName handle) word inherit e = cc
+begins (request.QueryDirectory handle room mode) word inherit e = cc
 begins (request.Duplicate handle to own w) word inherit e = cc
 begins (request.MakeTemporary handle) word inherit e = cc
 begins (request.MakePermanent handle) word inherit e = cc
@@ -166,3 +168,14 @@ pub childless_words : (old mid new : Words) (p : ℕ) (word : List ℕ) (inherit
     → mid ≡ old → given ≡ other → new ≡ with_process mid word 0 → new ≡ with_child old p word inherit given
 childless_words old mid new p word inherit given other none same is last =
     last ∙ (ap (λ (x : Words). with_process x word 0) same ∙ (sym none ∙ sym (ap (with_child old p word inherit) is)))
+
+-- the words with the context of a page, where one is given
+pub page_words : (old mid new : Words) (p : ℕ) (word : List ℕ) (given : Given) (entries : Entries) (context : ℕ) → mid ≡ old → given ≡ Page entries context
+    → new ≡ with_context mid p word context → new ≡ with_page old p word given
+page_words old mid new p word given entries context same is last =
+    last ∙ (ap (λ (x : Words). with_context x p word context) same ∙ sym (ap (with_page old p word) is))
+
+-- the words where none is
+pub pageless_words : (old mid : Words) (p : ℕ) (word : List ℕ) (given other : Given) → with_page old p word other ≡ old → mid ≡ old → given ≡ other
+    → mid ≡ with_page old p word given
+pageless_words old mid p word given other none same is = same ∙ (sym none ∙ sym (ap (with_page old p word) is))

@@ -113,7 +113,7 @@ pub fn give_all_up(
     Ok(reply)
 }
 
-// Runs the request of a process, and keeps the context of the page that was given for its word.
+// Runs the request of a process, and keeps the context of the page that was given for its word, where one was.
 pub fn turn_page(
     core: &mut Space,
     words: &mut Words,
@@ -131,7 +131,10 @@ pub fn turn_page(
     let reply = ask(core, words, process, request)?;
     match &reply.given {
         Given::Page { context, .. } => words.set_context(process, word, *context),
-        Given::Nothing | Given::Handle(_) | Given::Text(_) | Given::Process(_, _) => {}
+        Given::Nothing => {}
+        Given::Handle(_) => {}
+        Given::Text(_) => {}
+        Given::Process(_, _) => {}
     }
     Ok(reply)
 }

@@ -14,8 +14,8 @@ begin-requires c =
     c.state_is_sound.ensures c.requires c.in_ok-reply.ensures.asked c.in-Process.is in
     let child : c.in-Process.child ≡ c.next_process.result = told.0 ∙ sym c.next_process.ensures in
     record {
-      room = subst (HasTable c.room_for_process.new.self.handles.entries) (sym child)
-          (subst (λ tables. HasTable tables c.next_process.result) (sym (ap (λ t. t.entries) c.in_ok-room_for_process.ensures.handles)) c.in_ok-room_for_words.ensures.room);
+      room = subst (HasTable c.room_for_process.new.self.handles) (sym child)
+          (subst (λ tables. HasTable tables c.next_process.result) (sym c.in_ok-room_for_process.ensures.handles) c.in_ok-room_for_words.ensures.room);
     }
 
 pub returns-clause-begun : goal.returns-clause-begun
