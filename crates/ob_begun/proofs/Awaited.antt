@@ -1,11 +1,10 @@
 -- Parses that opens wait for stay so in each step that doesn't end their opens, and in the steps of a command that is run to its
 -- reply; and a ticket that is given is a new one.
-use Rattle.std.proofs.Common.{◌≡◌, ◌≢◌, ◌∙◌, ◌↔◌, ℕ, ◌<◌, ◌==◌, ◌||◌, Bool, true, false, not, cond, IsTrue, List, [], ◌∷◌, ◌++◌, All, get_or, Option, None, Some, filter, find, inl, inr, refl, ap, sym, subst, arith, eqb-true}
+use Rattle.std.proofs.Common.{◌≡◌, ◌≢◌, ◌∙◌, ℕ, ◌<◌, ◌==◌, ◌||◌, false, List, [], ◌∷◌, All, get_or, Option, None, Some, inl, inr, refl, ap, sym, subst, arith, eqb-true}
 use Rattle.std.specs.Prelude.{MatchOption}
 use Rattle.std.specs.List.{list_any}
-use Rattle.std.specs.Option.{is_some}
-use Rattle.std.proofs.lemmas.Bool.{ne_eqb, false≢true}
-use Rattle.std.proofs.lemmas.List.Elements.{All-nil, All-cons, All-head, All-tail, All-filter, All-weaker, All-map, All-push, filter_passes}
+use Rattle.std.proofs.lemmas.Bool.{ne_eqb}
+use Rattle.std.proofs.lemmas.List.Elements.{All-head, All-tail, All-weaker, All-map}
 use Rattle.ob_model.specs.declared.command.Command.{Command}
 use Rattle.ob_model.specs.declared.reply.Answer.{Answer}
 use Rattle.ob_model.specs.declared.reply.Answer.TheVariants.{Done, Ticket}
@@ -17,7 +16,7 @@ use Rattle.ob_model.specs.declared.state.Pending.{Pending}
 use Rattle.ob_model.specs.PendingOpens.{face_of, pending_of}
 use Rattle.ob_model.specs.Procedures.{Procedures}
 use Rattle.ob_model.specs.Sound.{IsSound}
-use Rattle.ob_model.specs.State.{State, root_id, object_of}
+use Rattle.ob_model.specs.State.{State, root_id}
 use Rattle.ob_model.specs.Step.{Step}
 use Rattle.ob_model.proofs.SoundPaths.{find_of, of_some}
 use Rattle.ob_model.proofs.Soundness.{stands_drawn, stands_from_is_directory}
@@ -25,7 +24,7 @@ use Rattle.ob_model.proofs.Steps.{step_sound}
 use Rattle.ob_parsing.specs.Parse.{ToRun}
 use Rattle.ob_waiting.specs.Waiting.{IsParseOf}
 use Rattle.ob_complete.specs.Completes.{Made, Leads, HasRun, Completes, GivesUp, Falters}
-use Rattle.ob_begun.specs.Begun.{AreAwaited, tickets_of, without}
+use Rattle.ob_begun.specs.Begun.{AreAwaited, tickets_of}
 use Rattle.ob_begun.proofs.Numbers.{ticket_is_next}
 use Rattle.ob_begun.proofs.Pending.{IsNoEnd, found_passes, step_pending}
 

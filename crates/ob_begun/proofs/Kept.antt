@@ -1,22 +1,22 @@
 -- Parses that a map keeps under their tickets: what is found, what is left, and what comes last.
-use Rattle.std.proofs.Common.{◌≡◌, ◌∙◌, ℕ, ◌<◌, ◌==◌, Bool, true, false, not, cond, List, [], ◌∷◌, ◌++◌, map, filter, find, get_or, Option, Some, None, All, refl, ap, sym, subst, arith}
-use Rattle.std.proofs.lemmas.Bool.{ne_eqb}
+use Rattle.std.proofs.Common.{◌≡◌, ◌≢◌, ◌∙◌, ℕ, ◌<◌, ◌==◌, ◌||◌, Bool, true, false, not, cond, List, [], ◌∷◌, ◌++◌, map, filter, find, get_or, Some, None, All, refl, ap, sym, subst, arith, eq-eqb, eqb-true}
+use Rattle.std.proofs.lemmas.Bool.{false≢true, ne_eqb}
 use Rattle.std.proofs.lemmas.Bool.Decides.{nat_tests}
 use Rattle.std.proofs.lemmas.List.{map-append}
-use Rattle.std.proofs.lemmas.List.Elements.{All-nil, All-cons, All-head, All-tail, All-push}
+use Rattle.std.proofs.lemmas.List.Elements.{All-nil, All-cons, All-head, All-tail, All-push, filter_passes}
 use Rattle.std.proofs.lemmas.List.Kept.{AllPairs-cons}
 use Rattle.std.proofs.lemmas.Map.Keys.{sorted_head, sorted_tail}
 use Rattle.std.specs.BTreeMap.{is_at, insert_entry}
 use Rattle.std.specs.declared.cmp.Ordering.TheVariants.{Less}
-use Rattle.std.specs.List.{AllPairs, AllByRecursion}
+use Rattle.std.specs.List.{AllPairs, AllByRecursion, list_any}
 use Rattle.std.specs.List.Sorted.{IsStrictlySortedBy}
 use Rattle.std.specs.Map.{keys_of, values_of, lookup, remove_entry}
 use Rattle.std.specs.Ordering.{nat_cmp}
-use Rattle.ob_model.proofs.Finds.{find_none}
 use Rattle.ob_model.proofs.Ids.{Differ-from_rising, is_at-id, insert_entry-last, remove_entry-id}
 use Rattle.ob_parsing.specs.Parse.{ToRun}
-use Rattle.ob_begun.specs.Begun.{tickets_of}
+use Rattle.ob_begun.specs.Begun.{tickets_of, without}
 use Rattle.ob_begun.specs.Kept.{AreKept}
+use Rattle.ob_begun.proofs.Pending.{found_passes}
 
 -- keys that rise
 above : (k : ℕ) (ks : List ℕ) → AllByRecursion (λ y. nat_cmp k y ≡ Less) ks → All (λ y. k < y) ks
@@ -136,3 +136,43 @@ module _ {F : Type 0} where
           let own : x.ticket ≡ key = All-head Own (key, x) left all.own in
           subst (λ k. All (λ j. k < j) (tickets_of (values_of left))) (sym own)
           (subst (All (λ j. key < j)) (sym (are_keys left (All-tail Own (key, x) left all.own))) (above key (keys_of left) (sorted_head nat_cmp key (keys_of left) all.rising)))
+
+    -- a parse is found under each ticket that is kept
+    module _ (ticket : ℕ) (there : list_any (λ k. k == ticket) (tickets_of now) ≡ true) where
+      some_found : (xs : List (ToRun F)) → list_any (λ k. k == ticket) (tickets_of xs) ≡ true → find (λ x. x.ticket == ticket) xs ≡ None → ⊥
+      some_found [] any none = cc
+      some_found (x ∷ xs) any none = go (x.ticket == ticket) any none (some_found xs)
+        where
+          go : (b : Bool) → (b || list_any (λ k. k == ticket) (tickets_of xs)) ≡ true → cond b (Some x) (find (λ y. y.ticket == ticket) xs) ≡ None
+              → (list_any (λ k. k == ticket) (tickets_of xs) ≡ true → find (λ y. y.ticket == ticket) xs ≡ None → ⊥) → ⊥
+          go true any none more = cc
+          go false any none more = more any none
+
+      pub is_kept : None ≡ lookup (is_at (nat_cmp ticket)) es → ⊥
+      is_kept none = some_found now there (sym (none ∙ found_now ticket))
+
+  -- what is found under a ticket has it
+  pub found_own : (ticket : ℕ) (xs : List (ToRun F)) (x : ToRun F) → find (λ y. y.ticket == ticket) xs ≡ Some x → x.ticket ≡ ticket
+  found_own ticket xs x e = eqb-true x.ticket ticket (found_passes (λ y. y.ticket == ticket) xs x e)
+
+  -- the tickets of those that are left
+  pub tickets_left : (ticket : ℕ) (xs : List (ToRun F)) → tickets_of (filter (λ x. not (x.ticket == ticket)) xs) ≡ without ticket (tickets_of xs)
+  tickets_left ticket [] = refl
+  tickets_left ticket (x ∷ xs) = go (not (x.ticket == ticket)) (tickets_left ticket xs)
+    where
+      go : (b : Bool) → tickets_of (filter (λ (y : ToRun F). not (y.ticket == ticket)) xs) ≡ without ticket (tickets_of xs)
+          → tickets_of (cond b (x ∷ filter (λ (y : ToRun F). not (y.ticket == ticket)) xs) (filter (λ (y : ToRun F). not (y.ticket == ticket)) xs))
+          ≡ cond b (x.ticket ∷ without ticket (tickets_of xs)) (without ticket (tickets_of xs))
+      go true more = ap (λ ks. x.ticket ∷ ks) more
+      go false more = more
+
+  -- they have other tickets
+  pub others_left : (ticket : ℕ) (xs : List (ToRun F)) → All (λ x. ticket ≢ x.ticket) (filter (λ x. not (x.ticket == ticket)) xs)
+  others_left ticket xs k d within = λ same.
+      let passes : not ((get_or (filter (λ (x : ToRun F). not (x.ticket == ticket)) xs) k d).ticket == ticket) ≡ true = filter_passes (λ (x : ToRun F). not (x.ticket == ticket)) xs k d within in
+      absurd (false≢true (ap not (sym (eq-eqb _ ticket (sym same))) ∙ passes))
+
+  -- what holds of tickets
+  pub of_tickets : (P : ℕ → Type 0) (xs : List (ToRun F)) → All P (tickets_of xs) → All (λ x. P x.ticket) xs
+  of_tickets P [] all = All-nil (λ x. P x.ticket)
+  of_tickets P (x ∷ xs) all = All-cons (λ (y : ToRun F). P y.ticket) x xs (All-head P x.ticket (tickets_of xs) all) (of_tickets P xs (All-tail P x.ticket (tickets_of xs) all))

@@ -3,3 +3,4 @@ pub mod Numbers
 pub mod Awaited
 pub mod Results
 pub mod Kept
+pub mod Beside

@@ -1,5 +1,5 @@
 -- The ticket that a step gives is the next number: above those of all objects and of all tickets.
-use Rattle.std.proofs.Common.{◌≡◌, ℕ, Bool, true, false, not, List, [], ◌∷◌, Option, None, Some, Result, Ok, Err, MatchOption, refl}
+use Rattle.std.proofs.Common.{◌≡◌, ℕ, Bool, true, false, not, List, [], ◌∷◌, Option, None, Some, Ok, Err, MatchOption, refl}
 use Rattle.std.specs.Option.{option_and_then}
 use Rattle.ob_base.specs.declared.status.Status.{Status}
 use Rattle.ob_base.specs.declared.status.Status.TheVariants.{InsufficientResources, InvalidHandle, NoMemory, ObjectTypeMismatch, ProcessGone, Success, TypeRefused}
@@ -25,7 +25,7 @@ use Rattle.ob_model.specs.Settle.{settle}
 use Rattle.ob_model.specs.State.{State, is_live, is_store_full, held_of}
 use Rattle.ob_model.specs.Step.{WithRoot, OpensName, Step}
 use Rattle.ob_model.specs.Types.{is_wanted_at}
-use Rattle.ob_complete.proofs.Replies.{IsReply, is_open, start_replies}
+use Rattle.ob_complete.proofs.Replies.{IsReply, start_replies}
 
 module _ {K T F I : Type 0} (g : Procedures K T F I) (t : State K T F I) (m : ℕ) where
   -- a handle that is granted or refused is no ticket

@@ -17,15 +17,15 @@ use Rattle.ob_model.specs.declared.state.Pending.{Pending}
 use Rattle.ob_model.specs.declared.state.Wanted.{Wanted}
 use Rattle.ob_model.specs.State.{State, is_live, object_of}
 use Rattle.ob_model.specs.Procedures.{Procedures, Reason, Inherited, ParseOutcome, EndsItself, EndsMade, EndsReparse, EndsRefused}
-use Rattle.ob_model.specs.Settle.{is_pinned, settle}
+use Rattle.ob_model.specs.Settle.{settle}
 use Rattle.ob_model.specs.Sound.{IsSound}
 use Rattle.ob_model.specs.Grants.{open_refusal, opened_body, opened_object, with_open, with_handle}
 use Rattle.ob_model.specs.Closing.{closed_body, closed_object, closed_handle}
-use Rattle.ob_model.specs.Permanence.{turned_object, turned, with_permanence}
+use Rattle.ob_model.specs.Permanence.{turned_object, turned}
 use Rattle.ob_model.specs.Maps.{with_map}
-use Rattle.ob_model.specs.Creates.{Spot, created, dropped}
+use Rattle.ob_model.specs.Creates.{Spot, created}
 use Rattle.ob_model.specs.Processes.{handles_in, inherited_from, with_child, inherits_one, inherits, begun, closed_in_turn, ended}
-use Rattle.ob_model.specs.PendingOpens.{face_in, face_of, pending_of, with_pending, without_pending}
+use Rattle.ob_model.specs.PendingOpens.{face_in, face_of, pending_of, with_pending}
 use Rattle.ob_model.specs.Parses.{parsed_state, Resumes, Abandons}
 use Rattle.ob_model.specs.Step.{Step}
 use Rattle.ob_model.proofs.Finds.{find-filter, find_none}

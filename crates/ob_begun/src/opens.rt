@@ -3,14 +3,16 @@
 ghost use Rattle.std.specs.Prelude.{◌≡◌, ◌≢◌, ◌==◌, ◌<◌, true, false, [], ◌∷◌, ◌++◌, All, List, IfOk, OnErr, OnOk};
 ghost use Rattle.std.specs.List.{list_any};
 ghost use Rattle.ob_base.specs.declared.status.Status.TheVariants.{Success};
-ghost use Rattle.ob_model.specs.declared.reply.Answer.TheVariants.{Ticket};
 ghost use Rattle.ob_model.specs.declared.reply.Event.TheVariants.{Start, Resume, Abandon};
 ghost use Rattle.ob_model.specs.declared.reply.ParseRun.{ParseRun};
 ghost use Rattle.ob_model.specs.declared.reply.ParseRun.TheVariants.{Unrun};
 ghost use Rattle.ob_model.specs.Refusals.{answers};
 ghost use Rattle.ob_model.specs.Step.{Step};
+ghost use Rattle.ob_parsing.specs.Brought.{run_of, brought as end_of};
+ghost use Rattle.ob_parsing.specs.Parse.{asked_of};
 ghost use Rattle.ob_waiting.specs.Waiting.{IsParseOf};
 ghost use Rattle.ob_complete.specs.Completes.{Made, HasRun, GivesUp, Falters};
+ghost use Rattle.ob_begun.specs.declared.begun.Begun.TheVariants as begun;
 ghost use Rattle.ob_begun.specs.Begun.{answer_in, AreAwaited, GivesAllUp, IfWaits, tickets_of, with_begun, without};
 
 use crate::{Begun, Waits};
@@ -79,16 +81,13 @@ pub fn end_open<T: TypeSet, H: HandleTable>(
     ensures faltered { OnErr result ((steps : List (Made T.Kind)) × GivesUp T.procedures ticket steps core.old core.new) }
     ensures kept { OnErr result (tickets_of waits.new ≡ without ticket (tickets_of waits.old)) }
 {
-    own_face::<T>();
     core.state_is_sound();
-    let Some(parsing) = waits.take(ticket) else {
-        return Err(AllocError);
-    };
+    let parsing = waits.take(ticket);
     match core.resume(parsing.run(alloc)) {
         Ok(Started::Done(reply)) => Ok(Begun::Replied(reply)),
         Ok(Started::Parsing(next)) => keep_parse(core, waits, next),
         Err((_, parsed)) => {
-            core.abandon(Brought::Run(parsed));
+            give_up(core, Brought::Run(parsed));
             Err(AllocError)
         }
     }
@@ -108,11 +107,9 @@ pub fn drop_open<T: TypeSet, H: HandleTable>(
     ensures step { Step T.procedures core.old (Abandon ticket Unrun) (answers Success) core.new }
     ensures tickets { tickets_of waits.new ≡ without ticket (tickets_of waits.old) }
 {
-    own_face::<T>();
     core.state_is_sound();
-    if let Some(parsing) = waits.take(ticket) {
-        core.abandon(Brought::Unrun(parsing));
-    }
+    let parsing = waits.take(ticket);
+    give_up(core, Brought::Unrun(parsing));
 }
 
 /// Gives up all opens that wait, by rising tickets, without a run of their parses. Takes no memory.
@@ -122,11 +119,10 @@ pub fn give_all_up<T: TypeSet, H: HandleTable>(core: &mut Core<T, H>, waits: Wai
     requires { AreAwaited core.old waits }
     ensures { GivesAllUp T.procedures (tickets_of waits) core.old core.new }
 {
-    own_face::<T>();
     let mut left = waits;
     while let Some(parsing) = left.take_first() {
         core.state_is_sound();
-        core.abandon(Brought::Unrun(parsing));
+        give_up(core, Brought::Unrun(parsing));
     }
     left.destroy_empty();
 }
@@ -141,20 +137,28 @@ fn keep_parse<T: TypeSet, H: HandleTable>(
     requires parse { IsParseOf core.old parsing }
     requires newest { All (λ k. k < parsing.ticket) (tickets_of waits.old) }
     ensures awaited { AreAwaited core.new waits.new }
-    ensures waiting { IfOk result (λ begun. answer_in begun ≡ Ticket parsing.ticket) }
+    ensures waiting { IfOk result (λ it. it ≡ begun.Waits parsing.ticket) }
     ensures still { OnOk result (core.new ≡ core.old) }
     ensures last { OnOk result (waits.new ≡ waits.old ++ parsing ∷ []) }
     ensures given_up { OnErr result (Step T.procedures core.old (Abandon parsing.ticket Unrun) (answers Success) core.new) }
     ensures unchanged { OnErr result (waits.new ≡ waits.old) }
 {
-    own_face::<T>();
     core.state_is_sound();
     let ticket = parsing.ticket();
     match waits.keep(parsing) {
         Ok(()) => Ok(Begun::Waits(ticket)),
         Err(parsing) => {
-            core.abandon(Brought::Unrun(parsing));
+            give_up(core, Brought::Unrun(parsing));
             Err(AllocError)
         }
     }
+}
+
+/// Gives up the open that waits for a parse, whether that was run or not.
+fn give_up<T: TypeSet, H: HandleTable>(core: &mut Core<T, H>, brought: Brought<T>)
+    requires { IsParseOf core.old (asked_of (end_of brought)) }
+    ensures { Step T.procedures core.old (Abandon (end_of brought).ticket (run_of brought)) (answers Success) core.new }
+{
+    own_face::<T>();
+    core.abandon(brought);
 }

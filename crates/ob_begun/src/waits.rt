@@ -1,9 +1,9 @@
 //! The parses that are kept.
 
-ghost use Rattle.std.specs.Prelude.{◌≡◌, ◌<◌, ◌==◌, not, [], ◌∷◌, ◌++◌};
+ghost use Rattle.std.specs.Prelude.{◌≡◌, ◌<◌, ◌==◌, not, true, [], ◌∷◌, ◌++◌, Some};
 ghost use Rattle.std.specs.Prelude.{filter, map, All, AllPairs, IfErr, IfNone, IfSome, OnErr, OnOk};
-ghost use Rattle.std.specs.List.{find};
-ghost use Rattle.ob_begun.specs.Begun.{tickets_of};
+ghost use Rattle.std.specs.List.{find, list_any};
+ghost use Rattle.ob_begun.specs.Begun.{tickets_of, without};
 
 use ob_parsing::Parsing;
 use ob_types::TypeSet;
@@ -72,12 +72,18 @@ impl<T: TypeSet> Waits<T> {
         }
     }
 
-    /// Takes out the parse of a ticket, and `None` exactly where none is kept under it. Takes no memory.
-    pub(crate) fn take(&mut self, ticket: u64) -> Option<Parsing<T>>
-        ensures there { result ≡ find (λ parse. parse.ticket == ticket) self.old }
+    /// Takes out the parse of a ticket, under which one must be kept. Takes no memory.
+    pub(crate) fn take(&mut self, ticket: u64) -> Parsing<T>
+        requires there { list_any (λ k. k == ticket) (tickets_of self.old) ≡ true }
+        ensures own { result.ticket ≡ ticket }
+        ensures found { find (λ parse. parse.ticket == ticket) self.old ≡ Some result }
         ensures others { self.new ≡ filter (λ parse. not (parse.ticket == ticket)) self.old }
+        ensures tickets { tickets_of self.new ≡ without ticket (tickets_of self.old) }
     {
-        self.parses.remove(&ticket)
+        match self.parses.remove(&ticket) {
+            Some(parsing) => parsing,
+            None => unreachable!(),
+        }
     }
 
     /// Takes out the parse of the least ticket, and `None` exactly where no open waits. Takes no memory.
