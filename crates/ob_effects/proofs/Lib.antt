@@ -1,3 +1,3 @@
 pub mod Tickets
-pub mod Waiting
+pub mod Awaiting
 pub mod Answered

@@ -11,6 +11,8 @@ use Rattle.ob_begun.specs.declared.begun.Begun.{Begun}
 use Rattle.ob_begun.specs.declared.begun.Begun.TheVariants as begun
 use Rattle.ob_effects.specs.declared.outcome.Outcome.{Outcome}
 use Rattle.ob_effects.specs.declared.outcome.Outcome.TheVariants as outcome
+use Rattle.ob_requests.specs.declared.words.Words as declared
+use Rattle.ob_requests.specs.Tables.{words_in}
 use Rattle.ob_requests.specs.Words.{Words, first_words}
 use Rattle.ob_effects.specs.Machine.{Space}
 use Rattle.ob_effects.specs.Waiting.{AreTickets}
@@ -32,14 +34,18 @@ pub record AreWaiting (s : Space) (words : Words) (tickets : List ℕ) : Type 0 
   pub theirs : (process : ℕ) (word : List ℕ) → (words.tickets process word ≡ 0) ⊎ WaitsUnder s (words.tickets process word) process
   pub apart : AreApart words.tickets
 
--- a session: the words of its script and the state of its namespace
+-- a session: the words of its script, as they are kept, and the state of its namespace
 pub record Session : Type 0 where
-  pub words : Words
+  pub kept : declared.Words
   pub space : Space
+
+-- the words of a session's script
+abbrev pub words_of : Session → Words
+words_of session = words_in session.kept
 
 -- a session in which nothing was done
 abbrev pub IsFirst : Session → Type 0
-IsFirst session = (session.words ≡ first_words) × ((first : Standard) × IsFresh first × (session.space ≡ opening first))
+IsFirst session = (words_of session ≡ first_words) × ((first : Standard) × IsFresh first × (session.space ≡ opening first))
 
 -- what became of a line, told of what became of its open; an error: it found no memory
 abbrev pub outcome_of : {E : Type 0} → Result Begun E → Outcome

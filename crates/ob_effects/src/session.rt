@@ -5,7 +5,7 @@ ghost use Rattle.ob_lines.specs.Grammar.{HasTexts, FormHasTexts, form_seen, requ
 ghost use Rattle.ob_lines.specs.Script.{found_seen};
 ghost use Rattle.ob_requests.specs.Tables.{words_in};
 ghost use Rattle.ob_effects.specs.Effects.{IsAnswered, IsUnanswered, IsRequestDone, IsDone};
-ghost use Rattle.ob_effects.specs.Kept.{IsFirst};
+ghost use Rattle.ob_effects.specs.Kept.{IsFirst, words_of};
 ghost use Rattle.ob_effects.specs.Waiting.{Steps, GiveAllUp};
 
 use crate::asking::{Space, ask, begin_child, give_all_up, give_up, set_word, turn_page};
@@ -38,7 +38,7 @@ impl Model for Session {
 
     ghost Value = { Seen };
 
-    ghost view = { λ a. record { words = words_in a.words; space = a.core } };
+    ghost view = { λ a. record { kept = a.words; space = a.core } };
 
     ghost invariant = { λ a. AreWaiting a.core (words_in a.words) (tickets_of a.waits) × AreAwaited a.core a.waits };
 }
@@ -61,7 +61,7 @@ impl Session {
     /// comes before the first step, or its open is given up: so no reply is lost. (this profile)
     pub fn perform(&mut self, form: Option<Form<&[u8]>>) -> Outcome
         requires texts { IfSome form (λ form. FormHasTexts (form_seen form)) }
-        ensures { IsDone (found_seen form.entry) self.old.words self.old.space result self.new.words self.new.space }
+        ensures { IsDone (found_seen form.entry) (words_of self.old) self.old.space result (words_of self.new) self.new.space }
     {
         match form {
             None => Outcome::NoLine,
@@ -81,7 +81,7 @@ impl Session {
     /// Ends the session: all opens that wait are given up, by rising tickets, and their parses aren't run. (this
     /// profile)
     pub fn end(self)
-        ensures { (steps : Steps) × GiveAllUp self.words self.space steps }
+        ensures { (steps : Steps) × GiveAllUp (words_of self) self.space steps }
     {
         let Session {
             mut core,
@@ -94,7 +94,7 @@ impl Session {
     // What became of the request of a process.
     fn answer(&mut self, process: Proc, request: Request<&[u8]>) -> Outcome
         requires { HasTexts (request_seen request) }
-        ensures { IsRequestDone (request_seen request.entry) process self.old.words self.old.space result self.new.words self.new.space }
+        ensures { IsRequestDone (request_seen request.entry) process (words_of self.old) self.old.space result (words_of self.new) self.new.space }
     {
         match reply_to(&mut self.core, &mut self.words, process, request) {
             Ok(reply) => Outcome::Replied(reply),

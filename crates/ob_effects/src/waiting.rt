@@ -9,7 +9,7 @@ ghost use Rattle.ob_lines.specs.Text.{IsText};
 ghost use Rattle.ob_lines.specs.declared.pending.PendingForm.TheVariants.{Begin, End, Drop};
 ghost use Rattle.ob_requests.specs.Tables.{words_in, HasRoom};
 ghost use Rattle.ob_effects.specs.Effects.{IsCarried, IsStopped, IsWaitDone};
-ghost use Rattle.ob_effects.specs.Kept.{outcome_of};
+ghost use Rattle.ob_effects.specs.Kept.{outcome_of, words_of};
 ghost use Rattle.ob_requests.specs.Words.{with_ticket};
 ghost use Rattle.ob_effects.specs.Waiting.{words_answered};
 
@@ -29,7 +29,7 @@ impl Session {
     // What became of a line of a process for an open that waits.
     pub(crate) fn carry_on(&mut self, process: Proc, pending: PendingForm<&[u8]>) -> Outcome
         requires { PendingHasTexts (pending_seen pending) }
-        ensures { IsWaitDone (pending_seen pending.entry) process self.old.words self.old.space result self.new.words self.new.space }
+        ensures { IsWaitDone (pending_seen pending.entry) process (words_of self.old) self.old.space result (words_of self.new) self.new.space }
     {
         match pending {
             PendingForm::Begin {
@@ -44,9 +44,9 @@ impl Session {
     }
 
     // Begins an open under a word of a process, under which none waits.
-    fn begin(&mut self, process: Proc, open: OpenForm<'_>, word: &[u8]) -> Outcome
-        requires { IsText (text_of (name_seen (open.1))) }
-        ensures { IsWaitDone (Begin (open.0) (name_seen (open.1)) (open.2) word.now) process self.old.words self.old.space result self.new.words self.new.space }
+    fn begin(&mut self, process: Proc, asked: OpenForm<'_>, word: &[u8]) -> Outcome
+        requires { IsText (text_of (name_seen (asked.1))) }
+        ensures { IsWaitDone (Begin (asked.entry.0) (name_seen (asked.entry.1)) (asked.entry.2) word.now) process (words_of self.old) self.old.space result (words_of self.new) self.new.space }
     {
         if self.words.ticket_of(process, word) != 0 {
             return Outcome::Told(Notice::Busy);
@@ -56,14 +56,14 @@ impl Session {
             &mut self.words,
             &mut self.waits,
             process,
-            open,
+            asked,
             word,
         ))
     }
 
     // Ends the open that waits under a word of a process: its parse is run, and brought.
     fn end_under(&mut self, process: Proc, word: &[u8]) -> Outcome
-        ensures { IsWaitDone (End word.now) process self.old.words self.old.space result self.new.words self.new.space }
+        ensures { IsWaitDone (End word.now) process (words_of self.old) self.old.space result (words_of self.new) self.new.space }
     {
         let ticket = self.words.ticket_of(process, word);
         if ticket == 0 {
@@ -82,7 +82,7 @@ impl Session {
     // Gives up the open that waits under a word of a process, whose parse isn't run. A handle that the word held stays
     // open, and is no longer named.
     fn drop_under(&mut self, process: Proc, word: &[u8]) -> Outcome
-        ensures { IsWaitDone (Drop word.now) process self.old.words self.old.space result self.new.words self.new.space }
+        ensures { IsWaitDone (Drop word.now) process (words_of self.old) self.old.space result (words_of self.new) self.new.space }
     {
         let ticket = self.words.ticket_of(process, word);
         if ticket == 0 {
@@ -118,22 +118,22 @@ fn begin_under(
     words: &mut Words,
     waits: &mut Waits<Standard>,
     process: Proc,
-    open: OpenForm<'_>,
+    asked: OpenForm<'_>,
     word: &[u8],
 ) -> Result<Begun, AllocError>
     requires awaited { AreAwaited core.old waits.old }
-    requires text { IsText (text_of (name_seen (open.1))) }
+    requires text { IsText (text_of (name_seen (asked.1))) }
     ensures awaited { AreAwaited core.new waits.new }
-    ensures carried { IfOk result (λ begun. IsCarried (Begin (open.0) (name_seen (open.1)) (open.2) word.now) process (words_in words.old) core.old
+    ensures carried { IfOk result (λ begun. IsCarried (Begin (asked.entry.0) (name_seen (asked.entry.1)) (asked.entry.2) word.now) process (words_in words.old) core.old
         (answer_in begun) (words_in words.new) core.new) }
     ensures tickets { IfOk result (λ begun. tickets_of waits.new ≡ with_begun begun (tickets_of waits.old)) }
-    ensures stopped { OnErr result (IsStopped (Begin (open.0) (name_seen (open.1)) (open.2) word.now) process (words_in words.old) core.old
+    ensures stopped { OnErr result (IsStopped (Begin (asked.entry.0) (name_seen (asked.entry.1)) (asked.entry.2) word.now) process (words_in words.old) core.old
         (words_in words.new) core.new) }
     ensures kept { OnErr result (tickets_of waits.new ≡ tickets_of waits.old) }
 {
     words.room_for_handle(process, word)?;
     words.room_for_ticket(process, word)?;
-    let (want, name, attrs) = open;
+    let (want, name, attrs) = asked;
     let request = Request::OpenObject {
         want,
         name,

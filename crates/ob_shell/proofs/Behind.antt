@@ -29,9 +29,9 @@ use Rattle.ob_shell.proofs.Gathered.{gathers_nothing, gathers_more, gathers_fron
 use Rattle.ob_standard.specs.Standard.{StandardKind, standard}
 use Rattle.ob_effects.specs.Machine.{Space, counts_of}
 use Rattle.ob_effects.specs.Effects.{MakesStep, notice_text, IsDone}
-use Rattle.ob_effects.specs.Kept.{AreWaiting, Session, IsFirst}
+use Rattle.ob_effects.specs.Kept.{AreWaiting, Session, IsFirst, words_of}
 use Rattle.ob_effects.specs.Waiting.{Steps, word_of, IsEvent, answer_text, words_answered}
-use Rattle.ob_effects.proofs.Waiting.{first_waiting, answered_waiting, unanswered_waiting, carried_waiting, stopped_waiting, wanting_sound, stopped_sound}
+use Rattle.ob_effects.proofs.Awaiting.{first_waiting, answered_waiting, unanswered_waiting, carried_waiting, stopped_waiting, wanting_sound, stopped_sound}
 use Rattle.ob_output.specs.Printed.{output_line}
 use Rattle.ob_shell.specs.Shown.{Entries, AreOfSeat0, EndsWanting, Shows, PlaysForms, Plays, PlaysOn, PlaysFirst, PlaysTo, PlaysPartTo}
 use Rattle.ob_shell.proofs.Totals.{entered_seat, shows_total}
@@ -57,7 +57,7 @@ pub record StandsBehind (old new : Option (List ℕ)) (has script rest : List �
   pub gathered : Gathers old new [] so_far has
 
 -- at first nothing was run and gathered
-pub stands_first : (old : Option (List ℕ)) (has script : List ℕ) (session : Session) → has ≡ [] → IsFirst session → StandsBehind old old has script script 0 session.words session.space
+pub stands_first : (old : Option (List ℕ)) (has script : List ℕ) (session : Session) → has ≡ [] → IsFirst session → StandsBehind old old has script script 0 (words_of session) session.space
 stands_first old has script session none (w, (first, f, e)) = record {
   done = [];
   so_far = [];
@@ -66,10 +66,10 @@ stands_first old has script session none (w, (first, f, e)) = record {
     read = refl;
     sound = subst IsSound (sym e) (opening_sound first);
     tickets = [];
-    waiting = subst (λ x. AreWaiting x session.words []) (sym e) (subst (λ x. AreWaiting (opening first) x []) (sym w) (first_waiting (opening first)));
+    waiting = subst (λ x. AreWaiting x (words_of session) []) (sym e) (subst (λ x. AreWaiting (opening first) x []) (sym w) (first_waiting (opening first)));
     onward = λ forms entries t output end run seats shows.
         let P : Space → Type 0 = λ x. RunFrom standard x 0 entries t in
-        let Q : Space → Type 0 = λ x. Shows 1 forms session.words x (map step_of entries) output end in
+        let Q : Space → Type 0 = λ x. Shows 1 forms (words_of session) x (map step_of entries) output end in
         let R : Words → Type 0 = λ x. Shows 1 forms x (opening first) (map step_of entries) output end in
         (map step_of entries, (first, entries, t, f, subst P e run, seats, refl, subst R w (subst Q e shows)));
   };

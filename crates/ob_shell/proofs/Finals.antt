@@ -32,7 +32,7 @@ use Rattle.ob_effects.specs.Machine.{Space}
 use Rattle.ob_effects.specs.Kept.{WaitsUnder, AreWaiting}
 use Rattle.ob_effects.specs.Effects.{WantsMemory}
 use Rattle.ob_effects.specs.Waiting.{Steps, IsUnderWord, FindsNone, GiveAllUp, given_up}
-use Rattle.ob_effects.proofs.Waiting.{goes_on_waiting}
+use Rattle.ob_effects.proofs.Awaiting.{goes_on_waiting}
 use Rattle.ob_shell.specs.Shown.{Entries, AreOfSeat0}
 
 -- what waits can be given up

@@ -41,7 +41,7 @@ use Rattle.ob_effects.specs.Machine.{Space, counts_of}
 use Rattle.ob_effects.specs.Effects.{MakesStep}
 use Rattle.ob_effects.specs.Kept.{WaitsUnder, AreWaiting}
 use Rattle.ob_effects.specs.Waiting.{Steps, word_of, is_waiting, told_instead, IsEvent, answer_text, words_answered}
-use Rattle.ob_effects.proofs.Waiting.{answered_waiting, carried_waiting, drop_some, end_some}
+use Rattle.ob_effects.proofs.Awaiting.{answered_waiting, carried_waiting, drop_some, end_some}
 use Rattle.ob_shell.specs.Shown.{Entries, AreOfSeat0, Shows, FindsMemory}
 use Rattle.ob_shell.proofs.Finals.{abandon_total, finals_total, resume_total}
 

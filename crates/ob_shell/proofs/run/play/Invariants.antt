@@ -1,5 +1,6 @@
 use Rattle.std.proofs.Common.{◌+◌, ◌≤◌, length}
 use Rattle.std.specs.Vec.{vec_capacity}
+use Rattle.ob_effects.specs.Kept.{words_of}
 use Rattle.ob_shell.proofs.Behind.{StandsBehind}
 use Rattle.ob_shell.proofs.run.play.Given as goal
 
@@ -7,7 +8,7 @@ use Rattle.ob_shell.proofs.run.play.Given as goal
 -- has its room
 abbrev pub invariant-loop-form : goal.invariant-loop-form
 invariant-loop-form g l =
-    StandsBehind (g.W.Write.contents l.initial.writer) (g.W.Write.contents l.writer) l.block.items l.script l.rest l.number l.session.words l.session.space
+    StandsBehind (g.W.Write.contents l.initial.writer) (g.W.Write.contents l.writer) l.block.items l.script l.rest l.number (words_of l.session) l.session.space
     × (l.number + length l.rest ≤ length l.script) × (192 ≤ vec_capacity l.block)
 
 abbrev pub decreases-loop-form : goal.decreases-loop-form

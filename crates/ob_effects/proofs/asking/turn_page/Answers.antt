@@ -1,9 +1,9 @@
 -- The room that was made changes no word, and a page's context is kept.
 use Rattle.std.proofs.Common.{refl, ap, ◌∙◌}
 use Rattle.ob_requests.specs.Tables.{words_in}
-use Rattle.ob_shell.proofs.Answered.{page_words, pageless_words}
-use Rattle.ob_shell.proofs.asking.turn_page.Goals.{in-Page, in-Nothing, in-Handle, in-Text, in-Process}
-use Rattle.ob_shell.proofs.asking.turn_page.Goals as goal
+use Rattle.ob_effects.proofs.Answered.{page_words, pageless_words}
+use Rattle.ob_effects.proofs.asking.turn_page.Goals.{in-Page, in-Nothing, in-Handle, in-Text, in-Process}
+use Rattle.ob_effects.proofs.asking.turn_page.Goals as goal
 
 pub returns-clause-turned : goal.returns-clause-turned
 returns-clause-turned c = elim c.match-reply.branch [
