@@ -68,8 +68,8 @@ fn keep_both(
     ticket: u64,
 ) -> Result<(), AllocError> {
     words.room_for_context(Proc(process), word)?;
-    words.room_for_ticket(Proc(process), word)?;
     words.set_context(Proc(process), word, context);
+    words.room_for_ticket(Proc(process), word)?;
     words.set_ticket(Proc(process), word, ticket);
     Ok(())
 }
