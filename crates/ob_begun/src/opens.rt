@@ -108,8 +108,8 @@ pub fn drop_open<T: TypeSet, H: HandleTable>(
     ensures tickets { tickets_of waits.new ≡ without ticket (tickets_of waits.old) }
 {
     core.state_is_sound();
-    let parsing = waits.take(ticket);
-    give_up(core, Brought::Unrun(parsing));
+    let dropped = waits.take(ticket);
+    give_up(core, Brought::Unrun(dropped));
 }
 
 /// Gives up all opens that wait, by rising tickets, without a run of their parses. Takes no memory.
@@ -147,8 +147,8 @@ fn keep_parse<T: TypeSet, H: HandleTable>(
     let ticket = parsing.ticket();
     match waits.keep(parsing) {
         Ok(()) => Ok(Begun::Waits(ticket)),
-        Err(parsing) => {
-            give_up(core, Brought::Unrun(parsing));
+        Err(back) => {
+            give_up(core, Brought::Unrun(back));
             Err(AllocError)
         }
     }
