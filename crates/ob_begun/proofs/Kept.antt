@@ -83,6 +83,20 @@ module _ {F : Type 0} where
       let less : x.ticket < ticket = All-head (λ k. k < ticket) x.ticket (tickets_of xs) below in
       rw (ne_eqb x.ticket ticket (λ same. omega (arith, less, same))) (none_found ticket xs (All-tail (λ k. k < ticket) x.ticket (tickets_of xs) below))
 
+  -- the first goes
+  module _ (es : List (ℕ × ToRun F)) (are : AreKept es) (key : ℕ) (x : ToRun F) (left : List (ℕ × ToRun F)) (first : es ≡ (key, x) ∷ left) where
+    pub rest_kept : AreKept left
+    rest_kept =
+        let all : AreKept ((key, x) ∷ left) = subst AreKept first are in
+        record { rising = sorted_tail nat_cmp key (keys_of left) all.rising; own = All-tail Own (key, x) left all.own }
+
+    pub least_first : All (λ k. x.ticket < k) (tickets_of (values_of left))
+    least_first =
+        let all : AreKept ((key, x) ∷ left) = subst AreKept first are in
+        let own : x.ticket ≡ key = All-head Own (key, x) left all.own in
+        subst (λ k. All (λ j. k < j) (tickets_of (values_of left))) (sym own)
+        (subst (All (λ j. key < j)) (sym (are_keys left (All-tail Own (key, x) left all.own))) (above key (keys_of left) (sorted_head nat_cmp key (keys_of left) all.rising)))
+
   -- ---- the parses as they are kept
 
   module _ (es : List (ℕ × ToRun F)) (are : AreKept es) (now : List (ToRun F)) (same : values_of es ≡ now) where
@@ -122,20 +136,6 @@ module _ {F : Type 0} where
 
         pub fewer_kept : IsStrictlySortedBy nat_cmp (keys_of left) → AreKept left
         fewer_kept rises = record { rising = rises; own = subst (All Own) (sym taken) (left_own ticket es are.own) }
-
-    -- the first goes
-    module _ (key : ℕ) (x : ToRun F) (left : List (ℕ × ToRun F)) (first : es ≡ (key, x) ∷ left) where
-      pub rest_kept : AreKept left
-      rest_kept =
-          let all : AreKept ((key, x) ∷ left) = subst AreKept first are in
-          record { rising = sorted_tail nat_cmp key (keys_of left) all.rising; own = All-tail Own (key, x) left all.own }
-
-      pub least_first : All (λ k. x.ticket < k) (tickets_of (values_of left))
-      least_first =
-          let all : AreKept ((key, x) ∷ left) = subst AreKept first are in
-          let own : x.ticket ≡ key = All-head Own (key, x) left all.own in
-          subst (λ k. All (λ j. k < j) (tickets_of (values_of left))) (sym own)
-          (subst (All (λ j. key < j)) (sym (are_keys left (All-tail Own (key, x) left all.own))) (above key (keys_of left) (sorted_head nat_cmp key (keys_of left) all.rising)))
 
     -- a parse is found under each ticket that is kept
     module _ (ticket : ℕ) (there : list_any (λ k. k == ticket) (tickets_of now) ≡ true) where

@@ -87,7 +87,7 @@ pub fn end_open<T: TypeSet, H: HandleTable>(
         Ok(Started::Done(reply)) => Ok(Begun::Replied(reply)),
         Ok(Started::Parsing(next)) => keep_parse(core, waits, next),
         Err((_, parsed)) => {
-            give_up(core, Brought::Run(parsed));
+            abandon_open(core, Brought::Run(parsed));
             Err(AllocError)
         }
     }
@@ -108,8 +108,8 @@ pub fn drop_open<T: TypeSet, H: HandleTable>(
     ensures tickets { tickets_of waits.new ≡ without ticket (tickets_of waits.old) }
 {
     core.state_is_sound();
-    let parsing = waits.take(ticket);
-    give_up(core, Brought::Unrun(parsing));
+    let dropped = waits.take(ticket);
+    abandon_open(core, Brought::Unrun(dropped));
 }
 
 /// Gives up all opens that wait, by rising tickets, without a run of their parses. Takes no memory.
@@ -122,7 +122,7 @@ pub fn give_all_up<T: TypeSet, H: HandleTable>(core: &mut Core<T, H>, waits: Wai
     let mut left = waits;
     while let Some(parsing) = left.take_first() {
         core.state_is_sound();
-        give_up(core, Brought::Unrun(parsing));
+        abandon_open(core, Brought::Unrun(parsing));
     }
     left.destroy_empty();
 }
@@ -147,15 +147,15 @@ fn keep_parse<T: TypeSet, H: HandleTable>(
     let ticket = parsing.ticket();
     match waits.keep(parsing) {
         Ok(()) => Ok(Begun::Waits(ticket)),
-        Err(parsing) => {
-            give_up(core, Brought::Unrun(parsing));
+        Err(back) => {
+            abandon_open(core, Brought::Unrun(back));
             Err(AllocError)
         }
     }
 }
 
 /// Gives up the open that waits for a parse, whether that was run or not.
-fn give_up<T: TypeSet, H: HandleTable>(core: &mut Core<T, H>, brought: Brought<T>)
+fn abandon_open<T: TypeSet, H: HandleTable>(core: &mut Core<T, H>, brought: Brought<T>)
     requires { IsParseOf core.old (asked_of (end_of brought)) }
     ensures { Step T.procedures core.old (Abandon (end_of brought).ticket (run_of brought)) (answers Success) core.new }
 {

@@ -27,8 +27,8 @@ keep_parse-requires-clause-newest g c lifetimes bounds =
     let step : Step p s (Resume c.args.ticket run) (Ticket n) u = its_step p s u run _ c.in-Ok-Parsing.field-0-is (c.run.ensures.ticket ∙ c.take-parsing.ensures.own) c.in-Ok-Parsing.ensures.step in
     newest_of_left p s u (Resume c.args.ticket run) n c.args.ticket c.args.waits.now c.take-parsing.new.self c.state_is_sound.ensures c.requires.awaited c.take-parsing.ensures.others step
 
-pub give_up-requires-after_bounds : goal.give_up-requires-after_bounds
-give_up-requires-after_bounds g c lifetimes bounds =
+pub abandon_open-requires-after_bounds : goal.abandon_open-requires-after_bounds
+abandon_open-requires-after_bounds g c lifetimes bounds =
     let p = g.T.TypeSet.procedures in
     run_awaits p c.args.core.now c.resume.new.self c.take-parsing.result c.run.result c.in-Err.parsed c.run.ensures.ticket c.run.ensures.face c.run.ensures.rest c.in-Err.ensures.back
     c.in-Err.ensures.err (found_awaits p c.args.core.now c.args.ticket c.args.waits.now c.requires.awaited c.take-parsing.result c.take-parsing.ensures.found)
@@ -71,15 +71,15 @@ pub returns-in-Err-clause-awaited : goal.returns-in-Err-clause-awaited
 returns-in-Err-clause-awaited g c =
     let p = g.T.TypeSet.procedures in
     let run = run_of_end c.in-Err.parsed.outcome in
-    abandoned_await p c.args.core.now c.args.ticket c.args.waits.now c.requires.awaited c.give_up.new.core c.in-Err.parsed.ticket run _
+    abandoned_await p c.args.core.now c.args.ticket c.args.waits.now c.requires.awaited c.abandon_open.new.core c.in-Err.parsed.ticket run _
     c.take-parsing.new.self c.state_is_sound.ensures (ap (λ x. x.ticket) c.in-Err.ensures.back ∙ c.run.ensures.ticket ∙ c.take-parsing.ensures.own) c.take-parsing.ensures.others
-    (subst (λ x. Step p x (Abandon c.in-Err.parsed.ticket run) (answers Success) c.give_up.new.core) c.in-Err.ensures.err c.give_up.ensures)
+    (subst (λ x. Step p x (Abandon c.in-Err.parsed.ticket run) (answers Success) c.abandon_open.new.core) c.in-Err.ensures.err c.abandon_open.ensures)
 
 pub returns-in-Err-clause-faltered : goal.returns-in-Err-clause-faltered
 returns-in-Err-clause-faltered g c =
     let p = g.T.TypeSet.procedures in
     let run = run_of_end c.in-Err.parsed.outcome in
     let own = ap (λ x. x.ticket) c.in-Err.ensures.back ∙ c.run.ensures.ticket ∙ c.take-parsing.ensures.own in
-    one_given_up p c.args.core.now c.give_up.new.core c.args.ticket run
-    (subst (λ k. Step p c.args.core.now (Abandon k run) (answers Success) c.give_up.new.core) own
-    (subst (λ x. Step p x (Abandon c.in-Err.parsed.ticket run) (answers Success) c.give_up.new.core) c.in-Err.ensures.err c.give_up.ensures))
+    one_given_up p c.args.core.now c.abandon_open.new.core c.args.ticket run
+    (subst (λ k. Step p c.args.core.now (Abandon k run) (answers Success) c.abandon_open.new.core) own
+    (subst (λ x. Step p x (Abandon c.in-Err.parsed.ticket run) (answers Success) c.abandon_open.new.core) c.in-Err.ensures.err c.abandon_open.ensures))

@@ -4,5 +4,5 @@ use Rattle.ob_begun.proofs.opens.keep_parse.Goals as goal
 
 pub returns-in-Err-clause-awaited : goal.returns-in-Err-clause-awaited
 returns-in-Err-clause-awaited g c =
-    handed_back_await g.T.TypeSet.procedures c.args.core.now c.give_up.new.core c.in-Err.parsing c.args.parsing c.args.waits.now c.keep.new.self c.state_is_sound.ensures
-    c.requires.newest c.in-Err.ensures.back c.in-Err.ensures.unchanged c.give_up.ensures c.requires.awaited
+    handed_back_await g.T.TypeSet.procedures c.args.core.now c.abandon_open.new.core c.in-Err.back c.args.parsing c.args.waits.now c.keep.new.self c.state_is_sound.ensures
+    c.requires.newest c.in-Err.ensures.back c.in-Err.ensures.unchanged c.abandon_open.ensures c.requires.awaited
