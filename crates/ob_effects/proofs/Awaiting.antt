@@ -24,12 +24,14 @@ use Rattle.ob_model.specs.Step.{Step}
 use Rattle.ob_model.proofs.Steps.{step_sound}
 use Rattle.ob_begun.specs.declared.begun.Begun.{Begun}
 use Rattle.ob_begun.specs.declared.begun.Begun.TheVariants as begun
-use Rattle.ob_begun.specs.Begun.{answer_in, with_begun, without}
+use Rattle.ob_begun.specs.Begun.{AreAwaited, answer_in, with_begun, without}
+use Rattle.ob_begun.proofs.Awaited.{falters_all_await}
 use Rattle.ob_begun.proofs.Numbers.{ticket_is_next}
 use Rattle.ob_begun.proofs.Pending.{IsNoEnd, step_pending}
 use Rattle.ob_complete.specs.Completes.{Leads, HasRun, Completes, GivesUp, Falters}
 use Rattle.ob_complete.proofs.Chains.{falters_sound, gives_up_sound}
 use Rattle.ob_complete.proofs.Fewer.{BeginsFor, WaitsFor, start_begins, step_begins}
+use Rattle.ob_parsing.specs.Parse.{ToRun}
 use Rattle.ob_standard.specs.Standard.{StandardKind, StandardFace, standard}
 use Rattle.ob_lines.specs.declared.kind.KindForm.{KindForm}
 use Rattle.ob_lines.specs.Changes.{change_of}
@@ -82,7 +84,7 @@ is_some s n p sound (x, face, found, has, theirs, parses) none =
 
 -- what begins to wait
 pub begins_to_wait : (s t : Space) (n p : ℕ) → BeginsFor standard s t n p → WaitsUnder t n p
-begins_to_wait s t n p (x, begun, theirs) = go (face_of t x.object) refl begun.1.0
+begins_to_wait s t n p (x, begun, theirs) = go (face_of t x.object) refl begun.1
   where
     go : (found : Option StandardFace) → face_of t x.object ≡ found → MatchOption found ⊥ (λ face. standard.parses (standard.kind_of face) ≡ true) → WaitsUnder t n p
     go None e parses = absurd parses
@@ -222,7 +224,7 @@ set_behind f process word n p w = go (is_set f process word n p w) (is_set f pro
     go (inr (other, same)) (inl (is, zero)) = absurd (other is)
     go (inr (other, same)) (inr (other_too, same_too)) = inr (other, same ∙ sym same_too)
 
-none_held : (words : Words) (p : ℕ) (word : List ℕ) → with_number_of words.tickets p word 0 p word ≡ 0
+pub none_held : (words : Words) (p : ℕ) (word : List ℕ) → with_number_of words.tickets p word 0 p word ≡ 0
 none_held words p word = elim (is_set words.tickets p word 0 p word) as (λ x. with_number_of words.tickets p word 0 p word ≡ 0) [
   | inl (is, zero) ↦ zero
   | inr (other, same) ↦ absurd (other (refl, bytes_same word word refl))
@@ -408,3 +410,10 @@ first_waiting s = record {
   theirs = λ p w. inl refl;
   apart = λ p q a b e. inl refl;
 }
+
+-- ---- the parses that are kept
+
+pub unanswered_await : (s t : Space) (words : Words) (p : ℕ) (request : Request (List ℕ)) (steps : Steps) (parses : List (ToRun StandardFace)) → IsSound s
+    → WantsMemory request p words steps s t → AreAwaited s parses → AreAwaited t parses
+unanswered_await s t words p request steps parses sound (inl (none, same)) awaited = subst (λ x. AreAwaited x parses) (sym same) awaited
+unanswered_await s t words p request steps parses sound (inr (c, command, falters)) awaited = falters_all_await standard p c steps s t parses sound falters awaited

@@ -7,11 +7,12 @@ use Rattle.ob_model.specs.declared.state.Pending.{Pending}
 use Rattle.ob_model.specs.PendingOpens.{face_of, pending_of}
 use Rattle.ob_standard.specs.Standard.{StandardKind, Standard, StandardFace, standard, IsFresh}
 use Rattle.ob_model.specs.Opening.{opening}
+use Rattle.ob_begun.specs.Begun.{AreAwaited, tickets_of}
 use Rattle.ob_begun.specs.declared.begun.Begun.{Begun}
 use Rattle.ob_begun.specs.declared.begun.Begun.TheVariants as begun
+use Rattle.ob_effects.specs.declared.session.Session.{Session}
 use Rattle.ob_effects.specs.declared.outcome.Outcome.{Outcome}
 use Rattle.ob_effects.specs.declared.outcome.Outcome.TheVariants as outcome
-use Rattle.ob_requests.specs.declared.words.Words as declared
 use Rattle.ob_requests.specs.Tables.{words_in}
 use Rattle.ob_requests.specs.Words.{Words, first_words}
 use Rattle.ob_effects.specs.Machine.{Space}
@@ -34,18 +35,22 @@ pub record AreWaiting (s : Space) (words : Words) (tickets : List ℕ) : Type 0 
   pub theirs : (process : ℕ) (word : List ℕ) → (words.tickets process word ≡ 0) ⊎ WaitsUnder s (words.tickets process word) process
   pub apart : AreApart words.tickets
 
--- a session: the words of its script, as they are kept, and the state of its namespace
-pub record Session : Type 0 where
-  pub kept : declared.Words
-  pub space : Space
-
--- the words of a session's script
+-- the words of a session's script, and the state of its namespace
 abbrev pub words_of : Session → Words
-words_of session = words_in session.kept
+words_of session = words_in session.words
+
+abbrev pub space_of : Session → Space
+space_of session = session.core
+
+-- What holds of every session: its words name the opens that wait, and each parse that it keeps is the one that an open
+-- waits for.
+pub record IsSession (session : Session) : Type 0 where
+  pub waiting : AreWaiting (space_of session) (words_of session) (tickets_of session.waits)
+  pub awaited : AreAwaited (space_of session) session.waits
 
 -- a session in which nothing was done
 abbrev pub IsFirst : Session → Type 0
-IsFirst session = (words_of session ≡ first_words) × ((first : Standard) × IsFresh first × (session.space ≡ opening first))
+IsFirst session = (words_of session ≡ first_words) × ((first : Standard) × IsFresh first × (space_of session ≡ opening first))
 
 -- what became of a line, told of what became of its open; an error: it found no memory
 abbrev pub outcome_of : {E : Type 0} → Result Begun E → Outcome

@@ -5,7 +5,7 @@ ghost use Rattle.ob_lines.specs.Grammar.{HasTexts, FormHasTexts, form_seen, requ
 ghost use Rattle.ob_lines.specs.Script.{found_seen};
 ghost use Rattle.ob_requests.specs.Tables.{words_in};
 ghost use Rattle.ob_effects.specs.Effects.{IsAnswered, IsUnanswered, IsRequestDone, IsDone};
-ghost use Rattle.ob_effects.specs.Kept.{IsFirst, words_of};
+ghost use Rattle.ob_effects.specs.Kept.{IsFirst, IsSession, space_of, words_of};
 ghost use Rattle.ob_effects.specs.Waiting.{Steps, GiveAllUp};
 
 use crate::asking::{Space, ask, begin_child, give_all_up, give_up, set_word, turn_page};
@@ -19,35 +19,24 @@ use ob_model::Reply;
 use ob_requests::Words;
 use ob_standard::{Standard, standard};
 use std::alloc::{AllocError, Global};
-use std::marker::Model;
 
 /// A script's session with a namespace over the standard set of types: the namespace, the words of the script, and
 /// the opens that wait under its words. It can't be let go: what waits is given up at its [end](Session::end).
 ///
-/// A contract sees the words and the state of the abstract machine. (this profile)
+/// A contract sees the words by `words_of`, the state of the abstract machine by `space_of`, and what holds of both
+/// and of the opens that wait as `IsSession`. (this profile)
 pub struct Session {
     pub(crate) core: Space,
     pub(crate) words: Words,
     pub(crate) waits: Waits<Standard>,
 }
 
-impl Model for Session {
-    ghost use Rattle.ob_begun.specs.Begun.{AreAwaited, tickets_of};
-    ghost use Rattle.ob_requests.specs.Tables.{words_in};
-    ghost use Rattle.ob_effects.specs.Kept.{AreWaiting, Session as Seen};
-
-    ghost Value = { Seen };
-
-    ghost view = { λ a. record { kept = a.words; space = a.core } };
-
-    ghost invariant = { λ a. AreWaiting a.core (words_in a.words) (tickets_of a.waits) × AreAwaited a.core a.waits };
-}
-
 impl Session {
     /// A session in which nothing was done: the opening state, and `p1` is process 1. The only fault is want of
     /// memory. (this profile)
     pub fn new(alloc: Global) -> Result<Session, AllocError>
-        ensures { IfOk result IsFirst }
+        ensures first { IfOk result IsFirst }
+        ensures kept { IfOk result IsSession }
     {
         let Ok(core) = Core::new(alloc, standard()) else {
             return Err(AllocError);
@@ -60,8 +49,10 @@ impl Session {
     /// Does what a line of this form says; none: a line that is no script line, which does nothing. What wants memory
     /// comes before the first step, or its open is given up: so no reply is lost. (this profile)
     pub fn perform(&mut self, form: Option<Form<&[u8]>>) -> Outcome
+        requires kept { IsSession self.old }
         requires texts { IfSome form (λ form. FormHasTexts (form_seen form)) }
-        ensures { IsDone (found_seen form.entry) (words_of self.old) self.old.space result (words_of self.new) self.new.space }
+        ensures kept { IsSession self.new }
+        ensures done { IsDone (found_seen form.entry) (words_of self.old) (space_of self.old) result (words_of self.new) (space_of self.new) }
     {
         match form {
             None => Outcome::NoLine,
@@ -81,7 +72,8 @@ impl Session {
     /// Ends the session: all opens that wait are given up, by rising tickets, and their parses aren't run. (this
     /// profile)
     pub fn end(self)
-        ensures { (steps : Steps) × GiveAllUp (words_of self) self.space steps }
+        requires { IsSession self }
+        ensures { (steps : Steps) × GiveAllUp (words_of self) (space_of self) steps }
     {
         let Session {
             mut core,
@@ -93,9 +85,12 @@ impl Session {
 
     // What became of the request of a process.
     fn answer(&mut self, process: Proc, request: Request<&[u8]>) -> Outcome
-        requires { HasTexts (request_seen request) }
-        ensures { IsRequestDone (request_seen request.entry) process (words_of self.old) self.old.space result (words_of self.new) self.new.space }
+        requires kept { IsSession self.old }
+        requires texts { HasTexts (request_seen request) }
+        ensures kept { IsSession self.new }
+        ensures done { IsRequestDone (request_seen request.entry) process (words_of self.old) (space_of self.old) result (words_of self.new) (space_of self.new) }
     {
+        self.core.state_is_sound();
         match reply_to(&mut self.core, &mut self.words, process, request) {
             Ok(reply) => Outcome::Replied(reply),
             Err(_) => Outcome::NoMemory,

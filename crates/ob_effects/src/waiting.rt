@@ -9,7 +9,7 @@ ghost use Rattle.ob_lines.specs.Text.{IsText};
 ghost use Rattle.ob_lines.specs.declared.pending.PendingForm.TheVariants.{Begin, End, Drop};
 ghost use Rattle.ob_requests.specs.Tables.{words_in, HasRoom};
 ghost use Rattle.ob_effects.specs.Effects.{IsCarried, IsStopped, IsWaitDone};
-ghost use Rattle.ob_effects.specs.Kept.{outcome_of, words_of};
+ghost use Rattle.ob_effects.specs.Kept.{IsSession, outcome_of, space_of, words_of};
 ghost use Rattle.ob_requests.specs.Words.{with_ticket};
 ghost use Rattle.ob_effects.specs.Waiting.{words_answered};
 
@@ -28,8 +28,10 @@ use std::alloc::AllocError;
 impl Session {
     // What became of a line of a process for an open that waits.
     pub(crate) fn carry_on(&mut self, process: Proc, pending: PendingForm<&[u8]>) -> Outcome
-        requires { PendingHasTexts (pending_seen pending) }
-        ensures { IsWaitDone (pending_seen pending.entry) process (words_of self.old) self.old.space result (words_of self.new) self.new.space }
+        requires kept { IsSession self.old }
+        requires texts { PendingHasTexts (pending_seen pending) }
+        ensures kept { IsSession self.new }
+        ensures done { IsWaitDone (pending_seen pending.entry) process (words_of self.old) (space_of self.old) result (words_of self.new) (space_of self.new) }
     {
         match pending {
             PendingForm::Begin {
@@ -45,12 +47,15 @@ impl Session {
 
     // Begins an open under a word of a process, under which none waits.
     fn begin(&mut self, process: Proc, asked: OpenForm<'_>, word: &[u8]) -> Outcome
-        requires { IsText (text_of (name_seen (asked.1))) }
-        ensures { IsWaitDone (Begin (asked.entry.0) (name_seen (asked.entry.1)) (asked.entry.2) word.now) process (words_of self.old) self.old.space result (words_of self.new) self.new.space }
+        requires kept { IsSession self.old }
+        requires text { IsText (text_of (name_seen (asked.1))) }
+        ensures kept { IsSession self.new }
+        ensures done { IsWaitDone (Begin (asked.entry.0) (name_seen (asked.entry.1)) (asked.entry.2) word.now) process (words_of self.old) (space_of self.old) result (words_of self.new) (space_of self.new) }
     {
         if self.words.ticket_of(process, word) != 0 {
             return Outcome::Told(Notice::Busy);
         }
+        self.core.state_is_sound();
         outcome_of(begin_under(
             &mut self.core,
             &mut self.words,
@@ -63,12 +68,15 @@ impl Session {
 
     // Ends the open that waits under a word of a process: its parse is run, and brought.
     fn end_under(&mut self, process: Proc, word: &[u8]) -> Outcome
-        ensures { IsWaitDone (End word.now) process (words_of self.old) self.old.space result (words_of self.new) self.new.space }
+        requires kept { IsSession self.old }
+        ensures kept { IsSession self.new }
+        ensures done { IsWaitDone (End word.now) process (words_of self.old) (space_of self.old) result (words_of self.new) (space_of self.new) }
     {
         let ticket = self.words.ticket_of(process, word);
         if ticket == 0 {
             return Outcome::Told(Notice::NoPending);
         }
+        self.core.state_is_sound();
         outcome_of(end_waiting(
             &mut self.core,
             &mut self.words,
@@ -82,12 +90,15 @@ impl Session {
     // Gives up the open that waits under a word of a process, whose parse isn't run. A handle that the word held stays
     // open, and is no longer named.
     fn drop_under(&mut self, process: Proc, word: &[u8]) -> Outcome
-        ensures { IsWaitDone (Drop word.now) process (words_of self.old) self.old.space result (words_of self.new) self.new.space }
+        requires kept { IsSession self.old }
+        ensures kept { IsSession self.new }
+        ensures done { IsWaitDone (Drop word.now) process (words_of self.old) (space_of self.old) result (words_of self.new) (space_of self.new) }
     {
         let ticket = self.words.ticket_of(process, word);
         if ticket == 0 {
             return Outcome::Told(Notice::NoPending);
         }
+        self.core.state_is_sound();
         drop_open(&mut self.core, &mut self.waits, ticket);
         self.words.clear_ticket(process, word);
         self.words.give_up(process, word);
