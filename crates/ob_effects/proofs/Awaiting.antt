@@ -352,22 +352,34 @@ unanswered_waiting s t words p request steps tickets sound (inr (c, command, fal
 
 -- ---- a line of an open that waits, whatever it is
 
--- where it found no memory
-pub stopped_waiting : (s t : Space) (words words' : Words) (p : ℕ) (line : PendingForm (List ℕ)) (steps : Steps) (tickets : List ℕ) → IsSound s → MakesStep line p words
-    → FindsNone line words p steps s t words' → AreWaiting s words tickets → (left : List ℕ) × AreWaiting t words' left
-stopped_waiting s t words words' p (pending.Begin want name attrs word) steps tickets sound makes (none, same) waiting =
-    (tickets, same_waiting t words words' tickets (ap (λ (w : Words). w.tickets) same) (go none))
+-- where it found no memory: nothing waits anew, and the open of an `end` is given up, or waits on
+pub begin_stopped : (s t : Space) (words words' : Words) (p : ℕ) (want : Option KindForm) (name : NameForm (List ℕ)) (attrs : ℕ) (word : List ℕ) (steps : Steps) (tickets : List ℕ) → IsSound s
+    → FindsNone (pending.Begin want name attrs word) words p steps s t words' → AreWaiting s words tickets → AreWaiting t words' tickets
+begin_stopped s t words words' p want name attrs word steps tickets sound (none, same) waiting =
+    same_waiting t words words' tickets (ap (λ (w : Words). w.tickets) same) (go none)
   where
     go : ((steps ≡ []) × (t ≡ s)) ⊎ ((c : Command StandardKind) × IsOpenObject want name attrs (words.values p) c × Falters standard (Start p c) steps s t) → AreWaiting t words tickets
     go (inl (none, same)) = subst (λ x. AreWaiting x words tickets) (sym same) waiting
     go (inr (c, command, falters)) = moved_waiting s t words tickets (λ n q waits. falters_goes_on (Start p c) steps s t n q sound tt waits falters) waiting
-stopped_waiting s t words words' p (pending.End word) steps tickets sound makes (inl (none, same, left)) waiting =
-    (tickets, same_waiting t words words' tickets (ap (λ (w : Words). w.tickets) left) (subst (λ x. AreWaiting x words tickets) (sym same) waiting))
-stopped_waiting s t words words' p (pending.End word) steps tickets sound makes (inr (gives_up, left)) waiting =
-    (without (words.tickets p word) tickets,
-    cleared_waiting s t words words' p word tickets (end_some words p word makes)
+
+pub end_untouched : (s t : Space) (words words' : Words) (steps : Steps) (tickets : List ℕ) → (steps ≡ []) × (t ≡ s) × (words' ≡ words) → AreWaiting s words tickets → AreWaiting t words' tickets
+end_untouched s t words words' steps tickets (none, same, left) waiting =
+    same_waiting t words words' tickets (ap (λ (w : Words). w.tickets) left) (subst (λ x. AreWaiting x words tickets) (sym same) waiting)
+
+pub end_given_up : (s t : Space) (words words' : Words) (p : ℕ) (word : List ℕ) (steps : Steps) (tickets : List ℕ) → IsSound s → words.tickets p word ≢ 0
+    → GivesUp standard (words.tickets p word) steps s t × (words' ≡ with_ticket words p word 0) → AreWaiting s words tickets → AreWaiting t words' (without (words.tickets p word) tickets)
+end_given_up s t words words' p word steps tickets sound some (gives_up, left) waiting =
+    cleared_waiting s t words words' p word tickets some
     (subst (λ h. IsSet words.tickets h p word 0) (sym (ap (λ (w : Words). w.tickets) left)) (is_set words.tickets p word 0))
-    (λ n q other waits. gives_up_goes_on (words.tickets p word) steps s t n q sound other waits gives_up) waiting)
+    (λ n q other waits. gives_up_goes_on (words.tickets p word) steps s t n q sound other waits gives_up) waiting
+
+pub stopped_waiting : (s t : Space) (words words' : Words) (p : ℕ) (line : PendingForm (List ℕ)) (steps : Steps) (tickets : List ℕ) → IsSound s → MakesStep line p words
+    → FindsNone line words p steps s t words' → AreWaiting s words tickets → (left : List ℕ) × AreWaiting t words' left
+stopped_waiting s t words words' p (pending.Begin want name attrs word) steps tickets sound makes h waiting =
+    (tickets, begin_stopped s t words words' p want name attrs word steps tickets sound h waiting)
+stopped_waiting s t words words' p (pending.End word) steps tickets sound makes (inl none) waiting = (tickets, end_untouched s t words words' steps tickets none waiting)
+stopped_waiting s t words words' p (pending.End word) steps tickets sound makes (inr given) waiting =
+    (without (words.tickets p word) tickets, end_given_up s t words words' p word steps tickets sound (end_some words p word makes) given waiting)
 stopped_waiting s t words words' p (pending.Drop word) steps tickets sound makes h waiting = absurd h
 
 -- where it made its step

@@ -19,12 +19,9 @@ use Rattle.ob_effects.specs.Machine.{Space}
 use Rattle.ob_effects.specs.Effects.{MakesStep, IsCarried, IsStopped}
 use Rattle.ob_effects.specs.Kept.{AreWaiting}
 use Rattle.ob_effects.specs.Waiting.{words_answered}
-use Rattle.ob_effects.proofs.Awaiting.{begin_waiting, begun_tickets, dropped_waiting, end_waiting, none_held, stopped_waiting, with_answer}
+use Rattle.ob_effects.proofs.Awaiting.{begin_stopped, begin_waiting, begun_tickets, dropped_waiting, end_given_up, end_untouched, end_waiting, none_held, with_answer}
 
 -- ---- which lines make a step
-
-makes_begin : (n : ℕ) → n ≡ 0 → cond (not (n == 0)) (Some (codes "BUSY")) None ≡ None
-makes_begin n is = ap (λ (b : Bool). cond (not b) (Some (codes "BUSY")) None) (eq-eqb n 0 is)
 
 some_waits : (n : ℕ) → n ≢ 0 → cond (not (n == 0)) None (Some (codes "NO PENDING")) ≡ None
 some_waits n some = go (n == 0) refl
@@ -39,9 +36,9 @@ makes_end words p word some = some_waits (words.tickets p word) some
 pub makes_drop : (words : Words) (p : ℕ) (word : List ℕ) → words.tickets p word ≢ 0 → MakesStep (pending.Drop word) p words
 makes_drop words p word some = some_waits (words.tickets p word) some
 
--- a number that was found to be none
-pub not_none : (n m : ℕ) → (m == 0) ≡ false → m ≡ n → n ≢ 0
-not_none n m is same none = let bad : true ≡ false = sym (eq-eqb m 0 (same ∙ none)) ∙ is in cc
+-- a number that is told, and isn't 0
+pub not_none : (n m : ℕ) → m ≢ 0 → m ≡ n → n ≢ 0
+not_none n m some same none = some (same ∙ none)
 
 -- ---- what waits behind the line
 
@@ -57,7 +54,7 @@ begin_keeps (Ok begun) s s' words words' p want name attrs word tickets left sou
     told_waiting s' (words_answered words p word (answer_in begun)) words' (with_answer (answer_in begun) tickets) left w (told ∙ begun_tickets begun tickets)
     (begin_waiting s s' words p word c (answer_in begun) tickets sound free (subst (λ e. Step standard s e (answer_in begun) s') is step) waiting)
 begin_keeps (Err fault) s s' words words' p want name attrs word tickets left sound waiting free carried told (steps, none) kept =
-    subst (AreWaiting s' words') (sym kept) (stopped_waiting s s' words words' p (pending.Begin want name attrs word) steps tickets sound (makes_begin (words.tickets p word) free) none waiting).1
+    subst (AreWaiting s' words') (sym kept) (begin_stopped s s' words words' p want name attrs word steps tickets sound none waiting)
 
 -- both of what a line may have left
 cleared_twice : {Goal : Type 0} (words words' : Words) (p : ℕ) (word : List ℕ) → words.tickets p word ≢ 0 → words' ≡ words → words' ≡ with_ticket words p word 0 → Goal
@@ -74,9 +71,9 @@ end_keeps (Ok begun) s s' words words' p word tickets left sound waiting some ((
     (told ∙ begun_tickets begun (without (words.tickets p word) tickets))
     (end_waiting s s' words p word parse (answer_in begun) tickets sound some (subst (λ e. Step standard s e (answer_in begun) s') is step) waiting)
 end_keeps (Err fault) s s' words words' p word tickets left sound waiting some carried told (steps, inl none) (inl (same, kept)) =
-    subst (AreWaiting s' words') (sym kept) (stopped_waiting s s' words words' p (pending.End word) steps tickets sound (makes_end words p word some) (inl none) waiting).1
+    subst (AreWaiting s' words') (sym kept) (end_untouched s s' words words' steps tickets none waiting)
 end_keeps (Err fault) s s' words words' p word tickets left sound waiting some carried told (steps, inr none) (inr (same, kept)) =
-    subst (AreWaiting s' words') (sym kept) (stopped_waiting s s' words words' p (pending.End word) steps tickets sound (makes_end words p word some) (inr none) waiting).1
+    subst (AreWaiting s' words') (sym kept) (end_given_up s s' words words' p word steps tickets sound some none waiting)
 end_keeps (Err fault) s s' words words' p word tickets left sound waiting some carried told (steps, inl none) (inr (same, kept)) = cleared_twice words words' p word some none.2 same
 end_keeps (Err fault) s s' words words' p word tickets left sound waiting some carried told (steps, inr none) (inl (same, kept)) = cleared_twice words words' p word some same none.1
 
