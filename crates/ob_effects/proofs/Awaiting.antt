@@ -389,9 +389,10 @@ carried_waiting s t words p (pending.Begin want name attrs word) event a tickets
     (with_answer a tickets, begin_waiting s t words p word c a tickets sound (begin_free words p want name attrs word makes) (subst (λ e. Step standard s e a t) is step) waiting)
 carried_waiting s t words p (pending.End word) event a tickets sound makes (parse, ran, is) step waiting =
     (with_answer a (without (words.tickets p word) tickets), end_waiting s t words p word parse a tickets sound (end_some words p word makes) (subst (λ e. Step standard s e a t) is step) waiting)
-carried_waiting s t words p (pending.Drop word) event (Done reply) tickets sound makes is step waiting =
-    (without (words.tickets p word) tickets,
-    dropped_waiting s t words (words_answered words p word (Done reply)) p word run.Unrun (Done reply) tickets sound (drop_some words p word makes) refl (subst (λ e. Step standard s e (Done reply) t) is step) waiting)
+carried_waiting s t words p (pending.Drop word) event (Done reply) tickets sound makes is step waiting = (
+  without (words.tickets p word) tickets,
+  dropped_waiting s t words (words_answered words p word (Done reply)) p word run.Unrun (Done reply) tickets sound (drop_some words p word makes) refl (subst (λ e. Step standard s e (Done reply) t) is step) waiting,
+)
 carried_waiting s t words p (pending.Drop word) event (Ticket m) tickets sound makes is step waiting =
     absurd (no_ticket (pending_of s (words.tickets p word)) made.2)
   where

@@ -155,16 +155,15 @@ ticketed_alike u v words others p word n before = record {
   processes = before.processes;
   values = before.values;
   contexts = before.contexts;
-  tickets = λ q w. cased (p == q) (bytes_eq word w) q w;
+  tickets = λ q w. cased (p == q) q w;
   apart = before.apart;
   apart_too = before.apart_too;
 }
   where
-    cased : (x y : Bool) (q : ℕ) (w : List ℕ)
-        → cond x (λ w. cond y n (words.tickets p w)) (words.tickets q) w ≡ cond x (λ w. cond y n (others.tickets p w)) (others.tickets q) w
-    cased true true q w = refl
-    cased true false q w = before.tickets p w
-    cased false y q w = before.tickets q w
+    cased : (x : Bool) (q : ℕ) (w : List ℕ)
+        → cond x (λ w. cond (bytes_eq word w) n (words.tickets p w)) (words.tickets q) w ≡ cond x (λ w. cond (bytes_eq word w) n (others.tickets p w)) (others.tickets q) w
+    cased true q w = ap (λ m. cond (bytes_eq word w) n m) (before.tickets p w)
+    cased false q w = before.tickets q w
 
 -- the words behind the answers to an open that waits
 answered_alike : (s t u v : Space) (p : ℕ) (word : List ℕ) (a b : Answer) (words others : Words) → AreAlikeAnswers a b → LeadOn s t p p a b u v → HoldOn s (λ q value. ⊥) p a u → HoldOn t (λ q value. ⊥) p b v
@@ -202,10 +201,9 @@ carried_alike : (s t u v : Space) (p : ℕ) (line : PendingForm (List ℕ)) (wor
     → StepFindsMemory event → StepFindsMemory other → Step standard s event a u → Step standard t other b v
     → AreAlikeAnswers a b × AreAlike u v × LeadOn s t p p a b u v × HoldOn s (λ q value. ⊥) p a u × HoldOn t (λ q value. ⊥) p b v
 carried_alike s t u v p (pending.Begin want name attrs word) words others tickets event other a b s_sound t_sound alike before waiting makes (c, (bytes, spelled, same), is) (d, (bytes_too, spelled_too, same_too), is_too) finds finds_too step step_too =
-    let command : Command StandardKind = command.OpenObject (root_of name (words.values p)) bytes attrs (option_map kind_meant want) in
-    let command_too : Command StandardKind = command.OpenObject (root_of name (others.values p)) bytes_too attrs (option_map kind_meant want) in
     let one : bytes_too ≡ bytes = spells_alike (text_of name) bytes_too bytes spelled_too spelled in
-    let asked = asks_alike s t p (OpenObject want name attrs word) words others command (command.OpenObject (root_of name (others.values p)) bytes attrs (option_map kind_meant want)) alike before
+    let asked = asks_alike s t p (OpenObject want name attrs word) words others (command.OpenObject (root_of name (words.values p)) bytes attrs (option_map kind_meant want))
+    (command.OpenObject (root_of name (others.values p)) bytes attrs (option_map kind_meant want)) alike before
     (bytes, spelled, refl) (bytes, spelled, refl) in
     open_alike standard s t u v p (root_of name (words.values p)) (root_of name (others.values p)) bytes attrs (option_map kind_meant want) a b s_sound t_sound alike asked
     (subst (λ e. Step standard s e a u) (is ∙ ap (Start p) same) step)
@@ -267,9 +265,9 @@ shows_alike (Some (Asks process request) ∷ forms) number words others s t tick
     (answered_waiting s u words p request c es a tickets s_sound chain waiting)
     (rest_finds es behind first_found) (rest_finds fs behind_too then_found) finds finds_too h shown)
 shows_alike (Some (Asks process request) ∷ forms) number words others s t tickets steps later output other end second s_sound t_sound alike before waiting found found_too finds finds_too
-    (inl h) (inr (own, behind, w, wants, is, out, ends, given)) = no_memory second number finds_too ends
+    (inl h) (inr (own, behind, w, wants, is, (out, ends, given))) = no_memory second number finds_too ends
 shows_alike (Some (Asks process request) ∷ forms) number words others s t tickets steps later output other end second s_sound t_sound alike before waiting found found_too finds finds_too
-    (inr (own, behind, w, wants, is, out, ends, given)) k = no_memory end number finds ends
+    (inr (own, behind, w, wants, is, (out, ends, given))) k = no_memory end number finds ends
 shows_alike (Some (Waits process line) ∷ forms) number words others s t tickets steps later output other end second s_sound t_sound alike before waiting found found_too finds finds_too
     (inl (text, front, told, out, h)) (inl (text_too, front_too, told_too, out_too, k)) =
     let p : ℕ = words.processes process in
@@ -306,9 +304,9 @@ shows_alike (Some (Waits process line) ∷ forms) number words others s t ticket
     (answered_alike s t u v p (word_of line) a b words others both.0 both.2 both.3 both.4 before) left.1 first_found.1 then_found.1 finds finds_too
     h (subst (λ n. Shows (number + 1) forms (words_answered others n (word_of line) b) v behind_too front_too second) one k))
 shows_alike (Some (Waits process line) ∷ forms) number words others s t tickets steps later output other end second s_sound t_sound alike before waiting found found_too finds finds_too
-    h (inr (inr (own, behind, w, words', makes, wants, is, out, ends, given))) = no_memory second number finds_too ends
+    h (inr (inr (own, behind, w, words', makes, wants, is, (out, ends, given)))) = no_memory second number finds_too ends
 shows_alike (Some (Waits process line) ∷ forms) number words others s t tickets steps later output other end second s_sound t_sound alike before waiting found found_too finds finds_too
-    (inr (inr (own, behind, w, words', makes, wants, is, out, ends, given))) k = no_memory end number finds ends
+    (inr (inr (own, behind, w, words', makes, wants, is, (out, ends, given)))) k = no_memory end number finds ends
 
 pub forms_alike : FormsShowTheSame
 forms_alike forms steps others output other end second found found_too finds finds_too (a, entries, s, a_fresh, run, seats, made, h) (b, later, t, b_fresh, run_too, seats_too, made_too, k) =
@@ -329,8 +327,19 @@ shows_more (Some (Asks process request) ∷ forms) later number words s steps ou
 shows_more (Some (Waits process form) ∷ forms) later number words s steps output line (inl (text, front, told, out, h)) =
     inl (text, front, told, out, shows_more forms later (number + 1) words s steps front line h)
 shows_more (Some (Waits process form) ∷ forms) later number words s steps output line (inr (inl (event, a, behind, front, u, makes, asked, step, is, out, h))) =
-    inr (inl (event, a, behind, front, u, makes, asked, step, is, out,
-    shows_more forms later (number + 1) (words_answered words (words.processes process) (word_of form) a) u behind front line h))
+    inr (inl (
+      event,
+      a,
+      behind,
+      front,
+      u,
+      makes,
+      asked,
+      step,
+      is,
+      out,
+      shows_more forms later (number + 1) (words_answered words (words.processes process) (word_of form) a) u behind front line h,
+    ))
 shows_more (Some (Waits process form) ∷ forms) later number words s steps output line (inr (inr h)) = inr (inr h)
 
 plays_more : (forms later : Forms) (steps : Steps) (output : List ℕ) (line : ℕ) → PlaysFormsBy forms steps output (ending.BadLine line) → PlaysFormsBy (forms ++ later) steps output (ending.BadLine line)

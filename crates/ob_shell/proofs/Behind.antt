@@ -29,7 +29,8 @@ use Rattle.ob_shell.proofs.Gathered.{gathers_nothing, gathers_more, gathers_fron
 use Rattle.ob_standard.specs.Standard.{StandardKind, standard}
 use Rattle.ob_effects.specs.Machine.{Space, counts_of}
 use Rattle.ob_effects.specs.Effects.{MakesStep, notice_text, IsDone}
-use Rattle.ob_effects.specs.Kept.{AreWaiting, Session, IsFirst, words_of}
+use Rattle.ob_effects.specs.declared.session.Session.{Session}
+use Rattle.ob_effects.specs.Kept.{AreWaiting, IsFirst, words_of, space_of}
 use Rattle.ob_effects.specs.Waiting.{Steps, word_of, IsEvent, answer_text, words_answered}
 use Rattle.ob_effects.proofs.Awaiting.{first_waiting, answered_waiting, unanswered_waiting, carried_waiting, stopped_waiting, wanting_sound, stopped_sound}
 use Rattle.ob_output.specs.Printed.{output_line}
@@ -57,7 +58,7 @@ pub record StandsBehind (old new : Option (List ℕ)) (has script rest : List �
   pub gathered : Gathers old new [] so_far has
 
 -- at first nothing was run and gathered
-pub stands_first : (old : Option (List ℕ)) (has script : List ℕ) (session : Session) → has ≡ [] → IsFirst session → StandsBehind old old has script script 0 (words_of session) session.space
+pub stands_first : (old : Option (List ℕ)) (has script : List ℕ) (session : Session) → has ≡ [] → IsFirst session → StandsBehind old old has script script 0 (words_of session) (space_of session)
 stands_first old has script session none (w, (first, f, e)) = record {
   done = [];
   so_far = [];

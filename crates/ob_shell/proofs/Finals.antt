@@ -37,10 +37,14 @@ use Rattle.ob_shell.specs.Shown.{Entries, AreOfSeat0}
 
 -- what waits can be given up
 pub abandon_total : (s : Space) (n p : ℕ) → WaitsUnder s n p → (t : Space) × Step standard s (Abandon n run.Unrun) (answers Success) t
-abandon_total s n p (x, face, found, has, theirs, parses) =
-    (settle standard (parsed_state s x.ticket None),
-    (None, subst (λ o. MatchOption o ⊥ (λ y. IsParsed standard s y run.Unrun None)) (sym found) refl,
-    subst (λ o. MatchOption o ⊥ (λ y. Abandons standard s y None (answers Success) (settle standard (parsed_state s x.ticket None)))) (sym found) (refl, refl)))
+abandon_total s n p (x, face, found, has, theirs, parses) = (
+  settle standard (parsed_state s x.ticket None),
+  (
+    None,
+    subst (λ o. MatchOption o ⊥ (λ y. IsParsed standard s y run.Unrun None)) (sym found) refl,
+    subst (λ o. MatchOption o ⊥ (λ y. Abandons standard s y None (answers Success) (settle standard (parsed_state s x.ticket None)))) (sym found) (refl, refl),
+  ),
+)
 
 -- and its parse has an end, with which it can be resumed
 pub resume_total : (s : Space) (n p : ℕ) → IsSound s → WaitsUnder s n p → (a : Answer) × (t : Space) × Step standard s (Resume n run.Ran) a t
@@ -63,9 +67,10 @@ give_all_total (n ∷ tickets) s sound waits rising =
     let u = step.0 in
     let later : All (WaitsSomewhere u) tickets =
     λ i d inside.
-    (let one = All-tail (WaitsSomewhere s) n tickets waits i d inside in
-    (one.0,
-    goes_on_waiting s u (Abandon n run.Unrun) (answers Success) _ one.0 sound (λ same. omega (arith, same, rising 0 (suc i) d (omega arith) (omega (arith, inside)))) step.1 one.1)) in
+    (let one = All-tail (WaitsSomewhere s) n tickets waits i d inside in (
+      one.0,
+      goes_on_waiting s u (Abandon n run.Unrun) (answers Success) _ one.0 sound (λ same. omega (arith, same, rising 0 (suc i) d (omega arith) (omega (arith, inside)))) step.1 one.1,
+    )) in
     let rest = give_all_total tickets u (step_sound standard s u (Abandon n run.Unrun) (answers Success) sound step.1) later (λ i j d before inside. rising (suc i) (suc j) d (omega (arith, before)) (omega (arith, inside))) in
     (rest.0, (u, step.1, rest.1))
 
@@ -86,9 +91,13 @@ steps_entered count (step ∷ steps) = ap (λ xs. step ∷ xs) (steps_entered (c
 pub finals_total : (s : Space) (words : Words) (tickets : List ℕ) (count : ℕ) → IsSound s → AreWaiting s words tickets
     → (entries : Entries) × (t : Space) × RunFrom standard s count entries t × AreOfSeat0 entries × GiveAllUp words s (map step_of entries)
 finals_total s words tickets count sound waiting =
-    let given = give_all_total tickets s sound waits waiting.listed.rising in
-    (entered count (map given_up tickets), given.0, given_up_run tickets s given.0 count given.1, entered_seats count (map given_up tickets),
-    (tickets, given.0, waiting.listed, given.1, steps_entered count (map given_up tickets)))
+    let given = give_all_total tickets s sound waits waiting.listed.rising in (
+      entered count (map given_up tickets),
+      given.0,
+      given_up_run tickets s given.0 count given.1,
+      entered_seats count (map given_up tickets),
+      (tickets, given.0, waiting.listed, given.1, steps_entered count (map given_up tickets)),
+    )
   where
     one : (n : ℕ) → IsUnderWord words.tickets n → WaitsSomewhere s n
     one n (some, (p, w, e)) = go (waiting.theirs p w)

@@ -4,7 +4,7 @@ ghost use Rattle.std.specs.Prelude.{◌≡◌, ◌≢◌, ◌+◌, ◌<◌, ◌�
 ghost use Rattle.ob_shell.specs.Reading.{StopsLong, TakesAtMost};
 ghost use Rattle.ob_shell.specs.Writing.{AppendsFront, Gathers};
 ghost use Rattle.ob_shell.specs.Shown.{PlaysTo, PlaysPartTo};
-ghost use Rattle.ob_effects.specs.Kept.{IsFirst};
+ghost use Rattle.ob_effects.specs.Kept.{IsFirst, IsSession};
 ghost use Rattle.ob_shell.specs.Running.{outcome_text, outcome_end, GathersRun, StopsPlaying};
 
 use crate::fault::ShellFault;
@@ -128,9 +128,11 @@ fn play<W: Write>(
     block: &mut Vec<u8>,
 ) -> Result<Ending, ShellFault>
     requires first { IsFirst session.old }
+    requires kept { IsSession session.old }
     requires script { length script.now ≤ SCRIPT_LIMIT }
     requires empty { block.old.items ≡ [] }
     requires capacity { 192 ≤ vec_capacity block.old }
+    ensures kept { IsSession session.new }
     ensures played { IfOk result (λ ending. GathersRun (W.contents writer.old) (W.contents writer.new) script.now block.new.items ending) }
     ensures fault { IfErr result (λ fault. StopsPlaying script.now fault (W.contents writer.old) (W.contents writer.new)) }
 {

@@ -12,16 +12,21 @@ use Rattle.ob_effects.proofs.waiting.end_waiting.Goals as goal
 pub returns-in-Ok-clause-carried : goal.returns-in-Ok-clause-carried
 returns-in-Ok-clause-carried c =
     let same : words_in c.room_for_ticket.new.self ≡ words_in c.args.words.now = c.in_ok-room_for_ticket.ensures.same ∙ c.in_ok-room_for_handle.ensures.same in
-    let ended = c.in-Ok.ensures.ended in
-    ((Resume c.args.ticket ended.0, (ended.0, ended.1, ap (λ n. Resume n ended.0) (sym c.requires.under)), ended.2),
-    c.keep.ensures ∙ ap (λ (w : Words). words_answered w c.args.process c.args.word.now (answer_in c.in-Ok.begun)) same)
+    let ended = c.in-Ok.ensures.ended in (
+      (Resume c.args.ticket ended.0, (ended.0, ended.1, ap (λ n. Resume n ended.0) (sym c.requires.under)), ended.2),
+      c.keep.ensures ∙ ap (λ (w : Words). words_answered w c.args.process c.args.word.now (answer_in c.in-Ok.begun)) same,
+    )
 
 pub returns-in-Err-clause-stopped : goal.returns-in-Err-clause-stopped
 returns-in-Err-clause-stopped c =
     let same : words_in c.room_for_ticket.new.self ≡ words_in c.args.words.now = c.in_ok-room_for_ticket.ensures.same ∙ c.in_ok-room_for_handle.ensures.same in
-    let faltered = c.in-Err.ensures.faltered in
-    (faltered.0, inr (subst (λ n. GivesUp standard n faltered.0 c.args.core.now c.end_open.new.core) (sym c.requires.under) faltered.1,
-    c.clear_ticket.ensures ∙ ap (λ (w : Words). with_ticket w c.args.process c.args.word.now 0) same))
+    let faltered = c.in-Err.ensures.faltered in (
+      faltered.0,
+      inr (
+        subst (λ n. GivesUp standard n faltered.0 c.args.core.now c.end_open.new.core) (sym c.requires.under) faltered.1,
+        c.clear_ticket.ensures ∙ ap (λ (w : Words). with_ticket w c.args.process c.args.word.now 0) same,
+      ),
+    )
 
 pub returns-in-Err-clause-kept : goal.returns-in-Err-clause-kept
 returns-in-Err-clause-kept c =

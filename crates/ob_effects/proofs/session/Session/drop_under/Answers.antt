@@ -24,6 +24,8 @@ returns-clause-kept c = record {
 pub returns-clause-done : goal.returns-clause-done
 returns-clause-done c = (
   makes_drop (words_in c.args.self.now.words) c.args.process c.args.word.now (not_none _ _ c.if-ticket-eq0.false c.ticket_of-ticket.ensures),
-  ((Abandon c.ticket_of-ticket.result Unrun, ap (λ n. Abandon n Unrun) c.ticket_of-ticket.ensures, c.drop_open.ensures.step),
-  c.give_up.ensures ∙ ap (λ (w : Words). with_word w c.args.process c.args.word.now 0) c.clear_ticket.ensures),
+  (
+    (Abandon c.ticket_of-ticket.result Unrun, ap (λ n. Abandon n Unrun) c.ticket_of-ticket.ensures, c.drop_open.ensures.step),
+    c.give_up.ensures ∙ ap (λ (w : Words). with_word w c.args.process c.args.word.now 0) c.clear_ticket.ensures,
+  ),
 )
