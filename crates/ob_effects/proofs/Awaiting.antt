@@ -1,7 +1,6 @@
 -- The opens that wait under words go on waiting through steps that don't end them; one more begins to wait, or one ends.
-use Rattle.std.proofs.Common.{◌≡◌, ◌≢◌, ◌∙◌, ℕ, ◌+◌, ◌<◌, ◌==◌, Bool, true, false, not, cond, List, [], ◌∷◌, ◌++◌, find, filter, ◌⊎◌, inl, inr, All, Option, None, Some, refl, ap, sym, subst, arith, eq-eqb, eqb-true}
+use Rattle.std.proofs.Common.{◌≡◌, ◌≢◌, ◌∙◌, ℕ, ◌<◌, ◌==◌, Bool, true, false, not, cond, List, [], ◌∷◌, ◌++◌, find, ◌⊎◌, inl, inr, All, Option, None, Some, refl, ap, sym, subst, arith, eq-eqb, eqb-true}
 use Rattle.std.specs.Prelude.{MatchOption, codes}
-use Rattle.std.specs.List.{list_any}
 use Rattle.std.specs.Str.{bytes_eq}
 use Rattle.std.proofs.lemmas.List.Elements.{All-nil, All-head, All-tail, All-weaker, All-filter}
 use Rattle.ob_model.specs.declared.command.Command.{Command}

@@ -1,9 +1,8 @@
 -- What a session keeps behind a line of an open that waits.
-use Rattle.std.proofs.Common.{◌≡◌, ◌≢◌, ◌∙◌, ℕ, ◌==◌, Bool, true, false, not, cond, List, [], ◌⊎◌, inl, inr, Option, Some, None, Result, Ok, Err, IfOk, OnErr, refl, ap, sym, subst, eq-eqb, eqb-true}
+use Rattle.std.proofs.Common.{◌≡◌, ◌≢◌, ◌∙◌, ℕ, ◌==◌, Bool, true, false, not, cond, List, ◌⊎◌, inl, inr, Option, Some, None, Result, Ok, Err, IfOk, OnErr, refl, ap, sym, subst, eqb-true}
 use Rattle.std.specs.Prelude.{codes}
-use Rattle.std.proofs.lemmas.List.Elements.{All-nil}
 use Rattle.ob_base.specs.declared.status.Status.TheVariants.{Success}
-use Rattle.ob_model.specs.declared.reply.Event.TheVariants.{Start, Resume, Abandon}
+use Rattle.ob_model.specs.declared.reply.Event.TheVariants.{Abandon}
 use Rattle.ob_model.specs.declared.reply.ParseRun.TheVariants as run
 use Rattle.ob_model.specs.Refusals.{answers}
 use Rattle.ob_model.specs.Sound.{IsSound}

@@ -1,7 +1,7 @@
 -- Opens that wait under handle words: what the lines that begin, end and drop them ask for, and what they leave.
 --
 -- Source: this profile; Windows Internals, Object Manager (parse methods), for opens that go into an object.
-use Rattle.std.specs.Prelude.{◌≡◌, ◌≢◌, ◌<◌, ℕ, ◌==◌, Bool, true, not, if◌then◌else◌, List, [], ◌∷◌, ◌⊎◌, map, All, AllPairs, Option, Some, None, codes}
+use Rattle.std.specs.Prelude.{◌≡◌, ◌≢◌, ◌<◌, ℕ, ◌==◌, Bool, true, not, if◌then◌else◌, List, [], ◌⊎◌, map, All, AllPairs, Option, Some, None, codes}
 use Rattle.std.specs.List.{list_any}
 use Rattle.ob_base.specs.declared.status.Status.TheVariants.{Success}
 use Rattle.ob_model.specs.declared.command.Command.{Command}

@@ -13,7 +13,6 @@ use Rattle.ob_model.proofs.Soundness.{opening_sound}
 use Rattle.ob_model.proofs.Steps.{step_sound}
 use Rattle.ob_complete.specs.Completes.{step_of}
 use Rattle.ob_complete.proofs.Chains.{completes_sound, completes_run, entered, behind as count_behind, entered_steps}
-use Rattle.ob_output.specs.declared.counts.Counts.{Counts}
 use Rattle.ob_effects.specs.declared.outcome.Outcome.{Outcome}
 use Rattle.ob_effects.specs.declared.outcome.Outcome.TheVariants as outcome
 use Rattle.ob_shell.specs.declared.run.Ending.{Ending}
@@ -23,7 +22,7 @@ use Rattle.ob_lines.specs.declared.form.Form.TheVariants.{Nothing, Stat, Asks, W
 use Rattle.ob_lines.specs.declared.pending.PendingForm.{PendingForm}
 use Rattle.ob_lines.specs.Script.{Forms, BeginsWithLine, BeginsWithForms}
 use Rattle.ob_lines.proofs.Scripted.{HaveTexts, begins_more, goes_on}
-use Rattle.ob_requests.specs.Words.{Words, first_words}
+use Rattle.ob_requests.specs.Words.{Words}
 use Rattle.ob_shell.specs.Writing.{AppendsFront, Gathers}
 use Rattle.ob_shell.proofs.Gathered.{gathers_nothing, gathers_more, gathers_front, gathers_out, gathers_out_front}
 use Rattle.ob_standard.specs.Standard.{StandardKind, standard}

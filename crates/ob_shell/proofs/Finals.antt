@@ -1,5 +1,5 @@
 -- Opens that wait when a script ends can all be given up, one after another, and that is a run.
-use Rattle.std.proofs.Common.{◌≡◌, ◌≢◌, ◌∙◌, ℕ, suc, ◌+◌, ◌<◌, ◌==◌, List, [], ◌∷◌, ◌++◌, map, All, Option, None, Some, inl, inr, ◌⊎◌, refl, ap, sym, subst, arith, append-nil}
+use Rattle.std.proofs.Common.{◌≡◌, ◌∙◌, ℕ, suc, ◌+◌, ◌<◌, List, [], ◌∷◌, ◌++◌, map, All, None, Some, inl, inr, ◌⊎◌, refl, ap, sym, subst, arith}
 use Rattle.std.specs.Prelude.{MatchOption}
 use Rattle.std.specs.List.{AllPairs}
 use Rattle.std.proofs.lemmas.List.Elements.{All-head, All-tail, All-weaker}
@@ -7,9 +7,7 @@ use Rattle.ob_base.specs.declared.status.Status.TheVariants.{Success}
 use Rattle.ob_model.specs.declared.reply.Answer.{Answer}
 use Rattle.ob_model.specs.declared.reply.Event.TheVariants.{Start, Resume, Abandon}
 use Rattle.ob_model.specs.declared.reply.ParseRun.TheVariants as run
-use Rattle.ob_model.specs.declared.state.Pending.{Pending}
-use Rattle.ob_model.specs.Parses.{Abandons, Resumes, IsParsed, parsed_state}
-use Rattle.ob_model.specs.PendingOpens.{face_of, pending_of}
+use Rattle.ob_model.specs.Parses.{Abandons, IsParsed, parsed_state}
 use Rattle.ob_model.specs.Procedures.{ParseEnds}
 use Rattle.ob_model.specs.Refusals.{answers}
 use Rattle.ob_model.specs.Run.{RunFrom}
@@ -22,7 +20,7 @@ use Rattle.ob_model.proofs.Total.{step_total}
 use Rattle.ob_begun.specs.Begun.{GivesAllUp}
 use Rattle.ob_complete.specs.Completes.{step_of}
 use Rattle.ob_complete.proofs.Chains.{entered, behind as count_behind, falters_run, gives_up_run}
-use Rattle.ob_standard.specs.Standard.{StandardKind, StandardFace, StandardInner, standard}
+use Rattle.ob_standard.specs.Standard.{standard}
 use Rattle.ob_standard.proofs.Fronts.{standard_front}
 use Rattle.ob_lines.specs.declared.pending.PendingForm.{PendingForm}
 use Rattle.ob_lines.specs.declared.pending.PendingForm.TheVariants as pending

@@ -1,14 +1,10 @@
 -- One waits no longer, and its word is set to 0.
-use Rattle.std.proofs.Common.{ap, refl, sym, subst, ◌∙◌}
-use Rattle.ob_base.specs.declared.status.Status.TheVariants.{Success}
+use Rattle.std.proofs.Common.{ap, ◌∙◌}
 use Rattle.ob_model.specs.declared.reply.Event.TheVariants.{Abandon}
 use Rattle.ob_model.specs.declared.reply.ParseRun.TheVariants.{Unrun}
-use Rattle.ob_model.specs.Refusals.{answers}
-use Rattle.ob_model.specs.Step.{Step}
 use Rattle.ob_begun.specs.Begun.{tickets_of}
 use Rattle.ob_requests.specs.Tables.{words_in}
 use Rattle.ob_requests.specs.Words.{Words, with_word}
-use Rattle.ob_standard.specs.Standard.{standard}
 use Rattle.ob_effects.proofs.Sessions.{drop_keeps, makes_drop, not_none}
 use Rattle.ob_effects.proofs.session.Session.drop_under.Goals as goal
 

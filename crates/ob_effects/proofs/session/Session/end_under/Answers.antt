@@ -1,5 +1,5 @@
 -- One waits no longer, or under another ticket.
-use Rattle.std.proofs.Common.{List, ℕ, sym, ap, subst, IfOk, OnErr, ◌≡◌, ◌⊎◌}
+use Rattle.std.proofs.Common.{subst, IfOk, OnErr, ◌≡◌, ◌⊎◌}
 use Rattle.ob_begun.specs.Begun.{tickets_of, with_begun, without}
 use Rattle.ob_requests.specs.Tables.{words_in}
 use Rattle.ob_requests.specs.Words.{with_ticket}

@@ -1,5 +1,5 @@
 -- No open waits.
-use Rattle.std.proofs.Common.{[], sym, subst}
+use Rattle.std.proofs.Common.{sym, subst}
 use Rattle.std.proofs.lemmas.List.Elements.{All-nil}
 use Rattle.ob_begun.specs.Begun.{AreAwaited, tickets_of}
 use Rattle.ob_waiting.specs.Waiting.{IsParseOf}
