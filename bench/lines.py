@@ -99,6 +99,53 @@ def mapped():
     return HELD + "p1 map held\n" + "".join(f'p1 dir "{path}" - =d{n}\n' for n, path in enumerate(paths))
 
 
+def devices(count):
+    """A device with one path, beside so many opens of another device that wait for their parses."""
+    made = HELD + 'p1 make Device "\\Device\\D" - "x" =d\np1 make Device "\\Device\\W" - "x" =w\n'
+    return made + "".join(f'p1 begin File "\\Device\\W\\x" - =w{n}\n' for n in range(count))
+
+
+def keys():
+    """A key with a path of four components."""
+    return HELD + 'p1 make Key "\\Device\\K" - "A\\B\\C\\D" =k\n'
+
+
+def parses(program):
+    """Opens that go into an object, run to their end or begun alone, beside many that wait."""
+    file = 'p1 open File "\\Device\\D\\x" - =f\np1 close f\n'
+    for count in (0, 10, 10_000):
+        a_line(program, f"an open of a file behind a device and its close, {count:,} opens waiting", devices(count), file, 20_000)
+    key = 'p1 open Key "\\Device\\K\\A\\B\\C\\D" - =f\np1 close f\n'
+    a_line(program, "an open of a key four components deep and its close", keys(), key, 20_000)
+    opened = OPEN.format("\\Device\\Bench")
+    for count in (10, 10_000):
+        a_line(program, f"an open of a directory and its close, {count:,} opens waiting", devices(count), opened, 20_000)
+    begun = 'p1 begin File "\\Device\\D\\x" - =f\np1 drop f\n'
+    for count in (10, 10_000):
+        a_line(program, f"an open that is begun and dropped, {count:,} others waiting", devices(count), begun, 20_000)
+
+
+def listed(count):
+    """A directory with so many permanent events."""
+    return HELD + "".join(f'p1 make Event "\\Device\\Bench\\E{n:06}" P "" =e\np1 close e\n' for n in range(count))
+
+
+def scans(program):
+    """Scans of a directory: what an entry takes in a whole one, and what its first and its last page take."""
+    for count in (1_000, 20_000):
+        there = listed(count)
+        without, _ = seconds(program, there)
+        scan = "p1 list held 1048576 first\n" * 20
+        took, _ = seconds(program, there + scan)
+        print(f"an entry of a whole scan, {count:,} entries: {(took - without) / (20 * count) * 1e6:.3f} us")
+        last = f"p1 list held {16 * (count - 1)} first\n"
+        for title, before in (("first", ""), ("last", last)):
+            page = "p1 list held 16 next\n" if before else "p1 list held 16 first\n"
+            without, _ = seconds(program, there + before * 20)
+            took, _ = seconds(program, there + (before + page) * 20)
+            print(f"the {title} page of one entry, {count:,} entries: {(took - without) / 20 * 1e6:.1f} us")
+
+
 def views(program):
     """Opens behind `\\??`, each of which is to take at most twice what one of as many names takes elsewhere."""
     for where, path in (
@@ -144,6 +191,8 @@ def main():
     for count in (10, 1_000, 100_000):
         told = f"the path of an event, three names deep, {count:,} events beside"
         a_line(program, told, deep(count), "p1 name deep\n", 20_000, b'SUCCESS "\\Device\\Bench\\In\\D"')
+    parses(program)
+    scans(program)
     for count in (1_000, 20_000):
         script = temporaries(count) + "".join(f"p1 close e{n}\n" for n in range(count))
         took, _ = seconds(program, script)

@@ -7,6 +7,8 @@ mod cases;
 #[cfg(test)]
 mod maps;
 #[cfg(test)]
+mod pages;
+#[cfg(test)]
 mod parses;
 #[cfg(test)]
 mod permanence;
@@ -16,3 +18,5 @@ mod processes;
 mod program;
 #[cfg(test)]
 mod runs;
+#[cfg(test)]
+mod waiting;

@@ -4,10 +4,11 @@ use Rattle.std.proofs.Common.{◌≡◌, ◌∙◌, ℕ, ◌==◌, ◌&&◌, tru
 use Rattle.std.specs.Prelude.{Option, None, Some, MatchOption}
 use Rattle.std.specs.List.{find, list_any}
 use Rattle.ob_model.specs.declared.command.Command.{Command}
+use Rattle.ob_model.specs.declared.command.Command.TheVariants.{OpenObject}
 use Rattle.ob_model.specs.declared.reply.Answer.{Answer}
 use Rattle.ob_model.specs.declared.reply.Answer.TheVariants.{Done, Ticket}
 use Rattle.ob_model.specs.declared.reply.Event.{Event}
-use Rattle.ob_model.specs.declared.reply.Event.TheVariants.{Start, Resume}
+use Rattle.ob_model.specs.declared.reply.Event.TheVariants.{Start, Resume, Abandon}
 use Rattle.ob_model.specs.declared.reply.ParseRun.{ParseRun}
 use Rattle.ob_model.specs.declared.reply.ParseRun.TheVariants as run
 use Rattle.ob_model.specs.declared.reply.Reply.{Reply}
@@ -19,8 +20,8 @@ use Rattle.ob_model.specs.Procedures.{Procedures}
 use Rattle.ob_model.specs.Sound.{IsSound}
 use Rattle.ob_model.specs.State.{State}
 use Rattle.ob_model.specs.Step.{Step}
-use Rattle.ob_model.proofs.AlikeResumes.{resume_stays}
-use Rattle.ob_model.proofs.AlikeSteps.{steps_stay}
+use Rattle.ob_model.proofs.AlikeResumes.{resume_stays, abandon_stays}
+use Rattle.ob_model.proofs.AlikeSteps.{steps_stay, steps_lead, step_holds}
 use Rattle.ob_model.proofs.Steps.{step_sound}
 use Rattle.ob_complete.specs.Completes.{Made, Leads, HasRun, Completes, FindsMemory, FindMemory}
 use Rattle.ob_complete.proofs.Fewer.{WaitsFor, waits_for, start_begins, step_begins}
@@ -62,18 +63,42 @@ module _ {K T F I : Type 0} where
       (answers, states, lead_from s t x y u v p p a b same same_too lead, hold_from s x u p a same hold, hold_from t y v p b same_too hold_too)
 
 module _ {K T F I : Type 0} (g : Procedures K T F I) where
-  -- the resume of one open that waits for a process, with a parse that ran in both
-  resume_alike : (s t u v : State K T F I) (n p : ℕ) (a b : Answer) → AreAlike s t → WaitsFor s n p → Step g s (Resume n run.Ran) a u → Step g t (Resume n run.Ran) b v → EndsAlike s t p a b u v
-  resume_alike s t u v n p a b alike waits h k =
+  -- what holds for the process of the open that waits holds for that of which it is known
+  for_its_process : (o : Option (Pending K)) (p : ℕ) (P : ℕ → Type 0) → MatchOption o ⊥ (λ x. x.process ≡ p) → MatchOption o ⊥ (λ x. P x.process) → P p
+  for_its_process None p P is h = absurd h
+  for_its_process (Some x) p P is h = subst P is h
+
+  -- the open that waits for a process ends alike, where each of the two does so as seen from either
+  ends_alike : (s t u v : State K T F I) (n p : ℕ) (a b : Answer) → AreAlike s t → WaitsFor s n p
+      → MatchOption (pending_of s n) ⊥ (λ x. AreAlikeAnswers a b × AreAlike u v × LeadOn s t x.process x.process a b u v × HoldOn s none x.process a u)
+      → MatchOption (pending_of t n) ⊥ (λ x. AreAlikeAnswers b a × AreAlike v u × LeadOn t s x.process x.process b a v u × HoldOn t none x.process b v) → EndsAlike s t p a b u v
+  ends_alike s t u v n p a b alike waits h k =
       let there : pending_of s n ≡ pending_of t n = ap (λ x. pending_of x n) alike in
-      let one = for (pending_of s n) (λ q. AreAlikeAnswers a b × AreAlike u v × LeadOn s t q q a b u v × HoldOn s none q a u) waits (resume_stays g s t alike a b u v n run.Ran h k) in
-      let other = for (pending_of t n) (λ q. AreAlikeAnswers b a × AreAlike v u × LeadOn t s q q b a v u × HoldOn t none q b v)
-      (subst (λ o. MatchOption o ⊥ (λ x. x.process ≡ p)) there waits) (resume_stays g t s (sym alike) b a v u n run.Ran k h) in
+      let one = for_its_process (pending_of s n) p (λ q. AreAlikeAnswers a b × AreAlike u v × LeadOn s t q q a b u v × HoldOn s none q a u) waits h in
+      let other = for_its_process (pending_of t n) p (λ q. AreAlikeAnswers b a × AreAlike v u × LeadOn t s q q b a v u × HoldOn t none q b v)
+      (subst (λ o. MatchOption o ⊥ (λ x. x.process ≡ p)) there waits) k in
       (one.0, one.1, one.2, one.3, other.3)
-    where
-      for : (o : Option (Pending K)) (P : ℕ → Type 0) → MatchOption o ⊥ (λ x. x.process ≡ p) → MatchOption o ⊥ (λ x. P x.process) → P p
-      for None P is h = absurd h
-      for (Some x) P is h = subst P is h
+
+  -- the resume of one open that waits for a process, with a parse that ran in both
+  pub resume_alike : (s t u v : State K T F I) (n p : ℕ) (a b : Answer) → AreAlike s t → WaitsFor s n p → Step g s (Resume n run.Ran) a u → Step g t (Resume n run.Ran) b v → EndsAlike s t p a b u v
+  resume_alike s t u v n p a b alike waits h k =
+      ends_alike s t u v n p a b alike waits (resume_stays g s t alike a b u v n run.Ran h k) (resume_stays g t s (sym alike) b a v u n run.Ran k h)
+
+  -- it is given up in both, with the same of its parse
+  pub abandon_alike : (s t u v : State K T F I) (n p : ℕ) (parse : ParseRun) (a b : Answer) → AreAlike s t → WaitsFor s n p
+      → Step g s (Abandon n parse) a u → Step g t (Abandon n parse) b v → EndsAlike s t p a b u v
+  abandon_alike s t u v n p parse a b alike waits h k =
+      ends_alike s t u v n p a b alike waits (abandon_stays g s t alike a b u v n parse h k) (abandon_stays g t s (sym alike) b a v u n parse k h)
+
+  -- two opens of a process that are alike begin alike
+  pub open_alike : (s t u v : State K T F I) (p : ℕ) (root other : Option ℕ) (name : List ℕ) (attrs : ℕ) (want : Option K) (a b : Answer) → IsSound s → IsSound t → AreAlike s t
+      → AreAlikeCommands s t p (OpenObject root name attrs want) (OpenObject other name attrs want)
+      → Step g s (Start p (OpenObject root name attrs want)) a u → Step g t (Start p (OpenObject other name attrs want)) b v → EndsAlike s t p a b u v
+  open_alike s t u v p root other name attrs want a b s_sound t_sound alike same h k =
+      let c : Command K = OpenObject root name attrs want in
+      let d : Command K = OpenObject other name attrs want in
+      let stay = steps_stay g s t p c d a b u v s_sound t_sound alike same h k in
+      (stay.0, stay.1, steps_lead g s t p c d a b u v s_sound t_sound alike same h k, step_holds g s p c a u s_sound h, step_holds g t p d b v t_sound k)
 
   -- what follows a step, and what it comes to
   abbrev Follows : List (Made K) → Answer → State K T F I → State K T F I → Reply → Type 0

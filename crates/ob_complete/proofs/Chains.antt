@@ -78,7 +78,7 @@ module _ {K T F I : Type 0} (g : Procedures K T F I) where
           (subst (λ x. RunFrom g x (count + 1) rest w) is (subst (λ xs. RunFrom g t (behind (count + 1) xs) rest w) none run))
       go (Ticket n) on (parse, ran, h) = on n parse h
 
-  gives_up_run : (n : ℕ) (steps : List (Made K)) (s t : State K T F I) (count : ℕ) (rest : List (Entry K)) (w : State K T F I)
+  pub gives_up_run : (n : ℕ) (steps : List (Made K)) (s t : State K T F I) (count : ℕ) (rest : List (Entry K)) (w : State K T F I)
       → GivesUp g n steps s t → RunFrom g t (behind count steps) rest w → RunFrom g s count (entered count steps ++ rest) w
   gives_up_run n [] s t count rest w h run = absurd h
   gives_up_run n (step ∷ steps) s t count rest w (inl (parse, asked, answered, made, none)) run =

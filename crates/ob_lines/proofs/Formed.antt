@@ -1,29 +1,41 @@
 -- Requests, and forms of a line.
-use Rattle.std.proofs.Common.{◌≡◌, ◌≢◌, ℕ, inl, inr, List, [], ◌∷◌, ◌++◌, Option, Some, None, IfSome, length, get_or, eqb, Bool, false, refl, ap, arith, codes, append_assoc, sym, subst, ◌∙◌}
+use Rattle.std.proofs.Common.{◌≡◌, ◌≢◌, ℕ, inl, inr, List, [], ◌∷◌, ◌++◌, Option, Some, None, IfSome, length, get_or, eqb, Bool, false, drop, refl, ap, arith, codes, append_assoc, sym, subst, ◌∙◌}
 use Rattle.std.specs.Borrow.{Bor}
 use Rattle.std.specs.Char.{IsAsciiAlphabetic}
 use Rattle.std.specs.Str.{bytes_eq}
 use Rattle.std.proofs.lemmas.Bool.{both_ways}
 use Rattle.std.proofs.lemmas.Slice.Eq.{bytes_eq-Decides}
 use Rattle.ob_lines.specs.declared.form.Form.{Form}
-use Rattle.ob_lines.specs.declared.form.Form.TheVariants.{Nothing, Stat, Asks}
+use Rattle.ob_lines.specs.declared.form.Form.TheVariants.{Nothing, Stat, Asks, Waits}
+use Rattle.ob_lines.specs.declared.kind.KindForm.{KindForm}
+use Rattle.ob_lines.specs.declared.pending.PendingForm.{PendingForm}
+use Rattle.ob_lines.specs.declared.pending.PendingForm.TheVariants.{Begin, End, Drop}
 use Rattle.ob_lines.specs.declared.request.NameForm.{NameForm}
 use Rattle.ob_lines.specs.declared.request.NameForm.TheVariants.{Absolute, Relative}
 use Rattle.ob_lines.specs.declared.request.PlaceForm.{PlaceForm}
 use Rattle.ob_lines.specs.declared.request.PlaceForm.TheVariants.{Named, Unnamed}
 use Rattle.ob_lines.specs.declared.request.Request.{Request}
-use Rattle.ob_lines.specs.declared.request.Request.TheVariants.{CreateDirectory, CreateLink, CreateObject, OpenDirectory, OpenLink, OpenObject, Close, QueryLink, QueryName, Duplicate, MakeTemporary, MakePermanent, SetDeviceMap, NewProcess, ExitProcess}
+use Rattle.ob_lines.specs.declared.request.Request.TheVariants.{CreateDirectory, CreateLink, CreateObject, OpenDirectory, OpenLink, OpenObject, Close, QueryLink, QueryName, QueryDirectory, Duplicate, MakeTemporary, MakePermanent, SetDeviceMap, NewProcess, ExitProcess}
 use Rattle.ob_lines.specs.declared.verb.Verb.{Verb}
 use Rattle.ob_lines.specs.declared.verb.Verb.TheVariants as verb
 use Rattle.ob_lines.specs.Text.{Lacks, IsText}
 use Rattle.ob_lines.specs.Parts.{text_of, BeginsWithName, BeginsWithPlace, BeginsWithProcess}
-use Rattle.ob_lines.specs.Grammar.{HasPlaceText, HasTexts, FormHasTexts, verb_text, verb_of, IsOperands, IsVerbAndOperands, IsRequest, IsFlagsAndWord, IsFlagsTextAndWord, IsNameFlagsAndWord, IsPlaceFlagsTextAndWord, IsIdle, IsLine, LinesHaveOneForm, form_seen}
+use Rattle.ob_lines.specs.Grammar.{HasPlaceText, HasTexts, PendingHasTexts, FormHasTexts, verb_text, verb_of, IsOperands, IsVerbAndOperands, IsRequest, IsPending, IsFlagsAndWord, IsFlagsTextAndWord, IsNameFlagsAndWord, IsWantNameFlagsAndWord, IsPlaceFlagsTextAndWord, IsIdle, IsLine, LinesHaveOneForm, form_seen}
 use Rattle.ob_lines.proofs.Cuts.{lacks_no_cut}
 use Rattle.ob_lines.proofs.Flagged.{lacks_from_test}
 use Rattle.ob_lines.proofs.Handles.{handle_alike}
 use Rattle.ob_lines.proofs.Parted.{apart, differ, moved, spaced, spaced_alike, place_alike, kind_alike, want_alike, ends_alike, name_ends_alike, place_ends_alike}
 use Rattle.ob_lines.proofs.Processed.{process_alike, process_uncut, handle_ends_alike, inherit_ends_alike}
-use Rattle.ob_lines.proofs.Verbs.{verb_lacks, verb_same, Each, of_verb}
+use Rattle.ob_lines.proofs.Paged.{page_ends_alike}
+use Rattle.ob_lines.proofs.Verbs.{verb_lacks, verb_same, Each, of_verb, begin_no_verb, end_no_verb, drop_no_verb}
+
+-- a WANT NAME FLAGS =V has one reading
+want_ends_alike : (bytes : List ℕ) (k : Option KindForm) (n : NameForm (List ℕ)) (a : ℕ) (w : List ℕ) (k' : Option KindForm) (n' : NameForm (List ℕ)) (a' : ℕ) (w' : List ℕ)
+    → IsWantNameFlagsAndWord bytes k n a w → IsWantNameFlagsAndWord bytes k' n' a' w' → (k ≡ k') × (n ≡ n') × (a ≡ a') × (w ≡ w')
+want_ends_alike bytes k n a w k' n' a' w' (r, c, s) (r', c', s') =
+    let want = want_alike bytes k r k' r' c c' in
+    let same = name_ends_alike r n a w n' a' w' s (moved (λ x. IsNameFlagsAndWord x n' a' w') r r' want.1 s') in
+    (want.0, same.0, same.1, same.2)
 
 -- operands have one reading for each verb
 reads_alone : (bytes : List ℕ) (a : Request (List ℕ)) → IsOperands bytes a → Each (verb_of a) (λ b. IsOperands bytes b → a ≡ b)
@@ -44,13 +56,15 @@ reads_alone bytes (OpenDirectory n a w) s = λ n' a' w' s'.
 reads_alone bytes (OpenLink n a w) s = λ n' a' w' s'.
     let same = name_ends_alike bytes n a w n' a' w' s s' in
     rw (same.0, same.1, same.2) refl
-reads_alone bytes (OpenObject k n a w) (r, c, s) = λ k' n' a' w' s'.
-    let want = want_alike bytes k r k' s'.0 c s'.1 in
-    let same = name_ends_alike r n a w n' a' w' s (moved (λ x. IsNameFlagsAndWord x n' a' w') r s'.0 want.1 s'.2) in
-    rw (want.0, same.0, same.1, same.2) refl
+reads_alone bytes (OpenObject k n a w) s = λ k' n' a' w' s'.
+    let same = want_ends_alike bytes k n a w k' n' a' w' s s' in
+    rw (same.0, same.1, same.2, same.3) refl
 reads_alone bytes (Close h) s = λ h' s'. ap Close (handle_alike bytes h h' s s')
 reads_alone bytes (QueryLink h) s = λ h' s'. ap QueryLink (handle_alike bytes h h' s s')
 reads_alone bytes (QueryName h) s = λ h' s'. ap QueryName (handle_alike bytes h h' s s')
+reads_alone bytes (QueryDirectory h n m) s = λ h' n' m' s'.
+    let same = page_ends_alike bytes h n m h' n' m' s s' in
+    rw (same.0, same.1, same.2) refl
 reads_alone bytes (Duplicate h q i w) s = λ h' q' i' w' s'.
     let same = handle_ends_alike bytes h q i w h' q' i' w' s s' in
     rw (same.0, same.1, same.2, same.3) refl
@@ -101,28 +115,71 @@ request_alike bytes a b (inl s) (inr t) = absurd (alone_no_operands bytes b s.0 
 request_alike bytes a b (inr s) (inl t) = absurd (alone_no_operands bytes a t.0 s)
 request_alike bytes a b (inr s) (inr t) = spelled_requests_alike bytes a b s t
 
+-- what is asked of an open that waits has one reading
+begun_parts : (bytes rest : List ℕ) (k : Option KindForm) (n : NameForm (List ℕ)) (a : ℕ) (w : List ℕ) → bytes ≡ codes "begin " ++ rest
+    → IsPending bytes (Begin k n a w) → IsWantNameFlagsAndWord rest k n a w
+begun_parts bytes rest k n a w e (operands, f, s) = moved (λ x. IsWantNameFlagsAndWord x k n a w) rest operands (ap (drop 6) (sym e ∙ f)) s
+
+pending_alike : (bytes : List ℕ) (a b : PendingForm (List ℕ)) → IsPending bytes a → IsPending bytes b → a ≡ b
+pending_alike bytes (Begin k n a w) (Begin k' n' a' w') (rest, e, s) t =
+    let same = want_ends_alike rest k n a w k' n' a' w' s (begun_parts bytes rest k' n' a' w' e t) in
+    rw (same.0, same.1, same.2, same.3) refl
+pending_alike bytes (Begin k n a w) (End v) (rest, e, s) (is, f) = absurd (apart 0x62 0x65 (sym e ∙ f) (omega arith))
+pending_alike bytes (Begin k n a w) (Drop v) (rest, e, s) (is, f) = absurd (apart 0x62 0x64 (sym e ∙ f) (omega arith))
+pending_alike bytes (End v) (Begin k n a w) (is, f) (rest, e, s) = absurd (apart 0x62 0x65 (sym e ∙ f) (omega arith))
+pending_alike bytes (End v) (End w) (is, e) (are, f) = ap End (ap (drop 4) (sym e ∙ f))
+pending_alike bytes (End v) (Drop w) (is, e) (are, f) = absurd (apart 0x65 0x64 (sym e ∙ f) (omega arith))
+pending_alike bytes (Drop v) (Begin k n a w) (is, f) (rest, e, s) = absurd (apart 0x62 0x64 (sym e ∙ f) (omega arith))
+pending_alike bytes (Drop v) (End w) (is, e) (are, f) = absurd (apart 0x65 0x64 (sym f ∙ e) (omega arith))
+pending_alike bytes (Drop v) (Drop w) (is, e) (are, f) = ap Drop (ap (drop 5) (sym e ∙ f))
+
+-- and is no request: neither `exit`, nor a verb with operands
+pending_cut : (bytes : List ℕ) (p : PendingForm (List ℕ)) → IsPending bytes p
+    → (word rest : List ℕ) × (bytes ≡ word ++ (0x20 ∷ rest)) × Lacks 0x20 word × ((v : Verb) → ¬ (word ≡ verb_text v))
+pending_cut bytes (Begin k n a w) (rest, e, s) = (codes "begin", rest, e, lacks_from_test 0x20 (codes "begin") refl, begin_no_verb)
+pending_cut bytes (End w) (is, e) = (codes "end", w, e, lacks_from_test 0x20 (codes "end") refl, end_no_verb)
+pending_cut bytes (Drop w) (is, e) = (codes "drop", w, e, lacks_from_test 0x20 (codes "drop") refl, drop_no_verb)
+
+pending_no_request : (bytes : List ℕ) (p : PendingForm (List ℕ)) (r : Request (List ℕ)) → IsPending bytes p → ¬ IsRequest bytes r
+pending_no_request bytes p r s (inl t) =
+    let cut = pending_cut bytes p s in
+    lacks_no_cut 0x20 bytes cut.0 cut.1 (moved (Lacks 0x20) bytes (codes "exit") t.0 (verb_lacks verb.Exit)) cut.2
+pending_no_request bytes p r s (inr t) =
+    let cut = pending_cut bytes p s in
+    cut.4 (verb_of r) (request_parts bytes cut.0 cut.1 r cut.2 cut.3 t).0
+
+-- bytes that begin with `begin ` and go on otherwise ask nothing of an open that waits
+pub begin_alone : (bytes rest : List ℕ) → bytes ≡ codes "begin " ++ rest
+    → ((k : Option KindForm) (n : NameForm (List ℕ)) (a : ℕ) (w : List ℕ) → ¬ IsWantNameFlagsAndWord rest k n a w)
+    → (p : PendingForm (List ℕ)) → ¬ IsPending bytes p
+begin_alone bytes rest e none (Begin k n a w) s = none k n a w (begun_parts bytes rest k n a w e s)
+begin_alone bytes rest e none (End w) (is, f) = apart 0x62 0x65 (sym e ∙ f) (omega arith)
+begin_alone bytes rest e none (Drop w) (is, f) = apart 0x62 0x64 (sym e ∙ f) (omega arith)
+
 -- a line that begins with a process word asks for what stands behind it
 pub asks_rest : (line process rest p : List ℕ) (r : Request (List ℕ)) → BeginsWithProcess line process rest → IsLine line (Asks p r) → (process ≡ p) × IsRequest rest r
 asks_rest line process rest p r b (more, c, request, short) =
     let same = process_alike line process rest p more b c in
     (same.0, moved (λ x. IsRequest x r) rest more same.1 request)
 
-asks_uncut : (line p : List ℕ) (r : Request (List ℕ)) → Lacks 0x20 line → ¬ IsLine line (Asks p r)
-asks_uncut line p r l (more, b, request, short) = process_uncut line p more l b
+pub waits_rest : (line process rest p : List ℕ) (w : PendingForm (List ℕ)) → BeginsWithProcess line process rest → IsLine line (Waits p w) → (process ≡ p) × IsPending rest w
+waits_rest line process rest p w b (more, c, pending, short) =
+    let same = process_alike line process rest p more b c in
+    (same.0, moved (λ x. IsPending x w) rest more same.1 pending)
 
--- a line that asks for something isn't idle, and is no `stat`
-pub asks_not_idle : (line p : List ℕ) (r : Request (List ℕ)) → IsLine line (Asks p r) → ¬ IsIdle line
-asks_not_idle line [] r (more, b, request, short) idle = absurd b.0.0
-asks_not_idle line (c ∷ cs) r (more, (word, f), request, short) (inl e) = cc
-asks_not_idle line (c ∷ cs) r (more, (word, f), request, short) (inr (comment, e)) =
+-- a line that begins with a process word isn't idle, and is no `stat`
+process_not_idle : (line p rest : List ℕ) → BeginsWithProcess line p rest → ¬ IsIdle line
+process_not_idle line [] rest b idle = absurd b.0.0
+process_not_idle line (c ∷ cs) rest (word, f) (inl e) = cc
+process_not_idle line (c ∷ cs) rest (word, f) (inr (comment, e)) =
     let head : c ≡ 0x23 = cc in not_sharp c word.0.0 head
   where
     not_sharp : (c : ℕ) → IsAsciiAlphabetic c → c ≢ 0x23
     not_sharp c (inl h) e = omega arith
     not_sharp c (inr h) e = omega arith
 
-asks_not_stat : (line p : List ℕ) (r : Request (List ℕ)) → IsLine line (Asks p r) → ¬ (line ≡ codes "stat")
-asks_not_stat line p r asks e = asks_uncut line p r (moved (Lacks 0x20) line (codes "stat") e (lacks_from_test 0x20 (codes "stat") refl)) asks
+process_not_stat : (line p rest : List ℕ) → BeginsWithProcess line p rest → ¬ (line ≡ codes "stat")
+process_not_stat line p rest b e = process_uncut line p rest (moved (Lacks 0x20) line (codes "stat") e (lacks_from_test 0x20 (codes "stat") refl)) b
 
 -- an idle line is no `stat`
 stat_not_idle : (line : List ℕ) → line ≡ codes "stat" → ¬ IsIdle line
@@ -133,24 +190,37 @@ stat_not_idle line e (inr (comment, f)) = apart 0x73 0x23 (sym e ∙ f) (omega a
 pub line_alike : LinesHaveOneForm
 line_alike line Nothing Nothing s t = refl
 line_alike line Nothing Stat s t = absurd (stat_not_idle line t s.0)
-line_alike line Nothing (Asks p r) s t = absurd (asks_not_idle line p r t s.0)
+line_alike line Nothing (Asks p r) s t = absurd (process_not_idle line p t.0 t.1 s.0)
+line_alike line Nothing (Waits p w) s t = absurd (process_not_idle line p t.0 t.1 s.0)
 line_alike line Stat Nothing s t = absurd (stat_not_idle line s t.0)
 line_alike line Stat Stat s t = refl
-line_alike line Stat (Asks p r) s t = absurd (asks_not_stat line p r t s)
-line_alike line (Asks p r) Nothing s t = absurd (asks_not_idle line p r s t.0)
-line_alike line (Asks p r) Stat s t = absurd (asks_not_stat line p r s t)
+line_alike line Stat (Asks p r) s t = absurd (process_not_stat line p t.0 t.1 s)
+line_alike line Stat (Waits p w) s t = absurd (process_not_stat line p t.0 t.1 s)
+line_alike line (Asks p r) Nothing s t = absurd (process_not_idle line p s.0 s.1 t.0)
+line_alike line (Asks p r) Stat s t = absurd (process_not_stat line p s.0 s.1 t)
 line_alike line (Asks p r) (Asks q s) (rest, b, request, short) t =
     let parts = asks_rest line p rest q s b t in
     rw (parts.0, request_alike rest r s request parts.1) refl
+line_alike line (Asks p r) (Waits q w) (rest, b, request, short) t =
+    absurd (pending_no_request rest w r (waits_rest line p rest q w b t).1 request)
+line_alike line (Waits p w) Nothing s t = absurd (process_not_idle line p s.0 s.1 t.0)
+line_alike line (Waits p w) Stat s t = absurd (process_not_stat line p s.0 s.1 t)
+line_alike line (Waits p w) (Asks q r) (rest, b, pending, short) t =
+    absurd (pending_no_request rest w r pending (asks_rest line p rest q r b t).1)
+line_alike line (Waits p w) (Waits q v) (rest, b, pending, short) t =
+    let parts = waits_rest line p rest q v b t in
+    rw (parts.0, pending_alike rest w v pending parts.1) refl
 
 -- bytes that a test tells apart from a word are another
 pub told_apart : (line word known : List ℕ) (told : Bool) → told ≡ false → told ≡ bytes_eq line word → word ≡ known → line ≡ known → ⊥
 told_apart line word known told f is w e = both_ways told f (is ∙ (bytes_eq-Decides line word).1 (e ∙ sym w))
 
--- a line that has a first byte other than `#`, is no `stat` and asks for nothing has no form
+-- a line that has a first byte other than `#`, is no `stat`, asks for nothing, and nothing of an open that waits, has no form
 pub no_form : (line : List ℕ) → eqb (length line) 0 ≡ false → (get_or line 0 0 ≡ 0x23 → ⊥) → (line ≡ codes "stat" → ⊥)
-    → ((p : List ℕ) (r : Request (List ℕ)) → ¬ IsLine line (Asks p r)) → (form : Form (List ℕ)) → ¬ IsLine line form
-no_form line long first stat none (Asks p r) s = none p r s
+    → ((p : List ℕ) (r : Request (List ℕ)) → ¬ IsLine line (Asks p r)) × ((p : List ℕ) (w : PendingForm (List ℕ)) → ¬ IsLine line (Waits p w))
+    → (form : Form (List ℕ)) → ¬ IsLine line form
+no_form line long first stat none (Asks p r) s = none.0 p r s
+no_form line long first stat none (Waits p w) s = none.1 p w s
 no_form line long first stat none Stat s = stat s
 no_form line long first stat none Nothing (inl e, short) = let empty = rw e at long in cc
 no_form line long first stat none Nothing (inr (comment, e), short) = first (ap (λ (z : List ℕ). get_or z 0 0) e)
@@ -177,6 +247,7 @@ request_has_texts bytes (OpenObject k n a w) (more, c, (rest, b, f)) = name_has_
 request_has_texts bytes (Close h) s = tt
 request_has_texts bytes (QueryLink h) s = tt
 request_has_texts bytes (QueryName h) s = tt
+request_has_texts bytes (QueryDirectory h n m) s = tt
 request_has_texts bytes (Duplicate h q i w) s = tt
 request_has_texts bytes (MakeTemporary h) s = tt
 request_has_texts bytes (MakePermanent h) s = tt
@@ -188,10 +259,16 @@ line_has_texts : (line p : List ℕ) (r : Request (List ℕ)) → IsLine line (A
 line_has_texts line p r (rest, b, inl (e, is), short) = subst HasTexts (sym is) tt
 line_has_texts line p r (rest, b, inr (operands, f, s), short) = request_has_texts operands r s
 
+pending_has_texts : (bytes : List ℕ) (w : PendingForm (List ℕ)) → IsPending bytes w → PendingHasTexts w
+pending_has_texts bytes (Begin k n a w) (operands, e, (more, c, (rest, b, f))) = name_has_text more n rest b
+pending_has_texts bytes (End w) s = tt
+pending_has_texts bytes (Drop w) s = tt
+
 pub form_has_texts : (line : List ℕ) (form : Form (List ℕ)) → IsLine line form → FormHasTexts form
 form_has_texts line Nothing l = tt
 form_has_texts line Stat l = tt
 form_has_texts line (Asks p r) l = line_has_texts line p r l
+form_has_texts line (Waits p w) (rest, b, s, short) = pending_has_texts rest w s
 
 -- so are those of the form that was found of a line
 pub found_has_texts : (line : List ℕ) (found : Option (Form (Bor (List ℕ)))) → IfSome found (λ form. IsLine line (form_seen form))

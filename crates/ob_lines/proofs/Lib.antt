@@ -4,6 +4,7 @@ pub mod Flagged
 pub mod Handles
 pub mod Parted
 pub mod Processed
+pub mod Paged
 pub mod Verbs
 pub mod Formed
 pub mod Lined

@@ -1,12 +1,15 @@
 -- Verbs: their words, and the requests of each.
-use Rattle.std.proofs.Common.{◌≡◌, ℕ, Bool, List, Option, if◌then◌else◌, refl, ap, sym, subst, ◌∙◌, codes}
+use Rattle.std.proofs.Common.{◌≡◌, ℕ, Bool, false, List, Option, if◌then◌else◌, refl, ap, sym, subst, ◌∙◌, codes}
+use Rattle.std.proofs.lemmas.Bool.{both_ways}
+use Rattle.std.proofs.lemmas.Slice.Eq.{bytes_eq-Decides}
 use Rattle.std.specs.Str.{bytes_eq}
 use Rattle.ob_lines.specs.declared.handle.HandleForm.{HandleForm}
 use Rattle.ob_lines.specs.declared.kind.KindForm.{KindForm}
+use Rattle.ob_lines.specs.declared.page.PageMode.{PageMode}
 use Rattle.ob_lines.specs.declared.request.NameForm.{NameForm}
 use Rattle.ob_lines.specs.declared.request.PlaceForm.{PlaceForm}
 use Rattle.ob_lines.specs.declared.request.Request.{Request}
-use Rattle.ob_lines.specs.declared.request.Request.TheVariants.{CreateDirectory, CreateLink, CreateObject, OpenDirectory, OpenLink, OpenObject, Close, QueryLink, QueryName, Duplicate, MakeTemporary, MakePermanent, SetDeviceMap, NewProcess, ExitProcess}
+use Rattle.ob_lines.specs.declared.request.Request.TheVariants.{CreateDirectory, CreateLink, CreateObject, OpenDirectory, OpenLink, OpenObject, Close, QueryLink, QueryName, QueryDirectory, Duplicate, MakeTemporary, MakePermanent, SetDeviceMap, NewProcess, ExitProcess}
 use Rattle.ob_lines.specs.declared.verb.Verb.{Verb}
 use Rattle.ob_lines.specs.declared.verb.Verb.TheVariants as verb
 use Rattle.ob_lines.specs.Text.{Lacks}
@@ -24,6 +27,7 @@ verb_lacks verb.Open = lacks_from_test 0x20 (codes "open") refl
 verb_lacks verb.Close = lacks_from_test 0x20 (codes "close") refl
 verb_lacks verb.Target = lacks_from_test 0x20 (codes "target") refl
 verb_lacks verb.Name = lacks_from_test 0x20 (codes "name") refl
+verb_lacks verb.List = lacks_from_test 0x20 (codes "list") refl
 verb_lacks verb.Dup = lacks_from_test 0x20 (codes "dup") refl
 verb_lacks verb.Temp = lacks_from_test 0x20 (codes "temp") refl
 verb_lacks verb.Perm = lacks_from_test 0x20 (codes "perm") refl
@@ -43,6 +47,7 @@ read word =
     else if bytes_eq word (codes "close") then verb.Close
     else if bytes_eq word (codes "target") then verb.Target
     else if bytes_eq word (codes "name") then verb.Name
+    else if bytes_eq word (codes "list") then verb.List
     else if bytes_eq word (codes "dup") then verb.Dup
     else if bytes_eq word (codes "temp") then verb.Temp
     else if bytes_eq word (codes "perm") then verb.Perm
@@ -61,6 +66,7 @@ reads_back verb.Open = refl
 reads_back verb.Close = refl
 reads_back verb.Target = refl
 reads_back verb.Name = refl
+reads_back verb.List = refl
 reads_back verb.Dup = refl
 reads_back verb.Temp = refl
 reads_back verb.Perm = refl
@@ -70,6 +76,24 @@ reads_back verb.Exit = refl
 
 pub verb_same : (a b : Verb) → verb_text a ≡ verb_text b → a ≡ b
 verb_same a b e = sym (reads_back a) ∙ (ap read e ∙ reads_back b)
+
+-- a word that is read as a verb with another word is the word of no verb
+no_verb : (word : List ℕ) (v : Verb) → bytes_eq word (verb_text (read word)) ≡ false → ¬ (word ≡ verb_text v)
+no_verb word v told e =
+    let own : read word ≡ v = ap read e ∙ reads_back v in
+    both_ways _ told ((bytes_eq-Decides word (verb_text (read word))).1 (e ∙ ap verb_text (sym own)))
+
+pub begin_no_verb : (v : Verb) → ¬ (codes "begin" ≡ verb_text v)
+unfolding read
+begin_no_verb v = no_verb (codes "begin") v refl
+
+pub end_no_verb : (v : Verb) → ¬ (codes "end" ≡ verb_text v)
+unfolding read
+end_no_verb v = no_verb (codes "end") v refl
+
+pub drop_no_verb : (v : Verb) → ¬ (codes "drop" ≡ verb_text v)
+unfolding read
+drop_no_verb v = no_verb (codes "drop") v refl
 
 -- each request of a verb is so
 abbrev pub Each : Verb → (Request (List ℕ) → Type 0) → Type 0
@@ -82,6 +106,7 @@ Each verb.Open P = (k : Option KindForm) (n : NameForm (List ℕ)) (a : ℕ) (w 
 Each verb.Close P = (h : HandleForm (List ℕ)) → P (Close h)
 Each verb.Target P = (h : HandleForm (List ℕ)) → P (QueryLink h)
 Each verb.Name P = (h : HandleForm (List ℕ)) → P (QueryName h)
+Each verb.List P = (h : HandleForm (List ℕ)) (r : ℕ) (m : PageMode) → P (QueryDirectory h r m)
 Each verb.Dup P = (h : HandleForm (List ℕ)) (q : List ℕ) (i : Bool) (w : List ℕ) → P (Duplicate h q i w)
 Each verb.Temp P = (h : HandleForm (List ℕ)) → P (MakeTemporary h)
 Each verb.Perm P = (h : HandleForm (List ℕ)) → P (MakePermanent h)
@@ -100,6 +125,7 @@ of_own P (OpenObject k n a w) each = each k n a w
 of_own P (Close h) each = each h
 of_own P (QueryLink h) each = each h
 of_own P (QueryName h) each = each h
+of_own P (QueryDirectory h r m) each = each h r m
 of_own P (Duplicate h q i w) each = each h q i w
 of_own P (MakeTemporary h) each = each h
 of_own P (MakePermanent h) each = each h

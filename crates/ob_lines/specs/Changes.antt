@@ -4,9 +4,9 @@
 use Rattle.std.specs.Prelude.{ℕ, List}
 use Rattle.std.specs.Borrow.{Bor}
 use Rattle.ob_lines.specs.declared.change.Change.{Change}
-use Rattle.ob_lines.specs.declared.change.Change.TheVariants.{Nothing, Sets, SetsFor, GivesUp, GivesAllUp, SetsProcess}
+use Rattle.ob_lines.specs.declared.change.Change.TheVariants.{Nothing, Sets, SetsFor, GivesUp, TurnsPage, GivesAllUp, SetsProcess}
 use Rattle.ob_lines.specs.declared.request.Request.{Request}
-use Rattle.ob_lines.specs.declared.request.Request.TheVariants.{CreateDirectory, CreateLink, CreateObject, OpenDirectory, OpenLink, OpenObject, Close, QueryLink, QueryName, Duplicate, MakeTemporary, MakePermanent, SetDeviceMap, NewProcess, ExitProcess}
+use Rattle.ob_lines.specs.declared.request.Request.TheVariants.{CreateDirectory, CreateLink, CreateObject, OpenDirectory, OpenLink, OpenObject, Close, QueryLink, QueryName, QueryDirectory, Duplicate, MakeTemporary, MakePermanent, SetDeviceMap, NewProcess, ExitProcess}
 
 -- what the reply to a request changes
 abbrev pub change_of : Request (List ℕ) → Change (List ℕ)
@@ -19,6 +19,7 @@ change_of (OpenObject want name attrs word) = Sets word
 change_of (Close handle) = GivesUp handle.word
 change_of (QueryLink handle) = Nothing
 change_of (QueryName handle) = Nothing
+change_of (QueryDirectory handle room mode) = TurnsPage handle.word
 change_of (Duplicate handle to inherit word) = SetsFor to word
 change_of (MakeTemporary handle) = Nothing
 change_of (MakePermanent handle) = Nothing
@@ -32,5 +33,6 @@ change_seen Nothing = Nothing
 change_seen (Sets word) = Sets word.now
 change_seen (SetsFor process word) = SetsFor process.now word.now
 change_seen (GivesUp word) = GivesUp word.now
+change_seen (TurnsPage word) = TurnsPage word.now
 change_seen GivesAllUp = GivesAllUp
 change_seen (SetsProcess process inherit) = SetsProcess process.now inherit

@@ -2,20 +2,25 @@
 --
 -- A form is generic in how it holds bytes: in the code as slices of the line, here as lists.
 -- Source: this profile.
-use Rattle.std.specs.Prelude.{◌≡◌, ℕ, Bool, ◌≤◌, ◌⊎◌, List, [], ◌++◌, length, codes}
+use Rattle.std.specs.Prelude.{◌≡◌, ℕ, Bool, ◌≤◌, ◌⊎◌, List, [], ◌++◌, Option, length, codes}
 use Rattle.std.specs.Borrow.{Bor}
 use Rattle.ob_lines.specs.declared.handle.HandleForm.{HandleForm}
 use Rattle.ob_lines.specs.declared.form.Form.{Form}
-use Rattle.ob_lines.specs.declared.form.Form.TheVariants.{Nothing, Stat, Asks}
+use Rattle.ob_lines.specs.declared.form.Form.TheVariants.{Nothing, Stat, Asks, Waits}
+use Rattle.ob_lines.specs.declared.kind.KindForm.{KindForm}
+use Rattle.ob_lines.specs.declared.page.PageMode.{PageMode}
+use Rattle.ob_lines.specs.declared.pending.PendingForm.{PendingForm}
+use Rattle.ob_lines.specs.declared.pending.PendingForm.TheVariants.{Begin, End, Drop}
 use Rattle.ob_lines.specs.declared.request.NameForm.{NameForm}
 use Rattle.ob_lines.specs.declared.request.PlaceForm.{PlaceForm}
 use Rattle.ob_lines.specs.declared.request.PlaceForm.TheVariants.{Named, Unnamed}
 use Rattle.ob_lines.specs.declared.request.Request.{Request}
-use Rattle.ob_lines.specs.declared.request.Request.TheVariants.{CreateDirectory, CreateLink, CreateObject, OpenDirectory, OpenLink, OpenObject, Close, QueryLink, QueryName, Duplicate, MakeTemporary, MakePermanent, SetDeviceMap, NewProcess, ExitProcess}
+use Rattle.ob_lines.specs.declared.request.Request.TheVariants.{CreateDirectory, CreateLink, CreateObject, OpenDirectory, OpenLink, OpenObject, Close, QueryLink, QueryName, QueryDirectory, Duplicate, MakeTemporary, MakePermanent, SetDeviceMap, NewProcess, ExitProcess}
 use Rattle.ob_lines.specs.declared.verb.Verb.{Verb}
 use Rattle.ob_lines.specs.declared.verb.Verb.TheVariants as verb
-use Rattle.ob_lines.specs.Text.{IsText}
-use Rattle.ob_lines.specs.Parts.{IsHandle, BeginsWithText, BeginsWithHandle, BeginsWithName, BeginsWithPlace, BeginsWithKind, BeginsWithWant, BeginsWithFlags, BeginsWithProcess, BeginsWithInherit, SetsWord, SetsProcess, text_of, handle_seen, name_seen, place_seen}
+use Rattle.ob_lines.specs.Text.{IsText, IsWord}
+use Rattle.ob_lines.specs.Pages.{mode_text}
+use Rattle.ob_lines.specs.Parts.{IsHandle, BeginsWithText, BeginsWithHandle, BeginsWithName, BeginsWithPlace, BeginsWithKind, BeginsWithWant, BeginsWithFlags, BeginsWithRoom, BeginsWithProcess, BeginsWithInherit, SetsWord, SetsProcess, text_of, handle_seen, name_seen, place_seen}
 
 -- the most bytes that a line may have, without its LF
 abbrev pub longest_line : ℕ
@@ -34,10 +39,20 @@ IsFlagsTextAndWord bytes attrs text word =
 abbrev pub IsNameFlagsAndWord : List ℕ → NameForm (List ℕ) → ℕ → List ℕ → Type 0
 IsNameFlagsAndWord bytes name attrs word = (rest : List ℕ) × BeginsWithName bytes name rest × IsFlagsAndWord rest attrs word
 
+-- `WANT NAME FLAGS =V`
+abbrev pub IsWantNameFlagsAndWord : List ℕ → Option KindForm → NameForm (List ℕ) → ℕ → List ℕ → Type 0
+IsWantNameFlagsAndWord bytes want name attrs word =
+    (rest : List ℕ) × BeginsWithWant bytes want rest × IsNameFlagsAndWord rest name attrs word
+
 -- `PLACE FLAGS TEXT =V`
 abbrev pub IsPlaceFlagsTextAndWord : List ℕ → PlaceForm (List ℕ) → ℕ → List ℕ → List ℕ → Type 0
 IsPlaceFlagsTextAndWord bytes place attrs text word =
     (rest : List ℕ) × BeginsWithPlace bytes place rest × IsFlagsTextAndWord rest attrs text word
+
+-- `H ROOM MODE`
+abbrev pub IsHandleRoomAndMode : List ℕ → HandleForm (List ℕ) → ℕ → PageMode → Type 0
+IsHandleRoomAndMode bytes handle room mode =
+    (rest more : List ℕ) × BeginsWithHandle bytes handle rest × BeginsWithRoom rest room more × (more ≡ mode_text mode)
 
 -- `H Q plain =V` or `H Q inherit =V`
 abbrev pub IsHandleProcessAndWord : List ℕ → HandleForm (List ℕ) → List ℕ → Bool → List ℕ → Type 0
@@ -60,6 +75,7 @@ verb_text verb.Open = codes "open"
 verb_text verb.Close = codes "close"
 verb_text verb.Target = codes "target"
 verb_text verb.Name = codes "name"
+verb_text verb.List = codes "list"
 verb_text verb.Dup = codes "dup"
 verb_text verb.Temp = codes "temp"
 verb_text verb.Perm = codes "perm"
@@ -78,6 +94,7 @@ verb_of (OpenObject want name attrs word) = verb.Open
 verb_of (Close handle) = verb.Close
 verb_of (QueryLink handle) = verb.Target
 verb_of (QueryName handle) = verb.Name
+verb_of (QueryDirectory handle room mode) = verb.List
 verb_of (Duplicate handle to inherit word) = verb.Dup
 verb_of (MakeTemporary handle) = verb.Temp
 verb_of (MakePermanent handle) = verb.Perm
@@ -88,8 +105,8 @@ verb_of ExitProcess = verb.Exit
 -- what stands behind the verb of a request and a space: `PLACE FLAGS =V` behind `dir`,
 -- `PLACE FLAGS TEXT =V` behind `link`, `KIND PLACE FLAGS TEXT =V` behind `make`, `NAME FLAGS =V` behind
 -- `opendir` and `openlink`, `WANT NAME FLAGS =V` behind `open`, `H` behind `close`, `target`, `name`, `temp`,
--- `perm` and `map`, `H Q plain =V` or `H Q inherit =V` behind `dup`, and `plain =Q` or `inherit =Q` behind `new`. `exit` has no
--- operands.
+-- `perm` and `map`, `H ROOM MODE` behind `list`, `H Q plain =V` or `H Q inherit =V` behind `dup`, and `plain =Q` or
+-- `inherit =Q` behind `new`. `exit` has no operands.
 abbrev pub IsOperands : List ℕ → Request (List ℕ) → Type 0
 IsOperands bytes (CreateDirectory place attrs word) =
     (rest : List ℕ) × BeginsWithPlace bytes place rest × IsFlagsAndWord rest attrs word
@@ -98,11 +115,11 @@ IsOperands bytes (CreateObject kind place attrs args word) =
     (rest : List ℕ) × BeginsWithKind bytes kind rest × IsPlaceFlagsTextAndWord rest place attrs args word
 IsOperands bytes (OpenDirectory name attrs word) = IsNameFlagsAndWord bytes name attrs word
 IsOperands bytes (OpenLink name attrs word) = IsNameFlagsAndWord bytes name attrs word
-IsOperands bytes (OpenObject want name attrs word) =
-    (rest : List ℕ) × BeginsWithWant bytes want rest × IsNameFlagsAndWord rest name attrs word
+IsOperands bytes (OpenObject want name attrs word) = IsWantNameFlagsAndWord bytes want name attrs word
 IsOperands bytes (Close handle) = IsHandle bytes handle
 IsOperands bytes (QueryLink handle) = IsHandle bytes handle
 IsOperands bytes (QueryName handle) = IsHandle bytes handle
+IsOperands bytes (QueryDirectory handle room mode) = IsHandleRoomAndMode bytes handle room mode
 IsOperands bytes (Duplicate handle to inherit word) = IsHandleProcessAndWord bytes handle to inherit word
 IsOperands bytes (MakeTemporary handle) = IsHandle bytes handle
 IsOperands bytes (MakePermanent handle) = IsHandle bytes handle
@@ -119,6 +136,14 @@ IsVerbAndOperands bytes request =
 abbrev pub IsRequest : List ℕ → Request (List ℕ) → Type 0
 IsRequest bytes request = ((bytes ≡ codes "exit") × (request ≡ ExitProcess)) ⊎ IsVerbAndOperands bytes request
 
+-- what a process asks of its opens that wait, behind its process word and a space: `begin WANT NAME FLAGS =V`,
+-- `end V` or `drop V`
+abbrev pub IsPending : List ℕ → PendingForm (List ℕ) → Type 0
+IsPending bytes (Begin want name attrs word) =
+    (operands : List ℕ) × (bytes ≡ codes "begin " ++ operands) × IsWantNameFlagsAndWord operands want name attrs word
+IsPending bytes (End word) = IsWord word × (bytes ≡ codes "end " ++ word)
+IsPending bytes (Drop word) = IsWord word × (bytes ≡ codes "drop " ++ word)
+
 -- an empty line, or a comment, which begins with `#`
 abbrev pub IsIdle : List ℕ → Type 0
 IsIdle line = (line ≡ []) ⊎ ((comment : List ℕ) × (line ≡ codes "#" ++ comment))
@@ -129,6 +154,8 @@ IsLine line Nothing = IsIdle line × (length line ≤ longest_line)
 IsLine line Stat = line ≡ codes "stat"
 IsLine line (Asks process request) =
     (rest : List ℕ) × BeginsWithProcess line process rest × IsRequest rest request × (length line ≤ longest_line)
+IsLine line (Waits process pending) =
+    (rest : List ℕ) × BeginsWithProcess line process rest × IsPending rest pending × (length line ≤ longest_line)
 
 -- a line has no two forms
 abbrev pub LinesHaveOneForm : Type 0
@@ -150,6 +177,7 @@ HasTexts (OpenObject want name attrs word) = IsText (text_of name)
 HasTexts (Close handle) = Unit {0}
 HasTexts (QueryLink handle) = Unit {0}
 HasTexts (QueryName handle) = Unit {0}
+HasTexts (QueryDirectory handle room mode) = Unit {0}
 HasTexts (Duplicate handle to inherit word) = Unit {0}
 HasTexts (MakeTemporary handle) = Unit {0}
 HasTexts (MakePermanent handle) = Unit {0}
@@ -157,13 +185,21 @@ HasTexts (SetDeviceMap handle) = Unit {0}
 HasTexts (NewProcess inherit child) = Unit {0}
 HasTexts ExitProcess = Unit {0}
 
+-- the text of what is asked of an open that waits, where it has one, is a text
+abbrev pub PendingHasTexts : PendingForm (List ℕ) → Type 0
+PendingHasTexts (Begin want name attrs word) = IsText (text_of name)
+PendingHasTexts (End word) = Unit {0}
+PendingHasTexts (Drop word) = Unit {0}
+
 -- the texts of a form, where it has some, are texts
 abbrev pub FormHasTexts : Form (List ℕ) → Type 0
 FormHasTexts Nothing = Unit {0}
 FormHasTexts Stat = Unit {0}
 FormHasTexts (Asks process request) = HasTexts request
+FormHasTexts (Waits process pending) = PendingHasTexts pending
 
--- a request, and a form, whose slices of bytes are seen as the lists that they hold
+-- a request, what is asked of the opens that wait, and a form, whose slices of bytes are seen as the lists that they
+-- hold
 abbrev pub request_seen : Request (Bor (List ℕ)) → Request (List ℕ)
 request_seen (CreateDirectory place attrs word) = CreateDirectory (place_seen place) attrs word.now
 request_seen (CreateLink place attrs target word) = CreateLink (place_seen place) attrs target.now word.now
@@ -174,6 +210,7 @@ request_seen (OpenObject want name attrs word) = OpenObject want (name_seen name
 request_seen (Close handle) = Close (handle_seen handle)
 request_seen (QueryLink handle) = QueryLink (handle_seen handle)
 request_seen (QueryName handle) = QueryName (handle_seen handle)
+request_seen (QueryDirectory handle room mode) = QueryDirectory (handle_seen handle) room mode
 request_seen (Duplicate handle to inherit word) = Duplicate (handle_seen handle) to.now inherit word.now
 request_seen (MakeTemporary handle) = MakeTemporary (handle_seen handle)
 request_seen (MakePermanent handle) = MakePermanent (handle_seen handle)
@@ -181,7 +218,13 @@ request_seen (SetDeviceMap handle) = SetDeviceMap (handle_seen handle)
 request_seen (NewProcess inherit child) = NewProcess inherit child.now
 request_seen ExitProcess = ExitProcess
 
+abbrev pub pending_seen : PendingForm (Bor (List ℕ)) → PendingForm (List ℕ)
+pending_seen (Begin want name attrs word) = Begin want (name_seen name) attrs word.now
+pending_seen (End word) = End word.now
+pending_seen (Drop word) = Drop word.now
+
 abbrev pub form_seen : Form (Bor (List ℕ)) → Form (List ℕ)
 form_seen Nothing = Nothing
 form_seen Stat = Stat
 form_seen (Asks process request) = Asks process.now (request_seen request)
+form_seen (Waits process pending) = Waits process.now (pending_seen pending)

@@ -1,5 +1,5 @@
--- The parts of a line: texts, handles, names, places, kinds, flags, process words, inheritance and the word that
--- is set. Handles stand alone, or with all others but the last at the front of bytes that go on behind them and
+-- The parts of a line: texts, handles, names, places, kinds, flags, rooms, process words, inheritance and the word
+-- that is set. Handles stand alone, or with all others but the last at the front of bytes that go on behind them and
 -- a space.
 --
 -- Handles, names and places are generic in how they hold bytes: in the code as slices of the line, here as lists.
@@ -17,6 +17,7 @@ use Rattle.ob_lines.specs.declared.request.PlaceForm.TheVariants.{Named, Unnamed
 use Rattle.ob_lines.specs.Text.{IsWord, IsProcessWord, IsText}
 use Rattle.ob_lines.specs.Flags.{IsFlags}
 use Rattle.ob_lines.specs.Kinds.{name_of}
+use Rattle.ob_lines.specs.Pages.{IsRoom}
 
 -- a text between double quotes
 abbrev pub BeginsWithText : List ℕ → List ℕ → List ℕ → Type 0
@@ -71,6 +72,10 @@ BeginsWithWant bytes (Some kind) rest = BeginsWithKind bytes kind rest
 -- flags, and their bits
 abbrev pub BeginsWithFlags : List ℕ → ℕ → List ℕ → Type 0
 BeginsWithFlags bytes attrs rest = (flags : List ℕ) × IsFlags flags attrs × (bytes ≡ flags ++ codes " " ++ rest)
+
+-- a room
+abbrev pub BeginsWithRoom : List ℕ → ℕ → List ℕ → Type 0
+BeginsWithRoom bytes room rest = (spelled : List ℕ) × IsRoom spelled room × (bytes ≡ spelled ++ codes " " ++ rest)
 
 -- a process word
 abbrev pub BeginsWithProcess : List ℕ → List ℕ → List ℕ → Type 0

@@ -26,6 +26,9 @@ pub enum Change<T> {
     /// `H` of a `close`: this handle word of the process that asks is set to 0 where the reply is SUCCESS,
     /// whatever was added to its value.
     GivesUp(T),
+    /// `H` of a `list`: the context that is kept for this handle word of the process that asks is the one
+    /// that was given, where one was, whatever was added to the word's value.
+    TurnsPage(T),
     /// `exit`: all handle words of the process that asks are set to 0 where the reply is SUCCESS.
     GivesAllUp,
     /// `=Q` of a `new`: this process word is set to the child, or to 0 where none was made. Where one was,
@@ -53,6 +56,7 @@ pub fn change_of<'a>(request: Request<&'a [u8]>) -> Change<&'a [u8]>
         Request::Close { handle } => Change::GivesUp(handle.word),
         Request::QueryLink { .. } => Change::Nothing,
         Request::QueryName { .. } => Change::Nothing,
+        Request::QueryDirectory { handle, .. } => Change::TurnsPage(handle.word),
         Request::Duplicate { to, word, .. } => Change::SetsFor { process: to, word },
         Request::MakeTemporary { .. } => Change::Nothing,
         Request::MakePermanent { .. } => Change::Nothing,

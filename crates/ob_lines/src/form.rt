@@ -2,9 +2,11 @@
 
 ghost use Rattle.std.specs.Prelude.{◌≡◌, ◌+◌, ◌≤◌, ℕ, List, length, IfSome, IfNone};
 ghost use Rattle.ob_lines.specs.declared.form.Form.{Form};
+ghost use Rattle.ob_lines.specs.declared.pending.PendingForm.{PendingForm};
 ghost use Rattle.ob_lines.specs.declared.request.Request.{Request};
 ghost use Rattle.ob_lines.specs.Grammar.{IsLine, form_seen, LinesHaveOneForm};
 
+use crate::pending::{PendingForm, pending_of};
 use crate::process::take_process;
 use crate::request::{Request, request_of};
 
@@ -24,6 +26,13 @@ pub enum Form<T> {
         process: T,
         /// What is asked for.
         request: Request<T>,
+    },
+    /// `P begin ..`, `P end V` or `P drop V`: a process asks something of the opens that wait for a parse.
+    Waits {
+        /// The process word.
+        process: T,
+        /// What is asked.
+        pending: PendingForm<T>,
     },
 }
 
@@ -45,13 +54,17 @@ pub fn form_of(line: &[u8]) -> Option<Form<&[u8]>>
     asking_of(line)
 }
 
-// The form of a line that asks for something.
+// The form of a line that asks for something, or something of the opens that wait.
 fn asking_of(line: &[u8]) -> Option<Form<&[u8]>>
     requires { length line.now ≤ 262144 }
     ensures found { IfSome result (λ form. IsLine line.now (form_seen form)) }
-    ensures none { IfNone result ((process : List ℕ) (request : Request (List ℕ)) → ¬ IsLine line.now (Form.Asks process request)) }
+    ensures none { IfNone result (((process : List ℕ) (request : Request (List ℕ)) → ¬ IsLine line.now (Form.Asks process request))
+        × ((process : List ℕ) (pending : PendingForm (List ℕ)) → ¬ IsLine line.now (Form.Waits process pending))) }
 {
     let (process, rest) = take_process(line)?;
+    if let Some(pending) = pending_of(rest) {
+        return Some(Form::Waits { process, pending });
+    }
     let request = request_of(rest)?;
     Some(Form::Asks { process, request })
 }

@@ -1,13 +1,15 @@
 //! Parts of a line that several requests have.
 
-ghost use Rattle.std.specs.Prelude.{◌≡◌, ◌≤◌, ℕ, List, length, IfSome, IfNone};
+ghost use Rattle.std.specs.Prelude.{◌≡◌, ◌≤◌, ℕ, List, Option, length, IfSome, IfNone};
+ghost use Rattle.ob_lines.specs.declared.kind.KindForm.{KindForm};
 ghost use Rattle.ob_lines.specs.declared.request.NameForm.{NameForm};
 ghost use Rattle.ob_lines.specs.declared.request.PlaceForm.{PlaceForm};
 ghost use Rattle.ob_lines.specs.Parts.{BeginsWithText, BeginsWithName, BeginsWithPlace, BeginsWithFlags, SetsWord, name_seen, place_seen};
-ghost use Rattle.ob_lines.specs.Grammar.{IsFlagsAndWord, IsFlagsTextAndWord, IsNameFlagsAndWord, IsPlaceFlagsTextAndWord};
+ghost use Rattle.ob_lines.specs.Grammar.{IsFlagsAndWord, IsFlagsTextAndWord, IsNameFlagsAndWord, IsPlaceFlagsTextAndWord, IsWantNameFlagsAndWord};
 
 use crate::flags::flags_of;
 use crate::handle::handle_of;
+use crate::kind::{KindForm, take_want};
 use crate::request::{NameForm, PlaceForm};
 use crate::split::{behind, split_at};
 use crate::text::{is_text, is_word};
@@ -112,6 +114,20 @@ pub fn name_flags_and_word(bytes: &[u8]) -> Option<(NameForm<&[u8]>, u32, &[u8])
     let (name, rest) = take_name(bytes)?;
     let (attrs, word) = flags_and_word(rest)?;
     Some((name, attrs, word))
+}
+
+// The parts of `WANT NAME FLAGS =V`.
+pub fn want_name_flags_and_word(
+    bytes: &[u8],
+) -> Option<(Option<KindForm>, NameForm<&[u8]>, u32, &[u8])>
+    requires { length bytes.now ≤ 262144 }
+    ensures found { IfSome result (λ parts. IsWantNameFlagsAndWord bytes.now parts.0 (name_seen parts.1) parts.2 parts.3.now) }
+    ensures none { IfNone result ((want : Option KindForm) (name : NameForm (List ℕ)) (attrs : ℕ) (word : List ℕ)
+        → ¬ IsWantNameFlagsAndWord bytes.now want name attrs word) }
+{
+    let (want, rest) = take_want(bytes)?;
+    let (name, attrs, word) = name_flags_and_word(rest)?;
+    Some((want, name, attrs, word))
 }
 
 // The parts of `PLACE FLAGS TEXT =V`.

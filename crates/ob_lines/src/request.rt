@@ -3,6 +3,7 @@
 ghost use Rattle.std.specs.Prelude.{◌≡◌, ◌≤◌, ℕ, Bool, List, Option, length, IfSome, IfNone};
 ghost use Rattle.ob_lines.specs.declared.handle.HandleForm.{HandleForm};
 ghost use Rattle.ob_lines.specs.declared.kind.KindForm.{KindForm};
+ghost use Rattle.ob_lines.specs.declared.page.PageMode.{PageMode};
 ghost use Rattle.ob_lines.specs.declared.request.NameForm.{NameForm};
 ghost use Rattle.ob_lines.specs.declared.request.PlaceForm.{PlaceForm};
 ghost use Rattle.ob_lines.specs.declared.request.Request.{Request};
@@ -10,9 +11,11 @@ ghost use Rattle.ob_lines.specs.declared.verb.Verb.{Verb};
 ghost use Rattle.ob_lines.specs.Grammar.{IsOperands, IsRequest, IsVerbAndOperands, request_seen, verb_of};
 
 use crate::handle::{HandleForm, handle_of};
-use crate::kind::{KindForm, take_kind, take_want};
+use crate::kind::{KindForm, take_kind};
+use crate::page::{PageMode, mode_of, take_room};
 use crate::parts::{
-    flags_and_word, name_flags_and_word, place_flags_text_and_word, take_place, word_set,
+    flags_and_word, name_flags_and_word, place_flags_text_and_word, take_place,
+    want_name_flags_and_word, word_set,
 };
 use crate::process::{process_set, take_handle, take_inherit, take_process};
 use crate::split::split_at;
@@ -123,6 +126,15 @@ pub enum Request<T> {
         /// The handle.
         handle: HandleForm<T>,
     },
+    /// `list H ROOM MODE`: a page of the entries of a handle's directory.
+    QueryDirectory {
+        /// The handle.
+        handle: HandleForm<T>,
+        /// The room for the entries, in bytes.
+        room: u32,
+        /// Whether the listing begins again, and whether one entry alone is asked for.
+        mode: PageMode,
+    },
     /// `dup H Q plain =V` or `dup H Q inherit =V`: a handle of another process, or of the same, to the
     /// object of a handle.
     Duplicate {
@@ -201,6 +213,7 @@ fn operands_of(verb: Verb, operands: &[u8]) -> Option<Request<&[u8]>>
         Verb::Close => close_of(operands),
         Verb::Target => link_query_of(operands),
         Verb::Name => name_query_of(operands),
+        Verb::List => directory_query_of(operands),
         Verb::Dup => duplicate_of(operands),
         Verb::Temp => temporary_of(operands),
         Verb::Perm => permanent_of(operands),
@@ -291,8 +304,7 @@ fn open_object_of(operands: &[u8]) -> Option<Request<&[u8]>>
     ensures none { IfNone result ((want : Option KindForm) (name : NameForm (List ℕ)) (attrs : ℕ) (word : List ℕ)
         → ¬ IsOperands operands.now (Request.OpenObject want name attrs word)) }
 {
-    let (want, rest) = take_want(operands)?;
-    let (name, attrs, word) = name_flags_and_word(rest)?;
+    let (want, name, attrs, word) = want_name_flags_and_word(operands)?;
     Some(Request::OpenObject {
         want,
         name,
@@ -329,6 +341,19 @@ fn name_query_of(operands: &[u8]) -> Option<Request<&[u8]>>
 {
     let handle = handle_of(operands)?;
     Some(Request::QueryName { handle })
+}
+
+// The query of a directory's entries: `H ROOM MODE`.
+fn directory_query_of(operands: &[u8]) -> Option<Request<&[u8]>>
+    ensures verb { IfSome result (λ request. verb_of (request_seen request) ≡ Verb.List) }
+    ensures found { IfSome result (λ request. IsOperands operands.now (request_seen request)) }
+    ensures none { IfNone result ((handle : HandleForm (List ℕ)) (room : ℕ) (mode : PageMode)
+        → ¬ IsOperands operands.now (Request.QueryDirectory handle room mode)) }
+{
+    let (handle, rest) = take_handle(operands)?;
+    let (room, rest) = take_room(rest)?;
+    let mode = mode_of(rest)?;
+    Some(Request::QueryDirectory { handle, room, mode })
 }
 
 // The duplicate of a handle: `H Q plain =V` or `H Q inherit =V`.

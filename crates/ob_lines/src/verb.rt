@@ -25,6 +25,8 @@ pub enum Verb {
     Target,
     // `name`: the path of a handle's object.
     Name,
+    // `list`: entries of a handle's directory.
+    List,
     // `dup`: a handle is duplicated into a process.
     Dup,
     // `temp`: the object of a handle is made temporary.
@@ -70,6 +72,9 @@ pub fn verb_of(word: &[u8]) -> Option<Verb>
     }
     if word == b"name".as_slice() {
         return Some(Verb::Name);
+    }
+    if word == b"list".as_slice() {
+        return Some(Verb::List);
     }
     if word == b"dup".as_slice() {
         return Some(Verb::Dup);

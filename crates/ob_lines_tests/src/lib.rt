@@ -7,6 +7,10 @@ mod lines;
 #[cfg(test)]
 mod maps;
 #[cfg(test)]
+mod pages;
+#[cfg(test)]
+mod pending;
+#[cfg(test)]
 mod permanence;
 #[cfg(test)]
 mod processes;

@@ -1,7 +1,7 @@
 //! The words of a script, and the commands that requests spell with them.
 
 use ob_base::{Handle, Proc};
-use ob_lines::{HandleForm, Offset, Request};
+use ob_lines::{HandleForm, Offset, PageMode, Request};
 use ob_requests::{Asker, Words, command_of, keep};
 use std::alloc::{AllocError, Global};
 use std::test::Fail;
@@ -59,6 +59,49 @@ fn a_child_begins_with_the_words_that_are_kept(rt: HostRuntime) -> Result<(), Fa
     Ok(())
 }
 
+// Keeps a context for a handle word of a process, and the ticket of an open that waits under it.
+fn keep_both(
+    words: &mut Words,
+    process: u32,
+    word: &[u8],
+    context: u64,
+    ticket: u64,
+) -> Result<(), AllocError> {
+    words.room_for_context(Proc(process), word)?;
+    words.set_context(Proc(process), word, context);
+    words.room_for_ticket(Proc(process), word)?;
+    words.set_ticket(Proc(process), word, ticket);
+    Ok(())
+}
+
+// The contexts of `h` and `k` in process 1 and of `h` in process 2, and the tickets of the same words.
+fn contexts_and_tickets(words: &Words) -> [[u64; 3]; 2] {
+    let context = |process: u32, word: &[u8]| words.context_of(Proc(process), word);
+    let ticket = |process: u32, word: &[u8]| words.ticket_of(Proc(process), word);
+    [
+        [context(1, b"h"), context(1, b"k"), context(2, b"h")],
+        [ticket(1, b"h"), ticket(1, b"k"), ticket(2, b"h")],
+    ]
+}
+
+#[test]
+fn a_context_goes_with_its_value_and_a_ticket_stays(rt: HostRuntime) -> Result<(), Fail> {
+    let mut words = some_words(rt.alloc())?;
+    assert_eq!(rt; contexts_and_tickets(&words), [[0, 0, 0], [0, 0, 0]]);
+    keep_both(&mut words, 1, b"h", 7, 1)?;
+    keep_both(&mut words, 1, b"k", 8, 2)?;
+    keep_both(&mut words, 2, b"h", 1 << 40, 3)?;
+    assert_eq!(rt; contexts_and_tickets(&words), [[7, 8, 1 << 40], [1, 2, 3]]);
+    put(&mut words, 1, b"h", 16)?;
+    assert_eq!(rt; contexts_and_tickets(&words), [[0, 8, 1 << 40], [1, 2, 3]]);
+    words.give_up(Proc(2), b"h");
+    assert_eq!(rt; contexts_and_tickets(&words), [[0, 8, 0], [1, 2, 3]]);
+    words.clear_ticket(Proc(1), b"k");
+    words.give_all_up(Proc(1));
+    assert_eq!(rt; contexts_and_tickets(&words), [[0, 0, 0], [1, 0, 3]]);
+    Ok(())
+}
+
 // The handle of the word `h` and what is added to its value.
 fn handle<'a>(offset: Offset) -> HandleForm<&'a [u8]> {
     HandleForm { word: b"h", offset }
@@ -66,8 +109,9 @@ fn handle<'a>(offset: Offset) -> HandleForm<&'a [u8]> {
 
 #[test]
 fn requests_spell_commands_by_the_words_of_their_process(rt: HostRuntime) -> Result<(), Fail> {
-    let words = some_words(rt.alloc())?;
-    let table: [(u32, Request<&[u8]>, &str); 9] = [
+    let mut words = some_words(rt.alloc())?;
+    keep_both(&mut words, 2, b"h", 30, 0)?;
+    let table: [(u32, Request<&[u8]>, &str); 11] = [
         (
             1,
             Request::Close {
@@ -98,6 +142,24 @@ fn requests_spell_commands_by_the_words_of_their_process(rt: HostRuntime) -> Res
                 word: b"w",
             },
             "Duplicate { handle: Handle(4), to: Proc(2), inherit: true }",
+        ),
+        (
+            2,
+            Request::QueryDirectory {
+                handle: handle(Offset::One),
+                room: 512,
+                mode: PageMode::FirstSingle,
+            },
+            "QueryDirectory { handle: Handle(13), context: 30, room: 512, single: true, restart: true }",
+        ),
+        (
+            1,
+            Request::QueryDirectory {
+                handle: handle(Offset::Zero),
+                room: 0,
+                mode: PageMode::Next,
+            },
+            "QueryDirectory { handle: Handle(4), context: 0, room: 0, single: false, restart: false }",
         ),
         (
             2,

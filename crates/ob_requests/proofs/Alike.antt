@@ -10,7 +10,7 @@ use Rattle.ob_model.specs.declared.command.Place.TheVariants as place
 use Rattle.ob_model.specs.State.{State}
 use Rattle.ob_model.specs.Closing.{is_handle}
 use Rattle.ob_model.specs.Grants.{IsHandleValue}
-use Rattle.ob_model.specs.Alike.{is_named, AreAlike, LeadAlike, AreAlikeRoots, no_root, roots, AreAlikePlaces, no_name, names, AreAlikeCommands, create_directories, create_links, create_objects, open_directories, open_links, open_objects, closes, queries_of_links, queries_of_names, duplicates, temporaries, permanents, device_maps, new_processes, exits}
+use Rattle.ob_model.specs.Alike.{is_named, AreAlike, LeadAlike, AreAlikeRoots, no_root, roots, AreAlikePlaces, no_name, names, AreAlikeCommands, create_directories, create_links, create_objects, open_directories, open_links, open_objects, closes, queries_of_links, queries_of_names, queries_of_directories, duplicates, temporaries, permanents, device_maps, new_processes, exits}
 use Rattle.ob_model.proofs.AlikeHandles.{plain_places}
 use Rattle.ob_standard.specs.Standard.{StandardKind}
 use Rattle.ob_lines.specs.declared.handle.HandleForm.{HandleForm}
@@ -21,7 +21,8 @@ use Rattle.ob_lines.specs.declared.request.NameForm.TheVariants.{Absolute, Relat
 use Rattle.ob_lines.specs.declared.request.PlaceForm.{PlaceForm}
 use Rattle.ob_lines.specs.declared.request.PlaceForm.TheVariants.{Named, Unnamed}
 use Rattle.ob_lines.specs.declared.request.Request.{Request}
-use Rattle.ob_lines.specs.declared.request.Request.TheVariants.{CreateDirectory, CreateLink, CreateObject, OpenDirectory, OpenLink, OpenObject, Close, QueryLink, QueryName, Duplicate, MakeTemporary, MakePermanent, SetDeviceMap, NewProcess, ExitProcess}
+use Rattle.ob_lines.specs.declared.request.Request.TheVariants.{CreateDirectory, CreateLink, CreateObject, OpenDirectory, OpenLink, OpenObject, Close, QueryLink, QueryName, QueryDirectory, Duplicate, MakeTemporary, MakePermanent, SetDeviceMap, NewProcess, ExitProcess}
+use Rattle.ob_lines.specs.Pages.{is_first, is_single}
 use Rattle.ob_lines.specs.Parts.{offset_value, text_of}
 use Rattle.ob_lines.proofs.Spelled.{spells_alike}
 use Rattle.ob_requests.specs.Words.{Words}
@@ -124,6 +125,10 @@ module _ {T F I : Type 0} (s t : State StandardKind T F I) (alike : AreAlike s t
   commands_alike (Close handle) c d h k = told c d _ _ h k (closes (handles_alike handle))
   commands_alike (QueryLink handle) c d h k = told c d _ _ h k (queries_of_links (handles_alike handle))
   commands_alike (QueryName handle) c d h k = told c d _ _ h k (queries_of_names (handles_alike handle))
+  commands_alike (QueryDirectory handle room mode) c d h k =
+      told c d _ _ h
+      (k ∙ ap (λ (n : ℕ). command.QueryDirectory (handle_meant handle (others.values p)) n room (is_single mode) (is_first mode)) (sym (same.contexts p handle.word)))
+      (queries_of_directories (handles_alike handle))
   commands_alike (Duplicate handle to inherit word) c d h k =
       told c d _ _ h (k ∙ ap (λ (n : ℕ). command.Duplicate (handle_meant handle (others.values p)) n inherit) (sym (same.processes to))) (duplicates (handles_alike handle))
   commands_alike (MakeTemporary handle) c d h k = told c d _ _ h k (temporaries (handles_alike handle))

@@ -30,10 +30,10 @@ use Rattle.ob_model.proofs.AlikeSteps.{steps_stay, steps_lead, step_holds}
 use Rattle.ob_standard.specs.Standard.{StandardKind}
 use Rattle.ob_lines.specs.declared.handle.HandleForm.{HandleForm}
 use Rattle.ob_lines.specs.declared.request.Request.{Request}
-use Rattle.ob_lines.specs.declared.request.Request.TheVariants.{CreateDirectory, CreateLink, CreateObject, OpenDirectory, OpenLink, OpenObject, Close, QueryLink, QueryName, Duplicate, MakeTemporary, MakePermanent, SetDeviceMap, NewProcess, ExitProcess}
+use Rattle.ob_lines.specs.declared.request.Request.TheVariants.{CreateDirectory, CreateLink, CreateObject, OpenDirectory, OpenLink, OpenObject, Close, QueryLink, QueryName, QueryDirectory, Duplicate, MakeTemporary, MakePermanent, SetDeviceMap, NewProcess, ExitProcess}
 use Rattle.ob_lines.specs.Parts.{offset_value}
-use Rattle.ob_requests.specs.Words.{Words, with_number, with_process, with_words, with_word, without_words, is_among, handed_on}
-use Rattle.ob_requests.specs.Commands.{kind_meant, handle_meant, is_success, given_handle, with_child, IsCommand, words_after}
+use Rattle.ob_requests.specs.Words.{Words, with_number, with_own, with_number_of, with_process, with_words, with_word, without_words, with_context, is_among, handed_on}
+use Rattle.ob_requests.specs.Commands.{kind_meant, handle_meant, is_success, given_handle, with_child, with_page, IsCommand, words_after}
 use Rattle.ob_requests.specs.Alike.{AreAlikeValues, unset, set, AreAlikeWords}
 use Rattle.ob_requests.proofs.Alike.{offset_small, key_of_value, key_of_zero, own_key, asks_alike}
 use Rattle.ob_requests.proofs.Tables.{same_bytes, own_bytes, flipped, both_same}
@@ -67,6 +67,24 @@ apart_handed values inherit handles apart a b = go (inherit && is_among handles 
     go true true e = apart a b e
     go true false e = inl e
     go false y e = inl refl
+
+-- numbers that are the same, of which those of one process, or of one of its words, are others that are the same
+own_same : (numbers others : ℕ → List ℕ → ℕ) → ((p : ℕ) (w : List ℕ) → numbers p w ≡ others p w) → (q : ℕ) (mine theirs : List ℕ → ℕ) → ((w : List ℕ) → mine w ≡ theirs w)
+    → (p : ℕ) (w : List ℕ) → with_own numbers q mine p w ≡ with_own others q theirs p w
+own_same numbers others same q mine theirs own p w = go (q == p)
+  where
+    go : (b : Bool) → cond b mine (numbers p) w ≡ cond b theirs (others p) w
+    go true = own w
+    go false = same p w
+
+one_same : (numbers others : ℕ → List ℕ → ℕ) → ((p : ℕ) (w : List ℕ) → numbers p w ≡ others p w) → (q : ℕ) (word : List ℕ) (number other : ℕ) → number ≡ other
+    → (p : ℕ) (w : List ℕ) → with_number_of numbers q word number p w ≡ with_number_of others q word other p w
+one_same numbers others same q word number other is =
+    own_same numbers others same q (with_number (numbers q) word number) (with_number (others q) word other) (λ w. go w (bytes_eq word w))
+  where
+    go : (w : List ℕ) (b : Bool) → cond b number (numbers q w) ≡ cond b other (others q w)
+    go w true = is
+    go w false = same q w
 
 -- a handle value is among those of a process where the process holds it
 among_held : (n value : ℕ) (hs : List Held) → list_any (λ handle. handle == value) (map (λ h. h.value) (filter (λ h. h.process == n) hs)) ≡ list_any (is_handle n value) hs
@@ -117,17 +135,26 @@ module _ {T F I : Type 0} where
     named_alike words others word n m same s t alike = record {
       processes = λ w. λ i. cond (bytes_eq word w) (same i) (alike.processes w i);
       values = alike.values;
+      contexts = alike.contexts;
+      tickets = alike.tickets;
       apart = alike.apart;
       apart_too = alike.apart_too;
     }
 
-    words_of_alike : (words others : Words) (s t : State StandardKind T F I) → AreAlikeWords s t words others → (q : ℕ) (mine theirs : List ℕ → ℕ)
+    -- the words whose contexts are these, and those of one process have these values
+    abbrev of_process : Words → ℕ → (List ℕ → ℕ) → (ℕ → List ℕ → ℕ) → Words
+    of_process words q values contexts = record words { values = with_own words.values q values; contexts = contexts }
+
+    words_of_alike : (words others : Words) (s t : State StandardKind T F I) → AreAlikeWords s t words others → (q : ℕ) (mine theirs : List ℕ → ℕ) (kept held : ℕ → List ℕ → ℕ)
+        → ((p : ℕ) (w : List ℕ) → kept p w ≡ held p w)
         → ((p : ℕ) (w : List ℕ) → (p ≡ q → ⊥) → AreAlikeValues u v p (words.values p w) (others.values p w))
         → ((w : List ℕ) → AreAlikeValues u v q (mine w) (theirs w)) → AreApart mine → AreApart theirs
-        → AreAlikeWords u v (with_words words q mine) (with_words others q theirs)
-    words_of_alike words others s t before q mine theirs elsewhere here apart apart_too = record {
+        → AreAlikeWords u v (of_process words q mine kept) (of_process others q theirs held)
+    words_of_alike words others s t before q mine theirs kept held same_kept elsewhere here apart apart_too = record {
       processes = before.processes;
       values = λ p w. values p w (q == p) refl;
+      contexts = same_kept;
+      tickets = before.tickets;
       apart = λ p. apart_at words.values mine before.apart apart p (q == p);
       apart_too = λ p. apart_at others.values theirs before.apart_too apart_too p (q == p);
     }
@@ -169,6 +196,8 @@ module _ {T F I : Type 0} where
     words_stay : ((q value : ℕ) → Closed q value → ⊥) → AreAlikeWords u v words others
     words_stay left = record {
       processes = before.processes;
+      contexts = before.contexts;
+      tickets = before.tickets;
       values = λ q w. value_stays q (words.values q w) (others.values q w) (λ is. left q (words.values q w)) (before.values q w);
       apart = before.apart;
       apart_too = before.apart_too;
@@ -191,6 +220,7 @@ module _ {T F I : Type 0} where
         → AreAlikeWords u v (with_word words r word (given_handle a.given)) (with_word others r word (given_handle b.given))
     sets Later second left word =
         words_of_alike u v words others s t before r (with_number (words.values r) word (given_handle a.given)) (with_number (others.values r) word (given_handle b.given))
+        (with_number_of words.contexts r word 0) (with_number_of others.contexts r word 0) (one_same words.contexts others.contexts before.contexts r word 0 0 refl)
         (λ q w elsewhere. value_stays q (words.values q w) (others.values q w) (λ is. left q (words.values q w)) (before.values q w))
         (λ w. here w (bytes_eq word w))
         (apart_set (words.values r) word (given_handle a.given) (before.apart r)
@@ -207,6 +237,7 @@ module _ {T F I : Type 0} where
         → AreAlikeWords u v (with_word words p handle.word 0) (with_word others p handle.word 0)
     gives_up handle only =
         words_of_alike u v words others s t before p (with_number (words.values p) handle.word 0) (with_number (others.values p) handle.word 0)
+        (with_number_of words.contexts p handle.word 0) (with_number_of others.contexts p handle.word 0) (one_same words.contexts others.contexts before.contexts p handle.word 0 0 refl)
         (λ q w elsewhere. value_stays q (words.values q w) (others.values q w) (λ is closed. elsewhere (only q (words.values q w) closed).0) (before.values q w))
         (λ w. here w (bytes_eq handle.word w) refl)
         (apart_set (words.values p) handle.word 0 (before.apart p) (λ w e. refl)) (apart_set (others.values p) handle.word 0 (before.apart_too p) (λ w e. refl))
@@ -238,9 +269,27 @@ module _ {T F I : Type 0} where
     -- all words of the process are given up, where what it holds is closed alone
     gives_all_up : ((q value : ℕ) → Closed q value → q ≡ p) → AreAlikeWords u v (without_words words p) (without_words others p)
     gives_all_up only =
-        words_of_alike u v words others s t before p (λ w. 0) (λ w. 0)
+        words_of_alike u v words others s t before p (λ w. 0) (λ w. 0) (with_own words.contexts p (λ w. 0)) (with_own others.contexts p (λ w. 0))
+        (own_same words.contexts others.contexts before.contexts p (λ w. 0) (λ w. 0) (λ w. refl))
         (λ q w elsewhere. value_stays q (words.values q w) (others.values q w) (λ is closed. elsewhere (only q (words.values q w) closed)) (before.values q w))
         (λ w. unset refl refl) (λ w z e. inl refl) (λ w z e. inl refl)
+
+    -- the context of a page is kept
+    turns : AreAlikeWords u v words others → (word : List ℕ) (thing other : Given) → unvalued_given thing ≡ unvalued_given other
+        → AreAlikeWords u v (with_page words p word thing) (with_page others p word other)
+    turns after word given.Nothing given.Nothing e = after
+    turns after word (given.Handle value) (given.Handle second) e = after
+    turns after word (given.Text text) (given.Text second) e = after
+    turns after word (given.Process n values) (given.Process m seconds) e = after
+    turns after word (given.Page entries context) (given.Page others' second) e = record {
+      processes = after.processes;
+      values = after.values;
+      contexts = one_same words.contexts others.contexts after.contexts p word context second (let same_context : context ≡ second = cc in same_context);
+      tickets = after.tickets;
+      apart = after.apart;
+      apart_too = after.apart_too;
+    }
+    turns after word thing other e = cc
 
     -- a child gets the words of what it inherits
     handed_alike : (n value other : ℕ) (inherit : Bool) (values others' : List ℕ) → (LeadAlike s t p value other → LeadAlike u v n value other) → values ≡ values_in u n → others' ≡ values_in v n
@@ -286,7 +335,8 @@ module _ {T F I : Type 0} where
         let theirs : List ℕ → ℕ = handed_on (others.values p) inherit seconds in
         subst (λ x. AreAlikeWords u v (with_words (with_process words word n) n (handed_on (words.values p) inherit values)) (with_words (with_process others word m) x theirs)) one
         (words_of_alike u v (with_process words word n) (with_process others word m) s t (named_alike u v words others word n m one s t before) n
-        (handed_on (words.values p) inherit values) theirs
+        (handed_on (words.values p) inherit values) theirs (with_own words.contexts n (λ w. 0)) (with_own others.contexts n (λ w. 0))
+        (own_same words.contexts others.contexts before.contexts n (λ w. 0) (λ w. 0) (λ w. refl))
         (λ q w elsewhere. value_stays q (words.values q w) (others.values q w) (λ is. left q (words.values q w)) (before.values q w))
         (λ w.
         handed_alike n (words.values p w) (others.values p w) inherit values seconds (λ lead. inherited n (words.values p w) (others.values p w) refl lead)
@@ -367,6 +417,8 @@ module _ {T F I : Type 0} (g : Procedures StandardKind T F I) (s t u v : State S
     done (Close handle) f e h k = closes handle f e h k
     done (QueryLink handle) f e h k = nothing _ f (λ q value closed. closed)
     done (QueryName handle) f e h k = nothing _ f (λ q value closed. closed)
+    done (QueryDirectory handle room mode) f e h k =
+        turns s t u v p (receiver p c) a b (IsClosedBy p c) on hold same words others before (nothing _ f (λ q value closed. closed)) handle.word a.given b.given same
     done (Duplicate handle to inherit word) f e h k =
         subst (λ n. AreAlikeWords u v (with_word words (words.processes to) word (given_handle a.given)) (with_word others n word (given_handle b.given))) (before.processes to)
         (sets_for (words.processes to) _ f (ap (receiver p) f) (ap (receiver p) e ∙ sym (before.processes to)) (λ q value closed. closed) word)

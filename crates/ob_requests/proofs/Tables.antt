@@ -10,10 +10,10 @@ use Rattle.std.proofs.lemmas.Slice.Eq.{bytes_eq-Decides}
 use Rattle.indexmap.specs.IndexMap.{IndexMap, insert_entry, set_value_at}
 use Rattle.indexmap.proofs.MapLemmas.{Found-position}
 use Rattle.ob_requests.specs.Words.{with_number}
-use Rattle.ob_requests.specs.Tables.{number_among, number_in, has_word, IsAt, IsKept}
+use Rattle.ob_requests.specs.Tables.{number_among, number_or, has_word, IsAt, IsKept}
 
-abbrev Entries : Type 0
-Entries = List (Vec ℕ Global × ℕ)
+abbrev Entries : Type 0 → Type 0
+Entries N = List (Vec ℕ Global × N)
 
 abbrev is_word : List ℕ → Vec ℕ Global → Bool
 is_word word key = bytes_eq word key.items
@@ -36,19 +36,6 @@ both_same false false f g = refl
 pub flipped : (xs ys : List ℕ) → bytes_eq xs ys ≡ bytes_eq ys xs
 flipped xs ys = both_same _ _ (λ e. own_bytes ys xs (sym (same_bytes xs ys e))) (λ e. own_bytes xs ys (sym (same_bytes ys xs e)))
 
--- a word that is tested behind an equal one, and behind another
-picks_equal : (a b : Bool) (v x : ℕ) (l : Option ℕ) → b ≡ a → cond b (Some v) l ≡ cond a (Some v) (cond b (Some x) l)
-picks_equal true true v x l e = refl
-picks_equal false false v x l e = refl
-picks_equal true false v x l e = cc
-picks_equal false true v x l e = cc
-
-picks_apart : (a b : Bool) (v x : ℕ) (l : Option ℕ) → (b ≡ true → a ≡ true → ⊥) → cond b (Some x) (cond a (Some v) l) ≡ cond a (Some v) (cond b (Some x) l)
-picks_apart true true v x l h = absurd (h refl refl)
-picks_apart true false v x l h = refl
-picks_apart false true v x l h = refl
-picks_apart false false v x l h = refl
-
 apart : (word w key : List ℕ) → bytes_eq word key ≡ false → bytes_eq w key ≡ true → bytes_eq word w ≡ true → ⊥
 apart word w key differs here there =
     let yes : bytes_eq word key ≡ true = own_bytes word key (same_bytes word w there ∙ same_bytes w key here) in cc
@@ -56,59 +43,6 @@ apart word w key differs here there =
 alike : (word w key : List ℕ) → bytes_eq word key ≡ true → bytes_eq w key ≡ bytes_eq word w
 alike word w key e = ap (λ x. bytes_eq w x) (sym (same_bytes word key e)) ∙ flipped w word
 
--- a word's value where the value at a slot was set
-lookup_set : (es : Entries) (slot : ℕ) (word : List ℕ) (v : ℕ) (w : List ℕ) → IsAt es slot word
-    → lookup (is_word w) (set_value_at es slot v) ≡ cond (bytes_eq word w) (Some v) (lookup (is_word w) es)
-lookup_set [] slot word v w at = absurd at
-lookup_set (e ∷ es) zero word v w at = picks_equal (bytes_eq word w) (bytes_eq w e.0.items) v e.1 (lookup (is_word w) es) (alike word w e.0.items at)
-lookup_set (e ∷ es) (suc slot) word v w (differs, at) =
-    rw (lookup_set es slot word v w at) (picks_apart (bytes_eq word w) (bytes_eq w e.0.items) v e.1 (lookup (is_word w) es) (apart word w e.0.items differs))
-
--- a word's value where an entry was added
-lookup_added : (es : Entries) (k : Vec ℕ Global) (v : ℕ) (w : List ℕ)
-    → lookup (is_word w) (insert_entry same_key es k v) ≡ cond (bytes_eq k.items w) (Some v) (lookup (is_word w) es)
-lookup_added [] k v w = ap (λ b. cond b (Some v) None) (flipped w k.items)
-lookup_added (e ∷ es) k v w = go (bytes_eq k.items e.0.items) refl (lookup_added es k v w)
-  where
-    go : (b : Bool) → bytes_eq k.items e.0.items ≡ b → lookup (is_word w) (insert_entry same_key es k v) ≡ cond (bytes_eq k.items w) (Some v) (lookup (is_word w) es)
-        → lookup (is_word w) (cond b ((e.0, v) ∷ es) (e ∷ insert_entry same_key es k v))
-        ≡ cond (bytes_eq k.items w) (Some v) (cond (bytes_eq w e.0.items) (Some e.1) (lookup (is_word w) es))
-    go true q h = picks_equal (bytes_eq k.items w) (bytes_eq w e.0.items) v e.1 (lookup (is_word w) es) (alike k.items w e.0.items q)
-    go false q h = rw h (picks_apart (bytes_eq k.items w) (bytes_eq w e.0.items) v e.1 (lookup (is_word w) es) (apart k.items w e.0.items q))
-
-same_values : (f g : List ℕ → ℕ) → ((w : List ℕ) → f w ≡ g w) → f ≡ g
-same_values f g h = λ i w. h w i
-
-chosen : (b : Bool) (v : ℕ) (o : Option ℕ) → unwrap_or (cond b (Some v) o) 0 ≡ cond b v (unwrap_or o 0)
-chosen true v o = refl
-chosen false v o = refl
-
--- a slot that is set sets its word
-pub set_values : {S : Type 0} (m n : IndexMap (Vec ℕ Global) ℕ S) (slot : ℕ) (word : List ℕ) (v : ℕ) → n.entries ≡ set_value_at m.entries slot v → IsAt m.entries slot word
-    → number_in n ≡ with_number (number_in m) word v
-set_values {S} m n slot word v e at = same_values _ _ (λ w.
-    ap (λ (es : Entries). number_among es w) e
-    ∙ (ap (λ (o : Option ℕ). unwrap_or o 0) (lookup_set m.entries slot word v w at) ∙ chosen (bytes_eq word w) v (lookup (is_word w) m.entries)))
-
--- a word that is added with the value 0 leaves all values as they were
-none_found : (o : Option ℕ) → is_some o ≡ false → unwrap_or o 0 ≡ 0
-none_found None e = refl
-none_found (Some x) e = cc
-
-pub added_values : {S : Type 0} (m n : IndexMap (Vec ℕ Global) ℕ S) (k : Vec ℕ Global) (word : List ℕ) → n.entries ≡ insert_entry same_key m.entries k 0 → k.items ≡ word
-    → is_some (lookup (is_word word) m.entries) ≡ false → number_in n ≡ number_in m
-added_values {S} m n k word e same none = same_values _ _ (λ w.
-    ap (λ (es : Entries). number_among es w) e
-    ∙ (ap (λ (o : Option ℕ). unwrap_or o 0) (lookup_added m.entries k 0 w)
-    ∙ (chosen (bytes_eq k.items w) 0 (lookup (is_word w) m.entries) ∙ kept w (bytes_eq k.items w) refl)))
-  where
-    kept : (w : List ℕ) (b : Bool) → bytes_eq k.items w ≡ b → cond b 0 (number_among m.entries w) ≡ number_among m.entries w
-    kept w true q =
-        let here : w ≡ word = sym (same_bytes k.items w q) ∙ same in
-        rw here (sym (none_found (lookup (is_word word) m.entries) none))
-    kept w false q = refl
-
--- the slot of a word that was found, and of one that was added
 at_zero : (b : Bool) (n : ℕ) → cond (not b) (1 + n) 0 ≡ 0 → b ≡ true
 at_zero true n e = refl
 at_zero false n e = absurd (omega arith)
@@ -117,65 +51,103 @@ at_more : (b : Bool) (n i : ℕ) → cond (not b) (1 + n) 0 ≡ suc i → (b ≡
 at_more true n i e = absurd (omega arith)
 at_more false n i e = (refl, omega arith)
 
-at_first : (es : Entries) (slot : ℕ) (word : List ℕ) → position_or_len (is_word word) (keys_of es) ≡ slot → slot < length es → IsAt es slot word
-at_first [] slot word e l = absurd (omega arith)
-at_first (e ∷ es) zero word p l = at_zero (bytes_eq word e.0.items) (position_or_len (is_word word) (keys_of es)) p
-at_first (e ∷ es) (suc slot) word p l =
-    let more = at_more (bytes_eq word e.0.items) (position_or_len (is_word word) (keys_of es)) slot p in
-    (more.0, at_first es slot word more.1 (omega arith))
+module _ {N : Type 0} where
+  -- a word that is tested behind an equal one, and behind another
+  picks_equal : (a b : Bool) (v x : N) (l : Option N) → b ≡ a → cond b (Some v) l ≡ cond a (Some v) (cond b (Some x) l)
+  picks_equal true true v x l e = refl
+  picks_equal false false v x l e = refl
+  picks_equal true false v x l e = cc
+  picks_equal false true v x l e = cc
 
-pub at_found : (es : Entries) (slot : ℕ) (word : List ℕ) → position (is_word word) (keys_of es) ≡ Some slot → IsAt es slot word
-at_found es slot word p =
-    let found = Found-position (is_word word) es slot p in at_first es slot word found.or_len found.within
+  picks_apart : (a b : Bool) (v x : N) (l : Option N) → (b ≡ true → a ≡ true → ⊥) → cond b (Some x) (cond a (Some v) l) ≡ cond a (Some v) (cond b (Some x) l)
+  picks_apart true true v x l h = absurd (h refl refl)
+  picks_apart true false v x l h = refl
+  picks_apart false true v x l h = refl
+  picks_apart false false v x l h = refl
 
--- ---- what is asked of a table
+  -- a word's value where the value at a slot was set
+  lookup_set : (es : Entries N) (slot : ℕ) (word : List ℕ) (v : N) (w : List ℕ) → IsAt es slot word
+      → lookup (is_word w) (set_value_at es slot v) ≡ cond (bytes_eq word w) (Some v) (lookup (is_word w) es)
+  lookup_set [] slot word v w at = absurd at
+  lookup_set (e ∷ es) zero word v w at = picks_equal (bytes_eq word w) (bytes_eq w e.0.items) v e.1 (lookup (is_word w) es) (alike word w e.0.items at)
+  lookup_set (e ∷ es) (suc slot) word v w (differs, at) =
+      rw (lookup_set es slot word v w at) (picks_apart (bytes_eq word w) (bytes_eq w e.0.items) v e.1 (lookup (is_word w) es) (apart word w e.0.items differs))
 
--- a word of which a table knows, with the slot that was found
-pub slot_at : (es : Entries) (slot : ℕ) (word : List ℕ) (found : Option ℕ) → found ≡ Some slot → found ≡ position (is_word word) (keys_of es) → IsAt es slot word
-slot_at es slot word found is index = at_found es slot word (sym index ∙ is)
+  -- a word's value where an entry was added
+  lookup_added : (es : Entries N) (k : Vec ℕ Global) (v : N) (w : List ℕ)
+      → lookup (is_word w) (insert_entry same_key es k v) ≡ cond (bytes_eq k.items w) (Some v) (lookup (is_word w) es)
+  lookup_added [] k v w = ap (λ b. cond b (Some v) None) (flipped w k.items)
+  lookup_added (e ∷ es) k v w = go (bytes_eq k.items e.0.items) refl (lookup_added es k v w)
+    where
+      go : (b : Bool) → bytes_eq k.items e.0.items ≡ b → lookup (is_word w) (insert_entry same_key es k v) ≡ cond (bytes_eq k.items w) (Some v) (lookup (is_word w) es)
+          → lookup (is_word w) (cond b ((e.0, v) ∷ es) (e ∷ insert_entry same_key es k v))
+          ≡ cond (bytes_eq k.items w) (Some v) (cond (bytes_eq w e.0.items) (Some e.1) (lookup (is_word w) es))
+      go true q h = picks_equal (bytes_eq k.items w) (bytes_eq w e.0.items) v e.1 (lookup (is_word w) es) (alike k.items w e.0.items q)
+      go false q h = rw h (picks_apart (bytes_eq k.items w) (bytes_eq w e.0.items) v e.1 (lookup (is_word w) es) (apart k.items w e.0.items q))
 
--- a word of which it doesn't know stands for 0
-pub unset_values : {S : Type 0} (m : IndexMap (Vec ℕ Global) ℕ S) (word : List ℕ) → is_some (lookup (is_word word) m.entries) ≡ false
-    → number_in m ≡ with_number (number_in m) word 0
-unset_values {S} m word none = same_values _ _ (λ w. at w (bytes_eq word w) refl)
-  where
-    at : (w : List ℕ) (b : Bool) → bytes_eq word w ≡ b → number_in m w ≡ cond b 0 (number_in m w)
-    at w true q = ap (λ (x : List ℕ). number_in m x) (sym (same_bytes word w q)) ∙ none_found (lookup (is_word word) m.entries) none
-    at w false q = refl
+  same_values : (f g : List ℕ → N) → ((w : List ℕ) → f w ≡ g w) → f ≡ g
+  same_values f g h = λ i w. h w i
 
-pub unless : (b : Bool) → not b ≡ true → b ≡ false
-unless true e = cc
-unless false e = refl
+  module _ (none : N) where
+    chosen : (b : Bool) (v : N) (o : Option N) → unwrap_or (cond b (Some v) o) none ≡ cond b v (unwrap_or o none)
+    chosen true v o = refl
+    chosen false v o = refl
 
--- a word that is added is known
-pub added_known : {S : Type 0} (m n : IndexMap (Vec ℕ Global) ℕ S) (k : Vec ℕ Global) (word : List ℕ) → n.entries ≡ insert_entry same_key m.entries k 0 → k.items ≡ word
-    → has_word n word ≡ true
-added_known {S} m n k word e same =
-    ap (λ (es : Entries). is_some (lookup (is_word word) es)) e
-    ∙ (ap is_some (lookup_added m.entries k 0 word) ∙ known (bytes_eq k.items word) (own_bytes k.items word same))
-  where
-    known : (b : Bool) → b ≡ true → is_some (cond b (Some 0) (lookup (is_word word) m.entries)) ≡ true
-    known true q = refl
-    known false q = cc
+    -- a slot that is set sets its word
+    pub set_values : {S : Type 0} (m n : IndexMap (Vec ℕ Global) N S) (slot : ℕ) (word : List ℕ) (v : N) → n.entries ≡ set_value_at m.entries slot v → IsAt m.entries slot word
+        → number_or none n ≡ with_number (number_or none m) word v
+    set_values {S} m n slot word v e at = same_values _ _ (λ w.
+        ap (λ (es : Entries N). number_among none es w) e
+        ∙ (ap (λ (o : Option N). unwrap_or o none) (lookup_set m.entries slot word v w at) ∙ chosen (bytes_eq word w) v (lookup (is_word w) m.entries)))
+
+    -- a word that is added without a number leaves all numbers as they were
+    none_found : (o : Option N) → is_some o ≡ false → unwrap_or o none ≡ none
+    none_found None e = refl
+    none_found (Some x) e = cc
+
+    pub added_values : {S : Type 0} (m n : IndexMap (Vec ℕ Global) N S) (k : Vec ℕ Global) (word : List ℕ) → n.entries ≡ insert_entry same_key m.entries k none → k.items ≡ word
+        → is_some (lookup (is_word word) m.entries) ≡ false → number_or none n ≡ number_or none m
+    added_values {S} m n k word e same unknown = same_values _ _ (λ w.
+        ap (λ (es : Entries N). number_among none es w) e
+        ∙ (ap (λ (o : Option N). unwrap_or o none) (lookup_added m.entries k none w)
+        ∙ (chosen (bytes_eq k.items w) none (lookup (is_word w) m.entries) ∙ kept w (bytes_eq k.items w) refl)))
+      where
+        kept : (w : List ℕ) (b : Bool) → bytes_eq k.items w ≡ b → cond b none (number_among none m.entries w) ≡ number_among none m.entries w
+        kept w true q =
+            let here : w ≡ word = sym (same_bytes k.items w q) ∙ same in
+            rw here (sym (none_found (lookup (is_word word) m.entries) unknown))
+        kept w false q = refl
+
+  -- the slot of a word that was found
+  at_first : (es : Entries N) (slot : ℕ) (word : List ℕ) → position_or_len (is_word word) (keys_of es) ≡ slot → slot < length es → IsAt es slot word
+  at_first [] slot word e l = absurd (omega arith)
+  at_first (e ∷ es) zero word p l = at_zero (bytes_eq word e.0.items) (position_or_len (is_word word) (keys_of es)) p
+  at_first (e ∷ es) (suc slot) word p l =
+      let more = at_more (bytes_eq word e.0.items) (position_or_len (is_word word) (keys_of es)) slot p in
+      (more.0, at_first es slot word more.1 (omega arith))
+
+  pub at_found : (es : Entries N) (slot : ℕ) (word : List ℕ) → position (is_word word) (keys_of es) ≡ Some slot → IsAt es slot word
+  at_found es slot word p =
+      let found = Found-position (is_word word) es slot p in at_first es slot word found.or_len found.within
 
 -- ---- a copy
 
 -- a clone's words have the same numbers
 pub cloned_values : (C : Vec ℕ Global → Vec ℕ Global → Type 0) (D : ℕ → ℕ → Type 0) → ((x y : Vec ℕ Global) → C x y → x.items ≡ y.items) → ((x y : ℕ) → D x y → x ≡ y)
-    → (es fs : Entries) → AllZip (λ p q. C p.0 q.0 × D p.1 q.1) es fs → (w : List ℕ) → number_among fs w ≡ number_among es w
+    → (es fs : Entries ℕ) → AllZip (λ p q. C p.0 q.0 × D p.1 q.1) es fs → (w : List ℕ) → number_among 0 fs w ≡ number_among 0 es w
 cloned_values C D keys values [] [] a w = refl
 cloned_values C D keys values [] (f ∷ fs) a w = absurd a
 cloned_values C D keys values (e ∷ es) [] a w = absurd a
 cloned_values C D keys values (e ∷ es) (f ∷ fs) ((c, d), a) w =
     rw (← keys e.0 f.0 c, ← values e.1 f.1 d) (go (bytes_eq w e.0.items) (cloned_values C D keys values es fs a w))
   where
-    go : (b : Bool) → number_among fs w ≡ number_among es w
+    go : (b : Bool) → number_among 0 fs w ≡ number_among 0 es w
         → unwrap_or (cond b (Some e.1) (lookup (is_word w) fs)) 0 ≡ unwrap_or (cond b (Some e.1) (lookup (is_word w) es)) 0
     go true later = refl
     go false later = later
 
 pub cloned : {S : Type 0} (C : Vec ℕ Global → Vec ℕ Global → Type 0) (D : ℕ → ℕ → Type 0) → ((x y : Vec ℕ Global) → C x y → x.items ≡ y.items) → ((x y : ℕ) → D x y → x ≡ y)
-    → (m n : IndexMap (Vec ℕ Global) ℕ S) → AllZip (λ p q. C p.0 q.0 × D p.1 q.1) m.entries n.entries → number_in n ≡ number_in m
+    → (m n : IndexMap (Vec ℕ Global) ℕ S) → AllZip (λ p q. C p.0 q.0 × D p.1 q.1) m.entries n.entries → number_or 0 n ≡ number_or 0 m
 cloned {S} C D keys values m n a = same_values _ _ (λ w. cloned_values C D keys values m.entries n.entries a w)
 
 pub where_ok : {A E : Type 0} (r : Result A E) (P Q : A → Type 0) (R : E → Type 0) → ((x : A) → P x → Q x) → MatchResult r P R → IfOk r Q
@@ -192,14 +164,14 @@ cloned_bytes (x ∷ xs) (y ∷ ys) (same, a) = rw same (ap (λ l. x ∷ l) (clon
 -- ---- a test that keeps numbers
 
 -- no slot goes
-pub same_length : (es : Entries) (slot v : ℕ) → length (set_value_at es slot v) ≡ length es
+pub same_length : (es : Entries ℕ) (slot v : ℕ) → length (set_value_at es slot v) ≡ length es
 same_length [] slot v = refl
 same_length (e ∷ es) zero v = refl
 same_length (e ∷ es) (suc slot) v = ap suc (same_length es slot v)
 
 module _ (Says : ℕ → Bool → Type 0) where
   -- the first of these numbers were kept by the test, and the others stand as they did
-  abbrev pub IsSwept : ℕ → Entries → Entries → Type 0
+  abbrev pub IsSwept : ℕ → Entries ℕ → Entries ℕ → Type 0
   IsSwept zero old new = new ≡ old
   IsSwept (suc count) [] new = new ≡ []
   IsSwept (suc count) (e ∷ old) [] = ⊥
@@ -209,7 +181,7 @@ module _ (Says : ℕ → Bool → Type 0) where
   more n = omega arith
 
   -- one more is kept: where the test passes
-  pub swept_stays : (slot : ℕ) (old new : Entries) (v : ℕ) → slice_get (values_of new) slot ≡ Some v → Says v true → IsSwept slot old new → IsSwept (slot + 1) old new
+  pub swept_stays : (slot : ℕ) (old new : Entries ℕ) (v : ℕ) → slice_get (values_of new) slot ≡ Some v → Says v true → IsSwept slot old new → IsSwept (slot + 1) old new
   swept_stays slot old new v at passes is = subst (λ n. IsSwept n old new) (more slot) (go slot old new at is)
     where
       first : (e f : Vec ℕ Global × ℕ) → f ≡ e → f.1 ≡ v → IsKept Says e.1 f.1
@@ -217,7 +189,7 @@ module _ (Says : ℕ → Bool → Type 0) where
           let value : e.1 ≡ f.1 = ap (λ (z : Vec ℕ Global × ℕ). z.1) (sym same) in
           inl (sym value, subst (λ x. Says x true) (sym (value ∙ is_it)) passes)
 
-      go : (slot : ℕ) (old new : Entries) → slice_get (values_of new) slot ≡ Some v → IsSwept slot old new → IsSwept (suc slot) old new
+      go : (slot : ℕ) (old new : Entries ℕ) → slice_get (values_of new) slot ≡ Some v → IsSwept slot old new → IsSwept (suc slot) old new
       go zero [] new at is = is
       go zero (e ∷ old) [] at is = cc
       go zero (e ∷ old) (f ∷ new) at is =
@@ -230,7 +202,7 @@ module _ (Says : ℕ → Bool → Type 0) where
       go (suc slot) (e ∷ old) (f ∷ new) at (key, kept, is) = (key, kept, go slot old new at is)
 
   -- and where it fails
-  pub swept_goes : (slot : ℕ) (old new : Entries) (v : ℕ) → slice_get (values_of new) slot ≡ Some v → Says v false → IsSwept slot old new
+  pub swept_goes : (slot : ℕ) (old new : Entries ℕ) (v : ℕ) → slice_get (values_of new) slot ≡ Some v → Says v false → IsSwept slot old new
       → IsSwept (slot + 1) old (set_value_at new slot 0)
   swept_goes slot old new v at fails is = subst (λ n. IsSwept n old (set_value_at new slot 0)) (more slot) (go slot old new at is)
     where
@@ -239,7 +211,7 @@ module _ (Says : ℕ → Bool → Type 0) where
           let value : e.1 ≡ v = ap (λ (z : Vec ℕ Global × ℕ). z.1) (sym same) ∙ is_it in
           inr (inl (refl, subst (λ x. Says x false) (sym value) fails))
 
-      go : (slot : ℕ) (old new : Entries) → slice_get (values_of new) slot ≡ Some v → IsSwept slot old new → IsSwept (suc slot) old (set_value_at new slot 0)
+      go : (slot : ℕ) (old new : Entries ℕ) → slice_get (values_of new) slot ≡ Some v → IsSwept slot old new → IsSwept (suc slot) old (set_value_at new slot 0)
       go zero [] [] at is = cc
       go zero [] (f ∷ new) at is = cc
       go zero (e ∷ old) [] at is = cc
@@ -254,7 +226,7 @@ module _ (Says : ℕ → Bool → Type 0) where
       go (suc slot) (e ∷ old) (f ∷ new) at (key, kept, is) = (key, kept, go slot old new at is)
 
   -- where all were, each word's number was
-  pub swept_all : (count : ℕ) (old new : Entries) → length new ≤ count → IsSwept count old new → (w : List ℕ) → IsKept Says (number_among old w) (number_among new w)
+  pub swept_all : (count : ℕ) (old new : Entries ℕ) → length new ≤ count → IsSwept count old new → (w : List ℕ) → IsKept Says (number_among 0 old w) (number_among 0 new w)
   swept_all zero [] [] few is w = inr (inr (refl, refl))
   swept_all zero [] (f ∷ new) few is w = absurd (omega (arith, few))
   swept_all zero (e ∷ old) [] few is w = cc
@@ -265,7 +237,7 @@ module _ (Says : ℕ → Bool → Type 0) where
   swept_all (suc count) (e ∷ old) (f ∷ new) few (key, kept, is) w =
       rw key (go (bytes_eq w e.0.items) (swept_all count old new (omega (arith, few)) is w))
     where
-      go : (b : Bool) → IsKept Says (number_among old w) (number_among new w)
+      go : (b : Bool) → IsKept Says (number_among 0 old w) (number_among 0 new w)
           → IsKept Says (unwrap_or (cond b (Some e.1) (lookup (is_word w) old)) 0) (unwrap_or (cond b (Some f.1) (lookup (is_word w) new)) 0)
       go true later = kept
       go false later = later

@@ -1,4 +1,4 @@
--- One table of several is written.
+-- One table of several is written, and what that makes of the words.
 use Rattle.std.proofs.Common.{◌≡◌, ℕ, ◌==◌, Bool, true, false, cond, List, [], ◌∷◌, Option, Some, sym, ap, ◌∙◌, refl, eqb-true, arith}
 use Rattle.std.specs.BTreeMap.{is_at}
 use Rattle.std.specs.Map.{lookup, set_value}
@@ -9,12 +9,8 @@ use Rattle.std.specs.declared.alloc.Global.{Global}
 use Rattle.std.proofs.lemmas.Bool.{eq-eqb}
 use Rattle.indexmap.specs.IndexMap.{IndexMap}
 use Rattle.ob_model.proofs.Ids.{is_at-id}
-use Rattle.ob_requests.specs.Words.{Words, with_number, with_word}
-use Rattle.ob_requests.specs.Tables.{number_in, numbers_in, table_at}
-
--- the words of these numbers
-abbrev kept : (List ℕ → ℕ) → (ℕ → List ℕ → ℕ) → Words
-kept processes values = record { processes = processes; values = values }
+use Rattle.ob_requests.specs.Words.{Words, with_number, with_own, with_number_of, with_process, with_word, with_words, with_context, with_ticket}
+use Rattle.ob_requests.specs.Tables.{number_or, numbers_among, table_at}
 
 -- what is found where one entry was written
 found_written : {X : Type 0} (p q : ℕ) (es : List (ℕ × X)) (x y : X) → lookup (is_at (nat_cmp p)) es ≡ Some x
@@ -45,46 +41,83 @@ found_written {X} p q (e ∷ es) x y found =
         let f' : lookup (is_at (nat_cmp p)) es ≡ Some x = ap (λ (b : Bool). cond b (Some e.1) (lookup (is_at (nat_cmp p)) es)) (sym (u ∙ h)) ∙ f in
         rw (u, h, v, k) (later f')
 
--- the numbers where one table was written
-pub numbers_written : {S : Type 0} (tables : List (ℕ × IndexMap (Vec ℕ Global) ℕ S)) (p : ℕ) (t t' : IndexMap (Vec ℕ Global) ℕ S) (numbers : List ℕ → ℕ)
-    → table_at tables p ≡ Some t → number_in t' ≡ numbers → numbers_in (set_value (is_at (nat_cmp p)) tables t') ≡ (λ q. cond (p == q) numbers (numbers_in tables q))
-numbers_written {S} tables p t t' numbers found same = λ i q w. one q w i
-  where
-    one : (q : ℕ) (w : List ℕ) → numbers_in (set_value (is_at (nat_cmp p)) tables t') q w ≡ cond (p == q) numbers (numbers_in tables q) w
-    one q w = ap (λ (o : Option (IndexMap (Vec ℕ Global) ℕ S)). option_map_or (λ table. number_in table w) o 0) (found_written p q tables t t' found) ∙ go (p == q)
-      where
-        go : (b : Bool) → option_map_or (λ table. number_in table w) (cond b (Some t') (table_at tables q)) 0 ≡ cond b numbers (numbers_in tables q) w
-        go true = ap (λ (f : List ℕ → ℕ). f w) same
-        go false = refl
+module _ {S N : Type 0} (none : N) (tables : List (ℕ × IndexMap (Vec ℕ Global) N S)) (p : ℕ) (t t' : IndexMap (Vec ℕ Global) N S) (found : table_at tables p ≡ Some t) where
+  -- the numbers where one table was written
+  numbers_written : (numbers : List ℕ → N) → number_or none t' ≡ numbers
+      → numbers_among none (set_value (is_at (nat_cmp p)) tables t') ≡ with_own (numbers_among none tables) p numbers
+  numbers_written numbers same = λ i q w. one q w i
+    where
+      one : (q : ℕ) (w : List ℕ) → numbers_among none (set_value (is_at (nat_cmp p)) tables t') q w ≡ cond (p == q) numbers (numbers_among none tables q) w
+      one q w = ap (λ (o : Option (IndexMap (Vec ℕ Global) N S)). option_map_or (λ table. number_or none table w) o none) (found_written p q tables t t' found) ∙ go (p == q)
+        where
+          go : (b : Bool) → option_map_or (λ table. number_or none table w) (cond b (Some t') (table_at tables q)) none ≡ cond b numbers (numbers_among none tables q) w
+          go true = ap (λ (f : List ℕ → N). f w) same
+          go false = refl
 
--- the numbers of a table that was found
-numbers_at : {S : Type 0} (tables : List (ℕ × IndexMap (Vec ℕ Global) ℕ S)) (p : ℕ) (t : IndexMap (Vec ℕ Global) ℕ S) → table_at tables p ≡ Some t → number_in t ≡ numbers_in tables p
-numbers_at {S} tables p t found = λ i w. ap (λ (o : Option (IndexMap (Vec ℕ Global) ℕ S)). option_map_or (λ table. number_in table w) o 0) (sym found) i
+  -- the numbers of a table that was found
+  numbers_at : number_or none t ≡ numbers_among none tables p
+  numbers_at = λ i w. ap (λ (o : Option (IndexMap (Vec ℕ Global) N S)). option_map_or (λ table. number_or none table w) o none) (sym found) i
 
--- one word was set in a table
-pub words_written : {S : Type 0} (processes : List ℕ → ℕ) (tables new : List (ℕ × IndexMap (Vec ℕ Global) ℕ S)) (key p : ℕ) (t t' : IndexMap (Vec ℕ Global) ℕ S) (word : List ℕ) (value : ℕ)
-    → key ≡ p → table_at tables key ≡ Some t → new ≡ set_value (is_at (nat_cmp key)) tables t' → number_in t' ≡ with_number (number_in t) word value
-    → kept processes (numbers_in new) ≡ with_word (record { processes = processes; values = numbers_in tables }) p word value
-words_written {S} processes tables new key p t t' word value is found wrote set =
-    let at : table_at tables p ≡ Some t = ap (λ k. table_at tables k) (sym is) ∙ found in
-    let numbers : number_in t' ≡ with_number (numbers_in tables p) word value = set ∙ ap (λ (f : List ℕ → ℕ). with_number f word value) (numbers_at tables p t at) in
-    ap (kept processes)
-    (ap (λ es. numbers_in es) (wrote ∙ ap (λ k. set_value (is_at (nat_cmp k)) tables t') is) ∙ numbers_written tables p t t' _ at numbers)
+  -- one word was set in a table
+  pub word_written : (new : List (ℕ × IndexMap (Vec ℕ Global) N S)) (word : List ℕ) (number : N) → new ≡ set_value (is_at (nat_cmp p)) tables t'
+      → number_or none t' ≡ with_number (number_or none t) word number → numbers_among none new ≡ with_number_of (numbers_among none tables) p word number
+  word_written new word number wrote set =
+      ap (λ es. numbers_among none es) wrote
+      ∙ numbers_written (with_number (numbers_among none tables p) word number) (set ∙ ap (λ (f : List ℕ → N). with_number f word number) numbers_at)
 
--- all words of a table kept their numbers
-pub words_same : {S : Type 0} (processes : List ℕ → ℕ) (tables new : List (ℕ × IndexMap (Vec ℕ Global) ℕ S)) (key : ℕ) (t t' : IndexMap (Vec ℕ Global) ℕ S)
-    → table_at tables key ≡ Some t → new ≡ set_value (is_at (nat_cmp key)) tables t' → number_in t' ≡ number_in t
-    → kept processes (numbers_in new) ≡ kept processes (numbers_in tables)
-words_same {S} processes tables new key t t' found wrote same =
-    ap (kept processes)
-    (ap (λ es. numbers_in es) wrote ∙ (numbers_written tables key t t' _ found (same ∙ numbers_at tables key t found) ∙ back))
-  where
-    back : (λ q. cond (key == q) (numbers_in tables key) (numbers_in tables q)) ≡ numbers_in tables
-    back = λ i q. one q i
-      where
-        one : (q : ℕ) → cond (key == q) (numbers_in tables key) (numbers_in tables q) ≡ numbers_in tables q
-        one q = go (key == q) refl
-          where
-            go : (b : Bool) → (key == q) ≡ b → cond b (numbers_in tables key) (numbers_in tables q) ≡ numbers_in tables q
-            go true e = ap (numbers_in tables) (eqb-true key q e)
-            go false e = refl
+  -- all words of a table kept their numbers
+  pub words_same : (new : List (ℕ × IndexMap (Vec ℕ Global) N S)) → new ≡ set_value (is_at (nat_cmp p)) tables t' → number_or none t' ≡ number_or none t
+      → numbers_among none new ≡ numbers_among none tables
+  words_same new wrote same =
+      ap (λ es. numbers_among none es) wrote ∙ (numbers_written (numbers_among none tables p) (same ∙ numbers_at) ∙ back)
+    where
+      back : (λ q. cond (p == q) (numbers_among none tables p) (numbers_among none tables q)) ≡ numbers_among none tables
+      back = λ i q. one q i
+        where
+          one : (q : ℕ) → cond (p == q) (numbers_among none tables p) (numbers_among none tables q) ≡ numbers_among none tables q
+          one q = go (p == q) refl
+            where
+              go : (b : Bool) → (p == q) ≡ b → cond b (numbers_among none tables p) (numbers_among none tables q) ≡ numbers_among none tables q
+              go true e = ap (numbers_among none tables) (eqb-true p q e)
+              go false e = refl
+
+-- the words of these numbers
+abbrev kept : (List ℕ → ℕ) → (ℕ → List ℕ → ℕ) → (ℕ → List ℕ → ℕ) → (ℕ → List ℕ → ℕ) → Words
+kept processes values contexts tickets = record { processes = processes; values = values; contexts = contexts; tickets = tickets }
+
+-- what a change of the tables makes of the words; a process goes by its number
+module _ (processes : List ℕ → ℕ) (values contexts tickets new : ℕ → List ℕ → ℕ) where
+  pub values_same : new ≡ values → kept processes new contexts tickets ≡ kept processes values contexts tickets
+  values_same same = ap (λ (x : ℕ → List ℕ → ℕ). kept processes x contexts tickets) same
+
+  module _ (key p : ℕ) (is : key ≡ p) (word : List ℕ) (number : ℕ) where
+    pub context_set : new ≡ with_number_of contexts key word number
+        → kept processes values new tickets ≡ with_context (kept processes values contexts tickets) p word number
+    context_set set =
+        ap (λ (x : ℕ → List ℕ → ℕ). kept processes values x tickets) set ∙ ap (λ (k : ℕ). with_context (kept processes values contexts tickets) k word number) is
+
+    pub ticket_set : new ≡ with_number_of tickets key word number
+        → kept processes values contexts new ≡ with_ticket (kept processes values contexts tickets) p word number
+    ticket_set set =
+        ap (kept processes values contexts) set ∙ ap (λ (k : ℕ). with_ticket (kept processes values contexts tickets) k word number) is
+
+    pub value_set : (cleared : ℕ → List ℕ → ℕ) → new ≡ with_number_of values key word number → cleared ≡ with_number_of contexts key word 0
+        → kept processes new cleared tickets ≡ with_word (kept processes values contexts tickets) p word number
+    value_set cleared set clear =
+        ap (λ (x : ℕ → List ℕ → ℕ). kept processes x cleared tickets) set
+        ∙ (ap (λ (x : ℕ → List ℕ → ℕ). kept processes (with_number_of values key word number) x tickets) clear
+        ∙ ap (λ (k : ℕ). with_word (kept processes values contexts tickets) k word number) is)
+
+  module _ (key p : ℕ) (is : key ≡ p) (own : List ℕ → ℕ) where
+    pub words_set : (cleared : ℕ → List ℕ → ℕ) → new ≡ with_own values key own → cleared ≡ with_own contexts key (λ word. 0)
+        → kept processes new cleared tickets ≡ with_words (kept processes values contexts tickets) p own
+    words_set cleared set clear =
+        ap (λ (x : ℕ → List ℕ → ℕ). kept processes x cleared tickets) set
+        ∙ (ap (λ (x : ℕ → List ℕ → ℕ). kept processes (with_own values key own) x tickets) clear
+        ∙ ap (λ (k : ℕ). with_words (kept processes values contexts tickets) k own) is)
+
+-- a process word was set
+pub process_set : (processes : List ℕ → ℕ) (values contexts tickets : ℕ → List ℕ → ℕ) (new : List ℕ → ℕ) (word : List ℕ) (number p : ℕ) → number ≡ p
+    → new ≡ with_number processes word number → kept new values contexts tickets ≡ with_process (kept processes values contexts tickets) word p
+process_set processes values contexts tickets new word number p is set =
+    ap (λ (x : List ℕ → ℕ). kept x values contexts tickets) set ∙ ap (with_process (kept processes values contexts tickets) word) is

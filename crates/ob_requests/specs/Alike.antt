@@ -25,10 +25,13 @@ module _ {K T F I : Type 0} where
     unset : value ≡ 0 → other ≡ 0 → AreAlikeValues s t p value other
     set : IsHeld s p value → LeadAlike s t p value other → IsHandleValue value → IsHandleValue other → AreAlikeValues s t p value other
 
-  -- words of the same processes, whose values are alike for each process, and no two of them one handle's
+  -- words of the same processes, whose values are alike for each process, and no two of them one handle's; and for each
+  -- the same context is kept, and an open of the same ticket waits
   pub record AreAlikeWords (s t : State K T F I) (words others : Words) : Type 0 where
     pub processes : (word : List ℕ) → words.processes word ≡ others.processes word
     pub values : (p : ℕ) (word : List ℕ) → AreAlikeValues s t p (words.values p word) (others.values p word)
+    pub contexts : (p : ℕ) (word : List ℕ) → words.contexts p word ≡ others.contexts p word
+    pub tickets : (p : ℕ) (word : List ℕ) → words.tickets p word ≡ others.tickets p word
     pub apart : (p : ℕ) (a b : List ℕ) → words.values p a ≡ words.values p b → (words.values p a ≡ 0) ⊎ (bytes_eq a b ≡ true)
     pub apart_too : (p : ℕ) (a b : List ℕ) → others.values p a ≡ others.values p b → (others.values p a ≡ 0) ⊎ (bytes_eq a b ≡ true)
 

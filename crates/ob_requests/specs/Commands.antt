@@ -25,13 +25,14 @@ use Rattle.ob_lines.specs.declared.request.NameForm.TheVariants.{Absolute, Relat
 use Rattle.ob_lines.specs.declared.request.PlaceForm.{PlaceForm}
 use Rattle.ob_lines.specs.declared.request.PlaceForm.TheVariants.{Named, Unnamed}
 use Rattle.ob_lines.specs.declared.request.Request.{Request}
-use Rattle.ob_lines.specs.declared.request.Request.TheVariants.{CreateDirectory, CreateLink, CreateObject, OpenDirectory, OpenLink, OpenObject, Close, QueryLink, QueryName, Duplicate, MakeTemporary, MakePermanent, SetDeviceMap, NewProcess, ExitProcess}
+use Rattle.ob_lines.specs.declared.request.Request.TheVariants.{CreateDirectory, CreateLink, CreateObject, OpenDirectory, OpenLink, OpenObject, Close, QueryLink, QueryName, QueryDirectory, Duplicate, MakeTemporary, MakePermanent, SetDeviceMap, NewProcess, ExitProcess}
 use Rattle.ob_lines.specs.Text.{Spells}
+use Rattle.ob_lines.specs.Pages.{is_first, is_single}
 use Rattle.ob_lines.specs.Parts.{offset_value, text_of}
 use Rattle.ob_lines.specs.declared.change.Change.{Change}
 use Rattle.ob_lines.specs.declared.change.Change.TheVariants as change
 use Rattle.ob_lines.specs.Changes.{change_of}
-use Rattle.ob_requests.specs.Words.{Words, with_process, with_words, with_word, without_words, handed_on}
+use Rattle.ob_requests.specs.Words.{Words, with_process, with_words, with_word, without_words, with_context, handed_on}
 
 -- the kind of the standard set that a line names
 abbrev pub kind_meant : KindForm → StandardKind
@@ -99,6 +100,8 @@ IsCommand (OpenObject want name attrs word) words process c = IsOpenObject want 
 IsCommand (Close handle) words process c = c ≡ command.Close (handle_meant handle (words.values process))
 IsCommand (QueryLink handle) words process c = c ≡ command.QueryLink (handle_meant handle (words.values process))
 IsCommand (QueryName handle) words process c = c ≡ command.QueryName (handle_meant handle (words.values process))
+IsCommand (QueryDirectory handle room mode) words process c =
+    c ≡ command.QueryDirectory (handle_meant handle (words.values process)) (words.contexts process handle.word) room (is_single mode) (is_first mode)
 IsCommand (Duplicate handle to inherit word) words process c =
     c ≡ command.Duplicate (handle_meant handle (words.values process)) (words.processes to) inherit
 IsCommand (MakeTemporary handle) words process c = c ≡ command.MakeTemporary (handle_meant handle (words.values process))
@@ -130,12 +133,22 @@ with_child words parent word inherit (given.Handle handle) = with_process words 
 with_child words parent word inherit (given.Text text) = with_process words word 0
 with_child words parent word inherit (given.Page entries context) = with_process words word 0
 
+-- the words with the context of a page that is given to a process, which is kept for this handle word; anything else
+-- that is given leaves the words
+abbrev pub with_page : Words → ℕ → List ℕ → Given → Words
+with_page words process word given.Nothing = words
+with_page words process word (given.Handle handle) = words
+with_page words process word (given.Text text) = words
+with_page words process word (given.Process child handles) = words
+with_page words process word (given.Page entries context) = with_context words process word context
+
 -- the words after the reply to a process, which changes these of them
 abbrev pub changed : Change (List ℕ) → ℕ → Reply → Words → Words
 changed change.Nothing process reply words = words
 changed (change.Sets word) process reply words = with_word words process word (given_handle reply.given)
 changed (change.SetsFor to word) process reply words = with_word words (words.processes to) word (given_handle reply.given)
 changed (change.GivesUp word) process reply words = if is_success reply.status then with_word words process word 0 else words
+changed (change.TurnsPage word) process reply words = with_page words process word reply.given
 changed change.GivesAllUp process reply words = if is_success reply.status then without_words words process else words
 changed (change.SetsProcess word inherit) process reply words = with_child words process word inherit reply.given
 

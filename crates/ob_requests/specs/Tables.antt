@@ -11,43 +11,60 @@ use Rattle.std.specs.declared.vec.Vec.{Vec}
 use Rattle.std.specs.declared.alloc.Global.{Global}
 use Rattle.indexmap.specs.IndexMap.{IndexMap}
 use Rattle.ob_requests.specs.Words.{Words}
+use Rattle.ob_requests.specs.declared.word_tables.WordTables.{WordTables}
 use Rattle.ob_requests.specs.declared.words.Words as declared
 
--- the number that entries keep for a word: that of its first entry, and 0 where it has none
-abbrev pub number_among : List (Vec ℕ Global × ℕ) → List ℕ → ℕ
-number_among entries word = unwrap_or (lookup (λ key. bytes_eq word key.items) entries) 0
+module _ {N : Type 0} where
+  -- the number that entries keep for a word: that of its first entry, and `none` where it has none
+  abbrev pub number_among : N → List (Vec ℕ Global × N) → List ℕ → N
+  number_among none entries word = unwrap_or (lookup (λ key. bytes_eq word key.items) entries) none
 
-module _ {S : Type 0} where
-  -- the numbers that words have in a table
-  abbrev pub number_in : IndexMap (Vec ℕ Global) ℕ S → List ℕ → ℕ
-  number_in table word = number_among table.entries word
+module _ {S N : Type 0} where
+  -- the numbers that words have in a table, and `none` where they have none
+  abbrev pub number_or : N → IndexMap (Vec ℕ Global) N S → List ℕ → N
+  number_or none table word = number_among none table.entries word
 
   -- there is room for a word
-  abbrev pub has_word : IndexMap (Vec ℕ Global) ℕ S → List ℕ → Bool
+  abbrev pub has_word : IndexMap (Vec ℕ Global) N S → List ℕ → Bool
   has_word table word = is_some (lookup (λ key. bytes_eq word key.items) table.entries)
 
   -- the table of a process
-  abbrev pub table_at : List (ℕ × IndexMap (Vec ℕ Global) ℕ S) → ℕ → Option (IndexMap (Vec ℕ Global) ℕ S)
+  abbrev pub table_at : List (ℕ × IndexMap (Vec ℕ Global) N S) → ℕ → Option (IndexMap (Vec ℕ Global) N S)
   table_at tables process = lookup (is_at (nat_cmp process)) tables
 
-  -- the numbers that tables keep, each for the process of its number
-  abbrev pub numbers_in : List (ℕ × IndexMap (Vec ℕ Global) ℕ S) → ℕ → List ℕ → ℕ
-  numbers_in tables process word = option_map_or (λ table. number_in table word) (table_at tables process) 0
+  -- the numbers that words of processes have in such tables, each kept for the process of its number, and `none` where
+  -- they have none
+  abbrev pub numbers_among : N → List (ℕ × IndexMap (Vec ℕ Global) N S) → ℕ → List ℕ → N
+  numbers_among none tables process word = option_map_or (λ table. number_or none table word) (table_at tables process) none
+
+-- the numbers that words have in a table: 0 where they have none
+abbrev pub number_in : {S : Type 0} → IndexMap (Vec ℕ Global) ℕ S → List ℕ → ℕ
+number_in table = number_or 0 table
+
+module _ {N : Type 0} where
+  -- the numbers that words of processes have, and `none` where they have none
+  abbrev pub numbers_or : N → WordTables N → ℕ → List ℕ → N
+  numbers_or none words = numbers_among none words.tables.entries
 
   -- there is room for the words of a process
-  abbrev pub HasTable : List (ℕ × IndexMap (Vec ℕ Global) ℕ S) → ℕ → Type 0
-  HasTable tables process = is_some (table_at tables process) ≡ true
+  abbrev pub HasTable : WordTables N → ℕ → Type 0
+  HasTable words process = is_some (table_at words.tables.entries process) ≡ true
 
   -- there is room for a word of a process
-  abbrev pub HasRoom : List (ℕ × IndexMap (Vec ℕ Global) ℕ S) → ℕ → List ℕ → Type 0
-  HasRoom tables process word = MatchOption (table_at tables process) ⊥ (λ table. has_word table word ≡ true)
+  abbrev pub HasRoom : WordTables N → ℕ → List ℕ → Type 0
+  HasRoom words process word = MatchOption (table_at words.tables.entries process) ⊥ (λ table. has_word table word ≡ true)
 
 -- the words that are kept
 abbrev pub words_in : declared.Words → Words
-words_in words = record { processes = number_in words.processes; values = numbers_in words.handles.entries }
+words_in words = record {
+  processes = number_in words.processes;
+  values = numbers_or 0 words.handles;
+  contexts = numbers_or 0 words.contexts;
+  tickets = numbers_or 0 words.tickets;
+}
 
 -- the word's first entry is the one of this slot
-abbrev pub IsAt : List (Vec ℕ Global × ℕ) → ℕ → List ℕ → Type 0
+abbrev pub IsAt : {N : Type 0} → List (Vec ℕ Global × N) → ℕ → List ℕ → Type 0
 IsAt [] slot word = ⊥
 IsAt (entry ∷ entries) zero word = bytes_eq word entry.0.items ≡ true
 IsAt (entry ∷ entries) (suc slot) word = (bytes_eq word entry.0.items ≡ false) × IsAt entries slot word

@@ -71,6 +71,17 @@ pub fn command_of(asker: &Asker<'_>, request: Request<&[u8]>) -> Asked
             let handle = handle_meant(asker, handle);
             Ok(Command::QueryName { handle })
         }
+        Request::QueryDirectory { handle, room, mode } => {
+            let context = asker.words.context_of(asker.process, handle.word);
+            let handle = handle_meant(asker, handle);
+            Ok(Command::QueryDirectory {
+                handle,
+                context,
+                room,
+                single: mode.is_single(),
+                restart: mode.is_first(),
+            })
+        }
         Request::Duplicate {
             handle,
             to,

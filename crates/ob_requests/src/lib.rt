@@ -4,8 +4,10 @@
 mod commands;
 pub mod laws;
 mod table;
+mod word_tables;
 mod words;
 
 pub use commands::{Asked, Asker, command_of};
 pub use table::{Table, keep};
+pub use word_tables::WordTables;
 pub use words::Words;

@@ -2,63 +2,69 @@
 
 ghost use Rattle.std.specs.Prelude.{◌≡◌, ◌<◌, ℕ, true, List, OnOk, IfOk};
 ghost use Rattle.indexmap.specs.IndexMap.{index_map_len};
-ghost use Rattle.ob_requests.specs.Tables.{number_in, has_word, IsAt, IsKept};
+ghost use Rattle.ob_requests.specs.Tables.{number_in, number_or, has_word, IsAt, IsKept};
 ghost use Rattle.ob_requests.specs.Words.{with_number};
 
 use indexmap::IndexMap;
 use std::alloc::{AllocError, Global};
 
-/// Words, and the number that each stands for: 0 where it has none. (this profile)
-pub type Table = IndexMap<Vec<u8>, u32>;
+/// Words, and the number that each stands for. A word without a number stands for 0. (this profile)
+pub type Table<N> = IndexMap<Vec<u8>, N>;
 
-// The number of a word: 0 where it was never set.
-pub(crate) fn number_of(table: &Table, word: &[u8]) -> u32
-    ensures { result ≡ number_in table.now word.now }
+// The number of a word: `none` where it was never set.
+pub(crate) fn number_of<N: Copy>(table: &Table<N>, word: &[u8], none: N) -> N
+    ensures { result ≡ number_or none table.now word.now }
 {
-    table.get(word).copied().unwrap_or(0)
+    table.get(word).copied().unwrap_or(none)
 }
 
-// Makes room for a word, which keeps its number.
-pub(crate) fn room_for(alloc: Global, table: &mut Table, word: &[u8]) -> Result<(), AllocError>
-    ensures same { number_in table.new ≡ number_in table.old }
+// Makes room for a word, which keeps its number: `none` where it was never set.
+pub(crate) fn room_for<N: Copy>(
+    alloc: Global,
+    table: &mut Table<N>,
+    word: &[u8],
+    none: N,
+) -> Result<(), AllocError>
+    ensures same { number_or none table.new ≡ number_or none table.old }
     ensures room { OnOk result (has_word table.new word.now ≡ true) }
 {
     if !table.contains_key(word) {
         let own = word.to_vec(alloc)?;
-        table.insert(own, 0)?;
+        table.insert(own, none)?;
     }
     Ok(())
 }
 
 // Sets a word, for which there is room.
-pub(crate) fn set(table: &mut Table, word: &[u8], number: u32)
+pub(crate) fn set<N: Copy>(table: &mut Table<N>, word: &[u8], number: N)
     requires room { has_word table.old word.now ≡ true }
-    ensures { number_in table.new ≡ with_number (number_in table.old) word.now number }
+    ensures { (none : N) → number_or none table.new ≡ with_number (number_or none table.old) word.now number }
 {
     if let Some(slot) = table.get_index_of(word) {
         set_at(table, slot, number);
     }
 }
 
-// A word stands for 0 from now on. Takes no memory.
-pub(crate) fn give_up(table: &mut Table, word: &[u8])
-    ensures { number_in table.new ≡ with_number (number_in table.old) word.now 0 }
+// A word stands for `none` from now on, as one that was never set. Takes no memory.
+pub(crate) fn give_up<N: Copy>(table: &mut Table<N>, word: &[u8], none: N)
+    ensures { number_or none table.new ≡ with_number (number_or none table.old) word.now none }
 {
     if let Some(slot) = table.get_index_of(word) {
-        set_at(table, slot, 0);
+        set_at(table, slot, none);
     }
 }
 
 // Sets the word that has this slot.
-fn set_at(table: &mut Table, slot: usize, number: u32)
+fn set_at<N: Copy>(table: &mut Table<N>, slot: usize, number: N)
     requires { slot < index_map_len table.old }
-    ensures { (word : List ℕ) → IsAt table.old.entries slot word → number_in table.new ≡ with_number (number_in table.old) word number }
+    ensures { (none : N) (word : List ℕ) → IsAt table.old.entries slot word
+        → number_or none table.new ≡ with_number (number_or none table.old) word number }
 {
     table[slot] = number;
 }
 
 // The same words with the same numbers.
-pub(crate) fn copy_of(table: &Table) -> Result<Table, AllocError>
+pub(crate) fn copy_of(table: &Table<u32>) -> Result<Table<u32>, AllocError>
     ensures { IfOk result (λ copy. number_in copy ≡ number_in table.now) }
 {
     table.clone()
@@ -66,7 +72,7 @@ pub(crate) fn copy_of(table: &Table) -> Result<Table, AllocError>
 
 /// Keeps the numbers that pass a test; each word whose number doesn't stands for 0. Takes no memory.
 /// Source: this profile.
-pub fn keep<P: Fn(u32) -> bool>(table: &mut Table, test: P)
+pub fn keep<P: Fn(u32) -> bool>(table: &mut Table<u32>, test: P)
     requires { P.IsAlwaysCallable test }
     ensures { (word : List ℕ) → IsKept (λ number passed. P.post test number passed) (number_in table.old word) (number_in table.new word) }
 {

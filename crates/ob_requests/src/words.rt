@@ -2,18 +2,19 @@
 
 ghost use Rattle.std.specs.Prelude.{◌≡◌, true, IfOk, OnOk};
 ghost use Rattle.ob_requests.specs.Tables.{words_in, number_in, has_word, HasRoom, HasTable};
-ghost use Rattle.ob_requests.specs.Words.{first_words, with_process, with_word, without_words, with_words};
+ghost use Rattle.ob_requests.specs.Words.{first_words, with_process, with_word, without_words, with_words, with_context, with_ticket};
 
-use crate::table::{Table, copy_of, give_up, number_of, room_for, set};
+use crate::table::{Table, copy_of, number_of, room_for, set};
+use crate::word_tables::WordTables;
 use ob_base::{Handle, Proc};
 use std::alloc::{AllocError, Global};
-use std::collections::BTreeMap;
 
-/// The words of a script: the number of each process word, and for each process the values of its handle
-/// words. A word that was never set stands for 0, which is no process and no handle.
+/// The words of a script: the number of each process word, and for each process what is kept for its
+/// handle words. A word that was never set stands for 0, which is no process and no handle.
 ///
 /// A contract sees them by `words_in`. Room for a word is made before the step whose reply sets it, so
-/// that no reply is lost for want of memory.
+/// that no reply is lost for want of memory. Room of one kind, as for a process word, a value, a context or
+/// a ticket, stays where room of another kind is made.
 ///
 /// Source: this profile.
 #[derive(Drop)]
@@ -21,10 +22,14 @@ pub struct Words {
     /// Where memory is taken from.
     pub alloc: Global,
     /// The process words.
-    pub processes: Table,
-    /// The handle words of each process, by its number. A process without a table has no word that was
-    /// set.
-    pub handles: BTreeMap<u32, Table>,
+    pub processes: Table<u32>,
+    /// The values of the handle words of each process.
+    pub handles: WordTables<u32>,
+    /// The context that is kept for each handle word of each process: where the next page of a directory
+    /// begins, and 0 at its beginning.
+    pub contexts: WordTables<u64>,
+    /// The ticket of the open that waits under each handle word of each process: 0 where none does.
+    pub tickets: WordTables<u64>,
 }
 
 impl Words {
@@ -33,13 +38,14 @@ impl Words {
         ensures { IfOk result (λ words. words_in words ≡ first_words) }
     {
         let mut processes = Table::new(alloc);
-        let handles = BTreeMap::new(alloc);
         let first = b"p1".to_vec(alloc)?;
         processes.insert(first, 1)?;
         Ok(Words {
             alloc,
             processes,
-            handles,
+            handles: WordTables::new(alloc),
+            contexts: WordTables::new(alloc),
+            tickets: WordTables::new(alloc),
         })
     }
 
@@ -47,26 +53,41 @@ impl Words {
     pub fn process_of(&self, word: &[u8]) -> Proc
         ensures { result ≡ (words_in self.now).processes word.now }
     {
-        Proc(number_of(&self.processes, word))
+        Proc(number_of(&self.processes, word, 0))
     }
 
     /// The value of a handle word of a process. Takes no memory.
     pub fn value_of(&self, process: Proc, word: &[u8]) -> Handle
         ensures { result ≡ (words_in self.now).values process word.now }
     {
-        match self.handles.get(&process.0) {
-            Some(table) => Handle(number_of(table, word)),
-            None => Handle(0),
-        }
+        Handle(self.handles.number_of(process.0, word, 0))
+    }
+
+    /// The context that is kept for a handle word of a process: where the next page of a directory begins,
+    /// and 0 at its beginning. Takes no memory.
+    pub fn context_of(&self, process: Proc, word: &[u8]) -> u64
+        ensures { result ≡ (words_in self.now).contexts process word.now }
+    {
+        self.contexts.number_of(process.0, word, 0)
+    }
+
+    /// The ticket of the open that waits under a handle word of a process: 0 where none does. Takes no
+    /// memory.
+    pub fn ticket_of(&self, process: Proc, word: &[u8]) -> u64
+        ensures { result ≡ (words_in self.now).tickets process word.now }
+    {
+        self.tickets.number_of(process.0, word, 0)
     }
 
     /// Makes room for a process word, which keeps its number. The only fault is want of memory.
     pub fn room_for_process(&mut self, word: &[u8]) -> Result<(), AllocError>
         ensures same { words_in self.new ≡ words_in self.old }
         ensures handles { self.new.handles ≡ self.old.handles }
+        ensures contexts { self.new.contexts ≡ self.old.contexts }
+        ensures tickets { self.new.tickets ≡ self.old.tickets }
         ensures room { OnOk result (has_word self.new.processes word.now ≡ true) }
     {
-        room_for(self.alloc, &mut self.processes, word)
+        room_for(self.alloc, &mut self.processes, word, 0)
     }
 
     /// Sets a process word, for which there is room. Takes no memory.
@@ -74,6 +95,8 @@ impl Words {
         requires room { has_word self.old.processes word.now ≡ true }
         ensures set { words_in self.new ≡ with_process (words_in self.old) word.now process }
         ensures handles { self.new.handles ≡ self.old.handles }
+        ensures contexts { self.new.contexts ≡ self.old.contexts }
+        ensures tickets { self.new.tickets ≡ self.old.tickets }
     {
         set(&mut self.processes, word, process.0);
     }
@@ -82,71 +105,116 @@ impl Words {
     pub fn room_for_words(&mut self, process: Proc) -> Result<(), AllocError>
         ensures same { words_in self.new ≡ words_in self.old }
         ensures processes { self.new.processes ≡ self.old.processes }
-        ensures room { OnOk result (HasTable self.new.handles.entries process) }
+        ensures contexts { self.new.contexts ≡ self.old.contexts }
+        ensures tickets { self.new.tickets ≡ self.old.tickets }
+        ensures room { OnOk result (HasTable self.new.handles process) }
     {
-        if !self.handles.contains_key(&process.0) {
-            let table = Table::new(self.alloc);
-            self.handles.insert(process.0, table)?;
-        }
-        Ok(())
+        self.handles.room_for_words(self.alloc, process.0)
     }
 
     /// Makes room for a handle word of a process, which keeps its value. The only fault is want of memory.
     pub fn room_for_handle(&mut self, process: Proc, word: &[u8]) -> Result<(), AllocError>
         ensures same { words_in self.new ≡ words_in self.old }
-        ensures room { OnOk result (HasRoom self.new.handles.entries process word.now) }
+        ensures processes { self.new.processes ≡ self.old.processes }
+        ensures contexts { self.new.contexts ≡ self.old.contexts }
+        ensures tickets { self.new.tickets ≡ self.old.tickets }
+        ensures room { OnOk result (HasRoom self.new.handles process word.now) }
     {
-        self.room_for_words(process)?;
-        let Some(table) = self.handles.get_mut(&process.0) else {
-            unreachable!();
-        };
-        room_for(self.alloc, table, word)
+        self.handles.room_for(self.alloc, process.0, word, 0)
     }
 
-    /// Sets a handle word of a process, for which there is room. Takes no memory.
+    /// Makes room for the context of a handle word of a process, which keeps its context. The only fault is
+    /// want of memory.
+    pub fn room_for_context(&mut self, process: Proc, word: &[u8]) -> Result<(), AllocError>
+        ensures same { words_in self.new ≡ words_in self.old }
+        ensures processes { self.new.processes ≡ self.old.processes }
+        ensures handles { self.new.handles ≡ self.old.handles }
+        ensures tickets { self.new.tickets ≡ self.old.tickets }
+        ensures room { OnOk result (HasRoom self.new.contexts process word.now) }
+    {
+        self.contexts.room_for(self.alloc, process.0, word, 0)
+    }
+
+    /// Makes room for the ticket of an open that waits under a handle word of a process, which keeps its
+    /// ticket. The only fault is want of memory.
+    pub fn room_for_ticket(&mut self, process: Proc, word: &[u8]) -> Result<(), AllocError>
+        ensures same { words_in self.new ≡ words_in self.old }
+        ensures processes { self.new.processes ≡ self.old.processes }
+        ensures handles { self.new.handles ≡ self.old.handles }
+        ensures contexts { self.new.contexts ≡ self.old.contexts }
+        ensures room { OnOk result (HasRoom self.new.tickets process word.now) }
+    {
+        self.tickets.room_for(self.alloc, process.0, word, 0)
+    }
+
+    /// Sets a handle word of a process, for which there is room. It has no context from now on. Takes no
+    /// memory.
     pub fn set_handle(&mut self, process: Proc, word: &[u8], handle: Handle)
-        requires room { HasRoom self.old.handles.entries process word.now }
+        requires room { HasRoom self.old.handles process word.now }
         ensures { words_in self.new ≡ with_word (words_in self.old) process word.now handle }
     {
-        if let Some(table) = self.handles.get_mut(&process.0) {
-            set(table, word, handle.0);
-        }
+        self.handles.set(process.0, word, handle.0);
+        self.contexts.give_up(process.0, word, 0);
     }
 
-    /// A handle word of a process stands for 0 from now on. Takes no memory.
+    /// Keeps a context for a handle word of a process, for which there is room. Takes no memory.
+    pub fn set_context(&mut self, process: Proc, word: &[u8], context: u64)
+        requires room { HasRoom self.old.contexts process word.now }
+        ensures { words_in self.new ≡ with_context (words_in self.old) process word.now context }
+    {
+        self.contexts.set(process.0, word, context);
+    }
+
+    /// Keeps the ticket of an open that waits under a handle word of a process, for which there is room.
+    /// Takes no memory.
+    pub fn set_ticket(&mut self, process: Proc, word: &[u8], ticket: u64)
+        requires room { HasRoom self.old.tickets process word.now }
+        ensures { words_in self.new ≡ with_ticket (words_in self.old) process word.now ticket }
+    {
+        self.tickets.set(process.0, word, ticket);
+    }
+
+    /// No open waits under a handle word of a process from now on. Takes no memory.
+    pub fn clear_ticket(&mut self, process: Proc, word: &[u8])
+        ensures { words_in self.new ≡ with_ticket (words_in self.old) process word.now 0 }
+    {
+        self.tickets.give_up(process.0, word, 0);
+    }
+
+    /// A handle word of a process stands for 0 from now on, and has no context. Takes no memory.
     pub fn give_up(&mut self, process: Proc, word: &[u8])
         ensures { words_in self.new ≡ with_word (words_in self.old) process word.now 0 }
     {
-        if let Some(table) = self.handles.get_mut(&process.0) {
-            give_up(table, word);
-        }
+        self.handles.give_up(process.0, word, 0);
+        self.contexts.give_up(process.0, word, 0);
     }
 
-    /// All handle words of a process stand for 0 from now on. Takes no memory.
+    /// All handle words of a process stand for 0 from now on, and have no context. Takes no memory.
     pub fn give_all_up(&mut self, process: Proc)
         ensures { words_in self.new ≡ without_words (words_in self.old) process }
     {
-        self.handles.remove(&process.0);
+        self.handles.remove(process.0);
+        self.contexts.remove(process.0);
     }
 
-    /// A copy of the handle words of a process. The only fault is want of memory.
-    pub fn copy_of(&self, process: Proc) -> Result<Table, AllocError>
+    /// A copy of the values of the handle words of a process. The only fault is want of memory.
+    pub fn copy_of(&self, process: Proc) -> Result<Table<u32>, AllocError>
         ensures { IfOk result (λ table. number_in table ≡ (words_in self.now).values process) }
     {
-        match self.handles.get(&process.0) {
+        match self.handles.tables.get(&process.0) {
             Some(table) => copy_of(table),
             None => Ok(Table::new(self.alloc)),
         }
     }
 
-    /// The handle words of a process are these from now on. There must be room for them. Takes no memory.
-    pub fn begin(&mut self, process: Proc, table: Table)
-        requires room { HasTable self.old.handles.entries process }
+    /// The values of the handle words of a process are these from now on, and none of them has a context.
+    /// There must be room for them. Takes no memory.
+    pub fn begin(&mut self, process: Proc, table: Table<u32>)
+        requires room { HasTable self.old.handles process }
         ensures words { words_in self.new ≡ with_words (words_in self.old) process (number_in table) }
         ensures processes { self.new.processes ≡ self.old.processes }
     {
-        if let Some(own) = self.handles.get_mut(&process.0) {
-            *own = table;
-        }
+        self.handles.replace(process.0, table);
+        self.contexts.remove(process.0);
     }
 }

@@ -1,37 +1,55 @@
 -- Two runs of the same lines go side by side: their states and words are alike, and so are their replies.
-use Rattle.std.proofs.Common.{◌≡◌, ◌∙◌, ◌⊎◌, inl, inr, ℕ, ◌+◌, ◌≤◌, ◌<◌, true, false, List, [], ◌∷◌, ◌++◌, length, take, drop, Some, None, refl, sym, ap, subst, arith, append-nil, length-append}
+use Rattle.std.specs.Option.{option_map}
+use Rattle.std.specs.Str.{bytes_eq}
+use Rattle.std.proofs.Common.{◌≡◌, ◌≢◌, ◌∙◌, ◌⊎◌, inl, inr, ℕ, ◌+◌, ◌≤◌, ◌<◌, ◌==◌, Bool, true, false, not, cond, List, [], ◌∷◌, ◌++◌, length, take, drop, Some, None, refl, sym, ap, subst, arith, append-nil, length-append}
 use Rattle.std.proofs.lemmas.Bool.{cases_lt}
 use Rattle.std.proofs.lemmas.List.{length-map, take-append-drop}
 use Rattle.ob_model.specs.declared.command.Command.{Command}
-use Rattle.ob_model.specs.declared.reply.Answer.TheVariants.{Done}
-use Rattle.ob_model.specs.declared.reply.Event.TheVariants.{Start}
+use Rattle.ob_model.specs.declared.command.Command.TheVariants as command
+use Rattle.ob_model.specs.declared.reply.Answer.{Answer}
+use Rattle.ob_model.specs.declared.reply.Answer.TheVariants.{Done, Ticket}
+use Rattle.ob_model.specs.declared.reply.Event.{Event}
+use Rattle.ob_model.specs.declared.reply.Event.TheVariants.{Start, Resume, Abandon}
+use Rattle.ob_model.specs.declared.reply.ParseRun.{ParseRun}
+use Rattle.ob_model.specs.declared.reply.ParseRun.TheVariants as run
 use Rattle.ob_model.specs.declared.reply.Given.{Given}
 use Rattle.ob_model.specs.declared.reply.Given.TheVariants as given
 use Rattle.ob_model.specs.declared.reply.Reply.{Reply}
-use Rattle.ob_model.specs.Alike.{AreAlike, AreAlikeAnswers, LeadOn, HoldOn, unvalued, unvalued_handle, unvalued_given}
+use Rattle.ob_model.specs.Alike.{AreAlike, AreAlikeAnswers, LeadOn, HoldOn, unvalued, unvalued_answer, unvalued_handle, unvalued_given}
 use Rattle.ob_model.specs.Opening.{opening}
 use Rattle.ob_model.specs.Sound.{IsSound}
+use Rattle.ob_model.specs.Step.{Step}
 use Rattle.ob_model.proofs.Soundness.{opening_sound}
-use Rattle.ob_complete.specs.Completes.{Completes, FindMemory}
-use Rattle.ob_complete.proofs.AlikeChains.{GoOn, completes_alike}
+use Rattle.ob_model.proofs.Steps.{step_sound}
+use Rattle.ob_complete.specs.Completes.{HasRun, Completes, FindMemory, FindsMemory as StepFindsMemory}
+use Rattle.ob_complete.proofs.AlikeChains.{GoOn, completes_alike, resume_alike, abandon_alike, open_alike}
 use Rattle.ob_complete.proofs.Chains.{completes_sound}
+use Rattle.ob_complete.proofs.Fewer.{WaitsFor}
 use Rattle.ob_complete.proofs.Replies.{is_open}
 use Rattle.ob_standard.specs.Standard.{StandardKind, Standard, standard, IsFresh}
-use Rattle.ob_lines.specs.declared.form.Form.TheVariants.{Nothing, Stat, Asks}
+use Rattle.ob_lines.specs.declared.form.Form.TheVariants.{Nothing, Stat, Asks, Waits}
+use Rattle.ob_lines.specs.declared.pending.PendingForm.{PendingForm}
+use Rattle.ob_lines.specs.declared.pending.PendingForm.TheVariants as pending
 use Rattle.ob_lines.specs.declared.request.Request.{Request}
-use Rattle.ob_lines.specs.declared.request.Request.TheVariants.{CreateDirectory, CreateLink, CreateObject, OpenDirectory, OpenLink, OpenObject, Close, QueryLink, QueryName, Duplicate, MakeTemporary, MakePermanent, SetDeviceMap, NewProcess, ExitProcess}
+use Rattle.ob_lines.specs.declared.request.Request.TheVariants.{CreateDirectory, CreateLink, CreateObject, OpenDirectory, OpenLink, OpenObject, Close, QueryLink, QueryName, QueryDirectory, Duplicate, MakeTemporary, MakePermanent, SetDeviceMap, NewProcess, ExitProcess}
 use Rattle.ob_lines.specs.Script.{Forms, BeginsWithForms}
+use Rattle.ob_lines.specs.Parts.{text_of}
+use Rattle.ob_lines.proofs.Spelled.{spells_alike}
 use Rattle.ob_lines.proofs.Scripted.{goes_on, scripts_alike as scripts_read_alike}
 use Rattle.ob_output.specs.Printed.{output_line, status_text, given_text, reply_text, counts_text}
-use Rattle.ob_requests.specs.Words.{Words, first_words}
-use Rattle.ob_requests.specs.Commands.{IsCommand, words_after}
-use Rattle.ob_requests.specs.Alike.{AreAlikeWords, unset}
+use Rattle.ob_requests.specs.Words.{Words, first_words, with_word, with_ticket}
+use Rattle.ob_requests.specs.Commands.{IsCommand, words_after, root_of, kind_meant, given_handle}
+use Rattle.ob_requests.specs.Alike.{AreAlikeValues, AreAlikeWords, unset, set}
 use Rattle.ob_requests.proofs.Alike.{asks_alike}
 use Rattle.ob_requests.proofs.AlikeWords.{replies_alike, words_stay_alike, sets}
 use Rattle.ob_shell.specs.declared.run.Ending.{Ending}
 use Rattle.ob_shell.specs.declared.run.Ending.TheVariants as ending
-use Rattle.ob_shell.specs.Machine.{Space, counts_of}
-use Rattle.ob_shell.specs.Shown.{Steps, Shows, PlaysFormsBy, FindsMemory}
+use Rattle.ob_effects.specs.Machine.{Space, counts_of}
+use Rattle.ob_effects.specs.Effects.{MakesStep}
+use Rattle.ob_effects.specs.Kept.{WaitsUnder, AreWaiting}
+use Rattle.ob_effects.specs.Waiting.{Steps, word_of, is_waiting, told_instead, IsEvent, answer_text, words_answered}
+use Rattle.ob_effects.proofs.Awaiting.{answered_waiting, carried_waiting, drop_some, end_some, first_waiting, waits_for_process}
+use Rattle.ob_shell.specs.Shown.{Shows, PlaysFormsBy, FindsMemory}
 use Rattle.ob_shell.specs.Alike.{FormsShowTheSame, ScriptsShowTheSame}
 
 -- two fresh sets are the same
@@ -68,6 +86,8 @@ first_alike : (s t : Space) → AreAlikeWords s t first_words first_words
 first_alike s t = record {
   processes = λ word. refl;
   values = λ p word. unset refl refl;
+  contexts = λ p word. refl;
+  tickets = λ p word. refl;
   apart = λ p a b e. inl refl;
   apart_too = λ p a b e. inl refl;
 }
@@ -88,6 +108,7 @@ opened_alike s t u v p (CreateObject kind place attrs args word) words others c 
 opened_alike s t u v p (Close handle) words others c a b before f opens lead hold second same = let none : is_open c ≡ false = ap is_open f in cc
 opened_alike s t u v p (QueryLink handle) words others c a b before f opens lead hold second same = let none : is_open c ≡ false = ap is_open f in cc
 opened_alike s t u v p (QueryName handle) words others c a b before f opens lead hold second same = let none : is_open c ≡ false = ap is_open f in cc
+opened_alike s t u v p (QueryDirectory handle room mode) words others c a b before f opens lead hold second same = let none : is_open c ≡ false = ap is_open f in cc
 opened_alike s t u v p (Duplicate handle to inherit word) words others c a b before f opens lead hold second same = let none : is_open c ≡ false = ap is_open f in cc
 opened_alike s t u v p (MakeTemporary handle) words others c a b before f opens lead hold second same = let none : is_open c ≡ false = ap is_open f in cc
 opened_alike s t u v p (MakePermanent handle) words others c a b before f opens lead hold second same = let none : is_open c ≡ false = ap is_open f in cc
@@ -113,21 +134,118 @@ rest_finds : (own behind : Steps) → FindMemory (own ++ behind) → FindMemory 
 rest_finds [] behind h = h
 rest_finds (step ∷ own) behind h = rest_finds own behind h.1
 
+-- words lead to the same handles where none is closed
+words_on : (s t u v : Space) (p : ℕ) (a b : Answer) (words others : Words) → LeadOn s t p p a b u v → HoldOn s (λ q value. ⊥) p a u → AreAlikeWords s t words others → AreAlikeWords u v words others
+words_on s t u v p a b words others lead hold before = record {
+  processes = before.processes;
+  values = λ q w. stays q (words.values q w) (others.values q w) (before.values q w);
+  contexts = before.contexts;
+  tickets = before.tickets;
+  apart = before.apart;
+  apart_too = before.apart_too;
+}
+  where
+    stays : (q value other : ℕ) → AreAlikeValues s t q value other → AreAlikeValues u v q value other
+    stays q value other (unset zero zero_too) = unset zero zero_too
+    stays q value other (set held leads is is_too) = set (hold.stays q value held (λ closed. closed)) (lead.held q value other held leads) is is_too
+
+-- the same ticket under one word
+ticketed_alike : (u v : Space) (words others : Words) (p : ℕ) (word : List ℕ) (n : ℕ) → AreAlikeWords u v words others → AreAlikeWords u v (with_ticket words p word n) (with_ticket others p word n)
+ticketed_alike u v words others p word n before = record {
+  processes = before.processes;
+  values = before.values;
+  contexts = before.contexts;
+  tickets = λ q w. cased (p == q) q w;
+  apart = before.apart;
+  apart_too = before.apart_too;
+}
+  where
+    cased : (x : Bool) (q : ℕ) (w : List ℕ)
+        → cond x (λ w. cond (bytes_eq word w) n (words.tickets p w)) (words.tickets q) w ≡ cond x (λ w. cond (bytes_eq word w) n (others.tickets p w)) (others.tickets q) w
+    cased true q w = ap (λ m. cond (bytes_eq word w) n m) (before.tickets p w)
+    cased false q w = before.tickets q w
+
+-- the words behind the answers to an open that waits
+answered_alike : (s t u v : Space) (p : ℕ) (word : List ℕ) (a b : Answer) (words others : Words) → AreAlikeAnswers a b → LeadOn s t p p a b u v → HoldOn s (λ q value. ⊥) p a u → HoldOn t (λ q value. ⊥) p b v
+    → AreAlikeWords s t words others → AreAlikeWords u v (words_answered words p word a) (words_answered others p word b)
+answered_alike s t u v p word (Done a) (Done b) words others same lead hold hold_too before =
+    ticketed_alike u v (with_word words p word (given_handle a.given)) (with_word others p word (given_handle b.given)) p word 0
+    (sets s t u v p p a b (λ q value. ⊥) lead hold (replies_alike a b same).1 words others before (λ q value. ⊥) hold_too (λ q value closed. closed) word)
+answered_alike s t u v p word (Ticket m) (Ticket l) words others same lead hold hold_too before =
+    let one : m ≡ l = let e : unvalued_answer (Ticket m) ≡ unvalued_answer (Ticket l) = same in cc in
+    subst (λ n. AreAlikeWords u v (with_ticket words p word m) (with_ticket others p word n)) one
+    (ticketed_alike u v words others p word m (words_on s t u v p (Ticket m) (Ticket l) words others lead hold before))
+answered_alike s t u v p word (Done a) (Ticket l) words others same lead hold hold_too before = let e : unvalued_answer (Done a) ≡ unvalued_answer (Ticket l) = same in cc
+answered_alike s t u v p word (Ticket m) (Done b) words others same lead hold hold_too before = let e : unvalued_answer (Ticket m) ≡ unvalued_answer (Done b) = same in cc
+
+-- what is printed of alike answers
+answer_text_alike : (a b : Answer) → AreAlikeAnswers a b → answer_text a ≡ answer_text b
+answer_text_alike (Done a) (Done b) same = text_alike a b (replies_alike a b same)
+answer_text_alike (Ticket m) (Ticket l) same = refl
+answer_text_alike (Done a) (Ticket l) same = let e : unvalued_answer (Done a) ≡ unvalued_answer (Ticket l) = same in cc
+answer_text_alike (Ticket m) (Done b) same = let e : unvalued_answer (Ticket m) ≡ unvalued_answer (Done b) = same in cc
+
+-- a parse that was run and found memory ran
+has_ran : (n : ℕ) (parse : ParseRun) (event : Event StandardKind) → HasRun parse → event ≡ Resume n parse → StepFindsMemory event → parse ≡ run.Ran
+has_ran n run.Unrun event has is finds = absurd has
+has_ran n run.Ran event has is finds = refl
+has_ran n run.NoMemory event has is finds = absurd (subst StepFindsMemory is finds)
+
+owned : (s : Space) (n p : ℕ) → n ≢ 0 → (n ≡ 0) ⊎ WaitsUnder s n p → WaitsFor s n p
+owned s n p some (inl none) = absurd (some none)
+owned s n p some (inr waits) = waits_for_process s n p waits
+
+-- the steps of a line of an open that waits, in both runs
+carried_alike : (s t u v : Space) (p : ℕ) (line : PendingForm (List ℕ)) (words others : Words) (tickets : List ℕ) (event other : Event StandardKind) (a b : Answer)
+    → IsSound s → IsSound t → AreAlike s t → AreAlikeWords s t words others → AreWaiting s words tickets → MakesStep line p words → IsEvent line words p event → IsEvent line others p other
+    → StepFindsMemory event → StepFindsMemory other → Step standard s event a u → Step standard t other b v
+    → AreAlikeAnswers a b × AreAlike u v × LeadOn s t p p a b u v × HoldOn s (λ q value. ⊥) p a u × HoldOn t (λ q value. ⊥) p b v
+carried_alike s t u v p (pending.Begin want name attrs word) words others tickets event other a b s_sound t_sound alike before waiting makes (c, (bytes, spelled, same), is) (d, (bytes_too, spelled_too, same_too), is_too) finds finds_too step step_too =
+    let one : bytes_too ≡ bytes = spells_alike (text_of name) bytes_too bytes spelled_too spelled in
+    let asked = asks_alike s t p (OpenObject want name attrs word) words others (command.OpenObject (root_of name (words.values p)) bytes attrs (option_map kind_meant want))
+    (command.OpenObject (root_of name (others.values p)) bytes attrs (option_map kind_meant want)) alike before
+    (bytes, spelled, refl) (bytes, spelled, refl) in
+    open_alike standard s t u v p (root_of name (words.values p)) (root_of name (others.values p)) bytes attrs (option_map kind_meant want) a b s_sound t_sound alike asked
+    (subst (λ e. Step standard s e a u) (is ∙ ap (Start p) same) step)
+    (subst (λ e. Step standard t e b v) (is_too ∙ ap (Start p) (same_too ∙ ap (λ x. command.OpenObject (root_of name (others.values p)) x attrs (option_map kind_meant want)) one)) step_too)
+carried_alike s t u v p (pending.End word) words others tickets event other a b s_sound t_sound alike before waiting makes (parse, ran, is) (parse_too, ran_too, is_too) finds finds_too step step_too =
+    let n : ℕ = words.tickets p word in
+    let one : others.tickets p word ≡ n = sym (before.tickets p word) in
+    resume_alike standard s t u v n p a b alike (owned s n p (end_some words p word makes) (waiting.theirs p word))
+    (subst (λ x. Step standard s (Resume n x) a u) (has_ran n parse event ran is finds) (subst (λ e. Step standard s e a u) is step))
+    (subst (λ k. Step standard t (Resume k run.Ran) b v) one
+    (subst (λ x. Step standard t (Resume (others.tickets p word) x) b v) (has_ran (others.tickets p word) parse_too other ran_too is_too finds_too) (subst (λ e. Step standard t e b v) is_too step_too)))
+carried_alike s t u v p (pending.Drop word) words others tickets event other a b s_sound t_sound alike before waiting makes is is_too finds finds_too step step_too =
+    let n : ℕ = words.tickets p word in
+    let one : others.tickets p word ≡ n = sym (before.tickets p word) in
+    abandon_alike standard s t u v n p run.Unrun a b alike (owned s n p (drop_some words p word makes) (waiting.theirs p word))
+    (subst (λ e. Step standard s e a u) is step)
+    (subst (λ k. Step standard t (Abandon k run.Unrun) b v) one (subst (λ e. Step standard t e b v) is_too step_too))
+
+-- what is told in place of a step is the same
+told_alike : (s t : Space) (p : ℕ) (line : PendingForm (List ℕ)) (words others : Words) → AreAlikeWords s t words others
+    → told_instead line (is_waiting others p (word_of line)) ≡ told_instead line (is_waiting words p (word_of line))
+told_alike s t p line words others before = ap (λ n. told_instead line (not (n == 0))) (sym (before.tickets p (word_of line)))
+
+-- what comes behind two lines that show the same
+shown_on : (x y front front_too output other : List ℕ) (end second : Ending) → x ≡ y → output ≡ x ++ front → other ≡ y ++ front_too → (front ≡ front_too) × (end ≡ second) → (output ≡ other) × (end ≡ second)
+shown_on x y front front_too output other end second same out out_too (rest, ends) = (out ∙ (λ i. same i ++ rest i) ∙ sym out_too, ends)
+
 -- from alike states, with alike words, lines of the same forms show the same
-shows_alike : (forms : Forms) (number : ℕ) (words others : Words) (s t : Space) (steps later : Steps) (output other : List ℕ) (end second : Ending)
-    → IsSound s → IsSound t → AreAlike s t → AreAlikeWords s t words others → FindMemory steps → FindMemory later → FindsMemory end → FindsMemory second
+shows_alike : (forms : Forms) (number : ℕ) (words others : Words) (s t : Space) (tickets : List ℕ) (steps later : Steps) (output other : List ℕ) (end second : Ending)
+    → IsSound s → IsSound t → AreAlike s t → AreAlikeWords s t words others → AreWaiting s words tickets → FindMemory steps → FindMemory later → FindsMemory end → FindsMemory second
     → Shows number forms words s steps output end → Shows number forms others t later other second → (output ≡ other) × (end ≡ second)
-shows_alike [] number words others s t steps later output other end second s_sound t_sound alike before found found_too finds finds_too (none, out, ends) (none_too, out_too, ends_too) =
+shows_alike [] number words others s t tickets steps later output other end second s_sound t_sound alike before waiting found found_too finds finds_too (given, out, ends) (given_too, out_too, ends_too) =
     (out ∙ sym out_too, ends ∙ sym ends_too)
-shows_alike (None ∷ forms) number words others s t steps later output other end second s_sound t_sound alike before found found_too finds finds_too (none, out, ends) (none_too, out_too, ends_too) =
+shows_alike (None ∷ forms) number words others s t tickets steps later output other end second s_sound t_sound alike before waiting found found_too finds finds_too (given, out, ends) (given_too, out_too, ends_too) =
     (out ∙ sym out_too, ends ∙ sym ends_too)
-shows_alike (Some Nothing ∷ forms) number words others s t steps later output other end second s_sound t_sound alike before found found_too finds finds_too h k =
-    shows_alike forms (number + 1) words others s t steps later output other end second s_sound t_sound alike before found found_too finds finds_too h k
-shows_alike (Some Stat ∷ forms) number words others s t steps later output other end second s_sound t_sound alike before found found_too finds finds_too (front, out, h) (front_too, out_too, k) =
-    let rest : (front ≡ front_too) × (end ≡ second) =
-    shows_alike forms (number + 1) words others s t steps later front front_too end second s_sound t_sound alike before found found_too finds finds_too h k in
-    (out ∙ (λ i. output_line number (counts_text (counts_alike s t alike i)) ++ rest.0 i) ∙ sym out_too, rest.1)
-shows_alike (Some (Asks process request) ∷ forms) number words others s t steps later output other end second s_sound t_sound alike before found found_too finds finds_too
+shows_alike (Some Nothing ∷ forms) number words others s t tickets steps later output other end second s_sound t_sound alike before waiting found found_too finds finds_too h k =
+    shows_alike forms (number + 1) words others s t tickets steps later output other end second s_sound t_sound alike before waiting found found_too finds finds_too h k
+shows_alike (Some Stat ∷ forms) number words others s t tickets steps later output other end second s_sound t_sound alike before waiting found found_too finds finds_too (front, out, h) (front_too, out_too, k) =
+    shown_on (output_line number (counts_text (counts_of s))) (output_line number (counts_text (counts_of t))) front front_too output other end second
+    (λ i. output_line number (counts_text (counts_alike s t alike i))) out out_too
+    (shows_alike forms (number + 1) words others s t tickets steps later front front_too end second s_sound t_sound alike before waiting found found_too finds finds_too h k)
+shows_alike (Some (Asks process request) ∷ forms) number words others s t tickets steps later output other end second s_sound t_sound alike before waiting found found_too finds finds_too
     (inl (c, es, behind, front, a, u, command, chain, es_is, out, h)) (inl (d, fs, behind_too, front_too, b, v, command_too, chain_too, fs_is, out_too, k)) =
     let p : ℕ = words.processes process in
     let one : others.processes process ≡ p = sym (before.processes process) in
@@ -139,22 +257,62 @@ shows_alike (Some (Asks process request) ∷ forms) number words others s t step
     let then_found : FindMemory (fs ++ behind_too) = subst FindMemory fs_is found_too in
     let both = completes_alike standard s t u v p c d es fs a b s_sound t_sound alike (asks_alike s t p request words others c d alike before command asked)
     (front_finds es behind first_found) (front_finds fs behind_too then_found) chain then in
-    let rest : (front ≡ front_too) × (end ≡ second) =
-    shows_alike forms (number + 1) (words_after request p a words) (words_after request p b others) u v behind behind_too front front_too end second
+    shown_on (output_line number (reply_text a)) (output_line number (reply_text b)) front front_too output other end second
+    (λ i. output_line number (text_alike a b (replies_alike a b both.0) i)) out out_too
+    (shows_alike forms (number + 1) (words_after request p a words) (words_after request p b others) u v tickets behind behind_too front front_too end second
     (completes_sound standard (Start p c) es s u a s_sound chain) (completes_sound standard (Start p d) fs t v b t_sound then) both.1
     (words_go_on s t u v p request words others c d a b s_sound t_sound alike before command asked both.0 both.2)
-    (rest_finds es behind first_found) (rest_finds fs behind_too then_found) finds finds_too h shown in
-    (out ∙ (λ i. output_line number (text_alike a b (replies_alike a b both.0) i) ++ rest.0 i) ∙ sym out_too, rest.1)
-shows_alike (Some (Asks process request) ∷ forms) number words others s t steps later output other end second s_sound t_sound alike before found found_too finds finds_too
-    (inl h) (inr (w, wants, out, ends)) = no_memory second number finds_too ends
-shows_alike (Some (Asks process request) ∷ forms) number words others s t steps later output other end second s_sound t_sound alike before found found_too finds finds_too
-    (inr (w, wants, out, ends)) k = no_memory end number finds ends
+    (answered_waiting s u words p request c es a tickets s_sound chain waiting)
+    (rest_finds es behind first_found) (rest_finds fs behind_too then_found) finds finds_too h shown)
+shows_alike (Some (Asks process request) ∷ forms) number words others s t tickets steps later output other end second s_sound t_sound alike before waiting found found_too finds finds_too
+    (inl h) (inr (own, behind, w, wants, is, (out, ends, given))) = no_memory second number finds_too ends
+shows_alike (Some (Asks process request) ∷ forms) number words others s t tickets steps later output other end second s_sound t_sound alike before waiting found found_too finds finds_too
+    (inr (own, behind, w, wants, is, (out, ends, given))) k = no_memory end number finds ends
+shows_alike (Some (Waits process line) ∷ forms) number words others s t tickets steps later output other end second s_sound t_sound alike before waiting found found_too finds finds_too
+    (inl (text, front, told, out, h)) (inl (text_too, front_too, told_too, out_too, k)) =
+    let p : ℕ = words.processes process in
+    let one : others.processes process ≡ p = sym (before.processes process) in
+    let there : told_instead line (is_waiting others p (word_of line)) ≡ Some text_too = subst (λ n. told_instead line (is_waiting others n (word_of line)) ≡ Some text_too) one told_too in
+    let same : text ≡ text_too = let e : Some text ≡ Some text_too = sym told ∙ (sym (told_alike s t p line words others before) ∙ there) in cc in
+    shown_on (output_line number text) (output_line number text_too) front front_too output other end second (ap (output_line number) same) out out_too
+    (shows_alike forms (number + 1) words others s t tickets steps later front front_too end second s_sound t_sound alike before waiting found found_too finds finds_too h k)
+shows_alike (Some (Waits process line) ∷ forms) number words others s t tickets steps later output other end second s_sound t_sound alike before waiting found found_too finds finds_too
+    (inl (text, front, told, out, h)) (inr (inl (event, a, behind, front_too, u, makes, asked, step, is, out_too, k))) =
+    let p : ℕ = words.processes process in
+    let one : others.processes process ≡ p = sym (before.processes process) in
+    let there : told_instead line (is_waiting others p (word_of line)) ≡ None = subst (λ n. told_instead line (is_waiting others n (word_of line)) ≡ None) one makes in
+    let bad : Some text ≡ None = sym told ∙ (sym (told_alike s t p line words others before) ∙ there) in cc
+shows_alike (Some (Waits process line) ∷ forms) number words others s t tickets steps later output other end second s_sound t_sound alike before waiting found found_too finds finds_too
+    (inr (inl (event, a, behind, front, u, makes, asked, step, is, out, h))) (inl (text, front_too, told, out_too, k)) =
+    let p : ℕ = words.processes process in
+    let one : others.processes process ≡ p = sym (before.processes process) in
+    let there : told_instead line (is_waiting others p (word_of line)) ≡ Some text = subst (λ n. told_instead line (is_waiting others n (word_of line)) ≡ Some text) one told in
+    let bad : Some text ≡ None = sym there ∙ (told_alike s t p line words others before ∙ makes) in cc
+shows_alike (Some (Waits process line) ∷ forms) number words others s t tickets steps later output other end second s_sound t_sound alike before waiting found found_too finds finds_too
+    (inr (inl (event, a, behind, front, u, makes, asked, step, is, out, h))) (inr (inl (event_too, b, behind_too, front_too, v, makes_too, asked_too, step_too, is_too, out_too, k))) =
+    let p : ℕ = words.processes process in
+    let one : others.processes process ≡ p = sym (before.processes process) in
+    let first_found : FindMemory ((event, a) ∷ behind) = subst FindMemory is found in
+    let then_found : FindMemory ((event_too, b) ∷ behind_too) = subst FindMemory is_too found_too in
+    let both = carried_alike s t u v p line words others tickets event event_too a b s_sound t_sound alike before waiting makes asked
+    (subst (λ n. IsEvent line others n event_too) one asked_too) first_found.0 then_found.0 step step_too in
+    let left = carried_waiting s u words p line event a tickets s_sound makes asked step waiting in
+    shown_on (output_line number (answer_text a)) (output_line number (answer_text b)) front front_too output other end second
+    (ap (output_line number) (answer_text_alike a b both.0)) out out_too
+    (shows_alike forms (number + 1) (words_answered words p (word_of line) a) (words_answered others p (word_of line) b) u v left.0 behind behind_too front front_too end second
+    (step_sound standard s u event a s_sound step) (step_sound standard t v event_too b t_sound step_too) both.1
+    (answered_alike s t u v p (word_of line) a b words others both.0 both.2 both.3 both.4 before) left.1 first_found.1 then_found.1 finds finds_too
+    h (subst (λ n. Shows (number + 1) forms (words_answered others n (word_of line) b) v behind_too front_too second) one k))
+shows_alike (Some (Waits process line) ∷ forms) number words others s t tickets steps later output other end second s_sound t_sound alike before waiting found found_too finds finds_too
+    h (inr (inr (own, behind, w, words', makes, wants, is, (out, ends, given)))) = no_memory second number finds_too ends
+shows_alike (Some (Waits process line) ∷ forms) number words others s t tickets steps later output other end second s_sound t_sound alike before waiting found found_too finds finds_too
+    (inr (inr (own, behind, w, words', makes, wants, is, (out, ends, given)))) k = no_memory end number finds ends
 
 pub forms_alike : FormsShowTheSame
 forms_alike forms steps others output other end second found found_too finds finds_too (a, entries, s, a_fresh, run, seats, made, h) (b, later, t, b_fresh, run_too, seats_too, made_too, k) =
     let same : a ≡ b = fresh_alike a b a_fresh b_fresh in
-    shows_alike forms 1 first_words first_words (opening a) (opening b) steps others output other end second (opening_sound a) (opening_sound b)
-    (ap (λ x. unvalued (opening {K = StandardKind} x)) same) (first_alike (opening a) (opening b)) found found_too finds finds_too h k
+    shows_alike forms 1 first_words first_words (opening a) (opening b) [] steps others output other end second (opening_sound a) (opening_sound b)
+    (ap (λ x. unvalued (opening {K = StandardKind} x)) same) (first_alike (opening a) (opening b)) (first_waiting (opening a)) found found_too finds finds_too h k
 
 -- lines that end at one that is no script line show the same with more behind them
 shows_more : (forms later : Forms) (number : ℕ) (words : Words) (s : Space) (steps : Steps) (output : List ℕ) (line : ℕ)
@@ -166,6 +324,23 @@ shows_more (Some Stat ∷ forms) later number words s steps output line (front, 
 shows_more (Some (Asks process request) ∷ forms) later number words s steps output line (inl (c, own, behind, front, a, u, command, chain, is, out, h)) =
     inl (c, own, behind, front, a, u, command, chain, is, out, shows_more forms later (number + 1) (words_after request (words.processes process) a words) u behind front line h)
 shows_more (Some (Asks process request) ∷ forms) later number words s steps output line (inr h) = inr h
+shows_more (Some (Waits process form) ∷ forms) later number words s steps output line (inl (text, front, told, out, h)) =
+    inl (text, front, told, out, shows_more forms later (number + 1) words s steps front line h)
+shows_more (Some (Waits process form) ∷ forms) later number words s steps output line (inr (inl (event, a, behind, front, u, makes, asked, step, is, out, h))) =
+    inr (inl (
+      event,
+      a,
+      behind,
+      front,
+      u,
+      makes,
+      asked,
+      step,
+      is,
+      out,
+      shows_more forms later (number + 1) (words_answered words (words.processes process) (word_of form) a) u behind front line h,
+    ))
+shows_more (Some (Waits process form) ∷ forms) later number words s steps output line (inr (inr h)) = inr (inr h)
 
 plays_more : (forms later : Forms) (steps : Steps) (output : List ℕ) (line : ℕ) → PlaysFormsBy forms steps output (ending.BadLine line) → PlaysFormsBy (forms ++ later) steps output (ending.BadLine line)
 plays_more forms later steps output line (first, entries, s, fresh, run, seats, made, h) =

@@ -1,36 +1,50 @@
 -- What the rest of a script shows, behind what was shown so far.
 use Rattle.std.proofs.Common.{◌≡◌, ℕ, ◌+◌, List, [], ◌∷◌, ◌++◌, map, Option, Some, None, refl, sym, ap, ◌∙◌, subst, append_assoc, append-nil, inl, inr}
 use Rattle.std.specs.Io.KnownBytes.{Appends}
+use Rattle.ob_model.specs.declared.reply.Answer.{Answer}
+use Rattle.ob_model.specs.declared.reply.Answer.TheVariants.{Done, Ticket}
+use Rattle.ob_model.specs.declared.reply.Event.{Event}
 use Rattle.ob_model.specs.declared.reply.Event.TheVariants.{Start}
 use Rattle.ob_model.specs.Opening.{opening}
 use Rattle.ob_model.specs.Run.{RunFrom}
 use Rattle.ob_model.specs.Sound.{IsSound}
+use Rattle.ob_model.specs.Step.{Step}
 use Rattle.ob_model.proofs.Soundness.{opening_sound}
+use Rattle.ob_model.proofs.Steps.{step_sound}
 use Rattle.ob_complete.specs.Completes.{step_of}
-use Rattle.ob_complete.proofs.Chains.{completes_sound, completes_run, falters_run, entered, behind as count_behind, entered_steps}
-use Rattle.ob_output.specs.declared.counts.Counts.{Counts}
-use Rattle.ob_shell.specs.declared.line.Outcome.{Outcome}
-use Rattle.ob_shell.specs.declared.line.Outcome.TheVariants as outcome
+use Rattle.ob_complete.proofs.Chains.{completes_sound, completes_run, entered, behind as count_behind, entered_steps}
+use Rattle.ob_effects.specs.declared.outcome.Outcome.{Outcome}
+use Rattle.ob_effects.specs.declared.outcome.Outcome.TheVariants as outcome
 use Rattle.ob_shell.specs.declared.run.Ending.{Ending}
 use Rattle.ob_shell.specs.declared.run.Ending.TheVariants as ending
 use Rattle.ob_lines.specs.declared.form.Form.{Form}
+use Rattle.ob_lines.specs.declared.form.Form.TheVariants.{Nothing, Stat, Asks, Waits}
+use Rattle.ob_lines.specs.declared.pending.PendingForm.{PendingForm}
 use Rattle.ob_lines.specs.Script.{Forms, BeginsWithLine, BeginsWithForms}
 use Rattle.ob_lines.proofs.Scripted.{HaveTexts, begins_more, goes_on}
-use Rattle.ob_requests.specs.Words.{Words, first_words}
+use Rattle.ob_requests.specs.Words.{Words}
 use Rattle.ob_shell.specs.Writing.{AppendsFront, Gathers}
 use Rattle.ob_shell.proofs.Gathered.{gathers_nothing, gathers_more, gathers_front, gathers_out, gathers_out_front}
-use Rattle.ob_standard.specs.Standard.{Standard, standard, IsFresh}
-use Rattle.ob_shell.specs.Machine.{Space}
-use Rattle.ob_output.specs.Printed.{output_line, reply_text, counts_text}
-use Rattle.ob_shell.specs.Shown.{Entries, AreOfSeat0, Steps, WantsMemory, Shows, PlaysForms, Plays, PlaysOn, PlaysFirst, PlaysTo, PlaysPartTo}
+use Rattle.ob_standard.specs.Standard.{StandardKind, standard}
+use Rattle.ob_effects.specs.Machine.{Space, counts_of}
+use Rattle.ob_effects.specs.Effects.{MakesStep, notice_text, IsDone}
+use Rattle.ob_effects.specs.declared.session.Session.{Session}
+use Rattle.ob_effects.specs.Kept.{AreWaiting, IsFirst, words_of, space_of}
+use Rattle.ob_effects.specs.Waiting.{Steps, word_of, IsEvent, answer_text, words_answered}
+use Rattle.ob_effects.proofs.Awaiting.{first_waiting, answered_waiting, unanswered_waiting, carried_waiting, stopped_waiting, wanting_sound, stopped_sound}
+use Rattle.ob_output.specs.Printed.{output_line}
+use Rattle.ob_shell.specs.Shown.{Entries, AreOfSeat0, EndsWanting, Shows, PlaysForms, Plays, PlaysOn, PlaysFirst, PlaysTo, PlaysPartTo}
 use Rattle.ob_shell.proofs.Totals.{entered_seat, shows_total}
-use Rattle.ob_shell.specs.Running.{IsDone, outcome_text, outcome_end, GathersRun}
+use Rattle.ob_shell.specs.Running.{outcome_text, outcome_end, GathersRun}
+use Rattle.ob_shell.proofs.Finals.{finals_total, wanting_run, stopped_run}
 
 -- the rest of the script stands behind the lines that were run, which show so much: whatever forms come,
 -- what they show from here on stands behind it
 pub record RunsBehind (script rest : List ℕ) (number : ℕ) (words : Words) (s : Space) (done : Forms) (so_far : List ℕ) (count : ℕ) : Type 0 where
   pub read : BeginsWithForms script done rest
   pub sound : IsSound s
+  pub tickets : List ℕ
+  pub waiting : AreWaiting s words tickets
   pub onward : (forms : Forms) (entries : Entries) (t : Space) (output : List ℕ) (end : Ending) → RunFrom standard s count entries t → AreOfSeat0 entries
       → Shows (number + 1) forms words s (map step_of entries) output end → PlaysForms (done ++ forms) (so_far ++ output) end
 
@@ -43,106 +57,227 @@ pub record StandsBehind (old new : Option (List ℕ)) (has script rest : List �
   pub gathered : Gathers old new [] so_far has
 
 -- at first nothing was run and gathered
-pub stands_first : (old : Option (List ℕ)) (has script : List ℕ) (words : Words) (first : Standard) (s : Space) → has ≡ [] → IsFresh first → words ≡ first_words → s ≡ opening first
-    → StandsBehind old old has script script 0 words s
-stands_first old has script words first s none f w e = record {
+pub stands_first : (old : Option (List ℕ)) (has script : List ℕ) (session : Session) → has ≡ [] → IsFirst session → StandsBehind old old has script script 0 (words_of session) (space_of session)
+stands_first old has script session none (w, (first, f, e)) = record {
   done = [];
   so_far = [];
   count = 0;
   runs = record {
     read = refl;
     sound = subst IsSound (sym e) (opening_sound first);
+    tickets = [];
+    waiting = subst (λ x. AreWaiting x (words_of session) []) (sym e) (subst (λ x. AreWaiting (opening first) x []) (sym w) (first_waiting (opening first)));
     onward = λ forms entries t output end run seats shows.
         let P : Space → Type 0 = λ x. RunFrom standard x 0 entries t in
-        let Q : Space → Type 0 = λ x. Shows 1 forms words x (map step_of entries) output end in
+        let Q : Space → Type 0 = λ x. Shows 1 forms (words_of session) x (map step_of entries) output end in
         let R : Words → Type 0 = λ x. Shows 1 forms x (opening first) (map step_of entries) output end in
         (map step_of entries, (first, entries, t, f, subst P e run, seats, refl, subst R w (subst Q e shows)));
   };
   gathered = let G : List ℕ → Type 0 = λ x. Gathers old old [] [] x in subst G (sym none) (gathers_nothing old []);
 }
 
+-- the steps of a line that goes on
+abbrev own_steps : (form : Option (Form (List ℕ))) (words words' : Words) (s s' : Space) (o : Outcome) → IsDone form words s o words' s' → Steps
+own_steps None words words' s s' o d = []
+own_steps (Some Nothing) words words' s s' o d = []
+own_steps (Some Stat) words words' s s' o d = []
+own_steps (Some (Asks process request)) words words' s s' outcome.Idle d = []
+own_steps (Some (Asks process request)) words words' s s' (outcome.Counted counts) d = []
+own_steps (Some (Asks process request)) words words' s s' (outcome.Replied reply) ((c, steps, command, chain), w) = steps
+own_steps (Some (Asks process request)) words words' s s' outcome.Pending d = []
+own_steps (Some (Asks process request)) words words' s s' (outcome.Told notice) d = []
+own_steps (Some (Asks process request)) words words' s s' outcome.NoLine d = []
+own_steps (Some (Asks process request)) words words' s s' outcome.NoMemory d = []
+own_steps (Some (Waits process line)) words words' s s' outcome.Idle d = []
+own_steps (Some (Waits process line)) words words' s s' (outcome.Counted counts) d = []
+own_steps (Some (Waits process line)) words words' s s' (outcome.Replied reply) (makes, ((event, asked, step), w)) = (event, Done reply) ∷ []
+own_steps (Some (Waits process line)) words words' s s' outcome.Pending (makes, (n, ((event, asked, step), w))) = (event, Ticket n) ∷ []
+own_steps (Some (Waits process line)) words words' s s' (outcome.Told notice) d = []
+own_steps (Some (Waits process line)) words words' s s' outcome.NoLine d = []
+own_steps (Some (Waits process line)) words words' s s' outcome.NoMemory d = []
+
+-- What a line that goes on leaves: a sound state, opens that wait under words, and a run that goes on behind its steps,
+-- with the rest of what is shown.
+record GoesOn (form : Option (Form (List ℕ))) (number : ℕ) (words words' : Words) (s s' : Space) (o : Outcome) (own : Steps) : Type 0 where
+  sound : IsSound s'
+  tickets : List ℕ
+  waiting : AreWaiting s' words' tickets
+  run : (count : ℕ) (entries : Entries) (t : Space) → RunFrom standard s' (count_behind count own) entries t → RunFrom standard s count (entered count own ++ entries) t
+  shows : (forms : Forms) (steps : Steps) (output : List ℕ) (end : Ending) → Shows (number + 1) forms words' s' steps output end
+      → Shows number (form ∷ forms) words s (own ++ steps) (outcome_text number o ++ output) end
+
+-- a line that leaves the words and the state
+stays : (form : Option (Form (List ℕ))) (number : ℕ) (words words' : Words) (s s' : Space) (o : Outcome) (tickets : List ℕ) → words' ≡ words → s' ≡ s → IsSound s → AreWaiting s words tickets
+    → ((forms : Forms) (steps : Steps) (output : List ℕ) (end : Ending) → Shows (number + 1) forms words s steps output end → Shows number (form ∷ forms) words s steps (outcome_text number o ++ output) end)
+    → GoesOn form number words words' s s' o []
+stays form number words words' s s' o tickets w e sound waiting shows = record {
+  sound = subst IsSound (sym e) sound;
+  tickets = tickets;
+  waiting = subst (λ x. AreWaiting x words' tickets) (sym e) (subst (λ x. AreWaiting s x tickets) (sym w) waiting);
+  run = λ count entries t run. subst (λ x. RunFrom standard x count entries t) e run;
+  shows = λ forms steps output end shown. shows forms steps output end
+      (subst (λ x. Shows (number + 1) forms words x steps output end) e (subst (λ x. Shows (number + 1) forms x s' steps output end) w shown));
+}
+
+-- a line of an open that waits, which made a step
+steps_on : (process : List ℕ) (line : PendingForm (List ℕ)) (number : ℕ) (words words' : Words) (s s' : Space) (o : Outcome) (a : Answer) (tickets : List ℕ) → IsSound s → AreWaiting s words tickets
+    → MakesStep line (words.processes process) words → (event : Event StandardKind) → IsEvent line words (words.processes process) event → Step standard s event a s'
+    → words' ≡ words_answered words (words.processes process) (word_of line) a → outcome_text number o ≡ output_line number (answer_text a)
+    → GoesOn (Some (Waits process line)) number words words' s s' o ((event, a) ∷ [])
+steps_on process line number words words' s s' o a tickets sound waiting makes event asked step w told =
+    let p = words.processes process in
+    let left = carried_waiting s s' words p line event a tickets sound makes asked step waiting in
+    record {
+      sound = step_sound standard s s' event a sound step;
+      tickets = left.0;
+      waiting = subst (λ x. AreWaiting s' x left.0) (sym w) left.1;
+      run = λ count entries t run. (s', refl, step, run);
+      shows = λ forms steps output end shown.
+          inr (inl (event, a, steps, output, s', makes, asked, step, refl, ap (λ x. x ++ output) told, subst (λ x. Shows (number + 1) forms x s' steps output end) w shown));
+    }
+
+-- a line that goes on
+goes : (form : Option (Form (List ℕ))) (number : ℕ) (words words' : Words) (s s' : Space) (o : Outcome) (tickets : List ℕ) → IsSound s → AreWaiting s words tickets
+    → (d : IsDone form words s o words' s') → None ≡ outcome_end number o → GoesOn form number words words' s s' o (own_steps form words words' s s' o d)
+goes None number words words' s s' o tickets sound waiting (is, w, e) n =
+    let bad : None ≡ Some (ending.BadLine number) = n ∙ ap (outcome_end number) is in cc
+goes (Some Nothing) number words words' s s' o tickets sound waiting (is, w, e) n =
+    subst (λ x. GoesOn (Some Nothing) number words words' s s' x []) (sym is)
+    (stays (Some Nothing) number words words' s s' outcome.Idle tickets w e sound waiting (λ forms steps output end shown. shown))
+goes (Some Stat) number words words' s s' o tickets sound waiting (is, w, e) n =
+    subst (λ x. GoesOn (Some Stat) number words words' s s' x []) (sym is)
+    (stays (Some Stat) number words words' s s' (outcome.Counted (counts_of s)) tickets w e sound waiting (λ forms steps output end shown. (output, refl, shown)))
+goes (Some (Asks process request)) number words words' s s' (outcome.Replied reply) tickets sound waiting ((c, own, command, chain), w) n =
+    let p = words.processes process in
+    record {
+      sound = completes_sound standard (Start p c) own s s' reply sound chain;
+      tickets = tickets;
+      waiting = subst (λ x. AreWaiting s' x tickets) (sym w) (answered_waiting s s' words p request c own reply tickets sound chain waiting);
+      run = λ count entries t run. completes_run standard (Start p c) own s s' reply count entries t chain run;
+      shows = λ forms steps output end shown.
+          inl (c, own, steps, output, reply, s', command, chain, refl, refl, subst (λ x. Shows (number + 1) forms x s' steps output end) w shown);
+    }
+goes (Some (Asks process request)) number words words' s s' outcome.Idle tickets sound waiting d n = absurd d
+goes (Some (Asks process request)) number words words' s s' (outcome.Counted counts) tickets sound waiting d n = absurd d
+goes (Some (Asks process request)) number words words' s s' outcome.Pending tickets sound waiting d n = absurd d
+goes (Some (Asks process request)) number words words' s s' (outcome.Told notice) tickets sound waiting d n = absurd d
+goes (Some (Asks process request)) number words words' s s' outcome.NoLine tickets sound waiting d n = absurd d
+goes (Some (Asks process request)) number words words' s s' outcome.NoMemory tickets sound waiting d n = cc
+goes (Some (Waits process line)) number words words' s s' (outcome.Replied reply) tickets sound waiting (makes, ((event, asked, step), w)) n =
+    steps_on process line number words words' s s' (outcome.Replied reply) (Done reply) tickets sound waiting makes event asked step w refl
+goes (Some (Waits process line)) number words words' s s' outcome.Pending tickets sound waiting (makes, (m, ((event, asked, step), w))) n =
+    steps_on process line number words words' s s' outcome.Pending (Ticket m) tickets sound waiting makes event asked step w refl
+goes (Some (Waits process line)) number words words' s s' (outcome.Told notice) tickets sound waiting (told, w, e) n =
+    stays (Some (Waits process line)) number words words' s s' (outcome.Told notice) tickets w e sound waiting
+    (λ forms steps output end shown. inl (notice_text notice, output, told, refl, shown))
+goes (Some (Waits process line)) number words words' s s' outcome.Idle tickets sound waiting d n = absurd d
+goes (Some (Waits process line)) number words words' s s' (outcome.Counted counts) tickets sound waiting d n = absurd d
+goes (Some (Waits process line)) number words words' s s' outcome.NoLine tickets sound waiting d n = absurd d
+goes (Some (Waits process line)) number words words' s s' outcome.NoMemory tickets sound waiting d n = cc
+
 -- how many entries there are behind a line
-abbrev count_after : (count : ℕ) (form : Option (Form (List ℕ))) (words words' : Words) (s s' : Space) (o : Outcome) → IsDone form words s o words' s' → ℕ
-count_after count form words words' s s' outcome.Idle d = count
-count_after count form words words' s s' (outcome.Counted counts) d = count
-count_after count form words words' s s' (outcome.Replied reply) (p, r, l, ((c, steps, command, chain), w)) = count_behind count steps
-count_after count form words words' s s' outcome.NoLine d = count
-count_after count form words words' s s' outcome.NoMemory d = count
+abbrev pub count_after : (count : ℕ) (form : Option (Form (List ℕ))) (words words' : Words) (s s' : Space) (o : Outcome) → IsDone form words s o words' s' → ℕ
+count_after count form words words' s s' o d = count_behind count (own_steps form words words' s s' o d)
 
--- a line that goes on leaves a sound state sound
-sound_after : (form : Option (Form (List ℕ))) (number : ℕ) (words words' : Words) (s s' : Space) (o : Outcome) → IsDone form words s o words' s' → None ≡ outcome_end number o
-    → IsSound s → IsSound s'
-sound_after form number words words' s s' outcome.Idle (l, w, e) n sound = subst IsSound (sym e) sound
-sound_after form number words words' s s' (outcome.Counted counts) (l, k, w, e) n sound = subst IsSound (sym e) sound
-sound_after form number words words' s s' (outcome.Replied reply) (p, r, l, ((c, steps, command, chain), w)) n sound =
-    completes_sound standard (Start (words.processes p) c) steps s s' reply sound chain
-sound_after form number words words' s s' outcome.NoLine d n sound = cc
-sound_after form number words words' s s' outcome.NoMemory d n sound = cc
-
--- a line that goes on stands behind what was shown before it
+-- it stands behind what was shown before it
 runs_more : (script rest behind : List ℕ) (form : Option (Form (List ℕ))) (number : ℕ) (words words' : Words) (s s' : Space) (o : Outcome) (done : Forms) (so_far : List ℕ) (count : ℕ)
     → RunsBehind script rest number words s done so_far count → BeginsWithLine rest form behind → (d : IsDone form words s o words' s') → None ≡ outcome_end (number + 1) o
     → RunsBehind script behind (number + 1) words' s' (done ++ form ∷ []) (so_far ++ outcome_text (number + 1) o) (count_after count form words words' s s' o d)
-runs_more script rest behind form number words words' s s' o done so_far count b e d n = record {
-  read = begins_more script rest behind done form b.read e;
-  sound = sound_after form (number + 1) words words' s s' o d n b.sound;
-  onward = λ forms entries t output end run seats shows.
-      rw (append_assoc done (form ∷ []) forms, append_assoc so_far (outcome_text (number + 1) o) output) (go o d n forms entries t output end run seats shows);
-}
-  where
-    -- a line that leaves the words and the state
-    same : (forms : Forms) (steps : Steps) (output : List ℕ) (end : Ending) → words' ≡ words → s' ≡ s
-        → Shows (number + 1 + 1) forms words' s' steps output end → Shows (number + 1 + 1) forms words s steps output end
-    same forms steps output end w e shows =
-        let Q : Words → Type 0 = λ x. Shows (number + 1 + 1) forms x s' steps output end in
-        let R : Space → Type 0 = λ x. Shows (number + 1 + 1) forms words x steps output end in
-        subst R e (subst Q w shows)
+runs_more script rest behind form number words words' s s' o done so_far count b e d n =
+    let own = own_steps form words words' s s' o d in
+    let on = goes form (number + 1) words words' s s' o b.tickets b.sound b.waiting d n in
+    record {
+      read = begins_more script rest behind done form b.read e;
+      sound = on.sound;
+      tickets = on.tickets;
+      waiting = on.waiting;
+      onward = λ forms entries t output end run seats shows.
+          rw (append_assoc done (form ∷ []) forms, append_assoc so_far (outcome_text (number + 1) o) output)
+          (b.onward (form ∷ forms) (entered count own ++ entries) t (outcome_text (number + 1) o ++ output) end (on.run count entries t run) (entered_seat count own entries seats)
+          (subst (λ x. Shows (number + 1) (form ∷ forms) words s x (outcome_text (number + 1) o ++ output) end) (sym (entered_steps count own entries))
+          (on.shows forms (map step_of entries) output end shows)));
+    }
 
-    go : (o : Outcome) (d : IsDone form words s o words' s') → None ≡ outcome_end (number + 1) o
-        → (forms : Forms) (entries : Entries) (t : Space) (output : List ℕ) (end : Ending) → RunFrom standard s' (count_after count form words words' s s' o d) entries t → AreOfSeat0 entries
-        → Shows (number + 1 + 1) forms words' s' (map step_of entries) output end → PlaysForms (done ++ (form ∷ forms)) (so_far ++ (outcome_text (number + 1) o ++ output)) end
-    go outcome.Idle (l, w, e) n forms entries t output end run seats shows =
-        let P : Space → Type 0 = λ x. RunFrom standard x count entries t in
-        b.onward (form ∷ forms) entries t output end (subst P e run) seats (rw l (same forms (map step_of entries) output end w e shows))
-    go (outcome.Counted counts) (l, k, w, e) n forms entries t output end run seats shows =
-        let P : Space → Type 0 = λ x. RunFrom standard x count entries t in
-        b.onward (form ∷ forms) entries t (output_line (number + 1) (counts_text counts) ++ output) end (subst P e run) seats
-        (rw l (output, ap (λ (x : Counts). output_line (number + 1) (counts_text x) ++ output) k, same forms (map step_of entries) output end w e shows))
-    go (outcome.Replied reply) (p, r, l, ((c, own, command, chain), w)) n forms entries t output end run seats shows =
-        let Q : Words → Type 0 = λ x. Shows (number + 1 + 1) forms x s' (map step_of entries) output end in
-        b.onward (form ∷ forms) (entered count own ++ entries) t (output_line (number + 1) (reply_text reply) ++ output) end
-        (completes_run standard (Start (words.processes p) c) own s s' reply count entries t chain run) (entered_seat count own entries seats)
-        (rw l (inl (c, own, map step_of entries, output, reply, s', command, chain, entered_steps count own entries, refl, subst Q w shows)))
-    go outcome.NoLine h n forms entries t output end run seats shows = cc
-    go outcome.NoMemory d n forms entries t output end run seats shows = cc
+-- what a line shows that ends the run, whatever lines stand behind it
+record Stops (form : Option (Form (List ℕ))) (number : ℕ) (words : Words) (s : Space) (o : Outcome) (end : Ending) (count : ℕ) : Type 0 where
+  entries : Entries
+  last : Space
+  run : RunFrom standard s count entries last
+  seats : AreOfSeat0 entries
+  shows : (later : Forms) → Shows number (form ∷ later) words s (map step_of entries) (outcome_text number o) end
+
+-- a line that found no memory behind these steps; what waits is given up
+stops_wanting : (form : Option (Form (List ℕ))) (number : ℕ) (words words' : Words) (s s' : Space) (end : Ending) (count : ℕ) (own : Steps) (left : List ℕ) → IsSound s' → AreWaiting s' words' left
+    → ((entries : Entries) (t : Space) → RunFrom standard s' (count_behind count own) entries t → RunFrom standard s count (entered count own ++ entries) t)
+    → end ≡ ending.NoMemoryAt number
+    → ((later : Forms) (behind : Steps) → EndsWanting number words' s' behind (outcome_text number outcome.NoMemory) end → Shows number (form ∷ later) words s (own ++ behind) (outcome_text number outcome.NoMemory) end)
+    → Stops form number words s outcome.NoMemory end count
+stops_wanting form number words words' s s' end count own left sound waiting run same shows =
+    let final = finals_total s' words' left (count_behind count own) sound waiting in
+    record {
+      entries = entered count own ++ final.0;
+      last = final.1;
+      run = run final.0 final.1 final.2;
+      seats = entered_seat count own final.0 final.3;
+      shows = λ later.
+          subst (λ x. Shows number (form ∷ later) words s x (outcome_text number outcome.NoMemory) end) (sym (entered_steps count own final.0))
+          (shows later (map step_of final.0) (refl, same, final.4));
+    }
+
+stops : (form : Option (Form (List ℕ))) (number : ℕ) (words words' : Words) (s s' : Space) (o : Outcome) (end : Ending) (count : ℕ) (tickets : List ℕ) → IsSound s → AreWaiting s words tickets
+    → IsDone form words s o words' s' → Some end ≡ outcome_end number o → Stops form number words s o end count
+stops None number words words' s s' o end count tickets sound waiting (is, w, e) n =
+    let same : Some end ≡ Some (ending.BadLine number) = n ∙ ap (outcome_end number) is in
+    let one : end ≡ ending.BadLine number = cc in
+    let final = finals_total s words tickets count sound waiting in
+    subst (λ x. Stops None number words s x end count) (sym is)
+    (record { entries = final.0; last = final.1; run = final.2; seats = final.3; shows = λ later. (final.4, refl, one) })
+stops (Some Nothing) number words words' s s' o end count tickets sound waiting (is, w, e) n =
+    let bad : Some end ≡ None = n ∙ ap (outcome_end number) is in cc
+stops (Some Stat) number words words' s s' o end count tickets sound waiting (is, w, e) n =
+    let bad : Some end ≡ None = n ∙ ap (outcome_end number) is in cc
+stops (Some (Asks process request)) number words words' s s' outcome.NoMemory end count tickets sound waiting ((steps, wants), w) n =
+    let one : end ≡ ending.NoMemoryAt number = cc in
+    let p = words.processes process in
+    stops_wanting (Some (Asks process request)) number words words s s' end count steps tickets (wanting_sound s s' words p request steps sound wants)
+    (unanswered_waiting s s' words p request steps tickets sound wants waiting) (wanting_run s s' words p request steps count wants) one
+    (λ later behind ends. inr (steps, behind, s', wants, refl, ends))
+stops (Some (Asks process request)) number words words' s s' outcome.Idle end count tickets sound waiting d n = absurd d
+stops (Some (Asks process request)) number words words' s s' (outcome.Counted counts) end count tickets sound waiting d n = absurd d
+stops (Some (Asks process request)) number words words' s s' (outcome.Replied reply) end count tickets sound waiting d n = cc
+stops (Some (Asks process request)) number words words' s s' outcome.Pending end count tickets sound waiting d n = absurd d
+stops (Some (Asks process request)) number words words' s s' (outcome.Told notice) end count tickets sound waiting d n = absurd d
+stops (Some (Asks process request)) number words words' s s' outcome.NoLine end count tickets sound waiting d n = absurd d
+stops (Some (Waits process line)) number words words' s s' outcome.NoMemory end count tickets sound waiting (makes, (steps, none)) n =
+    let one : end ≡ ending.NoMemoryAt number = cc in
+    let p = words.processes process in
+    let left = stopped_waiting s s' words words' p line steps tickets sound makes none waiting in
+    stops_wanting (Some (Waits process line)) number words words' s s' end count steps left.0 (stopped_sound s s' words words' p line steps sound none) left.1
+    (stopped_run s s' words words' p line steps count none) one
+    (λ later behind ends. inr (inr (steps, behind, s', words', makes, none, refl, ends)))
+stops (Some (Waits process line)) number words words' s s' outcome.Idle end count tickets sound waiting d n = absurd d
+stops (Some (Waits process line)) number words words' s s' (outcome.Counted counts) end count tickets sound waiting d n = absurd d
+stops (Some (Waits process line)) number words words' s s' (outcome.Replied reply) end count tickets sound waiting d n = cc
+stops (Some (Waits process line)) number words words' s s' outcome.Pending end count tickets sound waiting d n = cc
+stops (Some (Waits process line)) number words words' s s' (outcome.Told notice) end count tickets sound waiting d n = cc
+stops (Some (Waits process line)) number words words' s s' outcome.NoLine end count tickets sound waiting d n = absurd d
 
 -- a line that ends the run, whatever lines stand behind it
 runs_end : (script rest : List ℕ) (form : Option (Form (List ℕ))) (number : ℕ) (words words' : Words) (s s' : Space) (o : Outcome) (end : Ending) (done : Forms) (so_far : List ℕ) (count : ℕ)
     → RunsBehind script rest number words s done so_far count → IsDone form words s o words' s' → Some end ≡ outcome_end (number + 1) o
     → (later : Forms) → PlaysForms (done ++ (form ∷ later)) (so_far ++ outcome_text (number + 1) o) end
-runs_end script rest form number words words' s s' outcome.Idle end done so_far count b d n later = cc
-runs_end script rest form number words words' s s' (outcome.Counted counts) end done so_far count b d n later = cc
-runs_end script rest form number words words' s s' (outcome.Replied reply) end done so_far count b d n later = cc
-runs_end script rest form number words words' s s' outcome.NoLine end done so_far count b l n later =
-    let same : end ≡ ending.BadLine (number + 1) = cc in
-    b.onward (form ∷ later) [] s (outcome_text (number + 1) outcome.NoLine) end refl tt (rw l (refl, refl, same))
-runs_end script rest form number words words' s s' outcome.NoMemory end done so_far count b (p, r, l, (steps, wants)) n later =
-    let same : end ≡ ending.NoMemoryAt (number + 1) = cc in
-    b.onward (form ∷ later) (entered count steps ++ []) s' (outcome_text (number + 1) outcome.NoMemory) end (run wants) (entered_seat count steps [] tt)
-    (rw l (inr (s', subst (λ x. WantsMemory r (words.processes p) words x s s') (sym (entered_steps count steps [] ∙ append-nil steps)) wants, refl, same)))
-  where
-    run : WantsMemory r (words.processes p) words steps s s' → RunFrom standard s count (entered count steps ++ []) s'
-    run (inl (none, left)) =
-        subst (λ x. RunFrom standard s count (entered count x ++ []) s') (sym none) left
-    run (inr (c, command, falters)) = falters_run standard (Start (words.processes p) c) steps s s' count [] s' falters refl
+runs_end script rest form number words words' s s' o end done so_far count b d n later =
+    let stop = stops form (number + 1) words words' s s' o end count b.tickets b.sound b.waiting d n in
+    b.onward (form ∷ later) stop.entries stop.last (outcome_text (number + 1) o) end stop.run stop.seats (stop.shows later)
 
 -- the lines that were run, where none ended the run, and where the last one did
 plays_done : (script rest : List ℕ) (number : ℕ) (words : Words) (s : Space) (done : Forms) (so_far : List ℕ) (count : ℕ) → RunsBehind script rest number words s done so_far count
     → PlaysForms done so_far ending.Done
 plays_done script rest number words s done so_far count b =
+    let final = finals_total s words b.tickets count b.sound b.waiting in
     let P : Forms → Type 0 = λ x. PlaysForms x (so_far ++ []) ending.Done in
     let Q : List ℕ → Type 0 = λ x. PlaysForms done x ending.Done in
-    subst Q (append-nil so_far) (subst P (append-nil done) (b.onward [] [] s [] ending.Done refl tt (refl, refl, refl)))
+    subst Q (append-nil so_far) (subst P (append-nil done) (b.onward [] final.0 final.1 [] ending.Done final.2 final.3 (final.4, refl, refl)))
 
 first_done : (script rest : List ℕ) (number : ℕ) (words : Words) (s : Space) (done : Forms) (so_far : List ℕ) (count : ℕ) → RunsBehind script rest number words s done so_far count
     → PlaysFirst script so_far ending.Done
@@ -151,7 +286,7 @@ first_done script rest number words s done so_far count b =
   where
     on : (all : Forms) → (later : Forms) × (all ≡ done ++ later) × HaveTexts later → PlaysOn all so_far ending.Done
     on all (later, e, texts) =
-        let rest = shows_total later (number + 1) words s count texts b.sound in
+        let rest = shows_total later (number + 1) words s count b.tickets texts b.sound b.waiting in
         let P : Forms → Type 0 = λ x. PlaysForms x (so_far ++ rest.2) rest.3 in
         (rest.2, rest.3, rest.4, subst P (sym e) (b.onward later rest.0 rest.1 rest.2 rest.3 rest.5 rest.6 rest.7))
 
@@ -162,6 +297,8 @@ on_ended all output number o (ending.NoMemoryAt line) n h = h
 on_ended all output number outcome.Idle ending.Done n h = cc
 on_ended all output number (outcome.Counted counts) ending.Done n h = cc
 on_ended all output number (outcome.Replied reply) ending.Done n h = cc
+on_ended all output number outcome.Pending ending.Done n h = cc
+on_ended all output number (outcome.Told notice) ending.Done n h = cc
 on_ended all output number outcome.NoLine ending.Done n h = cc
 on_ended all output number outcome.NoMemory ending.Done n h = cc
 
@@ -230,6 +367,8 @@ stands_end old mid new had has script rest behind form number words words' s s' 
     not_done outcome.Idle n all = cc
     not_done (outcome.Counted counts) n all = cc
     not_done (outcome.Replied reply) n all = cc
+    not_done outcome.Pending n all = cc
+    not_done (outcome.Told notice) n all = cc
     not_done outcome.NoLine n all = cc
     not_done outcome.NoMemory n all = cc
 

@@ -3,7 +3,7 @@ pub mod Writers
 pub mod Gathered
 pub mod Told
 pub mod Listed
-pub mod Answered
+pub mod Finals
 pub mod Totals
 pub mod Behind
 pub mod Offsets

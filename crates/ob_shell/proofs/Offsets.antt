@@ -43,10 +43,10 @@ use Rattle.ob_model.specs.Enumeration.{enumerated, context_used, page_answer}
 use Rattle.ob_model.specs.Step.{WithHandle, WithRoot, CreatesIn, CreatesAt, OpensName, page_refusals, TellsPage, Step}
 use Rattle.ob_lines.specs.declared.handle.Offset.{Offset}
 use Rattle.ob_lines.specs.declared.handle.Offset.TheVariants.{Zero, One, Two, Three}
-use Rattle.ob_requests.specs.Words.{Words, with_process, with_words, with_word, without_words, is_among}
+use Rattle.ob_requests.specs.Words.{Words, with_number, with_process, with_words, with_word, without_words, is_among}
 use Rattle.ob_complete.specs.Completes.{Made, Leads, HasRun, Completes}
 use Rattle.ob_standard.specs.Standard.{standard}
-use Rattle.ob_requests.specs.Commands.{is_success, given_handle, with_child, changed}
+use Rattle.ob_requests.specs.Commands.{is_success, given_handle, with_child, with_page, changed}
 use Rattle.ob_lines.specs.declared.change.Change.{Change}
 use Rattle.ob_lines.specs.declared.change.Change.TheVariants as change
 use Rattle.ob_lines.specs.Changes.{change_of}
@@ -290,7 +290,8 @@ with_words_kept words process values had small p w = go (eqb process p)
     go false = had p w
 
 with_word_kept : (words : Words) (process : ℕ) (word : List ℕ) (value : ℕ) → HoldHandles words → value ≤ greatest_handle → HoldHandles (with_word words process word value)
-with_word_kept words process word value had small = with_words_kept words process _ had (λ w. go w (bytes_eq word w))
+with_word_kept words process word value had small =
+    with_words_kept words process (with_number (words.values process) word value) had (λ w. go w (bytes_eq word w))
   where
     go : (w : List ℕ) (here : Bool) → cond here value (words.values process w) ≤ greatest_handle
     go w true = small
@@ -312,6 +313,14 @@ with_child_kept words parent word inherit (Handle handle) had = had
 with_child_kept words parent word inherit (Text text) had = had
 with_child_kept words parent word inherit (Page entries context) had = had
 
+-- the context of a page is no handle
+with_page_kept : (words : Words) (process : ℕ) (word : List ℕ) (given : Given) → HoldHandles words → HoldHandles (with_page words process word given)
+with_page_kept words process word Nothing had = had
+with_page_kept words process word (Handle handle) had = had
+with_page_kept words process word (Text text) had = had
+with_page_kept words process word (Process child handles) had = had
+with_page_kept words process word (Page entries context) had = had
+
 -- a reply that gives a handle leaves handles
 changed_kept : (change : Change (List ℕ)) (process : ℕ) (reply : Reply) (words : Words) → HoldHandles words → given_handle reply.given ≤ greatest_handle
     → HoldHandles (changed change process reply words)
@@ -323,6 +332,7 @@ changed_kept (change.GivesUp word) process reply words had given = go (is_succes
     go : (done : Bool) → HoldHandles (cond done (with_word words process word 0) words)
     go true = with_word_kept words process word 0 had (omega arith)
     go false = had
+changed_kept (change.TurnsPage word) process reply words had given = with_page_kept words process word reply.given had
 changed_kept change.GivesAllUp process reply words had given = go (is_success reply.status)
   where
     go : (done : Bool) → HoldHandles (cond done (without_words words process) words)

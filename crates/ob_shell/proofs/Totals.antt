@@ -1,24 +1,35 @@
 -- Whatever lines come, a run of them from a sound state shows something, and wants no memory.
-use Rattle.std.proofs.Common.{ℕ, ◌+◌, List, [], ◌∷◌, ◌++◌, map, codes, Some, None, refl, inl}
+use Rattle.std.proofs.Common.{◌≡◌, ◌≢◌, ℕ, ◌+◌, List, [], ◌∷◌, ◌++◌, ◌⊎◌, map, codes, Option, Some, None, refl, inl, inr}
 use Rattle.std.specs.Option.{option_map}
 use Rattle.ob_model.specs.declared.command.Command.{Command}
 use Rattle.ob_model.specs.declared.command.Command.TheVariants as command
 use Rattle.ob_model.specs.declared.command.Place.{Place}
 use Rattle.ob_model.specs.declared.command.Place.TheVariants as place
-use Rattle.ob_model.specs.declared.reply.Event.TheVariants.{Start}
+use Rattle.ob_base.specs.declared.status.Status.TheVariants.{Success}
+use Rattle.ob_model.specs.declared.reply.Answer.{Answer}
+use Rattle.ob_model.specs.declared.reply.Event.{Event}
+use Rattle.ob_model.specs.declared.reply.Event.TheVariants.{Start, Resume, Abandon}
+use Rattle.ob_model.specs.declared.reply.ParseRun.TheVariants as run
+use Rattle.ob_model.specs.Refusals.{answers}
 use Rattle.ob_model.specs.Run.{RunFrom}
 use Rattle.ob_model.specs.Sound.{IsSound}
+use Rattle.ob_model.specs.Step.{Step}
+use Rattle.ob_model.proofs.Steps.{step_sound}
+use Rattle.ob_model.proofs.Total.{start_total}
 use Rattle.ob_complete.specs.Completes.{step_of}
 use Rattle.ob_complete.proofs.Chains.{completes_sound, completes_run, entered, behind as count_behind, entered_steps}
 use Rattle.ob_complete.proofs.TotalChains.{completes_total}
 use Rattle.ob_standard.specs.Standard.{StandardKind, standard}
 use Rattle.ob_standard.proofs.Fronts.{standard_front}
-use Rattle.ob_lines.specs.declared.form.Form.TheVariants.{Nothing, Stat, Asks}
+use Rattle.ob_lines.specs.declared.form.Form.TheVariants.{Nothing, Stat, Asks, Waits}
+use Rattle.ob_lines.specs.declared.pending.PendingForm.{PendingForm}
+use Rattle.ob_lines.specs.declared.pending.PendingForm.TheVariants as pending
 use Rattle.ob_lines.specs.declared.request.PlaceForm.{PlaceForm}
 use Rattle.ob_lines.specs.declared.request.PlaceForm.TheVariants.{Named, Unnamed}
 use Rattle.ob_lines.specs.declared.request.Request.{Request}
-use Rattle.ob_lines.specs.declared.request.Request.TheVariants.{CreateDirectory, CreateLink, CreateObject, OpenDirectory, OpenLink, OpenObject, Close, QueryLink, QueryName, Duplicate, MakeTemporary, MakePermanent, SetDeviceMap, NewProcess, ExitProcess}
-use Rattle.ob_lines.specs.Grammar.{HasPlaceText, HasTexts}
+use Rattle.ob_lines.specs.declared.request.Request.TheVariants.{CreateDirectory, CreateLink, CreateObject, OpenDirectory, OpenLink, OpenObject, Close, QueryLink, QueryName, QueryDirectory, Duplicate, MakeTemporary, MakePermanent, SetDeviceMap, NewProcess, ExitProcess}
+use Rattle.ob_lines.specs.Grammar.{HasPlaceText, HasTexts, PendingHasTexts}
+use Rattle.ob_lines.specs.Pages.{is_first, is_single}
 use Rattle.ob_lines.specs.Script.{Forms}
 use Rattle.ob_lines.proofs.Scripted.{HaveTexts}
 use Rattle.ob_output.specs.Printed.{output_line, reply_text, counts_text}
@@ -26,8 +37,13 @@ use Rattle.ob_shell.specs.declared.run.Ending.{Ending}
 use Rattle.ob_shell.specs.declared.run.Ending.TheVariants as ending
 use Rattle.ob_requests.specs.Words.{Words}
 use Rattle.ob_requests.specs.Commands.{IsPlace, IsCommand, kind_meant, handle_meant, root_of, words_after}
-use Rattle.ob_shell.specs.Machine.{Space, counts_of}
-use Rattle.ob_shell.specs.Shown.{Steps, Entries, AreOfSeat0, Shows, FindsMemory}
+use Rattle.ob_effects.specs.Machine.{Space, counts_of}
+use Rattle.ob_effects.specs.Effects.{MakesStep}
+use Rattle.ob_effects.specs.Kept.{WaitsUnder, AreWaiting}
+use Rattle.ob_effects.specs.Waiting.{Steps, word_of, is_waiting, told_instead, IsEvent, answer_text, words_answered}
+use Rattle.ob_effects.proofs.Awaiting.{answered_waiting, carried_waiting, drop_some, end_some}
+use Rattle.ob_shell.specs.Shown.{Entries, AreOfSeat0, Shows, FindsMemory}
+use Rattle.ob_shell.proofs.Finals.{abandon_total, finals_total, resume_total}
 
 -- a place and a request whose texts are texts mean something
 place_total : (form : PlaceForm (List ℕ)) (values : List ℕ → ℕ) → HasPlaceText form → (where_to : Place) × IsPlace form values where_to
@@ -50,6 +66,8 @@ command_total (OpenObject want name attrs word) words process (bytes, spelled) =
 command_total (Close handle) words process text = (command.Close (handle_meant handle (words.values process)), refl)
 command_total (QueryLink handle) words process text = (command.QueryLink (handle_meant handle (words.values process)), refl)
 command_total (QueryName handle) words process text = (command.QueryName (handle_meant handle (words.values process)), refl)
+command_total (QueryDirectory handle room mode) words process text =
+    (command.QueryDirectory (handle_meant handle (words.values process)) (words.contexts process handle.word) room (is_single mode) (is_first mode), refl)
 command_total (Duplicate handle to inherit word) words process text =
     (command.Duplicate (handle_meant handle (words.values process)) (words.processes to) inherit, refl)
 command_total (MakeTemporary handle) words process text = (command.MakeTemporary (handle_meant handle (words.values process)), refl)
@@ -63,25 +81,53 @@ pub entered_seat : (count : ℕ) (steps : Steps) (rest : Entries) → AreOfSeat0
 entered_seat count [] rest seats = seats
 entered_seat count (step ∷ steps) rest seats = (refl, entered_seat (count + 1) steps rest seats)
 
--- lines of any forms show something
-pub shows_total : (forms : Forms) (number : ℕ) (words : Words) (s : Space) (count : ℕ) → HaveTexts forms → IsSound s
-    → (entries : Entries) × (t : Space) × (output : List ℕ) × (end : Ending) × FindsMemory end × RunFrom standard s count entries t × AreOfSeat0 entries
+-- the open that waits under a word
+owner : (s : Space) (words : Words) (p : ℕ) (word : List ℕ) → words.tickets p word ≢ 0 → (words.tickets p word ≡ 0) ⊎ WaitsUnder s (words.tickets p word) p → WaitsUnder s (words.tickets p word) p
+owner s words p word some (inl none) = absurd (some none)
+owner s words p word some (inr waits) = waits
+
+-- what lines of any forms show from here on, with these words
+abbrev pub ShowSomething : Forms → ℕ → Words → Space → ℕ → Type 0
+ShowSomething forms number words s count =
+    (entries : Entries) × (t : Space) × (output : List ℕ) × (end : Ending) × FindsMemory end × RunFrom standard s count entries t × AreOfSeat0 entries
     × Shows number forms words s (map step_of entries) output end
-shows_total [] number words s count texts sound = ([], s, [], ending.Done, tt, refl, tt, (refl, refl, refl))
-shows_total (None ∷ forms) number words s count texts sound =
-    ([], s, output_line number (codes "not a script line"), ending.BadLine number, tt, refl, tt, (refl, refl, refl))
-shows_total (Some Nothing ∷ forms) number words s count texts sound = shows_total forms (number + 1) words s count texts.1 sound
-shows_total (Some Stat ∷ forms) number words s count texts sound =
-    let rest = shows_total forms (number + 1) words s count texts.1 sound in
+
+-- the step of a line of an open that waits, where it makes one
+step_of_line : (s : Space) (words : Words) (p : ℕ) (line : PendingForm (List ℕ)) (tickets : List ℕ) → IsSound s → PendingHasTexts line → MakesStep line p words → AreWaiting s words tickets
+    → (event : Event StandardKind) × (a : Answer) × (t : Space) × IsEvent line words p event × Step standard s event a t
+step_of_line s words p (pending.Begin want name attrs word) tickets sound text makes waiting =
+    let c = command_total (OpenObject want name attrs word) words p text in
+    let step = start_total standard s p c.0 sound in
+    (Start p c.0, step.0, step.1, (c.0, c.1, refl), step.2)
+step_of_line s words p (pending.End word) tickets sound text makes waiting =
+    let step = resume_total s (words.tickets p word) p sound (owner s words p word (end_some words p word makes) (waiting.theirs p word)) in
+    (Resume (words.tickets p word) run.Ran, step.0, step.1, (run.Ran, tt, refl), step.2)
+step_of_line s words p (pending.Drop word) tickets sound text makes waiting =
+    let step = abandon_total s (words.tickets p word) p (owner s words p word (drop_some words p word makes) (waiting.theirs p word)) in
+    (Abandon (words.tickets p word) run.Unrun, answers Success, step.0, refl, step.1)
+
+-- lines of any forms show something
+pub shows_total : (forms : Forms) (number : ℕ) (words : Words) (s : Space) (count : ℕ) (tickets : List ℕ) → HaveTexts forms → IsSound s → AreWaiting s words tickets
+    → ShowSomething forms number words s count
+shows_total [] number words s count tickets texts sound waiting =
+    let final = finals_total s words tickets count sound waiting in
+    (final.0, final.1, [], ending.Done, tt, final.2, final.3, (final.4, refl, refl))
+shows_total (None ∷ forms) number words s count tickets texts sound waiting =
+    let final = finals_total s words tickets count sound waiting in
+    (final.0, final.1, output_line number (codes "not a script line"), ending.BadLine number, tt, final.2, final.3, (final.4, refl, refl))
+shows_total (Some Nothing ∷ forms) number words s count tickets texts sound waiting = shows_total forms (number + 1) words s count tickets texts.1 sound waiting
+shows_total (Some Stat ∷ forms) number words s count tickets texts sound waiting =
+    let rest = shows_total forms (number + 1) words s count tickets texts.1 sound waiting in
     (rest.0, rest.1, output_line number (counts_text (counts_of s)) ++ rest.2, rest.3, rest.4, rest.5, rest.6, (rest.2, refl, rest.7))
-shows_total (Some (Asks process request) ∷ forms) number words s count texts sound =
+shows_total (Some (Asks process request) ∷ forms) number words s count tickets texts sound waiting =
     let p = words.processes process in
     let c = command_total request words p texts.0 in
     let done = completes_total standard standard_front s p c.0 sound in
     let own : Steps = done.0 in
     let reply = done.1 in
     let u = done.2 in
-    let rest = shows_total forms (number + 1) (words_after request p reply words) u (count_behind count own) texts.1 (completes_sound standard (Start p c.0) own s u reply sound done.3) in (
+    let rest = shows_total forms (number + 1) (words_after request p reply words) u (count_behind count own) tickets texts.1 (completes_sound standard (Start p c.0) own s u reply sound done.3)
+    (answered_waiting s u words p request c.0 own reply tickets sound done.3 waiting) in (
       entered count own ++ rest.0,
       rest.1,
       output_line number (reply_text reply) ++ rest.2,
@@ -91,3 +137,39 @@ shows_total (Some (Asks process request) ∷ forms) number words s count texts s
       entered_seat count own rest.0 rest.6,
       inl (c.0, own, map step_of rest.0, rest.2, reply, u, c.1, done.3, entered_steps count own rest.0, refl, rest.7),
     )
+shows_total (Some (Waits process line) ∷ forms) number words s count tickets texts sound waiting =
+    go (told_instead line (is_waiting words p (word_of line))) refl (shows_total forms (number + 1) words s count tickets texts.1 sound waiting)
+    (λ u words' left sound waiting. shows_total forms (number + 1) words' u (count + 1) left texts.1 sound waiting)
+  where
+    p : ℕ
+    p = words.processes process
+
+    go : (told : Option (List ℕ)) → told_instead line (is_waiting words p (word_of line)) ≡ told → ShowSomething forms (number + 1) words s count
+        → ((u : Space) (words' : Words) (left : List ℕ) → IsSound u → AreWaiting u words' left → ShowSomething forms (number + 1) words' u (count + 1))
+        → ShowSomething (Some (Waits process line) ∷ forms) number words s count
+    go (Some text) is rest on = (
+      rest.0,
+      rest.1,
+      output_line number text ++ rest.2,
+      rest.3,
+      rest.4,
+      rest.5,
+      rest.6,
+      inl (text, rest.2, is, refl, rest.7),
+    )
+    go None is rest on =
+        let step = step_of_line s words p line tickets sound texts.0 is waiting in
+        let event = step.0 in
+        let a = step.1 in
+        let u = step.2 in
+        let left = carried_waiting s u words p line event a tickets sound is step.3 step.4 waiting in
+        let rest = on u (words_answered words p (word_of line) a) left.0 (step_sound standard s u event a sound step.4) left.1 in (
+          record { number = count + 1; seat = 0; event = event; answer = a } ∷ rest.0,
+          rest.1,
+          output_line number (answer_text a) ++ rest.2,
+          rest.3,
+          rest.4,
+          (u, refl, step.4, rest.5),
+          (refl, rest.6),
+          inr (inl (event, a, map step_of rest.0, rest.2, u, is, step.3, step.4, refl, refl, rest.7)),
+        )

@@ -6,7 +6,8 @@ use Rattle.std.specs.Prelude.{◌≡◌, ℕ, List}
 use Rattle.ob_complete.specs.Completes.{FindMemory}
 use Rattle.ob_lines.specs.Script.{Forms}
 use Rattle.ob_shell.specs.declared.run.Ending.{Ending}
-use Rattle.ob_shell.specs.Shown.{Steps, PlaysFormsBy, PlaysBy, FindsMemory}
+use Rattle.ob_shell.specs.Shown.{PlaysFormsBy, PlaysBy, FindsMemory}
+use Rattle.ob_effects.specs.Waiting.{Steps}
 
 -- whatever steps lines of these forms play, where they find memory, and so does each parse, they print the same and
 -- end alike

@@ -1,7 +1,6 @@
 pub mod Fault
 pub mod Reading
 pub mod Writing
-pub mod Machine
 pub mod Shown
 pub mod Running
 pub mod Offsets

@@ -11,8 +11,8 @@ use Rattle.ob_standard.specs.Standard.{StandardKind, standard}
 use Rattle.ob_lines.specs.declared.handle.HandleForm.{HandleForm}
 use Rattle.ob_lines.specs.declared.request.Request.{Request}
 use Rattle.ob_requests.specs.Words.{Words, first_words}
-use Rattle.ob_shell.specs.Machine.{Space}
-use Rattle.ob_shell.specs.Shown.{Steps}
+use Rattle.ob_effects.specs.Machine.{Space}
+use Rattle.ob_effects.specs.Waiting.{Steps}
 use Rattle.ob_requests.specs.Commands.{handle_meant, words_after}
 use Rattle.ob_lines.specs.Parts.{offset_value}
 

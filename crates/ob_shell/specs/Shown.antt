@@ -5,58 +5,82 @@ use Rattle.std.specs.Prelude.{◌≡◌, ◌≢◌, ℕ, ◌+◌, ◌⊎◌, Lis
 use Rattle.std.specs.Io.KnownBytes.{Appends}
 use Rattle.ob_model.specs.declared.command.Command.{Command}
 use Rattle.ob_model.specs.declared.reply.Reply.{Reply}
+use Rattle.ob_model.specs.declared.reply.Answer.{Answer}
+use Rattle.ob_model.specs.declared.reply.Event.{Event}
 use Rattle.ob_model.specs.declared.reply.Event.TheVariants.{Start}
 use Rattle.ob_model.specs.Opening.{opening}
 use Rattle.ob_model.specs.Run.{Entry, Run}
-use Rattle.ob_complete.specs.Completes.{Made, step_of, Completes, Falters}
+use Rattle.ob_model.specs.Step.{Step}
+use Rattle.ob_complete.specs.Completes.{step_of, Completes}
 use Rattle.ob_standard.specs.Standard.{StandardKind, Standard, standard, IsFresh}
 use Rattle.ob_lines.specs.declared.form.Form.{Form}
-use Rattle.ob_lines.specs.declared.form.Form.TheVariants.{Nothing, Stat, Asks}
+use Rattle.ob_lines.specs.declared.form.Form.TheVariants.{Nothing, Stat, Asks, Waits}
+use Rattle.ob_lines.specs.declared.pending.PendingForm.{PendingForm}
 use Rattle.ob_lines.specs.declared.request.Request.{Request}
 use Rattle.ob_shell.specs.declared.run.Ending.{Ending}
 use Rattle.ob_shell.specs.declared.run.Ending.TheVariants as ending
 use Rattle.ob_lines.specs.Script.{Forms, BeginsWithForms}
 use Rattle.ob_requests.specs.Words.{Words, first_words}
-use Rattle.ob_shell.specs.Machine.{Space, counts_of}
+use Rattle.ob_effects.specs.Machine.{Space, counts_of}
 use Rattle.ob_requests.specs.Commands.{IsCommand, words_after}
 use Rattle.ob_output.specs.Printed.{output_line, reply_text, counts_text}
+use Rattle.ob_effects.specs.Effects.{WantsMemory}
+use Rattle.ob_effects.specs.Waiting.{Steps, word_of, is_waiting, told_instead, IsEvent, answer_text, words_answered, FindsNone, GiveAllUp}
 
--- the steps of a run of the machine that a script asks for
-abbrev pub Steps : Type 0
-Steps = List (Made StandardKind)
+-- the line of this number finds no memory, behind steps that lead to a state and to words: it says so, and ends the run,
+-- and all opens that wait are given up
+abbrev pub EndsWanting : ℕ → Words → Space → Steps → List ℕ → Ending → Type 0
+EndsWanting number words t behind output end =
+    (output ≡ output_line number (codes "want of memory")) × (end ≡ ending.NoMemoryAt number) × GiveAllUp words t behind
 
--- A request of a process found no memory, with these words and in the state s: before its first step, so that there is
--- none; or while its command was run to its reply, by these steps, which lead to the state t.
-abbrev pub WantsMemory : Request (List ℕ) → ℕ → Words → Steps → Space → Space → Type 0
-WantsMemory request process words steps s t =
-    ((steps ≡ []) × (t ≡ s)) ⊎ ((c : Command StandardKind) × IsCommand request words process c × Falters standard (Start process c) steps s t)
+-- What the line of this number shows where a process asks for something in it, before what `Rest` shows: it takes the
+-- run's next steps, those that run its command to its reply from the state, prints the reply and goes on from the state
+-- that they leave; or it finds no memory.
+abbrev pub ShowsRequest : ℕ → ℕ → Request (List ℕ) → Words → Space → Steps → List ℕ → Ending → (Words → Space → Steps → List ℕ → Type 0) → Type 0
+ShowsRequest number p request words s steps output end Rest =
+    ((c : Command StandardKind) × (own : Steps) × (behind : Steps) × (output' : List ℕ) × (reply : Reply) × (s' : Space)
+    × IsCommand request words p c × Completes standard (Start p c) own s reply s'
+    × (steps ≡ own ++ behind) × (output ≡ output_line number (reply_text reply) ++ output')
+    × Rest (words_after request p reply words) s' behind output')
+    ⊎ ((own : Steps) × (behind : Steps) × (t : Space) × WantsMemory request p words own s t × (steps ≡ own ++ behind)
+    × EndsWanting number words t behind output end)
+
+-- What it shows where it is of an open of a process that waits: it tells why it makes no step, and goes on; or it makes
+-- one, prints its answer and goes on behind it; or it finds no memory.
+abbrev pub ShowsWait : ℕ → ℕ → PendingForm (List ℕ) → Words → Space → Steps → List ℕ → Ending → (Words → Space → Steps → List ℕ → Type 0) → Type 0
+ShowsWait number p pending words s steps output end Rest =
+    ((text : List ℕ) × (output' : List ℕ) × (told_instead pending (is_waiting words p (word_of pending)) ≡ Some text)
+    × (output ≡ output_line number text ++ output') × Rest words s steps output')
+    ⊎ ((event : Event StandardKind) × (answer : Answer) × (behind : Steps) × (output' : List ℕ) × (s' : Space)
+    × (told_instead pending (is_waiting words p (word_of pending)) ≡ None) × IsEvent pending words p event × Step standard s event answer s'
+    × (steps ≡ (event, answer) ∷ behind) × (output ≡ output_line number (answer_text answer) ++ output')
+    × Rest (words_answered words p (word_of pending) answer) s' behind output')
+    ⊎ ((own : Steps) × (behind : Steps) × (t : Space) × (words' : Words)
+    × (told_instead pending (is_waiting words p (word_of pending)) ≡ None) × FindsNone pending words p own s t words' × (steps ≡ own ++ behind)
+    × EndsWanting number words' t behind output end)
 
 -- What the line of this number shows where it is of this form, before what `Rest` shows for the
 -- words, the state, the steps and the output that are left. A line that does nothing shows nothing.
--- A `stat` prints what the state counts and goes on. A line that asks for something takes the run's
--- next steps, those that run its command to its reply from the state, prints the reply and goes on from the state
--- that they leave; or it finds no memory, says so and ends the run.
+-- A `stat` prints what the state counts and goes on. Of a process, it shows what it asks for, or what becomes of an open
+-- that waits.
 abbrev pub ShowsForm : ℕ → Form (List ℕ) → Words → Space → Steps → List ℕ → Ending → (Words → Space → Steps → List ℕ → Type 0) → Type 0
 ShowsForm number Nothing words s steps output end Rest = Rest words s steps output
 ShowsForm number Stat words s steps output end Rest =
     (output' : List ℕ) × (output ≡ output_line number (counts_text (counts_of s)) ++ output') × Rest words s steps output'
 ShowsForm number (Asks process request) words s steps output end Rest =
-    ((c : Command StandardKind) × (own : Steps) × (behind : Steps) × (output' : List ℕ) × (reply : Reply) × (s' : Space)
-    × IsCommand request words (words.processes process) c × Completes standard (Start (words.processes process) c) own s reply s'
-    × (steps ≡ own ++ behind) × (output ≡ output_line number (reply_text reply) ++ output')
-    × Rest (words_after request (words.processes process) reply words) s' behind output')
-    ⊎ ((t : Space) × WantsMemory request (words.processes process) words steps s t
-    × (output ≡ output_line number (codes "want of memory")) × (end ≡ ending.NoMemoryAt number))
+    ShowsRequest number (words.processes process) request words s steps output end Rest
+ShowsForm number (Waits process pending) words s steps output end Rest =
+    ShowsWait number (words.processes process) pending words s steps output end Rest
 
 -- Lines of these forms, the first of this number, show the steps of a run and print the output, with
 -- these words and in this state at first, and the run ends so. A line that is no script line says so
--- and ends the run.
+-- and ends the run. However it ends, all opens that wait are given up.
 abbrev pub Shows : ℕ → Forms → Words → Space → Steps → List ℕ → Ending → Type 0
-Shows number [] words s steps output end = (steps ≡ []) × (output ≡ []) × (end ≡ ending.Done)
+Shows number [] words s steps output end = GiveAllUp words s steps × (output ≡ []) × (end ≡ ending.Done)
 Shows number (Some form ∷ forms) words s steps output end =
     ShowsForm number form words s steps output end (λ words' s' steps' output'. Shows (number + 1) forms words' s' steps' output' end)
 Shows number (None ∷ forms) words s steps output end =
-    (steps ≡ []) × (output ≡ output_line number (codes "not a script line")) × (end ≡ ending.BadLine number)
+    GiveAllUp words s steps × (output ≡ output_line number (codes "not a script line")) × (end ≡ ending.BadLine number)
 
 -- the entries of a run, and that all are of seat 0
 abbrev pub Entries : Type 0

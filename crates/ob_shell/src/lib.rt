@@ -1,11 +1,8 @@
 //! The shell: scripts are read whole, run line by line over the namespace, and answered in text.
 #![tactic(auto)]
 
-mod asking;
-mod counts;
 mod fault;
 mod laws;
-mod line;
 mod printing;
 mod reading;
 mod run;

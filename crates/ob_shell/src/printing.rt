@@ -8,9 +8,9 @@ ghost use Rattle.ob_shell.specs.Running.{outcome_text};
 ghost use Rattle.ob_model.specs.declared.reply.Given.TheVariants.{Text};
 
 use crate::fault::ShellFault;
-use crate::line::Outcome;
 use crate::writing::gather;
 use ob_base::Status;
+use ob_effects::Outcome;
 use ob_model::{Entries, Given, Listed, Reply};
 use ob_output::{counts_line, printed_part, status_front, status_line, text_front, text_line};
 use std::io::Write;
@@ -35,6 +35,10 @@ pub fn write_outcome<W: Write>(
         Outcome::Idle => Ok(()),
         Outcome::Counted(counts) => gather(writer, block, counts_line(number, *counts).as_slice()),
         Outcome::Replied(reply) => write_reply(writer, block, number, reply),
+        Outcome::Pending => gather(writer, block, text_line(number, b"PENDING").as_slice()),
+        Outcome::Told(notice) => {
+            gather(writer, block, text_line(number, notice.text()).as_slice())
+        }
         Outcome::NoLine => gather(
             writer,
             block,

@@ -4,17 +4,15 @@ ghost use Rattle.std.specs.Prelude.{◌≡◌, ◌≢◌, ◌+◌, ◌<◌, ◌�
 ghost use Rattle.ob_shell.specs.Reading.{StopsLong, TakesAtMost};
 ghost use Rattle.ob_shell.specs.Writing.{AppendsFront, Gathers};
 ghost use Rattle.ob_shell.specs.Shown.{PlaysTo, PlaysPartTo};
+ghost use Rattle.ob_effects.specs.Kept.{IsFirst, IsSession};
 ghost use Rattle.ob_shell.specs.Running.{outcome_text, outcome_end, GathersRun, StopsPlaying};
 
 use crate::fault::ShellFault;
-use crate::line::{Outcome, perform};
 use crate::printing::write_outcome;
 use crate::reading::{SCRIPT_LIMIT, read_script};
 use crate::writing::write_out;
-use ob_core::Core;
+use ob_effects::{Outcome, Session};
 use ob_lines::read_line;
-use ob_requests::Words;
-use ob_standard::standard;
 use std::alloc::Global;
 use std::io::{Read, Write};
 
@@ -100,7 +98,8 @@ fn run_text<W: Write>(alloc: Global, script: &[u8], writer: &mut W) -> Result<En
     }
 }
 
-// Runs the lines of a script, and gathers what they show in the block.
+// Runs the lines of a script in a session of their own, and gathers what they show in the block. However they end, the
+// session is ended.
 fn run_lines<W: Write>(
     alloc: Global,
     script: &[u8],
@@ -113,18 +112,35 @@ fn run_lines<W: Write>(
     ensures played { IfOk result (λ ending. GathersRun (W.contents writer.old) (W.contents writer.new) script.now block.new.items ending) }
     ensures fault { IfErr result (λ fault. StopsPlaying script.now fault (W.contents writer.old) (W.contents writer.new)) }
 {
-    let mut core = match Core::new(alloc, standard()) {
-        Ok(core) => core,
-        Err(_) => return Err(ShellFault::Memory),
-    };
-    let Ok(mut words) = Words::new(alloc) else {
+    let Ok(mut session) = Session::new(alloc) else {
         return Err(ShellFault::Memory);
     };
+    let ended = play(&mut session, script, writer, block);
+    session.end();
+    ended
+}
+
+// Runs the lines of a script in a session in which nothing was done, and gathers what they show in the block.
+fn play<W: Write>(
+    session: &mut Session,
+    script: &[u8],
+    writer: &mut W,
+    block: &mut Vec<u8>,
+) -> Result<Ending, ShellFault>
+    requires first { IsFirst session.old }
+    requires kept { IsSession session.old }
+    requires script { length script.now ≤ SCRIPT_LIMIT }
+    requires empty { block.old.items ≡ [] }
+    requires capacity { 192 ≤ vec_capacity block.old }
+    ensures kept { IsSession session.new }
+    ensures played { IfOk result (λ ending. GathersRun (W.contents writer.old) (W.contents writer.new) script.now block.new.items ending) }
+    ensures fault { IfErr result (λ fault. StopsPlaying script.now fault (W.contents writer.old) (W.contents writer.new)) }
+{
     let mut rest = script;
     let mut number: u64 = 0;
     while let Some((form, behind)) = read_line(rest) {
         number += 1;
-        let outcome = perform(&mut core, &mut words, form);
+        let outcome = session.perform(form);
         match show(writer, block, number, outcome) {
             Ok(None) => {}
             Ok(Some(ending)) => return Ok(ending),
@@ -163,6 +179,8 @@ fn ending_of(number: u64, outcome: &Outcome) -> Option<Ending>
         Outcome::Idle => None,
         Outcome::Counted(_) => None,
         Outcome::Replied(_) => None,
+        Outcome::Pending => None,
+        Outcome::Told(_) => None,
         Outcome::NoLine => Some(Ending::BadLine(number)),
         Outcome::NoMemory => Some(Ending::NoMemoryAt(number)),
     }

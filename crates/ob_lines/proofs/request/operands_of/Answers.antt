@@ -21,6 +21,9 @@ returns-in-OpenLink-clause-none c = IfNone-map c.open_link_of.result _ _ (no_req
 pub returns-in-Open-clause-none : goal.returns-in-Open-clause-none
 returns-in-Open-clause-none c = IfNone-map c.open_object_of.result _ _ (no_request _ _ _ c.in-Open.is) c.open_object_of.ensures.none
 
+pub returns-in-List-clause-none : goal.returns-in-List-clause-none
+returns-in-List-clause-none c = IfNone-map c.directory_query_of.result _ _ (no_request _ _ _ c.in-List.is) c.directory_query_of.ensures.none
+
 pub returns-in-Dup-clause-none : goal.returns-in-Dup-clause-none
 returns-in-Dup-clause-none c = IfNone-map c.duplicate_of.result _ _ (no_request _ _ _ c.in-Dup.is) c.duplicate_of.ensures.none
 

@@ -1,0 +1,6 @@
+pub mod Pending
+pub mod Numbers
+pub mod Awaited
+pub mod Results
+pub mod Kept
+pub mod Beside

@@ -1,0 +1,15 @@
+//! Opens that are begun and wait for a parse.
+//!
+//! A [`Core`](ob_core::Core) hands the parse of an open out, so that it can be run between two steps. Who has other steps
+//! to make meanwhile keeps the parse in [`Waits`], under the ticket of its open: [`begin_open`] begins an open,
+//! [`end_open`] runs the parse of one and goes on with it, [`drop_open`] gives one up, and [`give_all_up`] gives up all
+//! that still wait. A parse that is kept stays the one that its open waits for, whatever other steps are made.
+#![tactic(auto)]
+
+mod begun;
+mod opens;
+mod waits;
+
+pub use begun::Begun;
+pub use opens::{begin_open, drop_open, end_open, give_all_up};
+pub use waits::Waits;

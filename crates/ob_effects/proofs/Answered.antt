@@ -1,0 +1,181 @@
+-- A request that is answered, and the words after it.
+use Rattle.std.proofs.Common.{◌≡◌, ℕ, ◌==◌, ◌&&◌, Bool, true, false, cond, List, [], ◌∷◌, Option, Some, None, refl, sym, ap, ◌∙◌, subst, inl, inr}
+use Rattle.std.specs.Borrow.{Bor}
+use Rattle.std.specs.List.{find, filter}
+use Rattle.std.specs.Option.{is_some}
+use Rattle.std.specs.Prelude.{MatchOption, map, not}
+use Rattle.ob_base.specs.declared.status.Status.{Status}
+use Rattle.ob_base.specs.declared.status.Status.TheVariants.{Success, ProcessGone, InsufficientResources}
+use Rattle.ob_model.specs.declared.command.Command.{Command}
+use Rattle.ob_model.specs.declared.command.Command.TheVariants as command
+use Rattle.ob_model.specs.declared.entries.Entries.{Entries}
+use Rattle.ob_model.specs.declared.reply.Reply.{Reply}
+use Rattle.ob_model.specs.declared.reply.Answer.TheVariants.{Done}
+use Rattle.ob_model.specs.declared.reply.Event.TheVariants.{Start}
+use Rattle.ob_model.specs.declared.reply.Given.{Given}
+use Rattle.ob_model.specs.declared.reply.Given.TheVariants.{Nothing, Page, Process}
+use Rattle.ob_model.specs.declared.state.Held.{Held}
+use Rattle.ob_model.specs.Grants.{first_refusal}
+use Rattle.ob_model.specs.Processes.{values_in, is_crowded, begun}
+use Rattle.ob_model.specs.Refusals.{gives, IsRefused}
+use Rattle.ob_model.specs.Settle.{settle}
+use Rattle.ob_model.specs.State.{held_of, is_live}
+use Rattle.ob_model.specs.Sound.{IsSound}
+use Rattle.ob_model.specs.Step.{Step}
+use Rattle.ob_complete.specs.Completes.{Completes}
+use Rattle.ob_complete.proofs.Chains.{completes_at_once}
+use Rattle.ob_standard.specs.Standard.{StandardKind, standard}
+use Rattle.ob_lines.specs.declared.change.Change.{Change}
+use Rattle.ob_lines.specs.declared.change.Change.TheVariants as change
+use Rattle.ob_lines.specs.declared.form.Form.{Form}
+use Rattle.ob_lines.specs.declared.form.Form.TheVariants.{Asks}
+use Rattle.ob_lines.specs.declared.request.Request.{Request}
+use Rattle.ob_lines.specs.declared.request.Request.TheVariants as request
+use Rattle.ob_lines.specs.Changes.{change_of}
+use Rattle.ob_lines.specs.Script.{found_seen}
+use Rattle.ob_lines.specs.Grammar.{form_seen, request_seen}
+use Rattle.ob_requests.specs.Words.{Words, handed_on, is_among, with_process, with_words, with_context}
+use Rattle.ob_requests.specs.Tables.{IsKept}
+use Rattle.ob_requests.specs.Commands.{changed, with_child, with_page}
+use Rattle.ob_effects.specs.Machine.{Space}
+use Rattle.ob_effects.specs.Effects.{IsAsked, IsAnswered, IsUnanswered}
+
+-- a request is asked with words that are the same
+pub asked_with : (r : Request (List ℕ)) (p : ℕ) (words mid : Words) (s s' : Space) (reply : Reply) → mid ≡ words → IsAsked r p mid s reply s' → IsAsked r p words s reply s'
+asked_with r p words mid s s' reply same is = let P : Words → Type 0 = λ x. IsAsked r p x s reply s' in subst P same is
+
+pub unanswered_with : (r : Request (List ℕ)) (p : ℕ) (words mid : Words) (s s' : Space) → mid ≡ words → IsUnanswered r p mid s s' → IsUnanswered r p words s s'
+unanswered_with r p words mid s s' same is = let P : Words → Type 0 = λ x. IsUnanswered r p x s s' in subst P same is
+
+-- and leaves the words that its change says
+pub answered : (r : Request (List ℕ)) (p : ℕ) (words words' : Words) (s s' : Space) (reply : Reply) (ch : Change (List ℕ)) → ch ≡ change_of r → IsAsked r p words s reply s'
+    → words' ≡ changed ch p reply words → IsAnswered r p words s reply words' s'
+answered r p words words' s s' reply ch is asked left = (asked, left ∙ ap (λ x. changed x p reply words) is)
+
+-- the form that asks for something, as it is seen
+pub asks_seen : (found : Option (Form (Bor (List ℕ)))) (form : Form (Bor (List ℕ))) (process : Bor (List ℕ)) (r : Request (Bor (List ℕ)))
+    → found ≡ Some form → form ≡ Asks process r → found_seen found ≡ Some (Asks process.now (request_seen r))
+asks_seen found form process r e f =
+    let P : Form (Bor (List ℕ)) → Type 0 = λ x. found_seen found ≡ Some (form_seen x) in subst P f (ap found_seen e)
+
+-- a request that sets a process word is one for a child
+pub begins : (r : Request (List ℕ)) (word : List ℕ) (inherit : Bool) → change.SetsProcess word inherit ≡ change_of r → r ≡ request.NewProcess inherit word
+begins (request.CreateDirectory place attrs w) word inherit e = cc
+begins (request.CreateLink place attrs target w) word inherit e = cc
+begins (request.CreateObject kind place attrs args w) word inherit e = cc
+begins (request.OpenDirectory name attrs w) word inherit e = cc
+begins (request.OpenLink name attrs w) word inherit e = cc
+begins (request.OpenObject want name attrs w) word inherit e = cc
+begins (request.Close handle) word inherit e = cc
+begins (request.QueryLink handle) word inherit e = cc
+begins (request.QueryName handle) word inherit e = cc
+begins (request.QueryDirectory handle room mode) word inherit e = cc
+begins (request.Duplicate handle to own w) word inherit e = cc
+begins (request.MakeTemporary handle) word inherit e = cc
+begins (request.MakePermanent handle) word inherit e = cc
+begins (request.SetDeviceMap handle) word inherit e = cc
+begins (request.NewProcess own child) word inherit e = cc
+begins request.ExitProcess word inherit e = cc
+
+-- ---- a child
+
+abbrev child_refusals : Space → ℕ → Bool → List (Bool × Status)
+child_refusals s p inherit = (not (is_live s p), ProcessGone) ∷ (is_crowded s p inherit, InsufficientResources) ∷ []
+
+-- a child that is given has the next number, and the values of its handles are told
+child_given : (s t : Space) (p : ℕ) (inherit : Bool) (reply : Reply) (n : ℕ) (hs : List ℕ) → Step standard s (Start p (command.NewProcess inherit)) (Done reply) t
+    → reply.given ≡ Process n hs → (n ≡ s.next_process) × (hs ≡ values_in t n)
+child_given s t p inherit reply n hs step given = go (first_refusal (child_refusals s p inherit)) step
+  where
+    Begins : Type 0
+    Begins = let u = begun standard s p inherit in (Done reply ≡ gives Success (Process s.next_process (values_in u s.next_process))) × (t ≡ settle standard u)
+
+    told : Done reply ≡ gives Success (Process s.next_process (values_in (begun standard s p inherit) s.next_process))
+        → Process n hs ≡ Process s.next_process (values_in (begun standard s p inherit) s.next_process)
+    told same = sym given ∙ (let it : reply ≡ record { status = Success; given = Process s.next_process (values_in (begun standard s p inherit) s.next_process) } = cc in ap (λ (r : Reply). r.given) it)
+
+    go : (refusal : Option Status) → MatchOption refusal Begins (λ status. IsRefused s status (Done reply) t) → (n ≡ s.next_process) × (hs ≡ values_in t n)
+    go None (same, left) =
+        let both = told same in
+        let number : n ≡ s.next_process = cc in
+        let values : hs ≡ values_in (begun standard s p inherit) s.next_process = cc in
+        (number, values ∙ (ap (values_in (begun standard s p inherit)) (sym number) ∙ ap (λ (x : Space). values_in x n) (sym left)))
+    go (Some status) (same, left) =
+        let it : reply ≡ record { status = status; given = Nothing } = cc in
+        let none : Nothing ≡ Process n hs = sym (ap (λ (r : Reply). r.given) it) ∙ given in cc
+
+-- so it has where a request asks for it
+pub child_told : (r : Request (List ℕ)) (p : ℕ) (words : Words) (s t : Space) (reply : Reply) (word : List ℕ) (inherit : Bool) (n : ℕ) (hs : List ℕ) → IsSound s → r ≡ request.NewProcess inherit word
+    → IsAsked r p words s reply t → reply.given ≡ Process n hs → (n ≡ s.next_process) × (hs ≡ values_in t n)
+child_told r p words s t reply word inherit n hs sound is asked given =
+    let P : Request (List ℕ) → Type 0 = λ x. IsAsked x p words s reply t in go (subst P is asked)
+  where
+    go : IsAsked (request.NewProcess inherit word) p words s reply t → (n ≡ s.next_process) × (hs ≡ values_in t n)
+    go (c, steps, spelled, chain) =
+        let Q : Command StandardKind → Type 0 = λ x. Completes standard (Start p x) steps s reply t in
+        child_given s t p inherit reply n hs (completes_at_once standard p (command.NewProcess inherit) steps s t reply sound refl (subst Q spelled chain)) given
+
+-- a value is among those of a process where it holds a handle of that value
+holds_among : (handles : List Held) (n v : ℕ) → is_some (find (λ h. h.process == n && h.value == v) handles) ≡ is_among (map (λ h. h.value) (filter (λ h. h.process == n) handles)) v
+holds_among [] n v = refl
+holds_among (h ∷ handles) n v = go (h.process == n) (h.value == v) refl (holds_among handles n v)
+  where
+    go : (a b : Bool) → (h.value == v) ≡ b → is_some (find (λ x. x.process == n && x.value == v) handles) ≡ is_among (map (λ x. x.value) (filter (λ x. x.process == n) handles)) v
+        → is_some (cond (a && b) (Some h) (find (λ x. x.process == n && x.value == v) handles))
+        ≡ is_among (map (λ x. x.value) (cond a (h ∷ filter (λ x. x.process == n) handles) (filter (λ x. x.process == n) handles))) v
+    go true true is later = rw is refl
+    go true false is later = rw is later
+    go false b is later = later
+
+-- the words that a child keeps are those that are handed on to it
+pub kept_words : (s : Space) (child : ℕ) (old new : List ℕ → ℕ) → ((word : List ℕ) → IsKept (λ v passed. passed ≡ is_some (held_of s child v)) (old word) (new word))
+    → new ≡ handed_on old true (values_in s child)
+kept_words s child old new kept = λ i w. one w (kept w) i
+  where
+    among : (w : List ℕ) (b : Bool) → b ≡ is_some (held_of s child (old w)) → is_among (values_in s child) (old w) ≡ b
+    among w b told = sym (told ∙ holds_among s.handles child (old w))
+
+    one : (w : List ℕ) → IsKept (λ v passed. passed ≡ is_some (held_of s child v)) (old w) (new w) → new w ≡ handed_on old true (values_in s child) w
+    one w (inl (same, told)) = same ∙ sym (ap (λ (b : Bool). cond b (old w) 0) (among w true told))
+    one w (inr (inl (none, told))) = none ∙ sym (ap (λ (b : Bool). cond b (old w) 0) (among w false told))
+    one w (inr (inr (none, zero))) = none ∙ (go (is_among (values_in s child) (old w)) ∙ sym (ap (λ (n : ℕ). cond (is_among (values_in s child) (old w)) n 0) zero))
+      where
+        go : (b : Bool) → ◌≡◌ {A = ℕ} 0 (cond b 0 0)
+        go true = refl
+        go false = refl
+
+-- a child's words, where those that it may get are its parent's or none
+handed_words : (values own : List ℕ → ℕ) (inherit : Bool) (hs : List ℕ) → own ≡ (λ word. cond inherit (values word) 0) → handed_on own true hs ≡ handed_on values inherit hs
+handed_words values own true hs is = ap (λ (x : List ℕ → ℕ). handed_on x true hs) is
+handed_words values own false hs is = ap (λ (x : List ℕ → ℕ). handed_on x true hs) is ∙ (λ i w. go (is_among hs 0) i)
+  where
+    go : (b : Bool) → ◌≡◌ {A = ℕ} (cond b 0 0) 0
+    go true = refl
+    go false = refl
+
+-- the words with a child
+pub child_words : (old mid begun new : Words) (p : ℕ) (word : List ℕ) (inherit : Bool) (n : ℕ) (hs hs' : List ℕ) (own handed : List ℕ → ℕ) (given : Given)
+    → mid ≡ old → own ≡ (λ w. cond inherit (old.values p w) 0) → handed ≡ handed_on own true hs' → hs ≡ hs' → given ≡ Process n hs
+    → begun ≡ with_words mid n handed → new ≡ with_process begun word n → new ≡ with_child old p word inherit given
+child_words old mid begun new p word inherit n hs hs' own handed given same is_own is_handed is_hs is_given first last =
+    let numbers : handed ≡ handed_on (old.values p) inherit hs = is_handed ∙ (ap (handed_on own true) (sym is_hs) ∙ handed_words (old.values p) own inherit hs is_own) in
+    last ∙ (ap (λ (x : Words). with_process x word n) first
+    ∙ (ap (λ (x : Words). with_process (with_words x n handed) word n) same
+    ∙ (ap (λ (x : List ℕ → ℕ). with_process (with_words old n x) word n) numbers ∙ sym (ap (with_child old p word inherit) is_given))))
+
+-- the words without one
+pub childless_words : (old mid new : Words) (p : ℕ) (word : List ℕ) (inherit : Bool) (given other : Given) → with_child old p word inherit other ≡ with_process old word 0
+    → mid ≡ old → given ≡ other → new ≡ with_process mid word 0 → new ≡ with_child old p word inherit given
+childless_words old mid new p word inherit given other none same is last =
+    last ∙ (ap (λ (x : Words). with_process x word 0) same ∙ (sym none ∙ sym (ap (with_child old p word inherit) is)))
+
+-- the words with the context of a page, where one is given
+pub page_words : (old mid new : Words) (p : ℕ) (word : List ℕ) (given : Given) (entries : Entries) (context : ℕ) → mid ≡ old → given ≡ Page entries context
+    → new ≡ with_context mid p word context → new ≡ with_page old p word given
+page_words old mid new p word given entries context same is last =
+    last ∙ (ap (λ (x : Words). with_context x p word context) same ∙ sym (ap (with_page old p word) is))
+
+-- the words where none is
+pub pageless_words : (old mid : Words) (p : ℕ) (word : List ℕ) (given other : Given) → with_page old p word other ≡ old → mid ≡ old → given ≡ other
+    → mid ≡ with_page old p word given
+pageless_words old mid p word given other none same is = same ∙ (sym none ∙ sym (ap (with_page old p word) is))

@@ -1,0 +1,4 @@
+pub mod Tickets
+pub mod Awaiting
+pub mod Sessions
+pub mod Answered

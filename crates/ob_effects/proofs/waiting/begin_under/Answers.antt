@@ -1,0 +1,42 @@
+-- The open begins with the words as they were before room was made.
+use Rattle.std.proofs.Common.{◌≡◌, ap, subst, inr, refl, ◌∙◌}
+use Rattle.ob_model.specs.declared.reply.Event.TheVariants.{Start}
+use Rattle.ob_begun.specs.Begun.{answer_in}
+use Rattle.ob_begun.proofs.Results.{on_err}
+use Rattle.ob_lines.specs.Parts.{name_seen}
+use Rattle.ob_requests.specs.Commands.{IsOpenObject}
+use Rattle.ob_requests.specs.Tables.{words_in}
+use Rattle.ob_requests.specs.Words.{Words}
+use Rattle.ob_effects.specs.Waiting.{words_answered}
+use Rattle.ob_effects.proofs.waiting.begin_under.Goals as goal
+
+pub returns-in_err-begun-clause-stopped : goal.returns-in_err-begun-clause-stopped
+returns-in_err-begun-clause-stopped c =
+    let same : words_in c.room_for_ticket.new.self ≡ words_in c.args.words.now = c.in_ok-room_for_ticket.ensures.same ∙ c.in_ok-room_for_handle.ensures.same in
+    let faltered = c.in_err-begun.ensures.faltered in
+    on_err _ c.from_residual-in_err-begun.result (
+      faltered.0,
+      (
+        inr (
+          c.in_ok-command.command,
+          subst (λ (w : Words). IsOpenObject c.args.asked.0 (name_seen c.args.asked.1) c.args.asked.2 (w.values c.args.process) c.in_ok-command.command) same c.in_ok-command.ensures,
+          faltered.1,
+        ),
+        same,
+      ),
+    )
+
+pub returns-clause-carried : goal.returns-clause-carried
+returns-clause-carried c =
+    let same : words_in c.room_for_ticket.new.self ≡ words_in c.args.words.now = c.in_ok-room_for_ticket.ensures.same ∙ c.in_ok-room_for_handle.ensures.same in (
+      (
+        Start c.args.process c.in_ok-command.command,
+        (
+          c.in_ok-command.command,
+          subst (λ (w : Words). IsOpenObject c.args.asked.0 (name_seen c.args.asked.1) c.args.asked.2 (w.values c.args.process) c.in_ok-command.command) same c.in_ok-command.ensures,
+          refl,
+        ),
+        c.in_ok-begun.ensures.begun,
+      ),
+      c.keep.ensures ∙ ap (λ (w : Words). words_answered w c.args.process c.args.word.now (answer_in c.in_ok-begun.begun)) same,
+    )

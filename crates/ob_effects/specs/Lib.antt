@@ -1,0 +1,4 @@
+pub mod Machine
+pub mod Waiting
+pub mod Effects
+pub mod Kept

@@ -1,0 +1,13 @@
+//! What a line of a script does: the steps that it makes of the namespace, its reply, and the words behind it.
+#![tactic(auto)]
+
+mod asking;
+mod counts;
+mod notice;
+mod outcome;
+mod session;
+mod waiting;
+
+pub use notice::Notice;
+pub use outcome::Outcome;
+pub use session::Session;

@@ -1,0 +1,130 @@
+//! A script's session with a namespace.
+
+ghost use Rattle.std.specs.Prelude.{◌≡◌, IfOk, OnErr, IfSome};
+ghost use Rattle.ob_lines.specs.Grammar.{HasTexts, FormHasTexts, form_seen, request_seen};
+ghost use Rattle.ob_lines.specs.Script.{found_seen};
+ghost use Rattle.ob_requests.specs.Tables.{words_in};
+ghost use Rattle.ob_effects.specs.Effects.{IsAnswered, IsUnanswered, IsRequestDone, IsDone};
+ghost use Rattle.ob_effects.specs.Kept.{IsFirst, IsSession, space_of, words_of};
+ghost use Rattle.ob_effects.specs.Waiting.{Steps, GiveAllUp};
+
+use crate::asking::{Space, ask, begin_child, give_all_up, give_up, set_word, turn_page};
+use crate::counts::counts_of;
+use crate::outcome::Outcome;
+use ob_base::Proc;
+use ob_begun::{Waits, give_all_up as abandon_all};
+use ob_core::Core;
+use ob_lines::{Change, Form, Request, change_of};
+use ob_model::Reply;
+use ob_requests::Words;
+use ob_standard::{Standard, standard};
+use std::alloc::{AllocError, Global};
+
+/// A script's session with a namespace over the standard set of types: the namespace, the words of the script, and
+/// the opens that wait under its words. It can't be let go: what waits is given up at its [end](Session::end).
+///
+/// A contract sees the words by `words_of`, the state of the abstract machine by `space_of`, and what holds of both
+/// and of the opens that wait as `IsSession`. (this profile)
+pub struct Session {
+    pub(crate) core: Space,
+    pub(crate) words: Words,
+    pub(crate) waits: Waits<Standard>,
+}
+
+impl Session {
+    /// A session in which nothing was done: the opening state, and `p1` is process 1. The only fault is want of
+    /// memory. (this profile)
+    pub fn new(alloc: Global) -> Result<Session, AllocError>
+        ensures first { IfOk result IsFirst }
+        ensures kept { IfOk result IsSession }
+    {
+        let Ok(core) = Core::new(alloc, standard()) else {
+            return Err(AllocError);
+        };
+        let words = Words::new(alloc)?;
+        let waits = Waits::new(alloc);
+        Ok(Session { core, words, waits })
+    }
+
+    /// Does what a line of this form says; none: a line that is no script line, which does nothing. What wants memory
+    /// comes before the first step, or its open is given up: so no reply is lost. (this profile)
+    pub fn perform(&mut self, form: Option<Form<&[u8]>>) -> Outcome
+        requires kept { IsSession self.old }
+        requires texts { IfSome form (λ form. FormHasTexts (form_seen form)) }
+        ensures kept { IsSession self.new }
+        ensures done { IsDone (found_seen form.entry) (words_of self.old) (space_of self.old) result (words_of self.new) (space_of self.new) }
+    {
+        match form {
+            None => Outcome::NoLine,
+            Some(Form::Nothing) => Outcome::Idle,
+            Some(Form::Stat) => Outcome::Counted(counts_of(&self.core)),
+            Some(Form::Asks { process, request }) => {
+                let process = self.words.process_of(process);
+                self.answer(process, request)
+            }
+            Some(Form::Waits { process, pending }) => {
+                let process = self.words.process_of(process);
+                self.carry_on(process, pending)
+            }
+        }
+    }
+
+    /// Ends the session: all opens that wait are given up, by rising tickets, and their parses aren't run. (this
+    /// profile)
+    pub fn end(self)
+        requires { IsSession self }
+        ensures { (steps : Steps) × GiveAllUp (words_of self) (space_of self) steps }
+    {
+        let Session {
+            mut core,
+            words: _,
+            waits,
+        } = self;
+        abandon_all(&mut core, waits);
+    }
+
+    // What became of the request of a process.
+    fn answer(&mut self, process: Proc, request: Request<&[u8]>) -> Outcome
+        requires kept { IsSession self.old }
+        requires texts { HasTexts (request_seen request) }
+        ensures kept { IsSession self.new }
+        ensures done { IsRequestDone (request_seen request.entry) process (words_of self.old) (space_of self.old) result (words_of self.new) (space_of self.new) }
+    {
+        self.core.state_is_sound();
+        match reply_to(&mut self.core, &mut self.words, process, request) {
+            Ok(reply) => Outcome::Replied(reply),
+            Err(_) => Outcome::NoMemory,
+        }
+    }
+}
+
+// Runs the request of a process, and changes the words that its reply changes. All that can want memory
+// comes before the step.
+fn reply_to(
+    core: &mut Space,
+    words: &mut Words,
+    process: Proc,
+    request: Request<&[u8]>,
+) -> Result<Reply, AllocError>
+    requires { HasTexts (request_seen request) }
+    ensures answered { IfOk result (λ reply. IsAnswered (request_seen request.entry) process (words_in words.old) core.old
+        reply (words_in words.new) core.new) }
+    ensures wanting { OnErr result (IsUnanswered (request_seen request.entry) process (words_in words.old) core.old core.new) }
+    ensures kept { OnErr result (words_in words.new ≡ words_in words.old) }
+{
+    match change_of(request) {
+        Change::Nothing => ask(core, words, process, request),
+        Change::Sets(word) => set_word(core, words, process, request, process, word),
+        Change::SetsFor { process: to, word } => {
+            let to = words.process_of(to);
+            set_word(core, words, process, request, to, word)
+        }
+        Change::GivesUp(word) => give_up(core, words, process, request, word),
+        Change::GivesAllUp => give_all_up(core, words, process, request),
+        Change::TurnsPage(word) => turn_page(core, words, process, request, word),
+        Change::SetsProcess {
+            process: child,
+            inherit,
+        } => begin_child(core, words, process, request, child, inherit),
+    }
+}

@@ -1,0 +1,66 @@
+//! What a process asks of the opens that wait for a parse.
+
+ghost use Rattle.std.specs.Prelude.{◌≡◌, ◌≤◌, ℕ, List, length, IfSome, IfNone};
+ghost use Rattle.ob_lines.specs.declared.pending.PendingForm.{PendingForm};
+ghost use Rattle.ob_lines.specs.Grammar.{IsPending, pending_seen};
+
+use crate::kind::KindForm;
+use crate::parts::want_name_flags_and_word;
+use crate::request::NameForm;
+use crate::split::behind;
+use crate::text::is_word;
+
+/// What a process asks of the opens that wait for a parse. `T` is how bytes are held: as slices of the
+/// line, or, in contracts, as lists. (this profile)
+#[derive(Clone, Copy, PartialEq, Eq, Debug)]
+pub enum PendingForm<T> {
+    /// `begin WANT NAME FLAGS =V`: an open is begun, and not run to its end.
+    Begin {
+        /// The kind that the object must have; none for `any`.
+        want: Option<KindForm>,
+        /// The object's name.
+        name: NameForm<T>,
+        /// The attribute flags, as raw bits.
+        attrs: u32,
+        /// The handle word under which the open waits, and which its end sets.
+        word: T,
+    },
+    /// `end V`: the parse of the open that waits under a handle word is run and brought.
+    End {
+        /// The handle word.
+        word: T,
+    },
+    /// `drop V`: the open that waits under a handle word is given up, and its parse not run.
+    Drop {
+        /// The handle word.
+        word: T,
+    },
+}
+
+// What is asked of the opens that wait, behind the process word and a space.
+pub fn pending_of(bytes: &[u8]) -> Option<PendingForm<&[u8]>>
+    requires { length bytes.now ≤ 262144 }
+    ensures found { IfSome result (λ pending. IsPending bytes.now (pending_seen pending)) }
+    ensures none { IfNone result ((pending : PendingForm (List ℕ)) → ¬ IsPending bytes.now pending) }
+{
+    if let Some(operands) = behind(bytes, b"begin ") {
+        let (want, name, attrs, word) = want_name_flags_and_word(operands)?;
+        return Some(PendingForm::Begin {
+            want,
+            name,
+            attrs,
+            word,
+        });
+    }
+    if let Some(word) = behind(bytes, b"end ") {
+        if !is_word(word) {
+            return None;
+        }
+        return Some(PendingForm::End { word });
+    }
+    let word = behind(bytes, b"drop ")?;
+    if !is_word(word) {
+        return None;
+    }
+    Some(PendingForm::Drop { word })
+}

@@ -1,0 +1,15 @@
+use Rattle.std.proofs.Common.{◌+◌, ◌≤◌, length}
+use Rattle.std.specs.Vec.{vec_capacity}
+use Rattle.ob_effects.specs.Kept.{IsSession, words_of, space_of}
+use Rattle.ob_shell.proofs.Behind.{StandsBehind}
+use Rattle.ob_shell.proofs.run.play.Given as goal
+
+-- the rest stands behind what was run and gathered, each line so far has a byte of its own, the block
+-- has its room, and the session is one
+abbrev pub invariant-loop-form : goal.invariant-loop-form
+invariant-loop-form g l =
+    StandsBehind (g.W.Write.contents l.initial.writer) (g.W.Write.contents l.writer) l.block.items l.script l.rest l.number (words_of l.session) (space_of l.session)
+    × (l.number + length l.rest ≤ length l.script) × (192 ≤ vec_capacity l.block) × IsSession l.session
+
+abbrev pub decreases-loop-form : goal.decreases-loop-form
+decreases-loop-form g l = length l.rest
