@@ -64,6 +64,42 @@ VIEWED = b'p1 link "\\L32" P "\\??\\X" =l\np1 dir "\\M" P =m\np1 dir "\\M\\X" P 
 BEHIND = b'p1 opendir "\\L1" - =a\np1 name a\np1 opendir "\\L0" - =b\n'
 LINKED = b"".join(b"%d: SUCCESS\n" % n for n in range(1, 38)) + b'38: SUCCESS "\\M\\X"\n39: REPARSE_LIMIT\n'
 
+# an open that waits while the table of its process is filled, and again when there is room
+WAITS = b'p1 make Device "\\D" - "" =d\np1 begin File "\\D" - =f\np1 make Event "\\E" - "" =e\n' + OPENED * 65_533
+ROOM_AGAIN = b'p1 end f\np1 close e\np1 begin File "\\D" - =f\np1 end f\nstat\n'
+WAITED = b"1: SUCCESS\n2: PENDING\n3: SUCCESS\n" + b"".join(b"%d: SUCCESS\n" % n for n in range(4, 65_537)) + (
+    b"65537: INSUFFICIENT_RESOURCES\n65538: SUCCESS\n65539: PENDING\n65540: SUCCESS\n"
+    b"65541: objects 9 handles 65535 opens 65536 closes 1 deletes 1\n"
+)
+
+# a thousand opens that wait when the script ends, under words of two processes
+MANY = b'p1 make Device "\\D" P "" =d\np1 new plain =q\n' + b"".join(
+    b'%s begin File "\\D" - =f%d\n' % (b"pq"[n % 2 : n % 2 + 1].replace(b"p", b"p1"), n) for n in range(1_000)
+)
+MANY_WAIT = b"1: SUCCESS\n2: SUCCESS\n" + b"".join(b"%d: PENDING\n" % n for n in range(3, 1_003))
+LEFT = b"p1 exit\nq exit\nstat\n"
+ALL_LEFT = b"1003: SUCCESS\n1004: SUCCESS\n1005: objects 7 handles 0 opens 1 closes 1 deletes 0\n"
+
+# a directory of 20,000 names, listed in pages of so many entries; an entry takes 4 bytes, 6 of its name and 5 of its type's
+NAMES = [b"E%05d" % n for n in range(20_000)]
+FILL = b'p1 dir "\\B" - =b\n' + b"".join(b'p1 make Event b:"%s" P "" =e\np1 close e\n' % name for name in NAMES)
+PAGES = (1, 2, 7, 199, 5_000, 20_000)
+
+
+def pages():
+    """Scans in pages of each size, behind a directory that is filled, and what they print."""
+    script, prints = [FILL], [b"%d: SUCCESS\n" % n for n in range(1, 40_002)]
+    for size in PAGES:
+        for first in range(0, len(NAMES), size):
+            mode = b"next" if first else b"first"
+            script.append(b"p1 list b %d %s\n" % (15 * size, mode))
+            shown = b"".join(b' "%s" Event' % name for name in NAMES[first : first + size])
+            status = b"SUCCESS" if first + size >= len(NAMES) else b"MORE_ENTRIES"
+            prints.append(b"%d: %s%s\n" % (len(prints) + 1, status, shown))
+        script.append(b"p1 list b 1048576 next\n")
+        prints.append(b"%d: NO_MORE_ENTRIES\n" % (len(prints) + 1))
+    return b"".join(script), b"".join(prints)
+
 
 @dataclass(frozen=True)
 class Case:
@@ -95,6 +131,9 @@ CASES = [
     Case("a thousand nested directories go one by one", (), 0, IN_NEST + OUT_OF_NEST, script=NESTED + UNNESTED),
     Case("a thousand objects go with their process", (), 0, HELD + ENDED, script=HOLDS + ENDS),
     Case("a view is found behind 32 links, and not behind 33", (), 0, LINKED, script=LINKS + VIEWED + BEHIND),
+    Case("a table that is filled refuses an open that waited, and takes it when there is room", (), 0, WAITED, script=WAITS + ROOM_AGAIN),
+    Case("a thousand opens that wait outlive their processes", (), 0, MANY_WAIT + ALL_LEFT, script=MANY + LEFT),
+    Case("20,000 names are shown whole in pages of every size", (), 0, pages()[1], script=pages()[0]),
 ]
 
 
