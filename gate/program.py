@@ -140,7 +140,7 @@ CASES = [
 def fault_of(case, program, folder):
     """What is wrong with a run of the program, or nothing."""
     run = subprocess.run(
-        [program, *case.words], input=case.script, capture_output=True, cwd=folder, timeout=60, check=False
+        [program, *case.words], input=case.script, capture_output=True, cwd=folder, timeout=300, check=False
     )
     left = (run.returncode, run.stdout, run.stderr)
     wanted = (case.status, case.output, case.errors)
