@@ -4,4 +4,6 @@
 #![tactic(auto)]
 
 #[cfg(test)]
+mod dice;
+#[cfg(test)]
 mod random;
