@@ -7,3 +7,5 @@
 mod dice;
 #[cfg(test)]
 mod random;
+#[cfg(test)]
+mod waiting;
