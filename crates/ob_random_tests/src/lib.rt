@@ -4,4 +4,8 @@
 #![tactic(auto)]
 
 #[cfg(test)]
+mod dice;
+#[cfg(test)]
 mod random;
+#[cfg(test)]
+mod waiting;

@@ -1,10 +1,9 @@
 //! Random commands of a dozen processes, some of which have device maps, beside a plain model of the
-//! namespace over flat lists.
+//! namespace over flat lists. Pages of directories are among them.
 
-ghost use Rattle.std.specs.Prelude.{◌<◌};
-
+use crate::dice::Dice;
 use ob_base::{Handle, Proc, Status};
-use ob_core::{Brought, Bytes, Command, Core, Given, OpenTable, Place, Reply, Started};
+use ob_core::{Brought, Bytes, Command, Core, Given, Listed, OpenTable, Place, Reply, Started};
 use ob_plain::{Counting, Plain, PlainKind, Standard};
 use std::alloc::{AllocError, Global};
 use std::test::Fail;
@@ -16,6 +15,9 @@ const INHERIT: u32 = 0x2;
 const PERMANENT: u32 = 0x10;
 
 const EXCLUSIVE: u32 = 0x20;
+
+// The greatest room of a page, in bytes.
+const LARGEST_ROOM: u32 = 1_048_576;
 
 // The flags of creates and opens, one of which is unlawful.
 const FLAGS: [u32; 8] = [0, 0, INHERIT, INHERIT, PERMANENT, EXCLUSIVE, 0x30, 0x22];
@@ -70,12 +72,33 @@ enum Ask {
     Map { value: u32 },
     Turn { value: u32, permanent: bool },
     Duplicate { value: u32, to: u32, inherit: bool },
+    List { value: u32, part: Part },
     Begin { inherit: bool },
     Exit,
 }
 
-// An event that is there, or one of the two directories: the directory where it stands, the component
-// that names it there, and how it was made.
+// Which page of a directory is asked for: how many bytes it may take, whether one entry is asked for and no more,
+// and whether it begins with the first. Else it begins behind the last page that the process was shown of any
+// directory.
+#[derive(Clone, Copy)]
+struct Part {
+    room: u32,
+    single: bool,
+    restart: bool,
+}
+
+// A page of a directory: the stamp behind which it begins, that of the last entry that it shows, or the same where it
+// shows none, and whether it ends because the next entry doesn't fit.
+#[derive(Clone, Copy)]
+struct Page {
+    directory: u32,
+    start: u64,
+    end: u64,
+    is_cut: bool,
+}
+
+// An event or another plain object that is there, or one of the two directories: the directory where it stands,
+// the component that names it there, and how it was made. Numbers rise in the order in which names are inserted.
 #[derive(Clone, Copy)]
 struct Event {
     number: u32,
@@ -94,11 +117,13 @@ struct Open {
     inherit: bool,
 }
 
-// A live process, and the directory of its map, which is GLOBAL where it has no map.
+// A live process, the directory of its map, which is GLOBAL where it has no map, and the context that its last page
+// gave, 0 before the first.
 #[derive(Clone, Copy)]
 struct Live {
     number: u32,
     map: u32,
+    context: u64,
 }
 
 // The model: flat lists, searched from their beginning.
@@ -112,31 +137,13 @@ struct Model {
     last_process: u32,
 }
 
-// Numbers that look random: each state is the next one of a linear congruence.
-#[derive(Drop)]
-struct Dice {
-    state: u64,
-}
-
-impl Dice {
-    fn below(&mut self, sides: u64) -> u64
-        requires { 0 < sides }
-        ensures { result < sides }
-    {
-        self.state = self
-            .state
-            .wrapping_mul(6_364_136_223_846_793_005)
-            .wrapping_add(1_442_695_040_888_963_407);
-        (self.state >> 33) % sides
-    }
-}
-
 impl Model {
     fn new(alloc: Global) -> Result<Model, AllocError> {
         let mut processes = Vec::new(alloc);
         processes.push(Live {
             number: 1,
             map: GLOBAL,
+            context: 0,
         })?;
         Ok(Model {
             alloc,
@@ -155,7 +162,10 @@ impl Model {
             return Ok(false);
         }
         match status {
-            Status::Success => self.change(process, ask, &reply.given),
+            Status::Success
+            | Status::MoreEntries
+            | Status::NoMoreEntries
+            | Status::BufferTooSmall => self.change(process, ask, &reply.given),
             _ => Ok(true),
         }
     }
@@ -169,6 +179,13 @@ impl Model {
         let mut processes = self.processes.iter();
         let live = processes.find(|live| live.number == process);
         live.map_or(GLOBAL, |live| live.map)
+    }
+
+    // The context that the last page of a process gave.
+    fn context(&self, process: u32) -> u64 {
+        let mut processes = self.processes.iter();
+        let live = processes.find(|live| live.number == process);
+        live.map_or(0, |live| live.context)
     }
 
     // The directory where a process makes what it names this way.
@@ -238,6 +255,7 @@ impl Model {
             Ask::Duplicate { value, to, inherit } => self.duplicate_status(
                 process, value, to, inherit,
             ),
+            Ask::List { value, part } => self.list_status(process, value, part),
             Ask::Begin { .. } | Ask::Exit => Status::Success,
         }
     }
@@ -284,7 +302,79 @@ impl Model {
         }
     }
 
-    // What a command that succeeded leaves, where it gave this.
+    fn list_status(&self, process: u32, value: u32, part: Part) -> Status {
+        if part.room > LARGEST_ROOM {
+            return Status::InvalidParameter;
+        }
+        let Some(open) = self.own(process, value) else {
+            return Status::InvalidHandle;
+        };
+        let directory = open.event;
+        if !is_directory(open) {
+            return Status::ObjectTypeMismatch;
+        }
+        page_status(self.page(process, directory, part))
+    }
+
+    // The page of a directory that a process is shown.
+    fn page(&self, process: u32, directory: u32, part: Part) -> Page {
+        let start = match part.restart {
+            true => 0,
+            false => self.context(process),
+        };
+        let (mut end, mut left, mut is_cut) = (start, part.room, false);
+        for event in &self.events {
+            let (stamp, room) = (stamp(*event), entry_room(event.letter));
+            let is_done = is_cut || (part.single && end > start);
+            if event.place == directory && stamp > start && !is_done {
+                if room <= left {
+                    (end, left) = (stamp, left.wrapping_sub(room));
+                } else {
+                    is_cut = true;
+                }
+            }
+        }
+        Page {
+            directory,
+            start,
+            end,
+            is_cut,
+        }
+    }
+
+    // Whether a page shows these entries, in their order.
+    fn shows(&self, page: Page, entries: &[Listed]) -> bool {
+        let mut place: usize = 0;
+        for event in &self.events {
+            let stamp = stamp(*event);
+            if event.place == page.directory && stamp > page.start && stamp <= page.end {
+                let letter = event.letter;
+                if !entries
+                    .get(place)
+                    .is_some_and(|listed| is_listed(listed, letter))
+                {
+                    return false;
+                }
+                place = place.wrapping_add(1);
+            }
+        }
+        place == entries.len()
+    }
+
+    // A process turns to a page: whether this is what it gives.
+    fn turn_to(&mut self, process: u32, page: Page, given: &Given) -> bool {
+        let Given::Page { entries, context } = given else {
+            return false;
+        };
+        for live in self.processes.iter_mut() {
+            if live.number == process {
+                live.context = page.end;
+            }
+        }
+        *context == page.end && self.shows(page, entries.as_slice())
+    }
+
+    // What a command that succeeded, or gave a page, leaves, where it gave this.
     fn change(&mut self, process: u32, ask: Ask, given: &Given) -> Result<bool, AllocError> {
         match ask {
             Ask::Make { path, attrs } => self.make(process, path, attrs, given),
@@ -311,6 +401,10 @@ impl Model {
             Ask::Duplicate { value, to, inherit } => {
                 let event = self.event(process, value);
                 self.hold(to, event, inherit, given)
+            }
+            Ask::List { value, part } => {
+                let page = self.page(process, self.event(process, value), part);
+                Ok(self.turn_to(process, page, given))
             }
             Ask::Begin { inherit } => self.begin(process, inherit, given),
             Ask::Exit => {
@@ -373,7 +467,11 @@ impl Model {
         };
         self.last_process = self.last_process.wrapping_add(1);
         let (number, map) = (child.0, self.map(process));
-        self.processes.push(Live { number, map })?;
+        self.processes.push(Live {
+            number,
+            map,
+            context: 0,
+        })?;
         let inherited = self.inherited(process, inherit, child.0)?;
         let mut both = inherited.iter().zip(values.as_slice());
         let same = both.all(|(open, value)| open.value == *value);
@@ -438,6 +536,51 @@ fn is_directory(open: Open) -> bool {
     open.event == FIRST || open.event == SECOND
 }
 
+// The stamp of the entry that names what was made: the first five are those of the opening state.
+fn stamp(event: Event) -> u64 {
+    u64::from(event.number).wrapping_add(4)
+}
+
+// The kind of what is made under a letter.
+fn kind(letter: u8) -> PlainKind {
+    match letter {
+        b'B' => PlainKind::Mutant,
+        b'C' => PlainKind::Section,
+        _ => PlainKind::Event,
+    }
+}
+
+fn type_name(letter: u8) -> &'static str {
+    match letter {
+        b'B' => "Mutant",
+        b'C' => "Section",
+        _ => "Event",
+    }
+}
+
+// The room that an entry takes: 4 bytes, one for its letter, and those of its type's name.
+fn entry_room(letter: u8) -> u32 {
+    match letter {
+        b'B' => 11,
+        b'C' => 12,
+        _ => 10,
+    }
+}
+
+fn page_status(page: Page) -> Status {
+    match (page.end > page.start, page.is_cut) {
+        (true, false) => Status::Success,
+        (true, true) => Status::MoreEntries,
+        (false, true) => Status::BufferTooSmall,
+        (false, false) => Status::NoMoreEntries,
+    }
+}
+
+// Whether an entry is shown as what was made under a letter.
+fn is_listed(listed: &Listed, letter: u8) -> bool {
+    listed.name.as_slice() == [letter].as_slice() && listed.type_name.as_str() == type_name(letter)
+}
+
 // The value of a handle, mostly one that is there.
 fn any_value(dice: &mut Dice, model: &Model) -> u32 {
     let place = dice.below(model.handles.len() as u64 + 1) as usize;
@@ -451,6 +594,34 @@ fn any_process(dice: &mut Dice, model: &Model) -> u32 {
     model.processes.get(living).map_or(any, |live| live.number)
 }
 
+// The value of a handle that is listed: mostly one of the process's own to a directory.
+fn any_listed(dice: &mut Dice, model: &Model, process: u32) -> u32 {
+    let value = any_value(dice, model);
+    let directory = match dice.below(2) {
+        0 => FIRST,
+        _ => SECOND,
+    };
+    let mut handles = model.handles.iter();
+    let own = handles.find(|open| open.process == process && open.event == directory);
+    match dice.below(4) {
+        0 => value,
+        _ => own.map_or(value, |open| open.value.0),
+    }
+}
+
+// A page of few entries, or now and then one of too much room.
+fn any_part(dice: &mut Dice) -> Part {
+    let room = match u32::try_from(dice.below(42)).unwrap_or(0) {
+        41 => LARGEST_ROOM.wrapping_add(1),
+        room => room,
+    };
+    Part {
+        room,
+        single: dice.below(3) == 0,
+        restart: dice.below(4) == 0,
+    }
+}
+
 fn any_path(dice: &mut Dice) -> Path {
     let way = WAYS[dice.below(8) as usize];
     let letter = LETTERS[dice.below(5) as usize];
@@ -462,16 +633,21 @@ fn next(dice: &mut Dice, model: &Model, process: u32) -> Ask {
     let (path, attrs) = (any_path(dice), FLAGS[dice.below(8) as usize]);
     let value = any_value(dice, model);
     let (to, inherit) = (dice.below(14) as u32, dice.below(2) == 0);
+    let (listed, part) = (any_listed(dice, model, process), any_part(dice));
     let many = model.processes.len();
     let permanent = inherit || model.own(process, value).is_some_and(is_directory);
-    match dice.below(21) {
+    match dice.below(27) {
         0..=3 => Ask::Make { path, attrs },
         4..=8 => Ask::Open { path, attrs },
         9..=11 => Ask::Close { value },
         12..=13 => Ask::Duplicate { value, to, inherit },
         14..=15 => Ask::Turn { value, permanent },
         16..=18 => Ask::Map { value },
-        19 if many > 1 => Ask::Exit,
+        19..=24 => Ask::List {
+            value: listed,
+            part,
+        },
+        25 if many > 1 => Ask::Exit,
         _ if many < 12 => Ask::Begin { inherit },
         _ => Ask::Exit,
     }
@@ -502,12 +678,13 @@ fn place(alloc: Global, path: Path) -> Result<Place, AllocError> {
     })
 }
 
-fn command(alloc: Global, ask: Ask) -> Result<Command<PlainKind>, AllocError> {
+// A context that a process gives is that of its last page.
+fn command(alloc: Global, ask: Ask, context: u64) -> Result<Command<PlainKind>, AllocError> {
     match ask {
         Ask::Make { path, attrs } => Ok(Command::CreateObject {
             place: place(alloc, path)?,
             attrs,
-            kind: PlainKind::Event,
+            kind: kind(path.letter),
             args: Bytes::new(Vec::new(alloc)),
         }),
         Ask::Open { path, attrs } => Ok(Command::OpenObject {
@@ -533,6 +710,13 @@ fn command(alloc: Global, ask: Ask) -> Result<Command<PlainKind>, AllocError> {
             handle: Handle(value),
             to: Proc(to),
             inherit,
+        }),
+        Ask::List { value, part } => Ok(Command::QueryDirectory {
+            handle: Handle(value),
+            context,
+            room: part.room,
+            single: part.single,
+            restart: part.restart,
         }),
         Ask::Begin { inherit } => Ok(Command::NewProcess { inherit }),
         Ask::Exit => Ok(Command::ExitProcess),
@@ -579,7 +763,7 @@ fn agreed(alloc: Global, state: u64, count: u32) -> Result<u32, Fail> {
     for done in 0..count {
         let process = any_process(&mut dice, &model);
         let ask = next(&mut dice, &model, process);
-        let command = command(alloc, ask)?;
+        let command = command(alloc, ask, model.context(process))?;
         if !is_agreed(&mut core, &mut model, process, ask, &command)? {
             return Ok(done);
         }
@@ -589,8 +773,8 @@ fn agreed(alloc: Global, state: u64, count: u32) -> Result<u32, Fail> {
 
 #[test]
 fn random_commands_get_what_a_plain_model_says(rt: HostRuntime) -> Result<(), Fail> {
-    for state in 1..5 {
-        assert_eq!(rt; agreed(rt.alloc(), state, 2_000)?, 2_000, "from {state:?}");
+    for state in 1..6 {
+        assert_eq!(rt; agreed(rt.alloc(), state, 2_500)?, 2_500, "from {state:?}");
     }
     Ok(())
 }
