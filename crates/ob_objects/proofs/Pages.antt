@@ -1,9 +1,8 @@
 -- Pages of a directory: the entries that fit are the first ones, and a page of a store's directory is the
 -- machine's.
-use Rattle.std.proofs.Common.{◌≡◌, ◌∙◌, ℕ, zero, suc, ◌-◌, ◌≤◌, ◌<◌, ◌==◌, ◌&&◌, get_or, slice_get, nat_le, nat_lt, Bool, true, false, cond, List, [], ◌∷◌, length, take, map, filter, Option, None, Some, refl, ap, sym, subst, arith, leb-true, leb-false, le-ltb, lt-ltb}
+use Rattle.std.proofs.Common.{◌≡◌, ◌∙◌, ℕ, zero, suc, ◌-◌, ◌==◌, ◌&&◌, get_or, slice_get, nat_le, nat_lt, Bool, true, false, cond, List, [], ◌∷◌, length, take, map, filter, Option, None, Some, refl, ap, sym, arith, leb-true, leb-false, le-ltb, lt-ltb}
 use Rattle.std.specs.Option.{option_map, option_map_or}
 use Rattle.std.proofs.lemmas.Bool.{ne_eqb}
-use Rattle.std.proofs.lemmas.List.{take_all}
 use Rattle.std.proofs.lemmas.Option.{get_or_from_slice_get}
 use Rattle.ob_base.specs.declared.status.Status.{Status}
 use Rattle.ob_base.specs.declared.status.Status.TheVariants.{Success, MoreEntries, NoMoreEntries, BufferTooSmall}
@@ -17,7 +16,7 @@ use Rattle.ob_dirs.specs.Dir.{row_of}
 use Rattle.ob_dirs.proofs.Rows.{filter_both, filter-map}
 use Rattle.ob_objects.specs.declared.object.StoredObject.{StoredObject}
 use Rattle.ob_objects.specs.Store.{Entries, IsStore, Shows, stored_at, entries_at, body_of_stored, object_of_stored, rows_of}
-use Rattle.ob_objects.specs.Listing.{page_given, shown_of, page_status, entries_behind, last_stamp_of, shown_entry}
+use Rattle.ob_objects.specs.Listing.{page_given, shown_of, wanted_of, page_status, entries_behind, last_stamp_of, shown_entry}
 use Rattle.ob_objects.proofs.Shown.{stored_is_object, rows_are_entries}
 
 -- ---- what fits
@@ -31,37 +30,32 @@ fitting_is_front room (e ∷ es) = go (fitting_is_front (room - room_of e) es) (
     go more true = ap (λ xs. e ∷ xs) more
     go more false = refl
 
--- the first of several that fit is the first of all
-first_of_all : (room : ℕ) (es : List Shown) → 1 < length (fitting room es) → take 1 es ≡ take 1 (fitting room es)
-first_of_all room [] some = absurd (omega (arith, some))
-first_of_all room (e ∷ es) some = go (nat_le (room_of e) room) some
+-- what fits of the first alone is the first of what fits
+first_fits : (room : ℕ) (es : List Shown) → fitting room (take 1 es) ≡ take 1 (fitting room es)
+first_fits room [] = refl
+first_fits room (e ∷ es) = go (nat_le (room_of e) room)
   where
-    go : (b : Bool) → 1 < length (cond b (e ∷ fitting (room - room_of e) es) []) → e ∷ [] ≡ take 1 (cond b (e ∷ fitting (room - room_of e) es) [])
-    go true some = refl
-    go false some = absurd (omega (arith, some))
+    go : (b : Bool) → cond b (e ∷ []) [] ≡ take 1 (cond b (e ∷ fitting (room - room_of e) es) [])
+    go true = refl
+    go false = refl
 
 map_take : {X Y : Type 0} (f : X → Y) (n : ℕ) (xs : List X) → map f (take n xs) ≡ take n (map f xs)
 map_take f zero xs = refl
 map_take f (suc n) [] = refl
 map_take f (suc n) (x ∷ xs) = ap (λ ys. f x ∷ ys) (map_take f n xs)
 
-module _ {X : Type 0} (f : X → Shown) (left : List X) (room fit : ℕ) (fits : fit ≡ length (fitting room (map f left))) where
-  -- one entry alone is shown, where more fit
-  pub first_is_shown : (single : Bool) → single ≡ true → 1 < fit → map f (take 1 left) ≡ shown_of (map f left) room single
-  first_is_shown single one more =
-      map_take f 1 left ∙ first_of_all room (map f left) (subst (λ n. 1 < n) fits more)
-      ∙ ap (λ b. cond b (take 1 (fitting room (map f left))) (fitting room (map f left))) (sym one)
+-- of some entries those that fit are the first ones
+all_are_shown : {X : Type 0} (f : X → Shown) (xs : List X) (room fit : ℕ) → fit ≡ length (fitting room (map f xs)) → map f (take fit xs) ≡ fitting room (map f xs)
+all_are_shown f xs room fit fits = map_take f fit xs ∙ ap (λ n. take n (map f xs)) fits ∙ fitting_is_front room (map f xs)
 
-  -- all that fit are shown
-  all_are_shown : map f (take fit left) ≡ fitting room (map f left)
-  all_are_shown = map_take f fit left ∙ ap (λ n. take n (map f left)) fits ∙ fitting_is_front room (map f left)
-
-  pub many_are_shown : (single : Bool) → single ≡ false → map f (take fit left) ≡ shown_of (map f left) room single
-  many_are_shown single many = all_are_shown ∙ ap (λ b. cond b (take 1 (fitting room (map f left))) (fitting room (map f left))) (sym many)
-
-  pub few_are_shown : (single : Bool) → fit ≤ 1 → map f (take fit left) ≡ shown_of (map f left) room single
-  few_are_shown true few = all_are_shown ∙ sym (take_all 1 (fitting room (map f left)) (omega (arith, few, fits)))
-  few_are_shown false few = all_are_shown
+-- of those that are wanted the ones that fit are shown
+pub wanted_are_shown : (f : DirEntry → Shown) (left wanted : List DirEntry) (room fit : ℕ) (single : Bool)
+    → wanted ≡ wanted_of left single → fit ≡ length (fitting room (map f wanted)) → map f (take fit wanted) ≡ shown_of (map f left) room single
+wanted_are_shown f left wanted room fit single is fits = all_are_shown f wanted room fit fits ∙ ap (λ es. fitting room (map f es)) is ∙ go single
+  where
+    go : (one : Bool) → fitting room (map f (wanted_of left one)) ≡ shown_of (map f left) room one
+    go true = ap (fitting room) (map_take f 1 left) ∙ first_fits room (map f left)
+    go false = refl
 
 -- ---- one page
 

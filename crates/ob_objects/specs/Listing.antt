@@ -17,6 +17,10 @@ use Rattle.ob_objects.specs.Store.{Entries, stored_at, entries_at, body_of_store
 abbrev pub room_behind : ℕ → ℕ → Option ℕ
 room_behind taken room = if nat_le taken room then Some (room - taken) else None
 
+-- of these entries those that a page shows where there is room for them: the first alone, or all
+abbrev pub wanted_of : List DirEntry → Bool → List DirEntry
+wanted_of left single = if single then take 1 left else left
+
 -- of these entries those that a page shows: as many as fit, or the first of them alone
 abbrev pub shown_of : List Shown → ℕ → Bool → List Shown
 shown_of left room single = if single then take 1 (fitting room left) else fitting room left

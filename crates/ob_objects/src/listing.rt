@@ -19,6 +19,7 @@ ghost use Rattle.ob_objects.specs.Listing.{
   shown_entry,
   shown_of,
   type_name_at,
+  wanted_of,
 };
 
 use crate::{Store, StoredBody};
@@ -93,11 +94,9 @@ impl<T: TypeSet> Store<T> {
         ensures { map (shown_entry T.procedures self.now) result.now
             ≡ shown_of (map (shown_entry T.procedures self.now) left.now) room single }
     {
-        let fit = self.count_fitting(left, room);
-        if single && fit > 1 {
-            return &left[..1];
-        }
-        &left[..fit]
+        let wanted = wanted(left, single);
+        let fit = self.count_fitting(wanted, room);
+        &wanted[..fit]
     }
 
     // How many of these entries fit into the room, from the first one on.
@@ -152,6 +151,16 @@ impl<T: TypeSet> Store<T> {
         }
         Ok(items)
     }
+}
+
+// Those of these entries that a page shows where there is room for them: the first alone, or all.
+fn wanted(left: &[DirEntry], single: bool) -> &[DirEntry]
+    ensures { result.now ≡ wanted_of left.now single }
+{
+    if single && left.len() > 1 {
+        return &left[..1];
+    }
+    left
 }
 
 // The entries behind a context that lie in a body.
