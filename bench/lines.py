@@ -7,6 +7,7 @@ Each time is that of a script with many lines of a kind less that of the script 
 of five runs, divided by the lines. Nothing here fails; a line that should succeed and doesn't ends it.
 """
 
+import os
 import statistics
 import subprocess
 import sys
@@ -126,24 +127,46 @@ def parses(program):
 
 
 def listed(count):
-    """A directory with so many permanent events."""
+    """A directory with so many permanent events, each of whose entries takes 16 bytes of a page."""
     return HELD + "".join(f'p1 make Event "\\Device\\Bench\\E{n:06}" P "" =e\np1 close e\n' for n in range(count))
 
 
+def parts_seconds(program, parts):
+    """The times from what the first line of each part prints to what the first line of the next one does, in one run; of the
+    last part to the end. Output comes in blocks, so a part that is timed should print many."""
+    marks, lines = [], 1
+    for part in parts:
+        marks.append(b"\n%d: " % lines)
+        lines += part.count("\n")
+    times, last = [], b"\n"
+    with tempfile.NamedTemporaryFile("w", prefix="ntns-bench-") as script:
+        script.write("".join(parts))
+        script.flush()
+        with subprocess.Popen([program, "run", script.name], stdout=subprocess.PIPE) as run:
+            while block := os.read(run.stdout.fileno(), 1 << 16):
+                while len(times) < len(marks) and marks[len(times)] in last + block:
+                    times.append(time.perf_counter())
+                last = block
+            times.append(time.perf_counter())
+    if run.returncode or len(times) != len(parts) + 1:
+        sys.exit(f"a run ended with {run.returncode}, and {len(times)} times")
+    return [after - before for before, after in zip(times, times[1:])]
+
+
 def scans(program):
-    """Scans of a directory: what an entry takes in a whole one, and what its first and its last page take."""
-    for count in (1_000, 20_000):
-        there = listed(count)
-        without, _ = seconds(program, there)
-        scan = "p1 list held 1048576 first\n" * 20
-        took, _ = seconds(program, there + scan)
-        print(f"an entry of a whole scan, {count:,} entries: {(took - without) / (20 * count) * 1e6:.3f} us")
-        last = f"p1 list held {16 * (count - 1)} first\n"
-        for title, before in (("first", ""), ("last", last)):
-            page = "p1 list held 16 next\n" if before else "p1 list held 16 first\n"
-            without, _ = seconds(program, there + before * 20)
-            took, _ = seconds(program, there + (before + page) * 20)
-            print(f"the {title} page of one entry, {count:,} entries: {(took - without) / 20 * 1e6:.1f} us")
+    """Scans of a directory: what an entry takes in a whole one, and what its first and its last page take. Those pages have
+    no room for an entry, so each begins where the one before it did."""
+    pages = 200_000
+    first, last = "p1 list held 1 first\n" * pages, "p1 list held 1 next\n" * pages
+    for count in (1_000, 100_000):
+        rounds = 2_000_000 // count
+        scan = "p1 list held 1048576 first\np1 list held 1048576 next\n" * rounds
+        full, rest = divmod(count - 1, 50_000)
+        to_last = "".join(f"p1 list held {16 * size} next\n" for size in [50_000] * full + [rest])
+        _, scanned, at_first, _, at_last = parts_seconds(program, [listed(count), scan, first, "p1 list held 1 first\n" + to_last, last])
+        print(f"a whole scan, {count:,} entries: {count * rounds / scanned:,.0f} entries a second")
+        print(f"the first page, {count:,} entries: {at_first / pages * 1e6:.2f} us")
+        print(f"the last page, {count:,} entries: {at_last / pages * 1e6:.2f} us")
 
 
 def views(program):
