@@ -2,7 +2,7 @@
 
 use crate::runs::{Case, run};
 
-const CASES: [Case; 7] = [
+const CASES: [Case; 8] = [
     Case {
         shows: b"pages go on behind what was shown, while names go and come, and a room that is too small leaves the context",
         script: b"p1 dir \"\\D\" - =d\np1 make Event \"\\D\\a\" - \"\" =a\np1 make Event \"\\D\\b\" - \"\" =b\np1 list d 10 first\np1 close a\np1 make Event \"\\D\\c\" - \"\" =c\np1 list d 3 next\np1 list d 10 next\np1 list d 10 next\np1 list d 10 next\np1 list d 19 first\np1 list d 20 first\np1 list d 20 first1\n",
@@ -13,6 +13,12 @@ const CASES: [Case; 7] = [
         shows: b"each word of each process has a context of its own, and one that is set begins again",
         script: b"p1 dir \"\\D\" P =d\np1 make Event d:\"a\" - \"\" =a\np1 make Event d:\"b\" - \"\" =b\np1 opendir \"\\D\" - =e\np1 new plain =q\nq opendir \"\\D\" - =d\np1 list d 10 next\np1 list e 10 next\nq list d 10 next\np1 list d 10 next\np1 list d 10 next\nq list d 10 next\np1 list e+1 10 next\np1 list e 10 next\np1 close e\np1 opendir \"\\D\" - =e\np1 list e 10 next\n",
         prints: b"1: SUCCESS\n2: SUCCESS\n3: SUCCESS\n4: SUCCESS\n5: SUCCESS\n6: SUCCESS\n7: MORE_ENTRIES \"a\" Event\n8: MORE_ENTRIES \"a\" Event\n9: MORE_ENTRIES \"a\" Event\n10: SUCCESS \"b\" Event\n11: NO_MORE_ENTRIES\n12: SUCCESS \"b\" Event\n13: SUCCESS \"b\" Event\n14: NO_MORE_ENTRIES\n15: SUCCESS\n16: SUCCESS\n17: MORE_ENTRIES \"a\" Event\n",
+        status: 0,
+    },
+    Case {
+        shows: b"two processes scan one directory, each from its own context, while names go, come, and come again at the end",
+        script: b"p1 dir \"\\D\" P =d\np1 make Event d:\"a\" - \"\" =a\np1 make Event d:\"b\" - \"\" =b\np1 make Event d:\"c\" - \"\" =c\np1 new plain =q\nq opendir \"\\D\" - =d\np1 list d 10 first\nq list d 20 first\np1 close b\np1 make Event d:\"e\" - \"\" =e\np1 make Event d:\"b\" - \"\" =b\np1 list d 10 next\np1 close a\nq list d 20 next\np1 list d 100 next\nq list d 100 next\np1 list d 100 next\nq list d 100 next\n",
+        prints: b"1: SUCCESS\n2: SUCCESS\n3: SUCCESS\n4: SUCCESS\n5: SUCCESS\n6: SUCCESS\n7: MORE_ENTRIES \"a\" Event\n8: MORE_ENTRIES \"a\" Event \"b\" Event\n9: SUCCESS\n10: SUCCESS\n11: SUCCESS\n12: MORE_ENTRIES \"c\" Event\n13: SUCCESS\n14: MORE_ENTRIES \"c\" Event \"e\" Event\n15: SUCCESS \"e\" Event \"b\" Event\n16: SUCCESS \"b\" Event\n17: NO_MORE_ENTRIES\n18: NO_MORE_ENTRIES\n",
         status: 0,
     },
     Case {
