@@ -19,10 +19,10 @@ use ob_standard::Standard;
 use std::alloc::AllocError;
 
 // The namespace that scripts run over.
-pub type Space = Core<Standard, OpenTable>;
+pub(crate) type Space = Core<Standard, OpenTable>;
 
 // Runs the request of a process to its reply.
-pub fn ask(
+pub(crate) fn ask(
     core: &mut Space,
     words: &Words,
     process: Proc,
@@ -37,7 +37,7 @@ pub fn ask(
 }
 
 // Runs the request of a process, and sets a word of its owner to the handle that was given, or to 0.
-pub fn set_word(
+pub(crate) fn set_word(
     core: &mut Space,
     words: &mut Words,
     process: Proc,
@@ -58,7 +58,7 @@ pub fn set_word(
 }
 
 // The handle that was given, or 0.
-pub fn given_handle(given: &Given) -> Handle
+pub(crate) fn given_handle(given: &Given) -> Handle
     ensures { result ≡ given_handle given.now }
 {
     match given {
@@ -71,7 +71,7 @@ pub fn given_handle(given: &Given) -> Handle
 }
 
 // Runs the request of a process, and gives its word up where that succeeds.
-pub fn give_up(
+pub(crate) fn give_up(
     core: &mut Space,
     words: &mut Words,
     process: Proc,
@@ -93,7 +93,7 @@ pub fn give_up(
 }
 
 // Runs the request of a process, and gives all its words up where that succeeds.
-pub fn give_all_up(
+pub(crate) fn give_all_up(
     core: &mut Space,
     words: &mut Words,
     process: Proc,
@@ -114,7 +114,7 @@ pub fn give_all_up(
 }
 
 // Runs the request of a process, and keeps the context of the page that was given for its word, where one was.
-pub fn turn_page(
+pub(crate) fn turn_page(
     core: &mut Space,
     words: &mut Words,
     process: Proc,
@@ -141,7 +141,7 @@ pub fn turn_page(
 
 // Begins a child of a process, and sets its process word: to the child, which has the words that are
 // handed on to it, or to 0.
-pub fn begin_child(
+pub(crate) fn begin_child(
     core: &mut Space,
     words: &mut Words,
     process: Proc,

@@ -8,7 +8,7 @@ use ob_output::Counts;
 use ob_standard::Standard;
 
 // What a namespace counts now.
-pub fn counts_of(core: &Core<Standard, OpenTable>) -> Counts
+pub(crate) fn counts_of(core: &Core<Standard, OpenTable>) -> Counts
     ensures { result ≡ counts_of core.now }
 {
     let set = core.set();
