@@ -18,7 +18,7 @@ use Rattle.ob_lines.specs.declared.request.Request.TheVariants.{CreateDirectory,
 use Rattle.ob_lines.specs.declared.verb.Verb.{Verb}
 use Rattle.ob_lines.specs.declared.verb.Verb.TheVariants as verb
 use Rattle.ob_parts.specs.Text.{Lacks, IsText}
-use Rattle.ob_parts.specs.Parts.{text_of, BeginsWithName, BeginsWithPlace, BeginsWithRoom, BeginsWithProcess, BeginsWithInherit, SetsWord, SetsProcess, IsFlagsAndWord, IsFlagsTextAndWord, IsNameFlagsAndWord, IsWantNameFlagsAndWord, IsPlaceFlagsTextAndWord}
+use Rattle.ob_parts.specs.Parts.{text_of, BeginsWithName, BeginsWithPlace, BeginsWithRoom, BeginsWithProcess, BeginsWithInherit, SetsWord, SetsProcess, IsFlagsAndWord, IsFlagsTextAndWord, IsWantNameFlagsAndWord, IsPlaceFlagsTextAndWord}
 use Rattle.ob_lines.specs.Grammar.{HasPlaceText, HasTexts, PendingHasTexts, FormHasTexts, verb_text, verb_of, IsOperands, IsVerbAndOperands, IsRequest, IsPending, IsHandleRoomAndMode, IsHandleProcessAndWord, IsInheritAndProcess, IsIdle, IsLine, LinesHaveOneForm, form_seen}
 use Rattle.ob_parts.proofs.Cuts.{lacks_no_cut}
 use Rattle.ob_parts.proofs.Flagged.{lacks_from_test}

@@ -2,16 +2,14 @@
 --
 -- A form is generic in how it holds bytes: in the code as slices of the line, here as lists.
 -- Source: this profile.
-use Rattle.std.specs.Prelude.{◌≡◌, ℕ, Bool, ◌≤◌, ◌⊎◌, List, [], ◌++◌, Option, length, codes}
+use Rattle.std.specs.Prelude.{◌≡◌, ℕ, Bool, ◌≤◌, ◌⊎◌, List, [], ◌++◌, length, codes}
 use Rattle.std.specs.Borrow.{Bor}
 use Rattle.ob_parts.specs.declared.handle.HandleForm.{HandleForm}
 use Rattle.ob_lines.specs.declared.form.Form.{Form}
 use Rattle.ob_lines.specs.declared.form.Form.TheVariants.{Nothing, Stat, Asks, Waits}
-use Rattle.ob_parts.specs.declared.kind.KindForm.{KindForm}
 use Rattle.ob_parts.specs.declared.page.PageMode.{PageMode}
 use Rattle.ob_lines.specs.declared.pending.PendingForm.{PendingForm}
 use Rattle.ob_lines.specs.declared.pending.PendingForm.TheVariants.{Begin, End, Drop}
-use Rattle.ob_parts.specs.declared.name.NameForm.{NameForm}
 use Rattle.ob_parts.specs.declared.name.PlaceForm.{PlaceForm}
 use Rattle.ob_parts.specs.declared.name.PlaceForm.TheVariants.{Named, Unnamed}
 use Rattle.ob_lines.specs.declared.request.Request.{Request}
