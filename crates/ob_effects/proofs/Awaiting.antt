@@ -32,14 +32,14 @@ use Rattle.ob_complete.proofs.Chains.{falters_sound, gives_up_sound}
 use Rattle.ob_complete.proofs.Fewer.{BeginsFor, WaitsFor, start_begins, step_begins}
 use Rattle.ob_parsing.specs.Parse.{ToRun}
 use Rattle.ob_standard.specs.Standard.{StandardKind, StandardFace, standard}
-use Rattle.ob_lines.specs.declared.kind.KindForm.{KindForm}
+use Rattle.ob_parts.specs.declared.kind.KindForm.{KindForm}
 use Rattle.ob_lines.specs.Changes.{change_of}
 use Rattle.ob_lines.specs.declared.change.Change.{Change}
 use Rattle.ob_lines.specs.declared.change.Change.TheVariants as change
 use Rattle.ob_lines.specs.declared.pending.PendingForm.{PendingForm}
 use Rattle.ob_lines.specs.declared.pending.PendingForm.TheVariants as pending
 use Rattle.ob_lines.specs.declared.request.Request.{Request}
-use Rattle.ob_lines.specs.declared.request.NameForm.{NameForm}
+use Rattle.ob_parts.specs.declared.name.NameForm.{NameForm}
 use Rattle.ob_requests.specs.Commands.{IsOpenObject, is_success, with_child, with_page, changed, words_after}
 use Rattle.ob_requests.specs.Words.{Words, first_words, with_ticket, with_number_of, with_word, without_words}
 use Rattle.ob_effects.specs.Machine.{Space}

@@ -9,9 +9,9 @@ use Rattle.ob_model.specs.Sound.{IsSound}
 use Rattle.ob_model.specs.Step.{Step}
 use Rattle.ob_begun.specs.declared.begun.Begun.{Begun}
 use Rattle.ob_begun.specs.Begun.{answer_in, with_begun, without}
-use Rattle.ob_lines.specs.declared.kind.KindForm.{KindForm}
+use Rattle.ob_parts.specs.declared.kind.KindForm.{KindForm}
 use Rattle.ob_lines.specs.declared.pending.PendingForm.TheVariants as pending
-use Rattle.ob_lines.specs.declared.request.NameForm.{NameForm}
+use Rattle.ob_parts.specs.declared.name.NameForm.{NameForm}
 use Rattle.ob_requests.specs.Words.{Words, with_word, with_ticket}
 use Rattle.ob_standard.specs.Standard.{standard}
 use Rattle.ob_effects.specs.Machine.{Space}

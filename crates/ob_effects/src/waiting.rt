@@ -4,8 +4,8 @@ ghost use Rattle.std.specs.Prelude.{◌≡◌, ◌==◌, ◌⊎◌, true, IfOk, 
 ghost use Rattle.std.specs.List.{list_any};
 ghost use Rattle.ob_begun.specs.Begun.{AreAwaited, answer_in, tickets_of, with_begun, without};
 ghost use Rattle.ob_lines.specs.Grammar.{PendingHasTexts, pending_seen};
-ghost use Rattle.ob_lines.specs.Parts.{name_seen, text_of};
-ghost use Rattle.ob_lines.specs.Text.{IsText};
+ghost use Rattle.ob_parts.specs.Parts.{name_seen, text_of};
+ghost use Rattle.ob_parts.specs.Text.{IsText};
 ghost use Rattle.ob_lines.specs.declared.pending.PendingForm.TheVariants.{Begin, End, Drop};
 ghost use Rattle.ob_requests.specs.Tables.{words_in, HasRoom};
 ghost use Rattle.ob_effects.specs.Effects.{IsCarried, IsStopped, IsWaitDone};

@@ -2,40 +2,54 @@
 use Rattle.std.proofs.Common.{◌≡◌, ◌≢◌, ℕ, inl, inr, List, [], ◌∷◌, ◌++◌, Option, Some, None, IfSome, length, get_or, eqb, Bool, false, drop, refl, ap, arith, codes, append_assoc, sym, subst, ◌∙◌}
 use Rattle.std.specs.Borrow.{Bor}
 use Rattle.std.specs.Char.{IsAsciiAlphabetic}
-use Rattle.std.specs.Str.{bytes_eq}
-use Rattle.std.proofs.lemmas.Bool.{both_ways}
-use Rattle.std.proofs.lemmas.Slice.Eq.{bytes_eq-Decides}
 use Rattle.ob_lines.specs.declared.form.Form.{Form}
 use Rattle.ob_lines.specs.declared.form.Form.TheVariants.{Nothing, Stat, Asks, Waits}
-use Rattle.ob_lines.specs.declared.kind.KindForm.{KindForm}
+use Rattle.ob_parts.specs.declared.handle.HandleForm.{HandleForm}
+use Rattle.ob_parts.specs.declared.kind.KindForm.{KindForm}
+use Rattle.ob_parts.specs.declared.page.PageMode.{PageMode}
 use Rattle.ob_lines.specs.declared.pending.PendingForm.{PendingForm}
 use Rattle.ob_lines.specs.declared.pending.PendingForm.TheVariants.{Begin, End, Drop}
-use Rattle.ob_lines.specs.declared.request.NameForm.{NameForm}
-use Rattle.ob_lines.specs.declared.request.NameForm.TheVariants.{Absolute, Relative}
-use Rattle.ob_lines.specs.declared.request.PlaceForm.{PlaceForm}
-use Rattle.ob_lines.specs.declared.request.PlaceForm.TheVariants.{Named, Unnamed}
+use Rattle.ob_parts.specs.declared.name.NameForm.{NameForm}
+use Rattle.ob_parts.specs.declared.name.NameForm.TheVariants.{Absolute, Relative}
+use Rattle.ob_parts.specs.declared.name.PlaceForm.{PlaceForm}
+use Rattle.ob_parts.specs.declared.name.PlaceForm.TheVariants.{Named, Unnamed}
 use Rattle.ob_lines.specs.declared.request.Request.{Request}
 use Rattle.ob_lines.specs.declared.request.Request.TheVariants.{CreateDirectory, CreateLink, CreateObject, OpenDirectory, OpenLink, OpenObject, Close, QueryLink, QueryName, QueryDirectory, Duplicate, MakeTemporary, MakePermanent, SetDeviceMap, NewProcess, ExitProcess}
 use Rattle.ob_lines.specs.declared.verb.Verb.{Verb}
 use Rattle.ob_lines.specs.declared.verb.Verb.TheVariants as verb
-use Rattle.ob_lines.specs.Text.{Lacks, IsText}
-use Rattle.ob_lines.specs.Parts.{text_of, BeginsWithName, BeginsWithPlace, BeginsWithProcess}
-use Rattle.ob_lines.specs.Grammar.{HasPlaceText, HasTexts, PendingHasTexts, FormHasTexts, verb_text, verb_of, IsOperands, IsVerbAndOperands, IsRequest, IsPending, IsFlagsAndWord, IsFlagsTextAndWord, IsNameFlagsAndWord, IsWantNameFlagsAndWord, IsPlaceFlagsTextAndWord, IsIdle, IsLine, LinesHaveOneForm, form_seen}
-use Rattle.ob_lines.proofs.Cuts.{lacks_no_cut}
-use Rattle.ob_lines.proofs.Flagged.{lacks_from_test}
-use Rattle.ob_lines.proofs.Handles.{handle_alike}
-use Rattle.ob_lines.proofs.Parted.{apart, differ, moved, spaced, spaced_alike, place_alike, kind_alike, want_alike, ends_alike, name_ends_alike, place_ends_alike}
-use Rattle.ob_lines.proofs.Processed.{process_alike, process_uncut, handle_ends_alike, inherit_ends_alike}
-use Rattle.ob_lines.proofs.Paged.{page_ends_alike}
+use Rattle.ob_parts.specs.Text.{Lacks, IsText}
+use Rattle.ob_parts.specs.Parts.{text_of, BeginsWithName, BeginsWithPlace, BeginsWithRoom, BeginsWithProcess, BeginsWithInherit, SetsWord, SetsProcess, IsFlagsAndWord, IsFlagsTextAndWord, IsWantNameFlagsAndWord, IsPlaceFlagsTextAndWord}
+use Rattle.ob_lines.specs.Grammar.{HasPlaceText, HasTexts, PendingHasTexts, FormHasTexts, verb_text, verb_of, IsOperands, IsVerbAndOperands, IsRequest, IsPending, IsHandleRoomAndMode, IsHandleProcessAndWord, IsInheritAndProcess, IsIdle, IsLine, LinesHaveOneForm, form_seen}
+use Rattle.ob_parts.proofs.Cuts.{lacks_no_cut}
+use Rattle.ob_parts.proofs.Flagged.{lacks_from_test}
+use Rattle.ob_parts.proofs.Handles.{handle_alike}
+use Rattle.ob_parts.proofs.Parted.{apart, differ, moved, spaced, spaced_alike, place_alike, kind_alike, set_alike, ends_alike, name_ends_alike, place_ends_alike, want_ends_alike}
+use Rattle.ob_parts.proofs.Processed.{handle_first_alike, process_alike, process_uncut, inherit_alike, set_process_alike}
+use Rattle.ob_parts.proofs.Paged.{room_alike, mode_same}
 use Rattle.ob_lines.proofs.Verbs.{verb_lacks, verb_same, Each, of_verb, begin_no_verb, end_no_verb, drop_no_verb}
 
--- a WANT NAME FLAGS =V has one reading
-want_ends_alike : (bytes : List ℕ) (k : Option KindForm) (n : NameForm (List ℕ)) (a : ℕ) (w : List ℕ) (k' : Option KindForm) (n' : NameForm (List ℕ)) (a' : ℕ) (w' : List ℕ)
-    → IsWantNameFlagsAndWord bytes k n a w → IsWantNameFlagsAndWord bytes k' n' a' w' → (k ≡ k') × (n ≡ n') × (a ≡ a') × (w ≡ w')
-want_ends_alike bytes k n a w k' n' a' w' (r, c, s) (r', c', s') =
-    let want = want_alike bytes k r k' r' c c' in
-    let same = name_ends_alike r n a w n' a' w' s (moved (λ x. IsNameFlagsAndWord x n' a' w') r r' want.1 s') in
-    (want.0, same.0, same.1, same.2)
+-- an H ROOM MODE has one reading
+page_ends_alike : (bytes : List ℕ) (h : HandleForm (List ℕ)) (n : ℕ) (m : PageMode) (h' : HandleForm (List ℕ)) (n' : ℕ) (m' : PageMode)
+    → IsHandleRoomAndMode bytes h n m → IsHandleRoomAndMode bytes h' n' m' → (h ≡ h') × (n ≡ n') × (m ≡ m')
+page_ends_alike bytes h n m h' n' m' (r, l, a, b, c) (r', l', a', b', c') =
+    let handle = handle_first_alike bytes h r h' r' a a' in
+    let room = room_alike r n l n' l' b (moved (λ x. BeginsWithRoom x n' l') r r' handle.1 b') in
+    (handle.0, room.0, mode_same m m' (sym c ∙ (room.1 ∙ c')))
+
+-- an H Q plain =V has one reading, and a plain =Q
+handle_ends_alike : (bytes : List ℕ) (h : HandleForm (List ℕ)) (q : List ℕ) (i : Bool) (w : List ℕ) (h' : HandleForm (List ℕ)) (q' : List ℕ) (i' : Bool) (w' : List ℕ)
+    → IsHandleProcessAndWord bytes h q i w → IsHandleProcessAndWord bytes h' q' i' w' → (h ≡ h') × (q ≡ q') × (i ≡ i') × (w ≡ w')
+handle_ends_alike bytes h q i w h' q' i' w' (r, m, l, a, b, c, s) (r', m', l', a', b', c', s') =
+    let handle = handle_first_alike bytes h r h' r' a a' in
+    let process = process_alike r q m q' m' b (moved (λ x. BeginsWithProcess x q' m') r r' handle.1 b') in
+    let inherit = inherit_alike m i l i' l' c (moved (λ x. BeginsWithInherit x i' l') m m' process.1 c') in
+    (handle.0, process.0, inherit.0, set_alike l w w' s (moved (λ x. SetsWord x w') l l' inherit.1 s'))
+
+inherit_ends_alike : (bytes : List ℕ) (i : Bool) (q : List ℕ) (i' : Bool) (q' : List ℕ) → IsInheritAndProcess bytes i q → IsInheritAndProcess bytes i' q'
+    → (i ≡ i') × (q ≡ q')
+inherit_ends_alike bytes i q i' q' (r, c, s) (r', c', s') =
+    let inherit = inherit_alike bytes i r i' r' c c' in
+    (inherit.0, set_process_alike r q q' s (moved (λ x. SetsProcess x q') r r' inherit.1 s'))
 
 -- operands have one reading for each verb
 reads_alone : (bytes : List ℕ) (a : Request (List ℕ)) → IsOperands bytes a → Each (verb_of a) (λ b. IsOperands bytes b → a ≡ b)
@@ -210,10 +224,6 @@ line_alike line (Waits p w) (Asks q r) (rest, b, pending, short) t =
 line_alike line (Waits p w) (Waits q v) (rest, b, pending, short) t =
     let parts = waits_rest line p rest q v b t in
     rw (parts.0, pending_alike rest w v pending parts.1) refl
-
--- bytes that a test tells apart from a word are another
-pub told_apart : (line word known : List ℕ) (told : Bool) → told ≡ false → told ≡ bytes_eq line word → word ≡ known → line ≡ known → ⊥
-told_apart line word known told f is w e = both_ways told f (is ∙ (bytes_eq-Decides line word).1 (e ∙ sym w))
 
 -- a line that has a first byte other than `#`, is no `stat`, asks for nothing, and nothing of an open that waits, has no form
 pub no_form : (line : List ℕ) → eqb (length line) 0 ≡ false → (get_or line 0 0 ≡ 0x23 → ⊥) → (line ≡ codes "stat" → ⊥)

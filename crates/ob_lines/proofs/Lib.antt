@@ -1,10 +1,3 @@
-pub mod Cuts
-pub mod Spelled
-pub mod Flagged
-pub mod Handles
-pub mod Parted
-pub mod Processed
-pub mod Paged
 pub mod Verbs
 pub mod Formed
 pub mod Lined

@@ -2,7 +2,7 @@
 use Rattle.std.proofs.Common.{◌≡◌, ℕ, ◌<◌, List, [], ◌∷◌, ◌++◌, length, refl, ap, arith}
 use Rattle.std.proofs.lemmas.Bool.{ne_eqb}
 use Rattle.std.proofs.lemmas.List.{length-append}
-use Rattle.ob_lines.specs.Text.{Lacks}
+use Rattle.ob_parts.specs.Text.{Lacks}
 use Rattle.ob_lines.specs.Lines.{lines_of, onto_first_line}
 
 -- what stands before the first LF is the first line

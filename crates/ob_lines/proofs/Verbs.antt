@@ -3,18 +3,18 @@ use Rattle.std.proofs.Common.{◌≡◌, ℕ, Bool, false, List, Option, if◌th
 use Rattle.std.proofs.lemmas.Bool.{both_ways}
 use Rattle.std.proofs.lemmas.Slice.Eq.{bytes_eq-Decides}
 use Rattle.std.specs.Str.{bytes_eq}
-use Rattle.ob_lines.specs.declared.handle.HandleForm.{HandleForm}
-use Rattle.ob_lines.specs.declared.kind.KindForm.{KindForm}
-use Rattle.ob_lines.specs.declared.page.PageMode.{PageMode}
-use Rattle.ob_lines.specs.declared.request.NameForm.{NameForm}
-use Rattle.ob_lines.specs.declared.request.PlaceForm.{PlaceForm}
+use Rattle.ob_parts.specs.declared.handle.HandleForm.{HandleForm}
+use Rattle.ob_parts.specs.declared.kind.KindForm.{KindForm}
+use Rattle.ob_parts.specs.declared.page.PageMode.{PageMode}
+use Rattle.ob_parts.specs.declared.name.NameForm.{NameForm}
+use Rattle.ob_parts.specs.declared.name.PlaceForm.{PlaceForm}
 use Rattle.ob_lines.specs.declared.request.Request.{Request}
 use Rattle.ob_lines.specs.declared.request.Request.TheVariants.{CreateDirectory, CreateLink, CreateObject, OpenDirectory, OpenLink, OpenObject, Close, QueryLink, QueryName, QueryDirectory, Duplicate, MakeTemporary, MakePermanent, SetDeviceMap, NewProcess, ExitProcess}
 use Rattle.ob_lines.specs.declared.verb.Verb.{Verb}
 use Rattle.ob_lines.specs.declared.verb.Verb.TheVariants as verb
-use Rattle.ob_lines.specs.Text.{Lacks}
+use Rattle.ob_parts.specs.Text.{Lacks}
 use Rattle.ob_lines.specs.Grammar.{verb_text, verb_of, IsOperands}
-use Rattle.ob_lines.proofs.Flagged.{lacks_from_test}
+use Rattle.ob_parts.proofs.Flagged.{lacks_from_test}
 
 -- the words of verbs have no space
 pub verb_lacks : (v : Verb) → Lacks 0x20 (verb_text v)

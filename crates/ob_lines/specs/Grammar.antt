@@ -2,52 +2,27 @@
 --
 -- A form is generic in how it holds bytes: in the code as slices of the line, here as lists.
 -- Source: this profile.
-use Rattle.std.specs.Prelude.{◌≡◌, ℕ, Bool, ◌≤◌, ◌⊎◌, List, [], ◌++◌, Option, length, codes}
+use Rattle.std.specs.Prelude.{◌≡◌, ℕ, Bool, ◌≤◌, ◌⊎◌, List, [], ◌++◌, length, codes}
 use Rattle.std.specs.Borrow.{Bor}
-use Rattle.ob_lines.specs.declared.handle.HandleForm.{HandleForm}
+use Rattle.ob_parts.specs.declared.handle.HandleForm.{HandleForm}
 use Rattle.ob_lines.specs.declared.form.Form.{Form}
 use Rattle.ob_lines.specs.declared.form.Form.TheVariants.{Nothing, Stat, Asks, Waits}
-use Rattle.ob_lines.specs.declared.kind.KindForm.{KindForm}
-use Rattle.ob_lines.specs.declared.page.PageMode.{PageMode}
+use Rattle.ob_parts.specs.declared.page.PageMode.{PageMode}
 use Rattle.ob_lines.specs.declared.pending.PendingForm.{PendingForm}
 use Rattle.ob_lines.specs.declared.pending.PendingForm.TheVariants.{Begin, End, Drop}
-use Rattle.ob_lines.specs.declared.request.NameForm.{NameForm}
-use Rattle.ob_lines.specs.declared.request.PlaceForm.{PlaceForm}
-use Rattle.ob_lines.specs.declared.request.PlaceForm.TheVariants.{Named, Unnamed}
+use Rattle.ob_parts.specs.declared.name.PlaceForm.{PlaceForm}
+use Rattle.ob_parts.specs.declared.name.PlaceForm.TheVariants.{Named, Unnamed}
 use Rattle.ob_lines.specs.declared.request.Request.{Request}
 use Rattle.ob_lines.specs.declared.request.Request.TheVariants.{CreateDirectory, CreateLink, CreateObject, OpenDirectory, OpenLink, OpenObject, Close, QueryLink, QueryName, QueryDirectory, Duplicate, MakeTemporary, MakePermanent, SetDeviceMap, NewProcess, ExitProcess}
 use Rattle.ob_lines.specs.declared.verb.Verb.{Verb}
 use Rattle.ob_lines.specs.declared.verb.Verb.TheVariants as verb
-use Rattle.ob_lines.specs.Text.{IsText, IsWord}
-use Rattle.ob_lines.specs.Pages.{mode_text}
-use Rattle.ob_lines.specs.Parts.{IsHandle, BeginsWithText, BeginsWithHandle, BeginsWithName, BeginsWithPlace, BeginsWithKind, BeginsWithWant, BeginsWithFlags, BeginsWithRoom, BeginsWithProcess, BeginsWithInherit, SetsWord, SetsProcess, text_of, handle_seen, name_seen, place_seen}
+use Rattle.ob_parts.specs.Text.{IsText, IsWord}
+use Rattle.ob_parts.specs.Pages.{mode_text}
+use Rattle.ob_parts.specs.Parts.{IsHandle, BeginsWithHandle, BeginsWithPlace, BeginsWithKind, BeginsWithRoom, BeginsWithProcess, BeginsWithInherit, SetsWord, SetsProcess, IsFlagsAndWord, IsNameFlagsAndWord, IsWantNameFlagsAndWord, IsPlaceFlagsTextAndWord, text_of, handle_seen, name_seen, place_seen}
 
 -- the most bytes that a line may have, without its LF
 abbrev pub longest_line : ℕ
 longest_line = 262144
-
--- `FLAGS =V`
-abbrev pub IsFlagsAndWord : List ℕ → ℕ → List ℕ → Type 0
-IsFlagsAndWord bytes attrs word = (rest : List ℕ) × BeginsWithFlags bytes attrs rest × SetsWord rest word
-
--- `FLAGS TEXT =V`
-abbrev pub IsFlagsTextAndWord : List ℕ → ℕ → List ℕ → List ℕ → Type 0
-IsFlagsTextAndWord bytes attrs text word =
-    (rest more : List ℕ) × BeginsWithFlags bytes attrs rest × BeginsWithText rest text more × SetsWord more word
-
--- `NAME FLAGS =V`
-abbrev pub IsNameFlagsAndWord : List ℕ → NameForm (List ℕ) → ℕ → List ℕ → Type 0
-IsNameFlagsAndWord bytes name attrs word = (rest : List ℕ) × BeginsWithName bytes name rest × IsFlagsAndWord rest attrs word
-
--- `WANT NAME FLAGS =V`
-abbrev pub IsWantNameFlagsAndWord : List ℕ → Option KindForm → NameForm (List ℕ) → ℕ → List ℕ → Type 0
-IsWantNameFlagsAndWord bytes want name attrs word =
-    (rest : List ℕ) × BeginsWithWant bytes want rest × IsNameFlagsAndWord rest name attrs word
-
--- `PLACE FLAGS TEXT =V`
-abbrev pub IsPlaceFlagsTextAndWord : List ℕ → PlaceForm (List ℕ) → ℕ → List ℕ → List ℕ → Type 0
-IsPlaceFlagsTextAndWord bytes place attrs text word =
-    (rest : List ℕ) × BeginsWithPlace bytes place rest × IsFlagsTextAndWord rest attrs text word
 
 -- `H ROOM MODE`
 abbrev pub IsHandleRoomAndMode : List ℕ → HandleForm (List ℕ) → ℕ → PageMode → Type 0

@@ -7,8 +7,8 @@ ghost use Rattle.ob_lines.specs.declared.request.Request.{Request};
 ghost use Rattle.ob_lines.specs.Grammar.{IsLine, form_seen, LinesHaveOneForm};
 
 use crate::pending::{PendingForm, pending_of};
-use crate::process::take_process;
 use crate::request::{Request, request_of};
+use ob_parts::take_process;
 
 /// The most bytes that a line may have, without its LF: 262,144. (this profile)
 pub const LONGEST_LINE: usize = 262_144;

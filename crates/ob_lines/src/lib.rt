@@ -1,31 +1,24 @@
 //! Lines of a script: what a line is, its form and its words, and the parser.
 //!
 //! A script is bytes, which LF cuts into lines. Each line has at most one form, which the parser finds
-//! where there is one; a form names its words and texts as slices of the line. Nothing here knows what
-//! the words stand for, and no namespace is needed. docs/script.md has the language.
+//! where there is one; a form names its words and texts as slices of the line. The parts of which a line
+//! is made stand in `ob_parts`. Nothing here knows what the words stand for, and no namespace is needed.
+//! docs/script.md has the language.
 #![tactic(auto)]
 
 mod change;
-mod flags;
 mod form;
-mod handle;
-mod kind;
-mod page;
-mod parts;
 mod pending;
-mod process;
 mod request;
 mod script;
-mod split;
-mod text;
 mod verb;
 
 pub use change::{Change, change_of};
 pub use form::{Form, LONGEST_LINE, form_of, lines_have_one_form};
-pub use handle::{HandleForm, Offset, offset_value};
-pub use kind::KindForm;
-pub use page::PageMode;
+pub use ob_parts::{
+    HandleForm, KindForm, NameForm, Offset, PageMode, PlaceForm, decode, offset_value,
+    texts_spell_one_thing,
+};
 pub use pending::PendingForm;
-pub use request::{NameForm, PlaceForm, Request};
+pub use request::Request;
 pub use script::{every_script_has_a_reading, read_line, scripts_have_one_reading};
-pub use text::{decode, texts_spell_one_thing};

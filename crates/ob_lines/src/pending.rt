@@ -4,11 +4,7 @@ ghost use Rattle.std.specs.Prelude.{◌≡◌, ◌≤◌, ℕ, List, length, IfS
 ghost use Rattle.ob_lines.specs.declared.pending.PendingForm.{PendingForm};
 ghost use Rattle.ob_lines.specs.Grammar.{IsPending, pending_seen};
 
-use crate::kind::KindForm;
-use crate::parts::want_name_flags_and_word;
-use crate::request::NameForm;
-use crate::split::behind;
-use crate::text::is_word;
+use ob_parts::{KindForm, NameForm, behind, is_word, want_name_flags_and_word};
 
 /// What a process asks of the opens that wait for a parse. `T` is how bytes are held: as slices of the
 /// line, or, in contracts, as lists. (this profile)

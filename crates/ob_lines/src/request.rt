@@ -1,49 +1,22 @@
 //! What a process asks for in a line.
 
 ghost use Rattle.std.specs.Prelude.{◌≡◌, ◌≤◌, ℕ, Bool, List, Option, length, IfSome, IfNone};
-ghost use Rattle.ob_lines.specs.declared.handle.HandleForm.{HandleForm};
-ghost use Rattle.ob_lines.specs.declared.kind.KindForm.{KindForm};
-ghost use Rattle.ob_lines.specs.declared.page.PageMode.{PageMode};
-ghost use Rattle.ob_lines.specs.declared.request.NameForm.{NameForm};
-ghost use Rattle.ob_lines.specs.declared.request.PlaceForm.{PlaceForm};
+ghost use Rattle.ob_parts.specs.declared.handle.HandleForm.{HandleForm};
+ghost use Rattle.ob_parts.specs.declared.kind.KindForm.{KindForm};
+ghost use Rattle.ob_parts.specs.declared.page.PageMode.{PageMode};
+ghost use Rattle.ob_parts.specs.declared.name.NameForm.{NameForm};
+ghost use Rattle.ob_parts.specs.declared.name.PlaceForm.{PlaceForm};
 ghost use Rattle.ob_lines.specs.declared.request.Request.{Request};
 ghost use Rattle.ob_lines.specs.declared.verb.Verb.{Verb};
 ghost use Rattle.ob_lines.specs.Grammar.{IsOperands, IsRequest, IsVerbAndOperands, request_seen, verb_of};
 
-use crate::handle::{HandleForm, handle_of};
-use crate::kind::{KindForm, take_kind};
-use crate::page::{PageMode, mode_of, take_room};
-use crate::parts::{
-    flags_and_word, name_flags_and_word, place_flags_text_and_word, take_place,
-    want_name_flags_and_word, word_set,
-};
-use crate::process::{process_set, take_handle, take_inherit, take_process};
-use crate::split::split_at;
 use crate::verb::{Verb, verb_of};
-
-/// A name in a line. `T` is how bytes are held: as slices of the line, or, in contracts, as lists.
-#[derive(Clone, Copy, PartialEq, Eq, Debug)]
-pub enum NameForm<T> {
-    /// `TEXT`: the absolute name that the text spells.
-    Absolute(T),
-    /// `H:TEXT`: the name that the text spells, relative to the object of a handle.
-    Relative {
-        /// The handle.
-        root: HandleForm<T>,
-        /// The text that spells the name.
-        text: T,
-    },
-}
-
-/// Where a create puts what it makes. `T` is how bytes are held: as slices of the line, or, in
-/// contracts, as lists.
-#[derive(Clone, Copy, PartialEq, Eq, Debug)]
-pub enum PlaceForm<T> {
-    /// `NAME`: at this name.
-    Named(NameForm<T>),
-    /// `none`: nowhere, without a name.
-    Unnamed,
-}
+use ob_parts::{
+    HandleForm, KindForm, NameForm, PageMode, PlaceForm, flags_and_word, handle_of, mode_of,
+    name_flags_and_word, place_flags_text_and_word, process_set, split_at, take_handle,
+    take_inherit, take_kind, take_place, take_process, take_room, want_name_flags_and_word,
+    word_set,
+};
 
 /// What a process asks for in a line. `T` is how bytes are held: as slices of the line, or, in
 /// contracts, as lists.

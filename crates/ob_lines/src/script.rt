@@ -6,7 +6,7 @@ ghost use Rattle.ob_lines.specs.Grammar.{FormHasTexts, form_seen};
 ghost use Rattle.ob_lines.specs.Script.{BeginsWithLine, found_seen, HasReading, ScriptsHaveOneReading};
 
 use crate::form::{Form, form_of};
-use crate::split::split_at;
+use ob_parts::split_at;
 
 /// The form of a script's first line, and the rest of the script behind the line; none where the
 /// script is over.

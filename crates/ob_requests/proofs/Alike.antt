@@ -13,18 +13,18 @@ use Rattle.ob_model.specs.Grants.{IsHandleValue}
 use Rattle.ob_model.specs.Alike.{is_named, AreAlike, LeadAlike, AreAlikeRoots, no_root, roots, AreAlikePlaces, no_name, names, AreAlikeCommands, create_directories, create_links, create_objects, open_directories, open_links, open_objects, closes, queries_of_links, queries_of_names, queries_of_directories, duplicates, temporaries, permanents, device_maps, new_processes, exits}
 use Rattle.ob_model.proofs.AlikeHandles.{plain_places}
 use Rattle.ob_standard.specs.Standard.{StandardKind}
-use Rattle.ob_lines.specs.declared.handle.HandleForm.{HandleForm}
-use Rattle.ob_lines.specs.declared.handle.Offset.{Offset}
-use Rattle.ob_lines.specs.declared.handle.Offset.TheVariants.{Zero, One, Two, Three}
-use Rattle.ob_lines.specs.declared.request.NameForm.{NameForm}
-use Rattle.ob_lines.specs.declared.request.NameForm.TheVariants.{Absolute, Relative}
-use Rattle.ob_lines.specs.declared.request.PlaceForm.{PlaceForm}
-use Rattle.ob_lines.specs.declared.request.PlaceForm.TheVariants.{Named, Unnamed}
+use Rattle.ob_parts.specs.declared.handle.HandleForm.{HandleForm}
+use Rattle.ob_parts.specs.declared.handle.Offset.{Offset}
+use Rattle.ob_parts.specs.declared.handle.Offset.TheVariants.{Zero, One, Two, Three}
+use Rattle.ob_parts.specs.declared.name.NameForm.{NameForm}
+use Rattle.ob_parts.specs.declared.name.NameForm.TheVariants.{Absolute, Relative}
+use Rattle.ob_parts.specs.declared.name.PlaceForm.{PlaceForm}
+use Rattle.ob_parts.specs.declared.name.PlaceForm.TheVariants.{Named, Unnamed}
 use Rattle.ob_lines.specs.declared.request.Request.{Request}
 use Rattle.ob_lines.specs.declared.request.Request.TheVariants.{CreateDirectory, CreateLink, CreateObject, OpenDirectory, OpenLink, OpenObject, Close, QueryLink, QueryName, QueryDirectory, Duplicate, MakeTemporary, MakePermanent, SetDeviceMap, NewProcess, ExitProcess}
-use Rattle.ob_lines.specs.Pages.{is_first, is_single}
-use Rattle.ob_lines.specs.Parts.{offset_value, text_of}
-use Rattle.ob_lines.proofs.Spelled.{spells_alike}
+use Rattle.ob_parts.specs.Pages.{is_first, is_single}
+use Rattle.ob_parts.specs.Parts.{offset_value, text_of}
+use Rattle.ob_parts.proofs.Spelled.{spells_alike}
 use Rattle.ob_requests.specs.Words.{Words}
 use Rattle.ob_requests.specs.Commands.{kind_meant, greatest_named, handle_meant, root_of, IsPlace, IsCommand}
 use Rattle.ob_requests.specs.Alike.{AreAlikeValues, unset, set, AreAlikeWords}

@@ -17,18 +17,18 @@ use Rattle.ob_plain.specs.declared.plain.PlainKind.TheVariants as plain
 use Rattle.ob_device.specs.declared.device.DeviceKind.TheVariants as device
 use Rattle.ob_key.specs.declared.key.KeyKind.TheVariants as key
 use Rattle.ob_standard.specs.Standard.{StandardKind}
-use Rattle.ob_lines.specs.declared.handle.HandleForm.{HandleForm}
-use Rattle.ob_lines.specs.declared.kind.KindForm.{KindForm}
-use Rattle.ob_lines.specs.declared.kind.KindForm.TheVariants.{Event, Mutant, Section, Device, File, Key}
-use Rattle.ob_lines.specs.declared.request.NameForm.{NameForm}
-use Rattle.ob_lines.specs.declared.request.NameForm.TheVariants.{Absolute, Relative}
-use Rattle.ob_lines.specs.declared.request.PlaceForm.{PlaceForm}
-use Rattle.ob_lines.specs.declared.request.PlaceForm.TheVariants.{Named, Unnamed}
+use Rattle.ob_parts.specs.declared.handle.HandleForm.{HandleForm}
+use Rattle.ob_parts.specs.declared.kind.KindForm.{KindForm}
+use Rattle.ob_parts.specs.declared.kind.KindForm.TheVariants.{Event, Mutant, Section, Device, File, Key}
+use Rattle.ob_parts.specs.declared.name.NameForm.{NameForm}
+use Rattle.ob_parts.specs.declared.name.NameForm.TheVariants.{Absolute, Relative}
+use Rattle.ob_parts.specs.declared.name.PlaceForm.{PlaceForm}
+use Rattle.ob_parts.specs.declared.name.PlaceForm.TheVariants.{Named, Unnamed}
 use Rattle.ob_lines.specs.declared.request.Request.{Request}
 use Rattle.ob_lines.specs.declared.request.Request.TheVariants.{CreateDirectory, CreateLink, CreateObject, OpenDirectory, OpenLink, OpenObject, Close, QueryLink, QueryName, QueryDirectory, Duplicate, MakeTemporary, MakePermanent, SetDeviceMap, NewProcess, ExitProcess}
-use Rattle.ob_lines.specs.Text.{Spells}
-use Rattle.ob_lines.specs.Pages.{is_first, is_single}
-use Rattle.ob_lines.specs.Parts.{offset_value, text_of}
+use Rattle.ob_parts.specs.Text.{Spells}
+use Rattle.ob_parts.specs.Pages.{is_first, is_single}
+use Rattle.ob_parts.specs.Parts.{offset_value, text_of}
 use Rattle.ob_lines.specs.declared.change.Change.{Change}
 use Rattle.ob_lines.specs.declared.change.Change.TheVariants as change
 use Rattle.ob_lines.specs.Changes.{change_of}

@@ -1,9 +1,9 @@
 //! The command that a request spells.
 
 ghost use Rattle.std.specs.Prelude.{◌≡◌, ◌+◌, min, IfOk};
-ghost use Rattle.ob_lines.specs.Parts.{offset_value, text_of, name_seen, place_seen, handle_seen};
+ghost use Rattle.ob_parts.specs.Parts.{offset_value, text_of, name_seen, place_seen, handle_seen};
 ghost use Rattle.ob_lines.specs.Grammar.{HasPlaceText, HasTexts, request_seen};
-ghost use Rattle.ob_lines.specs.Text.{IsText, Spells};
+ghost use Rattle.ob_parts.specs.Text.{IsText, Spells};
 ghost use Rattle.ob_requests.specs.Tables.{words_in};
 ghost use Rattle.ob_requests.specs.Commands.{greatest_named, kind_meant, handle_meant, root_of, IsCommand, IsCreateDirectory, IsCreateLink, IsCreateObject, IsOpenDirectory, IsOpenLink, IsOpenObject, IsPlace};
 

@@ -33,8 +33,8 @@ use Rattle.ob_lines.specs.declared.pending.PendingForm.TheVariants as pending
 use Rattle.ob_lines.specs.declared.request.Request.{Request}
 use Rattle.ob_lines.specs.declared.request.Request.TheVariants.{CreateDirectory, CreateLink, CreateObject, OpenDirectory, OpenLink, OpenObject, Close, QueryLink, QueryName, QueryDirectory, Duplicate, MakeTemporary, MakePermanent, SetDeviceMap, NewProcess, ExitProcess}
 use Rattle.ob_lines.specs.Script.{Forms, BeginsWithForms}
-use Rattle.ob_lines.specs.Parts.{text_of}
-use Rattle.ob_lines.proofs.Spelled.{spells_alike}
+use Rattle.ob_parts.specs.Parts.{text_of}
+use Rattle.ob_parts.proofs.Spelled.{spells_alike}
 use Rattle.ob_lines.proofs.Scripted.{goes_on, scripts_alike as scripts_read_alike}
 use Rattle.ob_output.specs.Printed.{output_line, status_text, given_text, reply_text, counts_text}
 use Rattle.ob_requests.specs.Words.{Words, first_words, with_word, with_ticket}

@@ -41,8 +41,8 @@ use Rattle.ob_model.specs.Maps.{with_map}
 use Rattle.ob_model.specs.Naming.{TellsName, TellsTarget, target_of, path_text}
 use Rattle.ob_model.specs.Enumeration.{enumerated, context_used, page_answer}
 use Rattle.ob_model.specs.Step.{WithHandle, WithRoot, CreatesIn, CreatesAt, OpensName, page_refusals, TellsPage, Step}
-use Rattle.ob_lines.specs.declared.handle.Offset.{Offset}
-use Rattle.ob_lines.specs.declared.handle.Offset.TheVariants.{Zero, One, Two, Three}
+use Rattle.ob_parts.specs.declared.handle.Offset.{Offset}
+use Rattle.ob_parts.specs.declared.handle.Offset.TheVariants.{Zero, One, Two, Three}
 use Rattle.ob_requests.specs.Words.{Words, with_number, with_process, with_words, with_word, without_words, is_among}
 use Rattle.ob_complete.specs.Completes.{Made, Leads, HasRun, Completes}
 use Rattle.ob_standard.specs.Standard.{standard}
@@ -50,7 +50,7 @@ use Rattle.ob_requests.specs.Commands.{is_success, given_handle, with_child, wit
 use Rattle.ob_lines.specs.declared.change.Change.{Change}
 use Rattle.ob_lines.specs.declared.change.Change.TheVariants as change
 use Rattle.ob_lines.specs.Changes.{change_of}
-use Rattle.ob_lines.specs.Parts.{offset_value}
+use Rattle.ob_parts.specs.Parts.{offset_value}
 use Rattle.ob_shell.specs.Offsets.{HoldHandles, OffsetsAreAddedInFull}
 
 -- an answer gives no more than the greatest handle value

@@ -24,12 +24,12 @@ use Rattle.ob_standard.proofs.Fronts.{standard_front}
 use Rattle.ob_lines.specs.declared.form.Form.TheVariants.{Nothing, Stat, Asks, Waits}
 use Rattle.ob_lines.specs.declared.pending.PendingForm.{PendingForm}
 use Rattle.ob_lines.specs.declared.pending.PendingForm.TheVariants as pending
-use Rattle.ob_lines.specs.declared.request.PlaceForm.{PlaceForm}
-use Rattle.ob_lines.specs.declared.request.PlaceForm.TheVariants.{Named, Unnamed}
+use Rattle.ob_parts.specs.declared.name.PlaceForm.{PlaceForm}
+use Rattle.ob_parts.specs.declared.name.PlaceForm.TheVariants.{Named, Unnamed}
 use Rattle.ob_lines.specs.declared.request.Request.{Request}
 use Rattle.ob_lines.specs.declared.request.Request.TheVariants.{CreateDirectory, CreateLink, CreateObject, OpenDirectory, OpenLink, OpenObject, Close, QueryLink, QueryName, QueryDirectory, Duplicate, MakeTemporary, MakePermanent, SetDeviceMap, NewProcess, ExitProcess}
 use Rattle.ob_lines.specs.Grammar.{HasPlaceText, HasTexts, PendingHasTexts}
-use Rattle.ob_lines.specs.Pages.{is_first, is_single}
+use Rattle.ob_parts.specs.Pages.{is_first, is_single}
 use Rattle.ob_lines.specs.Script.{Forms}
 use Rattle.ob_lines.proofs.Scripted.{HaveTexts}
 use Rattle.ob_output.specs.Printed.{output_line, reply_text, counts_text}

@@ -8,13 +8,13 @@ use Rattle.ob_model.specs.declared.reply.Event.TheVariants.{Start}
 use Rattle.ob_model.specs.Grants.{greatest_handle}
 use Rattle.ob_complete.specs.Completes.{Completes}
 use Rattle.ob_standard.specs.Standard.{StandardKind, standard}
-use Rattle.ob_lines.specs.declared.handle.HandleForm.{HandleForm}
+use Rattle.ob_parts.specs.declared.handle.HandleForm.{HandleForm}
 use Rattle.ob_lines.specs.declared.request.Request.{Request}
 use Rattle.ob_requests.specs.Words.{Words, first_words}
 use Rattle.ob_effects.specs.Machine.{Space}
 use Rattle.ob_effects.specs.Waiting.{Steps}
 use Rattle.ob_requests.specs.Commands.{handle_meant, words_after}
-use Rattle.ob_lines.specs.Parts.{offset_value}
+use Rattle.ob_parts.specs.Parts.{offset_value}
 
 -- no word holds more than the greatest handle value
 abbrev pub HoldHandles : Words → Type 0

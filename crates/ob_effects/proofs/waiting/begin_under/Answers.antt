@@ -3,7 +3,7 @@ use Rattle.std.proofs.Common.{◌≡◌, ap, subst, inr, refl, ◌∙◌}
 use Rattle.ob_model.specs.declared.reply.Event.TheVariants.{Start}
 use Rattle.ob_begun.specs.Begun.{answer_in}
 use Rattle.ob_begun.proofs.Results.{on_err}
-use Rattle.ob_lines.specs.Parts.{name_seen}
+use Rattle.ob_parts.specs.Parts.{name_seen}
 use Rattle.ob_requests.specs.Commands.{IsOpenObject}
 use Rattle.ob_requests.specs.Tables.{words_in}
 use Rattle.ob_requests.specs.Words.{Words}

@@ -1,7 +1,7 @@
 -- Behind parts of which there is one reading the next one is missing.
-use Rattle.ob_lines.specs.Parts.{BeginsWithProcess, BeginsWithInherit, SetsWord}
-use Rattle.ob_lines.proofs.Parted.{moved}
-use Rattle.ob_lines.proofs.Processed.{handle_first_alike, process_alike, inherit_alike}
+use Rattle.ob_parts.specs.Parts.{BeginsWithProcess, BeginsWithInherit, SetsWord}
+use Rattle.ob_parts.proofs.Parted.{moved}
+use Rattle.ob_parts.proofs.Processed.{handle_first_alike, process_alike, inherit_alike}
 use Rattle.ob_lines.proofs.request.duplicate_of.Goals as goal
 
 pub returns-in_err-handle-clause-none : goal.returns-in_err-handle-clause-none

@@ -1,7 +1,7 @@
 -- Behind the inheritance, of which there is one reading, no process word is set.
-use Rattle.ob_lines.specs.Parts.{SetsProcess}
-use Rattle.ob_lines.proofs.Parted.{moved}
-use Rattle.ob_lines.proofs.Processed.{inherit_alike}
+use Rattle.ob_parts.specs.Parts.{SetsProcess}
+use Rattle.ob_parts.proofs.Parted.{moved}
+use Rattle.ob_parts.proofs.Processed.{inherit_alike}
 use Rattle.ob_lines.proofs.request.new_process_of.Goals as goal
 
 pub returns-in_err-child-clause-none : goal.returns-in_err-child-clause-none

@@ -1,5 +1,5 @@
 -- Operands that are none of their verb's are those of no request of this verb.
-use Rattle.ob_lines.proofs.Cuts.{IfNone-map}
+use Rattle.ob_parts.proofs.Cuts.{IfNone-map}
 use Rattle.ob_lines.proofs.Verbs.{no_request}
 use Rattle.ob_lines.proofs.request.operands_of.Goals as goal
 

@@ -1,6 +1,6 @@
 -- One more waits, or none.
 use Rattle.ob_begun.specs.Begun.{tickets_of}
-use Rattle.ob_lines.specs.Parts.{name_seen}
+use Rattle.ob_parts.specs.Parts.{name_seen}
 use Rattle.ob_requests.specs.Tables.{words_in}
 use Rattle.std.proofs.Common.{sym, ◌∙◌}
 use Rattle.ob_effects.proofs.Sessions.{begin_keeps}

@@ -1,0 +1,7 @@
+pub mod Cuts
+pub mod Spelled
+pub mod Flagged
+pub mod Handles
+pub mod Parted
+pub mod Processed
+pub mod Paged

@@ -1,0 +1,5 @@
+pub mod Text
+pub mod Flags
+pub mod Kinds
+pub mod Pages
+pub mod Parts

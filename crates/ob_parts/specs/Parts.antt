@@ -1,0 +1,130 @@
+-- The parts of a line: texts, handles, names, places, kinds, flags, rooms, process words, inheritance and the word
+-- that is set. Handles stand alone, or with all others but the last at the front of bytes that go on behind them and
+-- a space. Several parts behind one another stand alone.
+--
+-- Handles, names and places are generic in how they hold bytes: in the code as slices of the line, here as lists.
+-- Source: this profile.
+use Rattle.std.specs.Prelude.{◌≡◌, ℕ, Bool, true, false, List, [], ◌++◌, Option, None, Some, codes}
+use Rattle.std.specs.Borrow.{Bor}
+use Rattle.ob_parts.specs.declared.handle.HandleForm.{HandleForm}
+use Rattle.ob_parts.specs.declared.handle.Offset.{Offset}
+use Rattle.ob_parts.specs.declared.handle.Offset.TheVariants.{Zero, One, Two, Three}
+use Rattle.ob_parts.specs.declared.kind.KindForm.{KindForm}
+use Rattle.ob_parts.specs.declared.name.NameForm.{NameForm}
+use Rattle.ob_parts.specs.declared.name.NameForm.TheVariants.{Absolute, Relative}
+use Rattle.ob_parts.specs.declared.name.PlaceForm.{PlaceForm}
+use Rattle.ob_parts.specs.declared.name.PlaceForm.TheVariants.{Named, Unnamed}
+use Rattle.ob_parts.specs.Text.{IsWord, IsProcessWord, IsText}
+use Rattle.ob_parts.specs.Flags.{IsFlags}
+use Rattle.ob_parts.specs.Kinds.{name_of}
+use Rattle.ob_parts.specs.Pages.{IsRoom}
+
+-- a text between double quotes
+abbrev pub BeginsWithText : List ℕ → List ℕ → List ℕ → Type 0
+BeginsWithText bytes text rest = IsText text × (bytes ≡ codes "\"" ++ text ++ codes "\" " ++ rest)
+
+-- what stands behind a handle word for what is added to its value
+abbrev pub offset_text : Offset → List ℕ
+offset_text Zero = []
+offset_text One = codes "+1"
+offset_text Two = codes "+2"
+offset_text Three = codes "+3"
+
+-- and what is added
+abbrev pub offset_value : Offset → ℕ
+offset_value Zero = 0
+offset_value One = 1
+offset_value Two = 2
+offset_value Three = 3
+
+-- a handle: a handle word, or one with `+1`, `+2` or `+3` right behind it
+abbrev pub IsHandle : List ℕ → HandleForm (List ℕ) → Type 0
+IsHandle bytes handle = IsWord handle.word × (bytes ≡ handle.word ++ offset_text handle.offset)
+
+abbrev pub BeginsWithHandle : List ℕ → HandleForm (List ℕ) → List ℕ → Type 0
+BeginsWithHandle bytes handle rest = (spelled : List ℕ) × IsHandle spelled handle × (bytes ≡ spelled ++ codes " " ++ rest)
+
+-- a name: `TEXT`, which is absolute; or `H:TEXT`, which is relative to a handle
+abbrev pub BeginsWithName : List ℕ → NameForm (List ℕ) → List ℕ → Type 0
+BeginsWithName bytes (Absolute text) rest = BeginsWithText bytes text rest
+BeginsWithName bytes (Relative root text) rest =
+    (spelled quoted : List ℕ) × IsHandle spelled root × (bytes ≡ spelled ++ codes ":" ++ quoted) × BeginsWithText quoted text rest
+
+-- the text of a name
+abbrev pub text_of : NameForm (List ℕ) → List ℕ
+text_of (Absolute text) = text
+text_of (Relative root text) = text
+
+-- a place: `NAME` or `none`
+abbrev pub BeginsWithPlace : List ℕ → PlaceForm (List ℕ) → List ℕ → Type 0
+BeginsWithPlace bytes (Named name) rest = BeginsWithName bytes name rest
+BeginsWithPlace bytes Unnamed rest = bytes ≡ codes "none " ++ rest
+
+-- a kind, by the name of its type
+abbrev pub BeginsWithKind : List ℕ → KindForm → List ℕ → Type 0
+BeginsWithKind bytes kind rest = bytes ≡ name_of kind ++ codes " " ++ rest
+
+-- what an open wants: a kind, or `any` for each object
+abbrev pub BeginsWithWant : List ℕ → Option KindForm → List ℕ → Type 0
+BeginsWithWant bytes None rest = bytes ≡ codes "any " ++ rest
+BeginsWithWant bytes (Some kind) rest = BeginsWithKind bytes kind rest
+
+-- flags, and their bits
+abbrev pub BeginsWithFlags : List ℕ → ℕ → List ℕ → Type 0
+BeginsWithFlags bytes attrs rest = (flags : List ℕ) × IsFlags flags attrs × (bytes ≡ flags ++ codes " " ++ rest)
+
+-- a room
+abbrev pub BeginsWithRoom : List ℕ → ℕ → List ℕ → Type 0
+BeginsWithRoom bytes room rest = (spelled : List ℕ) × IsRoom spelled room × (bytes ≡ spelled ++ codes " " ++ rest)
+
+-- a process word
+abbrev pub BeginsWithProcess : List ℕ → List ℕ → List ℕ → Type 0
+BeginsWithProcess bytes process rest = IsProcessWord process × (bytes ≡ process ++ codes " " ++ rest)
+
+-- `inherit`, or `plain` for no inheritance
+abbrev pub BeginsWithInherit : List ℕ → Bool → List ℕ → Type 0
+BeginsWithInherit bytes true rest = bytes ≡ codes "inherit " ++ rest
+BeginsWithInherit bytes false rest = bytes ≡ codes "plain " ++ rest
+
+-- `=V`, with nothing behind it
+abbrev pub SetsWord : List ℕ → List ℕ → Type 0
+SetsWord bytes word = IsWord word × (bytes ≡ codes "=" ++ word)
+
+-- `=Q`, with nothing behind it
+abbrev pub SetsProcess : List ℕ → List ℕ → Type 0
+SetsProcess bytes process = IsProcessWord process × (bytes ≡ codes "=" ++ process)
+
+-- `FLAGS =V`
+abbrev pub IsFlagsAndWord : List ℕ → ℕ → List ℕ → Type 0
+IsFlagsAndWord bytes attrs word = (rest : List ℕ) × BeginsWithFlags bytes attrs rest × SetsWord rest word
+
+-- `FLAGS TEXT =V`
+abbrev pub IsFlagsTextAndWord : List ℕ → ℕ → List ℕ → List ℕ → Type 0
+IsFlagsTextAndWord bytes attrs text word =
+    (rest more : List ℕ) × BeginsWithFlags bytes attrs rest × BeginsWithText rest text more × SetsWord more word
+
+-- `NAME FLAGS =V`
+abbrev pub IsNameFlagsAndWord : List ℕ → NameForm (List ℕ) → ℕ → List ℕ → Type 0
+IsNameFlagsAndWord bytes name attrs word = (rest : List ℕ) × BeginsWithName bytes name rest × IsFlagsAndWord rest attrs word
+
+-- `WANT NAME FLAGS =V`
+abbrev pub IsWantNameFlagsAndWord : List ℕ → Option KindForm → NameForm (List ℕ) → ℕ → List ℕ → Type 0
+IsWantNameFlagsAndWord bytes want name attrs word =
+    (rest : List ℕ) × BeginsWithWant bytes want rest × IsNameFlagsAndWord rest name attrs word
+
+-- `PLACE FLAGS TEXT =V`
+abbrev pub IsPlaceFlagsTextAndWord : List ℕ → PlaceForm (List ℕ) → ℕ → List ℕ → List ℕ → Type 0
+IsPlaceFlagsTextAndWord bytes place attrs text word =
+    (rest : List ℕ) × BeginsWithPlace bytes place rest × IsFlagsTextAndWord rest attrs text word
+
+-- a handle, a name, and a place, whose slices of bytes are seen as the lists that they hold
+abbrev pub handle_seen : HandleForm (Bor (List ℕ)) → HandleForm (List ℕ)
+handle_seen handle = record { word = handle.word.now; offset = handle.offset }
+
+abbrev pub name_seen : NameForm (Bor (List ℕ)) → NameForm (List ℕ)
+name_seen (Absolute text) = Absolute text.now
+name_seen (Relative root text) = Relative (handle_seen root) text.now
+
+abbrev pub place_seen : PlaceForm (Bor (List ℕ)) → PlaceForm (List ℕ)
+place_seen (Named name) = Named (name_seen name)
+place_seen Unnamed = Unnamed

@@ -1,0 +1,81 @@
+//! Handles in a line: a handle word, or one with a number that is added to its value.
+
+ghost use Rattle.std.specs.Prelude.{◌≡◌, ◌≢◌, ◌++◌, ℕ, List, codes, IfSome, IfNone};
+ghost use Rattle.ob_parts.specs.declared.handle.HandleForm.{HandleForm};
+ghost use Rattle.ob_parts.specs.declared.handle.Offset.{Offset};
+ghost use Rattle.ob_parts.specs.Parts.{IsHandle, handle_seen, offset_text, offset_value};
+
+use crate::split::split_at;
+use crate::text::is_word;
+
+/// A number that is added to the value of a handle word. (this profile)
+#[derive(Clone, Copy, PartialEq, Eq, Debug)]
+pub enum Offset {
+    /// Nothing behind the word: 0.
+    Zero,
+    /// `+1`.
+    One,
+    /// `+2`.
+    Two,
+    /// `+3`.
+    Three,
+}
+
+/// A handle in a line: `V`, `V+1`, `V+2` or `V+3`. `T` is how bytes are held: as slices of the line,
+/// or, in contracts, as lists.
+#[derive(Clone, Copy, PartialEq, Eq, Debug)]
+pub struct HandleForm<T> {
+    /// The handle word.
+    pub word: T,
+    /// What is added to its value.
+    pub offset: Offset,
+}
+
+/// The handle that the bytes are, `H`: none where they are no handle word, and none with `+1`, `+2` or `+3` behind
+/// it. Takes no memory. Source: this profile.
+pub fn handle_of(bytes: &[u8]) -> Option<HandleForm<&[u8]>>
+    ensures found { IfSome result (λ handle. IsHandle bytes.now (handle_seen handle)) }
+    ensures none { IfNone result ((handle : HandleForm (List ℕ)) → ¬ IsHandle bytes.now handle) }
+{
+    if is_word(bytes) {
+        return Some(HandleForm {
+            word: bytes,
+            offset: Offset::Zero,
+        });
+    }
+    let (word, number) = split_at(bytes, b'+')?;
+    if !is_word(word) {
+        return None;
+    }
+    let offset = offset_of(number)?;
+    Some(HandleForm { word, offset })
+}
+
+// The number that stands behind a `+`.
+fn offset_of(number: &[u8]) -> Option<Offset>
+    ensures found { IfSome result (λ offset. codes "+" ++ number.now ≡ offset_text offset) }
+    ensures none { IfNone result ((offset : Offset) → codes "+" ++ number.now ≢ offset_text offset) }
+{
+    if number == b"1".as_slice() {
+        return Some(Offset::One);
+    }
+    if number == b"2".as_slice() {
+        return Some(Offset::Two);
+    }
+    if number == b"3".as_slice() {
+        return Some(Offset::Three);
+    }
+    None
+}
+
+/// What is added to the value of a handle word: 0 to 3. Source: this profile.
+pub fn offset_value(offset: Offset) -> u32
+    ensures { result ≡ offset_value offset }
+{
+    match offset {
+        Offset::Zero => 0,
+        Offset::One => 1,
+        Offset::Two => 2,
+        Offset::Three => 3,
+    }
+}

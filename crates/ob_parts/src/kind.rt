@@ -1,0 +1,77 @@
+//! Kinds of objects.
+
+ghost use Rattle.std.specs.Prelude.{◌≡◌, ◌≢◌, ◌≤◌, ℕ, List, Option, length, IfSome, IfNone};
+ghost use Rattle.ob_parts.specs.declared.kind.KindForm.{KindForm};
+ghost use Rattle.ob_parts.specs.Kinds.{name_of};
+ghost use Rattle.ob_parts.specs.Parts.{BeginsWithKind, BeginsWithWant};
+
+use crate::split::{behind, split_at};
+
+/// A kind of objects as a line names it: by the name of its type. (this profile)
+#[derive(Clone, Copy, PartialEq, Eq, Debug)]
+pub enum KindForm {
+    /// `Event`.
+    Event,
+    /// `Mutant`.
+    Mutant,
+    /// `Section`.
+    Section,
+    /// `Device`.
+    Device,
+    /// `File`.
+    File,
+    /// `Key`.
+    Key,
+}
+
+/// The kind with which the bytes begin, `KIND`, and what stands behind it and a space: none where they begin with no
+/// kind. Takes no memory. Source: this profile.
+pub fn take_kind(bytes: &[u8]) -> Option<(KindForm, &[u8])>
+    ensures found { IfSome result (λ found. BeginsWithKind bytes.now found.0 found.1.now) }
+    ensures shorter { IfSome result (λ found. length found.1.now ≤ length bytes.now) }
+    ensures none { IfNone result ((kind : KindForm) (rest : List ℕ) → ¬ BeginsWithKind bytes.now kind rest) }
+{
+    let (word, rest) = split_at(bytes, b' ')?;
+    let kind = kind_of(word)?;
+    Some((kind, rest))
+}
+
+// What an open wants, with which the bytes begin, and what stands behind it and a space: a kind, or
+// none for `any`.
+pub fn take_want(bytes: &[u8]) -> Option<(Option<KindForm>, &[u8])>
+    ensures found { IfSome result (λ found. BeginsWithWant bytes.now found.0 found.1.now) }
+    ensures shorter { IfSome result (λ found. length found.1.now ≤ length bytes.now) }
+    ensures none { IfNone result ((want : Option KindForm) (rest : List ℕ) → ¬ BeginsWithWant bytes.now want rest) }
+{
+    if let Some(rest) = behind(bytes, b"any ") {
+        return Some((None, rest));
+    }
+    let (kind, rest) = take_kind(bytes)?;
+    Some((Some(kind), rest))
+}
+
+// The kind of a word.
+fn kind_of(word: &[u8]) -> Option<KindForm>
+    ensures found { IfSome result (λ kind. word.now ≡ name_of kind) }
+    ensures none { IfNone result ((kind : KindForm) → word.now ≢ name_of kind) }
+{
+    if word == b"Event".as_slice() {
+        return Some(KindForm::Event);
+    }
+    if word == b"Mutant".as_slice() {
+        return Some(KindForm::Mutant);
+    }
+    if word == b"Section".as_slice() {
+        return Some(KindForm::Section);
+    }
+    if word == b"Device".as_slice() {
+        return Some(KindForm::Device);
+    }
+    if word == b"File".as_slice() {
+        return Some(KindForm::File);
+    }
+    if word == b"Key".as_slice() {
+        return Some(KindForm::Key);
+    }
+    None
+}

@@ -1,0 +1,31 @@
+//! Cutting bytes apart.
+
+ghost use Rattle.std.specs.Prelude.{◌≡◌, ◌≢◌, List, ℕ, ◌==◌, ◌∷◌, ◌++◌, IfSome, IfNone};
+ghost use Rattle.std.specs.List.{position};
+ghost use Rattle.ob_parts.specs.Text.{Lacks};
+
+/// What stands before the first byte of this value, and what stands behind it: none where the bytes have no such
+/// byte. Takes no memory. Source: this profile.
+pub fn split_at(bytes: &[u8], mark: u8) -> Option<(&[u8], &[u8])>
+    ensures found { IfSome result (λ parts. (bytes.now ≡ parts.0.now ++ (mark ∷ parts.1.now))
+        × Lacks mark parts.0.now) }
+    ensures none { IfNone result (Lacks mark bytes.now) }
+{
+    let place = place_of(bytes, mark)?;
+    Some((&bytes[..place], &bytes[place + 1..]))
+}
+
+// Where the first byte of this value stands.
+fn place_of(bytes: &[u8], mark: u8) -> Option<usize>
+    ensures { result ≡ position (λ byte. byte == mark) bytes.now }
+{
+    bytes.iter().position(|byte| *byte == mark)
+}
+
+/// What stands behind a front: none where the bytes begin otherwise. Takes no memory. Source: this profile.
+pub fn behind<'a>(bytes: &'a [u8], front: &[u8]) -> Option<&'a [u8]>
+    ensures found { IfSome result (λ rest. bytes.now ≡ front.now ++ rest.now) }
+    ensures none { IfNone result ((rest : List ℕ) → bytes.now ≢ front.now ++ rest) }
+{
+    bytes.strip_prefix(front)
+}
