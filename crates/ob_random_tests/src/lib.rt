@@ -6,6 +6,12 @@
 #[cfg(test)]
 mod dice;
 #[cfg(test)]
+mod draw;
+#[cfg(test)]
+mod model;
+#[cfg(test)]
+mod names;
+#[cfg(test)]
 mod random;
 #[cfg(test)]
 mod waiting;

@@ -1,0 +1,232 @@
+//! What comes next, at random.
+
+use crate::dice::Dice;
+use crate::model::{
+    Ask, CASE_INSENSITIVE, Deed, EXCLUSIVE, INHERIT, LARGEST_ROOM, Model, OPENIF, OPENLINK,
+    PERMANENT, Part, Want, What,
+};
+use crate::names::{Name, Path};
+use ob_plain::PlainKind;
+
+// The number of the last object of those that every game begins with.
+const LAST_BUILT: u32 = 9;
+
+// The flags of creates and opens, of which up to three come together; one of them is unlawful.
+const FLAGS: [u32; 20] = [
+    0,
+    0,
+    0,
+    0,
+    0,
+    0,
+    0,
+    INHERIT,
+    INHERIT,
+    INHERIT,
+    PERMANENT,
+    PERMANENT,
+    EXCLUSIVE,
+    CASE_INSENSITIVE,
+    CASE_INSENSITIVE,
+    OPENIF,
+    OPENIF,
+    OPENIF,
+    OPENLINK,
+    0x1,
+];
+
+// The last components of names.
+const LETTERS: [u8; 8] = [b'A', b'B', b'C', b'a', b'b', b'2', b'3', b'?'];
+
+const KINDS: [PlainKind; 3] = [PlainKind::Event, PlainKind::Mutant, PlainKind::Section];
+
+// The directory `\3`, and 30 times the link in it that leads to it.
+const DEEP: [u8; 31] = [b'3'; 31];
+
+// The same with 31 and with 32 times that link.
+const DEEPER: [u8; 32] = [b'3'; 32];
+
+const DEEPEST: [u8; 33] = [b'3'; 33];
+
+// What stands before the last component.
+fn any_way(dice: &mut Dice) -> &'static [u8] {
+    match dice.below(32) {
+        0..=4 => b"",
+        5..=7 => b"G",
+        8..=10 => b"2",
+        11..=12 => b"3",
+        13..=17 => b"?",
+        18..=19 => b"L",
+        20..=21 => b"A",
+        22 => b"a",
+        23..=24 => b"2A",
+        25..=26 => b"?B",
+        27 => b"G2",
+        28 => b"LA",
+        29 => &DEEP,
+        30 => &DEEPER,
+        _ => &DEEPEST,
+    }
+}
+
+fn any_path(dice: &mut Dice) -> Path {
+    let way = any_way(dice);
+    let letter = LETTERS[dice.below(8) as usize];
+    let last = match dice.below(10) {
+        0 => None,
+        _ => Some(letter),
+    };
+    Path { way, last }
+}
+
+// A name, now and then relative to a handle of a process, mostly one to a directory.
+fn any_name(dice: &mut Dice, model: &Model, process: u32) -> Name {
+    let path = any_path(dice);
+    let root = match dice.below(12) {
+        0 => Some(any_value(dice, model, process, Want::Directory)),
+        1 => Some(any_value(dice, model, process, Want::Any)),
+        _ => None,
+    };
+    Name { root, path }
+}
+
+fn any_flags(dice: &mut Dice) -> u32 {
+    let first = FLAGS[dice.below(20) as usize];
+    let second = FLAGS[dice.below(19) as usize];
+    let third = FLAGS[dice.below(19) as usize];
+    first | second | third
+}
+
+fn any_kind(dice: &mut Dice) -> PlainKind {
+    KINDS[dice.below(3) as usize]
+}
+
+fn any_what(dice: &mut Dice) -> What {
+    match dice.below(8) {
+        0..=3 => What::Plain(any_kind(dice)),
+        4..=5 => What::Directory,
+        _ => What::Link(any_path(dice)),
+    }
+}
+
+fn any_want(dice: &mut Dice) -> Want {
+    match dice.below(8) {
+        0..=2 => Want::Any,
+        3..=4 => Want::Plain(any_kind(dice)),
+        5..=6 => Want::Directory,
+        _ => Want::Link,
+    }
+}
+
+// The value of a handle, mostly one of a process's own to what is wanted. Its low two bits don't count.
+fn any_value(dice: &mut Dice, model: &Model, process: u32, want: Want) -> u32 {
+    let place = dice.below(model.handle_count().saturating_add(1));
+    let any = model.value_at(place).unwrap_or(0);
+    let own = model.value_from(place, process, want).unwrap_or(any);
+    match dice.below(24) {
+        0 => any,
+        1 => own | 1,
+        2 => own | 3,
+        _ => own,
+    }
+}
+
+/// A process that lives, or now and then any number.
+pub(crate) fn any_process(dice: &mut Dice, model: &Model) -> u32 {
+    let any = dice.below(14) as u32;
+    let place = dice.below(model.process_count().saturating_add(1));
+    model.process_at(place).unwrap_or(any)
+}
+
+// A page of few entries, or now and then one of too much room.
+fn any_part(dice: &mut Dice) -> Part {
+    let room = match dice.below(60) as u32 {
+        59 => LARGEST_ROOM.wrapping_add(1),
+        room => room,
+    };
+    Part {
+        room,
+        single: dice.below(3) == 0,
+        restart: dice.below(4) == 0,
+    }
+}
+
+fn any_make(dice: &mut Dice, model: &Model, process: u32) -> Ask {
+    let name = any_name(dice, model, process);
+    Ask::Make {
+        what: any_what(dice),
+        name: match dice.below(16) {
+            0 => None,
+            _ => Some(name),
+        },
+        attrs: any_flags(dice),
+    }
+}
+
+fn any_open(dice: &mut Dice, model: &Model, process: u32) -> Ask {
+    Ask::Open {
+        want: any_want(dice),
+        name: any_name(dice, model, process),
+        attrs: any_flags(dice),
+    }
+}
+
+// A handle of what is wanted, and what is done with it.
+fn any_use(dice: &mut Dice, model: &Model, process: u32, want: Want, deed: Deed) -> Ask {
+    let value = any_value(dice, model, process, want);
+    Ask::Use { value, deed }
+}
+
+fn any_duplicate(dice: &mut Dice, model: &Model, process: u32) -> Ask {
+    let to = any_process(dice, model);
+    let inherit = dice.below(3) == 0;
+    any_use(dice, model, process, Want::Any, Deed::Duplicate { to, inherit })
+}
+
+// An object is made permanent or temporary: mostly permanent, where every game begins with it.
+fn any_turn(dice: &mut Dice, model: &Model, process: u32) -> Ask {
+    let value = any_value(dice, model, process, Want::Any);
+    let is_built = model.object_behind(process, value) <= Some(LAST_BUILT);
+    let permanent = match dice.below(10) {
+        0 => false,
+        1..=5 => is_built,
+        _ => true,
+    };
+    Ask::Use {
+        value,
+        deed: Deed::Turn { permanent },
+    }
+}
+
+fn any_query(dice: &mut Dice, model: &Model, process: u32) -> Ask {
+    match dice.below(12) {
+        0..=4 => {
+            let part = any_part(dice);
+            any_use(dice, model, process, Want::Directory, Deed::List(part))
+        }
+        5 => {
+            let part = any_part(dice);
+            any_use(dice, model, process, Want::Any, Deed::List(part))
+        }
+        6..=7 => any_use(dice, model, process, Want::Link, Deed::Target),
+        8 => any_use(dice, model, process, Want::Any, Deed::Target),
+        _ => any_use(dice, model, process, Want::Any, Deed::Name),
+    }
+}
+
+/// What a process asks for next.
+pub(crate) fn next(dice: &mut Dice, model: &Model, process: u32) -> Ask {
+    let inherit = dice.below(3) != 0;
+    let many = model.process_count();
+    match dice.below(32) {
+        0..=6 => any_make(dice, model, process),
+        7..=12 => any_open(dice, model, process),
+        13..=17 => any_use(dice, model, process, Want::Any, Deed::Close),
+        18..=19 => any_duplicate(dice, model, process),
+        20..=21 => any_turn(dice, model, process),
+        22..=23 => any_use(dice, model, process, Want::Directory, Deed::Map),
+        24..=30 => any_query(dice, model, process),
+        _ if many > 11 || (many > 4 && dice.below(2) == 0) => Ask::Exit,
+        _ => Ask::Begin { inherit },
+    }
+}
