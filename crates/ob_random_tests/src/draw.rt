@@ -11,10 +11,8 @@ use ob_plain::PlainKind;
 // The number of the last object of those that every game begins with.
 const LAST_BUILT: u32 = 9;
 
-// The flags of creates and opens, of which up to three come together; one of them is unlawful.
-const FLAGS: [u32; 20] = [
-    0,
-    0,
+// The flags of creates, of which up to three come together; one of them is unlawful.
+const MAKE_FLAGS: [u32; 20] = [
     0,
     0,
     0,
@@ -26,8 +24,10 @@ const FLAGS: [u32; 20] = [
     PERMANENT,
     PERMANENT,
     EXCLUSIVE,
+    EXCLUSIVE,
     CASE_INSENSITIVE,
     CASE_INSENSITIVE,
+    OPENIF,
     OPENIF,
     OPENIF,
     OPENIF,
@@ -35,8 +35,34 @@ const FLAGS: [u32; 20] = [
     0x1,
 ];
 
+// The flags of opens.
+const OPEN_FLAGS: [u32; 20] = [
+    0,
+    0,
+    0,
+    0,
+    0,
+    0,
+    0,
+    0,
+    INHERIT,
+    INHERIT,
+    INHERIT,
+    PERMANENT,
+    EXCLUSIVE,
+    CASE_INSENSITIVE,
+    CASE_INSENSITIVE,
+    CASE_INSENSITIVE,
+    OPENIF,
+    OPENLINK,
+    OPENLINK,
+    0x1,
+];
+
 // The last components of names.
-const LETTERS: [u8; 8] = [b'A', b'B', b'C', b'a', b'b', b'2', b'3', b'?'];
+const LETTERS: [u8; 12] = [
+    b'A', b'A', b'A', b'B', b'B', b'C', b'a', b'a', b'b', b'2', b'3', b'?',
+];
 
 const KINDS: [PlainKind; 3] = [PlainKind::Event, PlainKind::Mutant, PlainKind::Section];
 
@@ -51,16 +77,15 @@ const DEEPEST: [u8; 33] = [b'3'; 33];
 // What stands before the last component.
 fn any_way(dice: &mut Dice) -> &'static [u8] {
     match dice.below(32) {
-        0..=4 => b"",
-        5..=7 => b"G",
-        8..=10 => b"2",
-        11..=12 => b"3",
-        13..=17 => b"?",
-        18..=19 => b"L",
-        20..=21 => b"A",
-        22 => b"a",
-        23..=24 => b"2A",
-        25..=26 => b"?B",
+        0..=6 => b"",
+        7..=8 => b"G",
+        9..=12 => b"2",
+        13..=14 => b"3",
+        15..=20 => b"?",
+        21..=22 => b"L",
+        23..=24 => b"A",
+        25 => b"2A",
+        26 => b"?B",
         27 => b"G2",
         28 => b"LA",
         29 => &DEEP,
@@ -71,7 +96,7 @@ fn any_way(dice: &mut Dice) -> &'static [u8] {
 
 fn any_path(dice: &mut Dice) -> Path {
     let way = any_way(dice);
-    let letter = LETTERS[dice.below(8) as usize];
+    let letter = LETTERS[dice.below(12) as usize];
     let last = match dice.below(10) {
         0 => None,
         _ => Some(letter),
@@ -82,18 +107,18 @@ fn any_path(dice: &mut Dice) -> Path {
 // A name, now and then relative to a handle of a process, mostly one to a directory.
 fn any_name(dice: &mut Dice, model: &Model, process: u32) -> Name {
     let path = any_path(dice);
-    let root = match dice.below(12) {
-        0 => Some(any_value(dice, model, process, Want::Directory)),
-        1 => Some(any_value(dice, model, process, Want::Any)),
+    let root = match dice.below(24) {
+        0..=2 => Some(any_value(dice, model, process, Want::Directory)),
+        3 => Some(any_value(dice, model, process, Want::Any)),
         _ => None,
     };
     Name { root, path }
 }
 
-fn any_flags(dice: &mut Dice) -> u32 {
-    let first = FLAGS[dice.below(20) as usize];
-    let second = FLAGS[dice.below(19) as usize];
-    let third = FLAGS[dice.below(19) as usize];
+fn any_flags(dice: &mut Dice, flags: &[u32; 20]) -> u32 {
+    let first = flags[dice.below(20) as usize];
+    let second = flags[dice.below(19) as usize];
+    let third = flags[dice.below(19) as usize];
     first | second | third
 }
 
@@ -110,10 +135,10 @@ fn any_what(dice: &mut Dice) -> What {
 }
 
 fn any_want(dice: &mut Dice) -> Want {
-    match dice.below(8) {
-        0..=2 => Want::Any,
-        3..=4 => Want::Plain(any_kind(dice)),
-        5..=6 => Want::Directory,
+    match dice.below(12) {
+        0..=5 => Want::Any,
+        6..=7 => Want::Plain(any_kind(dice)),
+        8..=9 => Want::Directory,
         _ => Want::Link,
     }
 }
@@ -135,7 +160,10 @@ fn any_value(dice: &mut Dice, model: &Model, process: u32, want: Want) -> u32 {
 pub(crate) fn any_process(dice: &mut Dice, model: &Model) -> u32 {
     let any = dice.below(14) as u32;
     let place = dice.below(model.process_count().saturating_add(1));
-    model.process_at(place).unwrap_or(any)
+    match dice.below(24) {
+        0 => any,
+        _ => model.process_at(place).unwrap_or(1),
+    }
 }
 
 // A page of few entries, or now and then one of too much room.
@@ -159,7 +187,7 @@ fn any_make(dice: &mut Dice, model: &Model, process: u32) -> Ask {
             0 => None,
             _ => Some(name),
         },
-        attrs: any_flags(dice),
+        attrs: any_flags(dice, &MAKE_FLAGS),
     }
 }
 
@@ -167,7 +195,7 @@ fn any_open(dice: &mut Dice, model: &Model, process: u32) -> Ask {
     Ask::Open {
         want: any_want(dice),
         name: any_name(dice, model, process),
-        attrs: any_flags(dice),
+        attrs: any_flags(dice, &OPEN_FLAGS),
     }
 }
 
@@ -199,34 +227,29 @@ fn any_turn(dice: &mut Dice, model: &Model, process: u32) -> Ask {
 }
 
 fn any_query(dice: &mut Dice, model: &Model, process: u32) -> Ask {
-    match dice.below(12) {
-        0..=4 => {
-            let part = any_part(dice);
-            any_use(dice, model, process, Want::Directory, Deed::List(part))
-        }
-        5 => {
-            let part = any_part(dice);
-            any_use(dice, model, process, Want::Any, Deed::List(part))
-        }
-        6..=7 => any_use(dice, model, process, Want::Link, Deed::Target),
-        8 => any_use(dice, model, process, Want::Any, Deed::Target),
+    let part = any_part(dice);
+    match dice.below(16) {
+        0..=8 => any_use(dice, model, process, Want::Directory, Deed::List(part)),
+        9 => any_use(dice, model, process, Want::Any, Deed::List(part)),
+        10..=11 => any_use(dice, model, process, Want::Link, Deed::Target),
+        12 => any_use(dice, model, process, Want::Any, Deed::Target),
         _ => any_use(dice, model, process, Want::Any, Deed::Name),
     }
 }
 
 /// What a process asks for next.
 pub(crate) fn next(dice: &mut Dice, model: &Model, process: u32) -> Ask {
-    let inherit = dice.below(3) != 0;
+    let inherit = dice.below(4) != 0;
     let many = model.process_count();
-    match dice.below(32) {
-        0..=6 => any_make(dice, model, process),
-        7..=12 => any_open(dice, model, process),
-        13..=17 => any_use(dice, model, process, Want::Any, Deed::Close),
-        18..=19 => any_duplicate(dice, model, process),
-        20..=21 => any_turn(dice, model, process),
-        22..=23 => any_use(dice, model, process, Want::Directory, Deed::Map),
-        24..=30 => any_query(dice, model, process),
-        _ if many > 11 || (many > 4 && dice.below(2) == 0) => Ask::Exit,
+    match dice.below(64) {
+        0..=14 => any_make(dice, model, process),
+        15..=30 => any_open(dice, model, process),
+        31..=38 => any_use(dice, model, process, Want::Any, Deed::Close),
+        39..=42 => any_duplicate(dice, model, process),
+        43..=46 => any_turn(dice, model, process),
+        47..=49 => any_use(dice, model, process, Want::Directory, Deed::Map),
+        50..=62 => any_query(dice, model, process),
+        _ if many > 11 || (many > 3 && dice.below(2) == 0) => Ask::Exit,
         _ => Ask::Begin { inherit },
     }
 }
