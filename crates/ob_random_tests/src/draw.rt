@@ -122,22 +122,29 @@ fn any_flags(dice: &mut Dice, flags: &[u32; 20]) -> u32 {
     first | second | third
 }
 
-fn any_kind(dice: &mut Dice) -> PlainKind {
-    KINDS[dice.below(3) as usize]
+// A kind, mostly the one that goes with the last component of a name.
+fn any_kind(dice: &mut Dice, last: Option<u8>) -> PlainKind {
+    let kind = KINDS[dice.below(3) as usize];
+    match (dice.below(4), last) {
+        (0, _) => kind,
+        (_, Some(b'B')) => PlainKind::Mutant,
+        (_, Some(b'C' | b'a')) => PlainKind::Section,
+        _ => PlainKind::Event,
+    }
 }
 
-fn any_what(dice: &mut Dice) -> What {
+fn any_what(dice: &mut Dice, last: Option<u8>) -> What {
     match dice.below(8) {
-        0..=3 => What::Plain(any_kind(dice)),
+        0..=3 => What::Plain(any_kind(dice, last)),
         4..=5 => What::Directory,
         _ => What::Link(any_path(dice)),
     }
 }
 
-fn any_want(dice: &mut Dice) -> Want {
+fn any_want(dice: &mut Dice, last: Option<u8>) -> Want {
     match dice.below(12) {
-        0..=5 => Want::Any,
-        6..=7 => Want::Plain(any_kind(dice)),
+        0..=3 => Want::Any,
+        4..=7 => Want::Plain(any_kind(dice, last)),
         8..=9 => Want::Directory,
         _ => Want::Link,
     }
@@ -162,7 +169,7 @@ pub(crate) fn any_process(dice: &mut Dice, model: &Model) -> u32 {
     let place = dice.below(model.process_count().saturating_add(1));
     match dice.below(24) {
         0 => any,
-        _ => model.process_at(place).unwrap_or(1),
+        _ => model.process_at(place).or(model.process_at(0)).unwrap_or(1),
     }
 }
 
@@ -182,7 +189,7 @@ fn any_part(dice: &mut Dice) -> Part {
 fn any_make(dice: &mut Dice, model: &Model, process: u32) -> Ask {
     let name = any_name(dice, model, process);
     Ask::Make {
-        what: any_what(dice),
+        what: any_what(dice, name.path.last),
         name: match dice.below(16) {
             0 => None,
             _ => Some(name),
@@ -192,9 +199,10 @@ fn any_make(dice: &mut Dice, model: &Model, process: u32) -> Ask {
 }
 
 fn any_open(dice: &mut Dice, model: &Model, process: u32) -> Ask {
+    let name = any_name(dice, model, process);
     Ask::Open {
-        want: any_want(dice),
-        name: any_name(dice, model, process),
+        want: any_want(dice, name.path.last),
+        name,
         attrs: any_flags(dice, &OPEN_FLAGS),
     }
 }

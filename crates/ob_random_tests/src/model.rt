@@ -793,18 +793,24 @@ impl Model {
 
     // The end of a step: names and objects that don't stay go, judged in the state before.
     fn settle(&mut self) -> Result<(), AllocError> {
+        let kept = self.kept()?;
+        let gone = plain_objects(&self.objects).wrapping_sub(plain_objects(&kept));
+        self.deletes = self.deletes.wrapping_add(gone);
+        self.objects = kept;
+        Ok(())
+    }
+
+    // The objects that stay, with the names that stay.
+    fn kept(&self) -> Result<Vec<Object>, AllocError> {
         let mut objects = Vec::new(self.alloc);
         for object in &self.objects {
             let mut kept = *object;
             kept.is_named = self.keeps_name(kept);
             if self.keeps(*object) {
                 objects.push(kept)?;
-            } else if is_plain(*object) {
-                self.deletes = self.deletes.wrapping_add(1);
             }
         }
-        self.objects = objects;
-        Ok(())
+        Ok(objects)
     }
 
     fn has_handle(&self, object: Object) -> bool {
@@ -880,6 +886,10 @@ fn without_low_bits(value: u32) -> u32 {
 
 fn is_plain(object: Object) -> bool {
     matches!(object.what, What::Plain(_))
+}
+
+fn plain_objects(objects: &Vec<Object>) -> u64 {
+    objects.iter().filter(|object| is_plain(**object)).count() as u64
 }
 
 fn status_of(answer: Answer) -> Status {

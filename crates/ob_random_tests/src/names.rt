@@ -65,9 +65,9 @@ pub(crate) fn absolute(alloc: Global, path: Path) -> Result<Vec<u8>, AllocError>
 
 /// The text of a name: no backslash stands before a relative one.
 pub(crate) fn text(alloc: Global, name: Name) -> Result<Vec<u8>, AllocError> {
-    let mut text = absolute(alloc, name.path)?;
-    if name.root.is_some() {
-        text.remove(0);
+    let text = absolute(alloc, name.path)?;
+    match name.root {
+        Some(_) => text.get(1..).unwrap_or(&[]).to_vec(alloc),
+        None => Ok(text),
     }
-    Ok(text)
 }
