@@ -1,10 +1,11 @@
 //! What comes next, at random.
 
-use crate::dice::Dice;
-use crate::model::{
-    Ask, CASE_INSENSITIVE, Deed, EXCLUSIVE, INHERIT, LARGEST_ROOM, Model, OPENIF, OPENLINK,
-    PERMANENT, Part, Want, What,
+use crate::asks::{
+    Ask, CASE_INSENSITIVE, Deed, EXCLUSIVE, INHERIT, LARGEST_ROOM, OPENIF, OPENLINK, PERMANENT,
+    Part, Want, What,
 };
+use crate::dice::Dice;
+use crate::model::Model;
 use crate::names::{Name, Path};
 use ob_plain::PlainKind;
 
@@ -216,7 +217,13 @@ fn any_use(dice: &mut Dice, model: &Model, process: u32, want: Want, deed: Deed)
 fn any_duplicate(dice: &mut Dice, model: &Model, process: u32) -> Ask {
     let to = any_process(dice, model);
     let inherit = dice.below(3) == 0;
-    any_use(dice, model, process, Want::Any, Deed::Duplicate { to, inherit })
+    any_use(
+        dice,
+        model,
+        process,
+        Want::Any,
+        Deed::Duplicate { to, inherit },
+    )
 }
 
 // An object is made permanent or temporary: mostly permanent, where every game begins with it.

@@ -4,6 +4,8 @@
 #![tactic(auto)]
 
 #[cfg(test)]
+mod asks;
+#[cfg(test)]
 mod dice;
 #[cfg(test)]
 mod draw;

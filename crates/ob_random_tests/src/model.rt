@@ -1,29 +1,14 @@
 //! A plain model of the namespace over flat lists, which are searched from their beginning: what each command is
 //! answered, and what it leaves.
 
+use crate::asks::{
+    Ask, CASE_INSENSITIVE, Deed, EXCLUSIVE, INHERIT, LARGEST_ROOM, OPENIF, OPENLINK, PERMANENT,
+    Part, Want, What, is_unlawful, is_wanted, type_name, want_of,
+};
 use crate::names::{Name, Path, absolute, joined, letters, spelled};
 use ob_base::{Handle, Status};
-use ob_core::{Given, Listed, Reply};
-use ob_plain::PlainKind;
+use ob_model::{Given, Listed, Reply};
 use std::alloc::{AllocError, Global};
-
-pub(crate) const INHERIT: u32 = 0x2;
-
-pub(crate) const PERMANENT: u32 = 0x10;
-
-pub(crate) const EXCLUSIVE: u32 = 0x20;
-
-pub(crate) const CASE_INSENSITIVE: u32 = 0x40;
-
-pub(crate) const OPENIF: u32 = 0x80;
-
-pub(crate) const OPENLINK: u32 = 0x100;
-
-// Every flag that there is.
-const FLAGS: u32 = 0x1f2;
-
-// The greatest room of a page, in bytes.
-pub(crate) const LARGEST_ROOM: u32 = 1_048_576;
 
 // A lookup looks once, and once more behind each of 32 reparses.
 const LOOKS: u32 = 33;
@@ -36,68 +21,6 @@ const GLOBAL: u32 = 2;
 
 // The opening state's letter of `??`, which is a process's own view at the beginning of an absolute text.
 const VIEW: u8 = b'?';
-
-/// What an object is: a link leads to its target.
-#[derive(Clone, Copy)]
-pub(crate) enum What {
-    Plain(PlainKind),
-    Directory,
-    Link(Path),
-}
-
-/// What an open wants, and what a create makes.
-#[derive(Clone, Copy)]
-pub(crate) enum Want {
-    Any,
-    Plain(PlainKind),
-    Directory,
-    Link,
-}
-
-/// Which page of a directory is asked for: how many bytes it may take, whether one entry is asked for and no more,
-/// and whether it begins with the first. Else it begins behind the last page that the process was shown of any
-/// directory.
-#[derive(Clone, Copy)]
-pub(crate) struct Part {
-    pub(crate) room: u32,
-    pub(crate) single: bool,
-    pub(crate) restart: bool,
-}
-
-/// What a process does with a handle.
-#[derive(Clone, Copy)]
-pub(crate) enum Deed {
-    Close,
-    Turn { permanent: bool },
-    Map,
-    Target,
-    Name,
-    List(Part),
-    Duplicate { to: u32, inherit: bool },
-}
-
-/// What a process asks for: values are those of handles. What is made without a name has none.
-#[derive(Clone, Copy)]
-pub(crate) enum Ask {
-    Make {
-        what: What,
-        name: Option<Name>,
-        attrs: u32,
-    },
-    Open {
-        want: Want,
-        name: Name,
-        attrs: u32,
-    },
-    Use {
-        value: u32,
-        deed: Deed,
-    },
-    Begin {
-        inherit: bool,
-    },
-    Exit,
-}
 
 // Where a name stands: a directory, by its number, and the letter there.
 #[derive(Clone, Copy)]
@@ -448,7 +371,10 @@ impl Model {
         let Some(value) = name.root else {
             return self.found_from(process, None, name.path, look);
         };
-        match self.behind(process, value).map(|root| (root.number, root.what)) {
+        match self
+            .behind(process, value)
+            .map(|root| (root.number, root.what))
+        {
             None => Ok(Answer::Refused(Status::InvalidHandle)),
             Some((number, What::Directory)) => {
                 self.found_from(process, Some(number), name.path, look)
@@ -689,7 +615,8 @@ impl Model {
     fn close(&mut self, process: u32, value: Option<u32>) {
         let before = self.plain_handles();
         let goes = |open: &Open| value.is_none_or(|value| open.value.0 == value);
-        self.handles.retain(|open| open.process != process || !goes(open));
+        self.handles
+            .retain(|open| open.process != process || !goes(open));
         let went = before.wrapping_sub(self.plain_handles());
         self.closes = self.closes.wrapping_add(went);
     }
@@ -857,7 +784,11 @@ impl Model {
         let place = usize::try_from(place).ok()?;
         for open in self.handles.get(place..)? {
             let is_own = open.process == process;
-            if is_own && self.numbered(open.object).is_some_and(|object| is_wanted(object.what, want)) {
+            if is_own
+                && self
+                    .numbered(open.object)
+                    .is_some_and(|object| is_wanted(object.what, want))
+            {
                 return Some(open.value.0);
             }
         }
@@ -874,10 +805,6 @@ impl Model {
     pub(crate) fn object_behind(&self, process: u32, value: u32) -> Option<u32> {
         self.behind(process, value).map(|object| object.number)
     }
-}
-
-fn is_unlawful(attrs: u32) -> bool {
-    (attrs & INHERIT != 0 && attrs & EXCLUSIVE != 0) || attrs & !FLAGS != 0
 }
 
 fn without_low_bits(value: u32) -> u32 {
@@ -909,32 +836,6 @@ fn missing(at: u32, component: Component, look: Look) -> Answer {
             Answer::Refused(Status::ObjectNameInvalid)
         }
         (true, true) => Answer::New(Some(Spot { directory, letter })),
-    }
-}
-
-fn want_of(what: What) -> Want {
-    match what {
-        What::Plain(kind) => Want::Plain(kind),
-        What::Directory => Want::Directory,
-        What::Link(_) => Want::Link,
-    }
-}
-
-fn is_wanted(what: What, want: Want) -> bool {
-    match (want, what) {
-        (Want::Any, _) | (Want::Directory, What::Directory) | (Want::Link, What::Link(_)) => true,
-        (Want::Plain(wanted), What::Plain(kind)) => wanted == kind,
-        _ => false,
-    }
-}
-
-fn type_name(what: What) -> &'static str {
-    match what {
-        What::Plain(PlainKind::Event) => "Event",
-        What::Plain(PlainKind::Mutant) => "Mutant",
-        What::Plain(PlainKind::Section) => "Section",
-        What::Directory => "Directory",
-        What::Link(_) => "SymbolicLink",
     }
 }
 

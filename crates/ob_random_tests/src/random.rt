@@ -1,8 +1,9 @@
 //! Random commands of a dozen processes, some of which have device maps, beside a plain model of the namespace.
 
+use crate::asks::{Ask, Deed, INHERIT, PERMANENT, Want, What};
 use crate::dice::Dice;
 use crate::draw::{any_process, next};
-use crate::model::{Ask, Counts, Deed, INHERIT, Model, PERMANENT, Want, What};
+use crate::model::{Counts, Model};
 use crate::names::{Name, Path, absolute, text};
 use ob_base::{Handle, Proc};
 use ob_core::{Brought, Bytes, Command, Core, OpenTable, Place, Reply, Started};
@@ -188,30 +189,32 @@ fn played(
 }
 
 // How many of so many commands of a game from a state of the dice get what the model says.
-fn agreed(alloc: Global, state: u64, count: u32) -> Result<u32, Fail> {
+fn game(core: &mut Namespace, alloc: Global, state: u64, count: u32) -> Result<u32, Fail> {
     let mut model = Model::new(alloc)?;
-    let mut core: Namespace = Core::new(alloc, Counting::new(Plain))?;
     let mut dice = Dice { state };
-    match is_built(&mut core, &mut model, alloc)? {
-        true => played(&mut core, &mut model, alloc, &mut dice, count),
+    match is_built(core, &mut model, alloc)? {
+        true => played(core, &mut model, alloc, &mut dice, count),
         false => Ok(0),
     }
 }
 
-// How many games there are: five, or as many as the commands take that the environment asks for.
-fn games(rt: &HostRuntime) -> u64 {
+fn agreed(alloc: Global, state: u64, count: u32) -> Result<u32, Fail> {
+    let mut core: Namespace = Core::new(alloc, Counting::new(Plain))?;
+    game(&mut core, alloc, state, count)
+}
+
+// How many games are played: five, or as many as have the commands that the environment asks for.
+fn games(rt: &HostRuntime) -> Result<u64, Fail> {
     let Ok(commands) = env::var(rt, "COMMANDS") else {
-        return 5;
+        return Ok(5);
     };
-    match commands.as_str().parse::<u64>() {
-        Ok(commands) => commands.div_ceil(u64::from(GAME)),
-        Err(_) => 5,
-    }
+    let commands = commands.as_str().parse::<u64>()?;
+    Ok(commands.div_ceil(u64::from(GAME)))
 }
 
 #[test]
 fn random_commands_get_what_a_plain_model_says(rt: HostRuntime) -> Result<(), Fail> {
-    for state in 0..games(&rt) {
+    for state in 0..games(&rt)? {
         assert_eq!(rt; agreed(rt.alloc(), state, GAME)?, GAME, "from {state:?}");
     }
     Ok(())
