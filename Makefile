@@ -2,13 +2,15 @@
 # make run    the same by the proved program; the first build proves everything, which takes some minutes
 # make test   the gate: every proof from nothing, the wrong bodies that must be refused, every test
 # make definitions  tries turned definitions, which the laws and examples must refuse; by hand
+# make random plays COMMANDS random commands beside a plain model, 100,000 of them if nothing is said; by hand
 # make times  the gate again, with the processor seconds of each crate
 # make hostile refuses each request for memory of a run in turn; it takes a quarter of an hour
 # make bench  times the built program on generated scripts; it fails nothing
 
 SCRIPT ?= examples/first.ntns
+COMMANDS ?= 100000
 
-.PHONY: try run test definitions times bench hostile build
+.PHONY: try run test definitions random times bench hostile build
 
 try:
 	@echo "make try: compiled without proofs, which takes a minute or two; nothing of it is proved" >&2
@@ -23,6 +25,9 @@ test:
 
 definitions:
 	gate/definitions.py
+
+random:
+	cd crates/ob_random_tests && RT_SECONDS=3600 COMMANDS=$(COMMANDS) rt test
 
 times:
 	gate/times.py gate/test.sh

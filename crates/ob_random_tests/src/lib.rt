@@ -4,7 +4,15 @@
 #![tactic(auto)]
 
 #[cfg(test)]
+mod asks;
+#[cfg(test)]
 mod dice;
+#[cfg(test)]
+mod draw;
+#[cfg(test)]
+mod model;
+#[cfg(test)]
+mod names;
 #[cfg(test)]
 mod random;
 #[cfg(test)]

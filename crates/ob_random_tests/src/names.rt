@@ -1,0 +1,73 @@
+//! The names of random commands. A component is told by one letter; those of the opening state are longer.
+
+use std::alloc::{AllocError, Global};
+
+/// A path: the letters of the components before the last, and that of the last, where there is one.
+#[derive(Clone, Copy)]
+pub(crate) struct Path {
+    pub(crate) way: &'static [u8],
+    pub(crate) last: Option<u8>,
+}
+
+/// A name that commands have: absolute, or relative to what the handle of a value leads to.
+#[derive(Clone, Copy)]
+pub(crate) struct Name {
+    pub(crate) root: Option<u32>,
+    pub(crate) path: Path,
+}
+
+/// The letters of all components of a path.
+pub(crate) fn letters(alloc: Global, path: Path) -> Result<Vec<u8>, AllocError> {
+    let mut letters = path.way.to_vec(alloc)?;
+    if let Some(last) = path.last {
+        letters.push(last)?;
+    }
+    Ok(letters)
+}
+
+/// How a component is spelled.
+pub(crate) fn spelled(letter: u8) -> &'static [u8] {
+    match letter {
+        b'A' => b"A",
+        b'B' => b"B",
+        b'C' => b"C",
+        b'a' => b"a",
+        b'b' => b"b",
+        b'2' => b"2",
+        b'3' => b"3",
+        b'G' => b"GLOBAL??",
+        b'L' => b"DosDevices",
+        b'D' => b"Device",
+        b'N' => b"BaseNamedObjects",
+        b'S' => b"Sessions",
+        _ => b"??",
+    }
+}
+
+/// The absolute text of components: a backslash alone where there is none.
+pub(crate) fn joined(alloc: Global, letters: &[u8]) -> Result<Vec<u8>, AllocError> {
+    let mut text = Vec::new(alloc);
+    for letter in letters {
+        text.push(b'\\')?;
+        text.extend_from_slice(spelled(*letter))?;
+    }
+    if letters.is_empty() {
+        text.push(b'\\')?;
+    }
+    Ok(text)
+}
+
+/// The absolute text of a path.
+pub(crate) fn absolute(alloc: Global, path: Path) -> Result<Vec<u8>, AllocError> {
+    let letters = letters(alloc, path)?;
+    joined(alloc, letters.as_slice())
+}
+
+/// The text of a name: no backslash stands before a relative one.
+pub(crate) fn text(alloc: Global, name: Name) -> Result<Vec<u8>, AllocError> {
+    let text = absolute(alloc, name.path)?;
+    match name.root {
+        Some(_) => text.get(1..).unwrap_or(&[]).to_vec(alloc),
+        None => Ok(text),
+    }
+}
