@@ -1,10 +1,1 @@
-pub mod Closed
-pub mod Judged
-pub mod Made
-pub mod Mapped
 pub mod Opened
-pub mod Queries
-pub mod Listings
-pub mod Stepping
-pub mod Turned
-pub mod WaysUp

@@ -1,3 +1,1 @@
-pub mod Early
 pub mod Kept
-pub mod Making

@@ -16,5 +16,6 @@ mod started;
 
 pub use abandoning::abandon;
 pub use beginning::begin;
+pub use replies::status_alone;
 pub use resuming::resume;
 pub use started::Started;

@@ -8,8 +8,8 @@ ghost use Rattle.ob_waiting.specs.Waiting.{is_reply};
 use ob_base::Status;
 use ob_model::{Answer, Given, Reply};
 
-/// A reply that is a status alone.
-pub(crate) fn status_alone(status: Status) -> Reply
+/// A reply that is a status alone: it gives nothing. Source: this profile.
+pub fn status_alone(status: Status) -> Reply
     ensures { result ≡ record { status = status; given = given.Nothing } }
 {
     Reply {

@@ -1,0 +1,50 @@
+//! Closes.
+
+ghost use Rattle.std.specs.Prelude.{◌≡◌};
+ghost use Rattle.ob_model.specs.declared.reply.Answer.TheVariants.{Done};
+ghost use Rattle.ob_model.specs.Settle.{IsSettled};
+ghost use Rattle.ob_model.specs.Sound.{IsSound};
+ghost use Rattle.ob_model.specs.Step.{Closes};
+ghost use Rattle.ob_space.specs.Namespace.{state_of};
+ghost use Rattle.ob_space.specs.Orderly.{IsOrderly};
+
+use ob_base::{Handle, Proc, Status};
+use ob_handles::HandleTable;
+use ob_model::Reply;
+use ob_space::{Space, close_handle, held_of, is_live, settle_after_loss};
+use ob_types::TypeSet;
+use ob_waiting::status_alone;
+
+/// Closes a handle of the caller: the set's close is called for its object, and told how many handles to it are left
+/// in the process and in all. The object goes where nothing else holds it, and what it alone held goes with it. No
+/// memory is taken.
+///
+/// Refusals, in their order, which change nothing: `ProcessGone` for a process that isn't live, and
+/// `InvalidHandle` where the process has no such handle.
+///
+/// It asks that the state is orderly, settled and sound, and leaves it orderly.
+///
+/// Source: ZwClose (Windows Driver Kit); Windows Internals, Object Manager (close methods; object retention). The
+/// order of refusals is this profile.
+pub fn close<T: TypeSet, H: HandleTable>(
+    space: &mut Space<T, H>,
+    process: Proc,
+    handle: Handle,
+) -> Reply
+    requires orderly { IsOrderly T.idle (state_of T.Kind space.old) }
+    requires settled { IsSettled (state_of T.Kind space.old) }
+    requires sound { IsSound (state_of T.Kind space.old) }
+    ensures orderly { IsOrderly T.idle (state_of T.Kind space.new) }
+    ensures step { Closes T.procedures (state_of T.Kind space.old) process handle (Done result) (state_of T.Kind space.new) }
+{
+    if !is_live(space, process) {
+        return status_alone(Status::ProcessGone);
+    }
+    let Some(held) = held_of(space, process, handle) else {
+        return status_alone(Status::InvalidHandle);
+    };
+    let object = held.object;
+    close_handle(space, held);
+    settle_after_loss(space, object);
+    status_alone(Status::Success)
+}

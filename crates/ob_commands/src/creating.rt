@@ -1,0 +1,159 @@
+//! Creates.
+
+ghost use Rattle.std.specs.Prelude.{◌≡◌, Some, true, IsOk, IfOk, IfErr, OnErr};
+ghost use Rattle.ob_base.specs.declared.Fault.TheVariants.{Memory};
+ghost use Rattle.ob_model.specs.declared.command.Place.TheVariants.{At};
+ghost use Rattle.ob_model.specs.declared.reply.Answer.TheVariants.{Done};
+ghost use Rattle.ob_model.specs.Creates as machine;
+ghost use Rattle.ob_model.specs.Creates.{create_mode};
+ghost use Rattle.ob_model.specs.Looks as looks;
+ghost use Rattle.ob_model.specs.State.{is_live};
+ghost use Rattle.ob_model.specs.Settle.{IsSettled};
+ghost use Rattle.ob_model.specs.Sound.{IsSound};
+ghost use Rattle.ob_model.specs.Step.{CreatesAt, CreatesIn};
+ghost use Rattle.ob_lookup.specs.Look.{mode_of};
+ghost use Rattle.ob_commands.specs.Early.{is_create_refused, lacks_root};
+ghost use Rattle.ob_commands.specs.Making.{making_of};
+ghost use Rattle.ob_space.specs.Namespace.{state_of};
+ghost use Rattle.ob_space.specs.Orderly.{IsOrderly};
+
+use crate::making::{Making, is_fit, make_named, make_unnamed, type_made};
+use crate::opens::open_at;
+use ob_base::{Attrs, Fault, Handle, ObjId, Proc, Status};
+use ob_handles::HandleTable;
+use ob_lookup::{Look, Mode};
+use ob_model::{Place, Reply};
+use ob_names::Name;
+use ob_space::{Space, Spot, is_live, judge_create, look_up, root_object};
+use ob_types::TypeSet;
+use ob_waiting::status_alone;
+
+/// Makes an object at a place, and opens a handle to it. At a name that is taken it opens, with OPENIF, what is there
+/// already, where that has the type of what would be made: the status is then `ObjectNameExists`. A link that the last
+/// component of the name leads to isn't followed, and no parse is called.
+///
+/// Refusals, in their order: `ProcessGone` for a process that isn't live; `InvalidParameter` for flags that aren't
+/// lawful, and for a link whose target hasn't 1 to 32,767 bytes of the profile; of a name `ObjectNameInvalid` for its
+/// bytes, `NameTooLong` for its length, `InvalidHandle` where the process lacks the root handle, those of a lookup, and
+/// where it is taken `ObjectNameCollision`, or with OPENIF `ObjectTypeMismatch` and those of a grant. Past these,
+/// `InsufficientResources` where no handle or no object more fits, or no number for one or for the name is left; and
+/// `TypeRefused` with the set's number where the set refuses to make the object, or to open it.
+///
+/// A refusal changes nothing, but for the last: a new object that the set refuses to open is deleted, and its number
+/// stays drawn. The only fault is want of memory, and then nothing has changed; what is refused before the lookup takes none.
+///
+/// It asks that the state is orderly, settled and sound, and leaves it orderly.
+///
+/// Source: ZwCreateDirectoryObject, ZwCreateSymbolicLinkObject, ZwCreateEvent and OBJECT_ATTRIBUTES structure (OBJ_OPENIF,
+/// OBJ_PERMANENT; Windows Driver Kit); Windows Internals, Object Manager (object types and their methods). The order of
+/// refusals, and that a new object whose open is refused is deleted under its number, are this profile.
+pub fn create<T: TypeSet, H: HandleTable>(
+    space: &mut Space<T, H>,
+    process: Proc,
+    place: &Place,
+    attrs: u32,
+    making: Making<'_, T::Kind>,
+) -> Result<Reply, Fault>
+    requires orderly { IsOrderly T.idle (state_of T.Kind space.old) }
+    requires settled { IsSettled (state_of T.Kind space.old) }
+    requires sound { IsSound (state_of T.Kind space.old) }
+    ensures orderly { IsOrderly T.idle (state_of T.Kind space.new) }
+    ensures step { IfOk result (λ reply.
+        CreatesAt T.procedures (state_of T.Kind space.old) process place.now attrs (making_of making.entry) (Done reply) (state_of T.Kind space.new)) }
+    ensures early { is_create_refused (state_of T.Kind space.old) process place.now attrs (making_of making.entry) ≡ true → IsOk result }
+    ensures err { OnErr result (state_of T.Kind space.new ≡ state_of T.Kind space.old) }
+    ensures memory { IfErr result (λ fault. fault ≡ Memory) }
+{
+    let live = is_live(space, process);
+    let attrs = match judge_create(live, is_fit(&making), place, attrs) {
+        Ok(attrs) => attrs,
+        Err(status) => return Ok(status_alone(status)),
+    };
+    match place {
+        Place::At { root, name } => {
+            let name = Name::new(name.as_slice());
+            create_at_name(space, process, *root, name, attrs, making)
+        }
+        Place::Unnamed => make_unnamed(space, process, attrs, making),
+    }
+}
+
+/// Makes an object at a name, or opens what is there already.
+fn create_at_name<T: TypeSet, H: HandleTable>(
+    space: &mut Space<T, H>,
+    process: Proc,
+    root: Option<Handle>,
+    name: Name<'_>,
+    attrs: Attrs,
+    making: Making<'_, T::Kind>,
+) -> Result<Reply, Fault>
+    requires orderly { IsOrderly T.idle (state_of T.Kind space.old) }
+    requires settled { IsSettled (state_of T.Kind space.old) }
+    requires sound { IsSound (state_of T.Kind space.old) }
+    requires live { is_live (state_of T.Kind space.old) process ≡ true }
+    requires fit { machine.is_fit (making_of making) ≡ true }
+    ensures orderly { IsOrderly T.idle (state_of T.Kind space.new) }
+    ensures step { IfOk result (λ reply.
+        CreatesIn T.procedures (state_of T.Kind space.old) process (At root name.entry) attrs (making_of making.entry) (Done reply)
+        (state_of T.Kind space.new)) }
+    ensures early { lacks_root (state_of T.Kind space.old) process root ≡ true → IsOk result }
+    ensures err { OnErr result (state_of T.Kind space.new ≡ state_of T.Kind space.old) }
+    ensures memory { IfErr result (λ fault. fault ≡ Memory) }
+{
+    let root = match root_object(space, process, root) {
+        Ok(root) => root,
+        Err(status) => return Ok(status_alone(status)),
+    };
+    match look_up(space, process, root, name, create_mode(attrs))? {
+        Look::Refused(status) => Ok(status_alone(status)),
+        Look::At(object) => open_there(space, process, object, attrs, making),
+        Look::Vacant {
+            directory,
+            component,
+        } => {
+            let spot = Spot {
+                directory,
+                name: component,
+            };
+            make_named(space, process, spot, attrs, making)
+        }
+        Look::Parse { .. } => unreachable!(),
+    }
+}
+
+/// How the name of a create is looked up.
+fn create_mode(attrs: Attrs) -> Mode
+    ensures { mode_of result ≡ create_mode attrs }
+{
+    Mode {
+        create: true,
+        fold: attrs.is_case_insensitive(),
+        follow: false,
+    }
+}
+
+/// What a create does at an object that is there already: with OPENIF it opens it.
+fn open_there<T: TypeSet, H: HandleTable>(
+    space: &mut Space<T, H>,
+    process: Proc,
+    object: ObjId,
+    attrs: Attrs,
+    making: Making<'_, T::Kind>,
+) -> Result<Reply, Fault>
+    requires orderly { IsOrderly T.idle (state_of T.Kind space.old) }
+    requires settled { IsSettled (state_of T.Kind space.old) }
+    requires live { is_live (state_of T.Kind space.old) process ≡ true }
+    ensures orderly { IsOrderly T.idle (state_of T.Kind space.new) }
+    ensures step { IfOk result (λ reply.
+        machine.Creates T.procedures (state_of T.Kind space.old) process attrs (making_of making.entry) (looks.At object) (Done reply)
+        (state_of T.Kind space.new)) }
+    ensures err { OnErr result (state_of T.Kind space.new ≡ state_of T.Kind space.old) }
+    ensures memory { IfErr result (λ fault. fault ≡ Memory) }
+{
+    if !attrs.is_open_if() {
+        return Ok(status_alone(Status::ObjectNameCollision));
+    }
+    let wanted = type_made(making);
+    let status = Status::ObjectNameExists;
+    open_at(space, process, object, attrs, wanted, status)
+}

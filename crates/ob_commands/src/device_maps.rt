@@ -1,0 +1,61 @@
+//! Device maps of processes.
+
+ghost use Rattle.std.specs.Prelude.{◌≡◌, true, IsOk, IfOk, IfErr, OnErr};
+ghost use Rattle.ob_base.specs.declared.Fault.TheVariants.{Memory};
+ghost use Rattle.ob_model.specs.declared.reply.Answer.TheVariants.{Done};
+ghost use Rattle.ob_model.specs.Settle.{IsSettled};
+ghost use Rattle.ob_model.specs.Step.{SetsMap};
+ghost use Rattle.ob_commands.specs.Early.{is_use_refused};
+ghost use Rattle.ob_space.specs.Namespace.{state_of};
+ghost use Rattle.ob_space.specs.Orderly.{IsOrderly};
+
+use ob_base::{Fault, Handle, Proc, Status};
+use ob_handles::HandleTable;
+use ob_model::Reply;
+use ob_space::{Space, held_of, is_live, settle_after_loss};
+use ob_types::TypeSet;
+use ob_waiting::status_alone;
+
+/// Makes the directory of a handle of the caller its device map, in place of the one that it had: what
+/// `\??` stands for is then that directory, and behind it `\GLOBAL??`. The directory of the old map goes
+/// where nothing else holds it.
+///
+/// Refusals, in their order, which change nothing: `ProcessGone` for a process that isn't live,
+/// `InvalidHandle` where the process has no such handle, and `ObjectTypeMismatch` where its object is no
+/// directory. The only fault is want of memory, and then nothing has changed; the first two refusals take none.
+///
+/// It asks that the state is orderly and settled, and leaves it orderly.
+///
+/// Source: Windows Internals, Object Manager (session namespace: device maps); NtSetInformationProcess
+/// (ProcessDeviceMap). The order of refusals is this profile.
+pub fn set_device_map<T: TypeSet, H: HandleTable>(
+    space: &mut Space<T, H>,
+    process: Proc,
+    handle: Handle,
+) -> Result<Reply, Fault>
+    requires orderly { IsOrderly T.idle (state_of T.Kind space.old) }
+    requires settled { IsSettled (state_of T.Kind space.old) }
+    ensures orderly { IsOrderly T.idle (state_of T.Kind space.new) }
+    ensures step { IfOk result (λ reply.
+        SetsMap T.procedures (state_of T.Kind space.old) process handle (Done reply) (state_of T.Kind space.new)) }
+    ensures early { is_use_refused (state_of T.Kind space.old) process handle ≡ true → IsOk result }
+    ensures err { OnErr result (state_of T.Kind space.new ≡ state_of T.Kind space.old) }
+    ensures memory { IfErr result (λ fault. fault ≡ Memory) }
+{
+    if !is_live(space, process) {
+        return Ok(status_alone(Status::ProcessGone));
+    }
+    let Some(held) = held_of(space, process, handle) else {
+        return Ok(status_alone(Status::InvalidHandle));
+    };
+    let directory = held.object;
+    if !space.store.is_directory(directory) {
+        return Ok(status_alone(Status::ObjectTypeMismatch));
+    }
+    let old = space.processes.view(process).local;
+    space.processes.set_map(process, directory)?;
+    if let Some(old) = old {
+        settle_after_loss(space, old);
+    }
+    Ok(status_alone(Status::Success))
+}

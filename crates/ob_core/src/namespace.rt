@@ -1,0 +1,206 @@
+//! The namespace: commands in, replies out.
+
+ghost use Rattle.std.specs.Prelude.{◌≡◌, ◌↔◌, length, true, false, IsTrue, IsOk, IfOk, IfErr, OnErr};
+ghost use Rattle.ob_base.specs.declared.Fault.TheVariants.{Memory};
+ghost use Rattle.ob_base.specs.declared.status.Status.TheVariants.{Success};
+ghost use Rattle.ob_model.specs.declared.reply.Event.TheVariants.{Start, Resume, Abandon};
+ghost use Rattle.std.specs.Option.{is_some, option_map};
+ghost use Rattle.ob_model.specs.State.{held_of, table_size};
+ghost use Rattle.ob_model.specs.Opening.{opening};
+ghost use Rattle.ob_model.specs.Sound.{IsSound};
+ghost use Rattle.ob_model.specs.Step.{Step};
+ghost use Rattle.ob_commands.specs.Early.{TakesNoMemory, is_refused_early};
+ghost use Rattle.ob_model.specs.Refusals.{answers};
+ghost use Rattle.ob_parsing.specs.Parse.{asked_of};
+ghost use Rattle.ob_model.specs.PendingOpens.{pending_of};
+ghost use Rattle.ob_parsing.specs.Brought.{run_of, run_of_end, brought as end_of};
+ghost use Rattle.ob_waiting.specs.Waiting.{answer_of, IfParsing, IsParseOf, IsAwaited, IsNotTaken, opens_nothing};
+
+use crate::steps::step_for;
+use ob_base::{Fault, Handle, Proc};
+use ob_handles::HandleTable;
+use ob_model::Command;
+use ob_parsing::{Brought, Parsed};
+use ob_pending::PendingOpens;
+use ob_processes::Processes;
+use ob_space::{Namespace, Space, opening_store};
+use ob_types::TypeSet;
+use ob_waiting::{Started, abandon, resume};
+use std::alloc::Global;
+use std::marker::Model;
+
+/// The namespace of processes: its objects, their names, the live processes, their handles and their
+/// pending opens. `T` is a set of types for the objects that are neither directories nor links, and `H`
+/// the handle table that each process has; a core knows of both only what their traits say.
+///
+/// Contracts see the state of the abstract machine: the value of the set, all objects, rows, processes,
+/// handles and pending opens, and the numbers that the next ones get. Nothing else is visible, the table neither.
+#[derive(Drop)]
+pub struct Core<T: TypeSet, H: HandleTable> {
+    space: Space<T, H>,
+}
+
+impl<T: TypeSet, H: HandleTable> Model for Core<T, H> {
+    ghost use Rattle.ob_model.specs.State.{State};
+    ghost use Rattle.ob_space.specs.Namespace.{state_of};
+    ghost use Rattle.ob_core.specs.Kept.{IsCore};
+
+    ghost Value = { State T.Kind T T.Face T.Inner };
+
+    ghost view = { λ a. state_of T.Kind a.space };
+
+    ghost invariant = { λ a. IsCore T.idle (state_of T.Kind a.space) };
+}
+
+impl<T: TypeSet, H: HandleTable> Core<T, H> {
+    /// The opening state, with a set of types: the root directory, `\GLOBAL??`, `\DosDevices` (a link
+    /// to `\??`), `\Device`, `\BaseNamedObjects` and `\Sessions`, all permanent, and process 1 without a
+    /// handle. The only fault is want of memory, and then the set is let go.
+    pub fn new(alloc: Global, types: T) -> Result<Core<T, H>, Fault>
+        ensures opening { IfOk result (λ core. core ≡ opening types) }
+        ensures memory { IfErr result (λ fault. fault ≡ Memory) }
+    {
+        let mut processes = Processes::new(alloc);
+        processes.start(Proc(1), None)?;
+        Ok(Core {
+            space: Namespace {
+                alloc,
+                set: types,
+                store: opening_store(alloc)?,
+                processes,
+                pending: PendingOpens::new(alloc),
+                next_id: 7,
+                next_stamp: 6,
+                next_process: 2,
+                next_order: 1,
+            },
+        })
+    }
+
+    /// Starts a command of a process: makes one step of the machine, and answers what it answers.
+    ///
+    /// Every refusal is a reply; docs/namespace.md has their order. The only fault is want of memory,
+    /// which is told only where a growth was refused, and then nothing has changed. A close, the end of a
+    /// process, and making an object permanent or temporary take no memory, nor does a command that is
+    /// refused before its lookup, so these never fail: where the process is gone, the flags, the other
+    /// parameters or the bytes or the length of the name are refused, the process lacks the handle that it
+    /// names, or no process more may live.
+    pub fn start(&mut self, process: Proc, command: &Command<T::Kind>) -> Result<Started<T>, Fault>
+        ensures step { IfOk result (λ started.
+            Step T.procedures self.old (Start process command.now) (answer_of started) self.new) }
+        ensures parse { IfOk result (λ started. IfParsing started (IsParseOf self.new)) }
+        ensures without_memory { TakesNoMemory command.now → IsOk result }
+        ensures early { is_refused_early self.old process command.now ≡ true → IsOk result }
+        ensures err { OnErr result (self.new ≡ self.old) }
+        ensures memory { IfErr result (λ fault. fault ≡ Memory) }
+    {
+        step_for(&mut self.space, process, command)
+    }
+
+    /// Brings a parse to the open that waits for it: makes one step of the machine, and answers what it answers. The
+    /// state is judged as it is now, not as it was when the open began; docs/namespace.md has what each end of a parse
+    /// leads to, and the order of the refusals, which are replies. The open is pending no longer, whatever it is
+    /// answered, an instance that isn't opened is deleted, and what the open alone held goes. Where the text that the
+    /// parse ended with leads to an object whose kind parses, the open is pending again, under another ticket, with
+    /// one reparse less, and that parse is handed out.
+    ///
+    /// The faults hand the parse back, and then nothing has changed: `Refused` with `InvalidParameter` exactly where the
+    /// parse is a stranger's, as `abandon` says; and `Memory`, where memory was wanted. A parse that found no
+    /// memory, or was refused, takes none.
+    ///
+    /// Source: Windows Internals, Object Manager (parse methods; object retention); that a parse is judged when it is
+    /// brought, and the order of refusals, are this profile.
+    pub fn resume(&mut self, parsed: Parsed<T>) -> Result<Started<T>, (Fault, Parsed<T>)>
+        ensures step { IfOk result (λ started.
+            Step T.procedures self.old (Resume parsed.ticket (run_of_end parsed.outcome)) (answer_of started) self.new) }
+        ensures awaited { IfOk result (λ _. IsAwaited T.procedures self.old (asked_of parsed)) }
+        ensures parse { IfOk result (λ started. IfParsing started (IsParseOf self.new)) }
+        ensures without_memory { opens_nothing parsed.outcome ≡ true → IsAwaited T.procedures self.old (asked_of parsed) → IsOk result }
+        ensures err { OnErr result (self.new ≡ self.old) }
+        ensures fault { IfErr result (λ back. IsNotTaken T.procedures self.old (asked_of parsed) (back.0)) }
+        ensures back { IfErr result (λ back. back.1 ≡ parsed) }
+    {
+        resume(&mut self.space, parsed)
+    }
+
+    /// Gives up an open that waits for this parse, whether it was run or not, and tells whether one does: that open
+    /// is pending no longer, an instance that the parse made is deleted, and the object that the open pinned goes
+    /// where nothing else holds it. No memory is taken.
+    ///
+    /// It is false exactly for a stranger's parse, whose ticket isn't that of a pending open, or whose face or rest
+    /// isn't that of the open; then nothing changes, and the parse is let go.
+    ///
+    /// Source: Windows Internals, Object Manager (parse methods; object retention); that an open is given up by its
+    /// ticket is this profile.
+    pub fn abandon(&mut self, brought: Brought<T>) -> bool
+        ensures exact { IsTrue result ↔ IsAwaited T.procedures self.old (asked_of (end_of brought)) }
+        ensures step { IsTrue result → Step T.procedures self.old (Abandon (end_of brought).ticket (run_of brought)) (answers Success) self.new }
+        ensures stranger { result ≡ false → self.new ≡ self.old }
+    {
+        abandon(&mut self.space, brought)
+    }
+
+    /// How many reparses are left to a pending open, from 0 to 32; none where no open is pending under this ticket. Takes
+    /// no memory. Source: this profile.
+    pub fn left(&self, ticket: u64) -> Option<u32>
+        ensures { result ≡ option_map (λ pending. pending.left) (pending_of self.now ticket) }
+    {
+        self.space.pending.get(ticket).map(|pending| pending.left)
+    }
+
+    /// How many objects there are: at most 1,048,576.
+    pub fn objects(&self) -> usize
+        ensures { result ≡ length self.now.objects }
+    {
+        self.space.store.len()
+    }
+
+    /// How many handles there are, of all processes: at most 65,535 of each.
+    pub fn handles(&self) -> usize
+        ensures { result ≡ length self.now.handles }
+    {
+        self.space.processes.len()
+    }
+
+    /// How many handles a process has: at most 65,535, and 0 where it isn't live.
+    ///
+    /// Source: Windows Internals, Object Manager (handles and the process handle table); the limit is
+    /// this profile.
+    pub fn handles_of(&self, process: Proc) -> usize
+        ensures { result ≡ table_size self.now process }
+    {
+        self.space.processes.len_of(process)
+    }
+
+    /// Whether a process has a handle of exactly this value; the low two bits count. Takes no memory.
+    ///
+    /// Source: Windows Internals, Object Manager: handles and the process handle table.
+    pub fn holds(&self, process: Proc, handle: Handle) -> bool
+        ensures { result ≡ is_some (held_of self.now process handle) }
+    {
+        self.space.processes.get(process, handle).is_some()
+    }
+
+    /// The number that the next process gets, whichever makes it: above those of all that ever were. None
+    /// is left where it is 2^32 - 1. Source: this profile.
+    pub fn next_process(&self) -> Proc
+        ensures { result ≡ self.now.next_process }
+    {
+        Proc(self.space.next_process)
+    }
+
+    /// The law that the state of every core is sound: what its names, handles, maps and pending opens lead to is there,
+    /// and each number is below the next one. The call does nothing; a caller makes it to have the fact. (this profile)
+    pub fn state_is_sound(&self)
+        ensures { IsSound self.now }
+    {
+        let _space = &self.space;
+    }
+
+    /// The set of types, as the calls of its procedures have left it.
+    pub fn set(&self) -> &T
+        ensures { result.now ≡ self.now.set }
+    {
+        &self.space.set
+    }
+}
