@@ -2,13 +2,13 @@
 # make run    the same by the proved program; the first build proves everything, which takes some minutes
 # make test   the gate: every proof from nothing, the wrong bodies that must be refused, every test
 # make definitions  tries turned definitions, which the laws and examples must refuse; by hand
-# make random plays COMMANDS random commands beside a plain model, 100,000 of them if nothing is said; by hand
+# make random plays COMMANDS random commands, 1,000,000 if nothing is said, beside a plain model; the 60 seconds of a test allow some 5,000,000
 # make times  the gate again, with the processor seconds of each crate
 # make hostile refuses each request for memory of a run in turn; it takes a quarter of an hour
 # make bench  times the built program on generated scripts; it fails nothing
 
 SCRIPT ?= examples/first.ntns
-COMMANDS ?= 100000
+COMMANDS ?= 1000000
 
 .PHONY: try run test definitions random times bench hostile build
 
@@ -27,7 +27,7 @@ definitions:
 	gate/definitions.py
 
 random:
-	cd crates/ob_random_tests && RT_SECONDS=3600 COMMANDS=$(COMMANDS) rt test
+	cd crates/ob_random_tests && COMMANDS=$(COMMANDS) rt test
 
 times:
 	gate/times.py gate/test.sh
