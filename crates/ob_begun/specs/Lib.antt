@@ -1,2 +1,3 @@
+pub use Rattle.ob_waiting.specs.Waiting
 pub mod Kept
 pub mod Begun

@@ -17,7 +17,7 @@ ghost use Rattle.ob_begun.specs.Begun.{answer_in, AreAwaited, GivesAllUp, IfWait
 
 use crate::{Begun, Waits};
 use ob_base::Proc;
-use ob_core::{Core, Started};
+use ob_complete::{Core, Started};
 use ob_handles::HandleTable;
 use ob_model::Command;
 use ob_parsing::{Brought, Parsing};

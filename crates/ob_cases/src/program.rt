@@ -2,8 +2,7 @@
 
 use crate::runs::{Left, serve_words};
 use clap::error::ErrorKind;
-use ob_shell::{Ending, ShellFault};
-use ob_tasks::{End, complain, perform, perform_opened, refuse, serve, starve};
+use ob_tasks::{End, Ending, ShellFault, complain, perform, perform_opened, refuse, serve, starve};
 use ob_words::{Task, plan, unreadable};
 use std::io::{Error, Read, Write};
 use std::test::Fail;

@@ -7,3 +7,4 @@
 mod complete;
 
 pub use complete::run_command;
+pub use ob_core::{Core, OpenTable, Started};

@@ -10,8 +10,7 @@ ghost use Rattle.ob_requests.specs.Words.{handed_on, with_word, without_words};
 ghost use Rattle.ob_effects.specs.Effects.{IsAsked, IsUnanswered};
 
 use ob_base::{Handle, Proc, Status};
-use ob_complete::run_command;
-use ob_core::{Core, OpenTable};
+use ob_complete::{Core, OpenTable, run_command};
 use ob_lines::Request;
 use ob_model::{Given, Reply};
 use ob_requests::{Asker, Table, Words, command_of, keep};

@@ -3,7 +3,7 @@
 ghost use Rattle.std.specs.Prelude.{◌≡◌};
 ghost use Rattle.ob_effects.specs.Machine.{counts_of};
 
-use ob_core::{Core, OpenTable};
+use ob_complete::{Core, OpenTable};
 use ob_output::Counts;
 use ob_standard::Standard;
 

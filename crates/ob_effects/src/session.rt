@@ -13,7 +13,7 @@ use crate::counts::counts_of;
 use crate::outcome::Outcome;
 use ob_base::Proc;
 use ob_begun::{Waits, give_all_up as abandon_all};
-use ob_core::Core;
+use ob_complete::Core;
 use ob_lines::{Change, Form, Request, change_of};
 use ob_model::Reply;
 use ob_requests::Words;

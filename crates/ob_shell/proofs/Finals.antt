@@ -17,7 +17,7 @@ use Rattle.ob_model.specs.Step.{Step}
 use Rattle.ob_model.proofs.ParseRuns.{parse_total}
 use Rattle.ob_model.proofs.Steps.{step_sound}
 use Rattle.ob_model.proofs.Total.{step_total}
-use Rattle.ob_begun.specs.Begun.{GivesAllUp}
+use Rattle.ob_effects.specs.Begun.{GivesAllUp}
 use Rattle.ob_complete.specs.Completes.{step_of}
 use Rattle.ob_complete.proofs.Chains.{entered, behind as count_behind, falters_run, gives_up_run}
 use Rattle.ob_standard.specs.Standard.{standard}

@@ -9,6 +9,7 @@ mod refusing;
 mod serving;
 
 pub use end::End;
+pub use ob_shell::{Ending, ShellFault};
 pub use opening::perform_opened;
 pub use performing::{complain, perform, starve};
 pub use refusing::refuse;

@@ -2,7 +2,7 @@
 use Rattle.std.proofs.Common.{sym, subst}
 use Rattle.std.proofs.lemmas.List.Elements.{All-nil}
 use Rattle.ob_begun.specs.Begun.{AreAwaited, tickets_of}
-use Rattle.ob_waiting.specs.Waiting.{IsParseOf}
+use Rattle.ob_begun.specs.Waiting.{IsParseOf}
 use Rattle.ob_effects.specs.Kept.{AreWaiting}
 use Rattle.ob_effects.proofs.Awaiting.{first_waiting}
 use Rattle.ob_effects.proofs.session.Session.new.Goals as goal
