@@ -18,7 +18,7 @@ try:
 
 run:
 	@test -x crates/ntns/out/ntns || echo "make run: the first build proves every crate and takes some minutes; make try shows the program sooner" >&2
-	@cd crates/ntns && rt run < "$(abspath $(SCRIPT))"
+	@cd crates/ntns && ../../gate/quick_rt.py run < "$(abspath $(SCRIPT))"
 
 test:
 	gate/test.sh
@@ -27,13 +27,13 @@ definitions:
 	gate/definitions.py
 
 random:
-	cd crates/ob_random_tests && COMMANDS=$(COMMANDS) rt test
+	cd crates/ob_random_tests && COMMANDS=$(COMMANDS) ../../gate/quick_rt.py test
 
 times:
 	gate/times.py gate/test.sh
 
 build:
-	cd crates/ntns && rt run < /dev/null
+	cd crates/ntns && ../../gate/quick_rt.py run < /dev/null
 
 bench: build
 	bench/lines.py crates/ntns/out/ntns
