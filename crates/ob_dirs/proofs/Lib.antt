@@ -4,3 +4,4 @@ pub mod Stamps
 pub mod Rows
 pub mod Laws
 pub mod Behind
+pub mod Pages

@@ -1,1 +1,2 @@
 pub mod Dir
+pub mod Page

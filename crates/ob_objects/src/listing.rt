@@ -1,31 +1,16 @@
 //! Pages of a directory.
 
-ghost use Rattle.std.specs.Prelude.{◌≡◌, ◌≤◌, [], length, map, filter, nat_lt, IsOk, IfOk};
+ghost use Rattle.std.specs.Prelude.{◌≡◌, [], map, IsOk, IfOk};
+ghost use Rattle.std.specs.Option.{option_copied};
 ghost use Rattle.ob_model.specs.State.{State};
-ghost use Rattle.ob_model.specs.Enumeration.{
-  enumerated,
-  body_type_name,
-  fitting,
-  listed,
-  room_of,
-};
-ghost use Rattle.ob_objects.specs.Store.{IsStore, Shows, entries_in, body_of_stored};
-ghost use Rattle.ob_objects.specs.Listing.{
-  entries_behind,
-  last_stamp_of,
-  page_given,
-  page_status,
-  room_behind,
-  shown_entry,
-  shown_of,
-  type_name_at,
-  wanted_of,
-};
+ghost use Rattle.ob_model.specs.Enumeration.{enumerated, body_type_name};
+ghost use Rattle.ob_objects.specs.Store.{IsStore, Shows, body_of_stored, directory_at};
+ghost use Rattle.ob_objects.specs.Listing.{entry_listed, page_given, type_name_at};
 
 use crate::{Store, StoredBody};
 use ob_base::{ObjId, Status};
-use ob_dirs::DirEntry;
-use ob_model::{Bytes, Entries, Listed, TypeName};
+use ob_dirs::{Dir, PageEntry};
+use ob_model::{Entries, Listed, TypeName};
 use ob_types::TypeSet;
 use std::alloc::{AllocError, Global};
 
@@ -66,64 +51,33 @@ impl<T: TypeSet> Store<T> {
         ensures empty { (s : State T.Kind T T.Face T.Inner) → Shows s self.now
             → (enumerated T.procedures s directory context room single).entries ≡ [] → IsOk result }
     {
-        let left = self.entries_behind(directory, context);
-        let shown = self.shown_of(left, room as usize, single);
-        let status = page_status(left.len(), shown.len(), single);
-        let context = last_stamp(context, shown);
-        let entries = self.listed(alloc, shown)?;
+        let Some(dir) = self.directory_at(directory) else {
+            return Ok(Page {
+                status: Status::NoMoreEntries,
+                entries: Entries::new(Vec::new(alloc)),
+                context,
+            });
+        };
+        let Ok(page) = dir.after(context, room, single, |id| self.type_name_at(id).len()) else {
+            return Err(AllocError);
+        };
+        let entries = self.listed(alloc, page.entries)?;
         Ok(Page {
-            status,
+            status: page.status,
             entries: Entries::new(entries),
-            context,
+            context: page.context,
         })
     }
 
-    // The entries of a directory behind a context; none of what is no directory.
-    fn entries_behind(&self, directory: ObjId, context: u64) -> &[DirEntry]
-        ensures all { result.now ≡ entries_behind self.now directory context }
+    // The directory that has this id, where one has it.
+    fn directory_at(&self, id: ObjId) -> Option<&Dir>
+        ensures found { option_copied result ≡ directory_at self.now id }
         ensures store { IsStore self.now }
     {
-        match self.get(directory) {
-            Some(stored) => behind(&stored.body, context),
-            None => &[],
+        match &self.get(id)?.body {
+            StoredBody::Directory(dir) => Some(dir),
+            _ => None,
         }
-    }
-
-    // Of these entries those that a page shows.
-    fn shown_of<'a>(&self, left: &'a [DirEntry], room: usize, single: bool) -> &'a [DirEntry]
-        ensures { map (shown_entry T.procedures self.now) result.now
-            ≡ shown_of (map (shown_entry T.procedures self.now) left.now) room single }
-    {
-        let wanted = wanted(left, single);
-        let fit = self.count_fitting(wanted, room);
-        &wanted[..fit]
-    }
-
-    // How many of these entries fit into the room, from the first one on.
-    fn count_fitting(&self, left: &[DirEntry], room: usize) -> usize
-        ensures count { result ≡ length (fitting room (map (shown_entry T.procedures self.now) left.now)) }
-        ensures within { result ≤ length left.now }
-    {
-        let mut behind = left;
-        let mut free = room;
-        while let Some((entry, rest)) = behind.split_first() {
-            let Some(less) = self.room_behind(entry, free) else {
-                return left.len() - behind.len();
-            };
-            free = less;
-            behind = rest;
-        }
-        left.len()
-    }
-
-    // The room that is left behind an entry; none where it doesn't fit.
-    fn room_behind(&self, entry: &DirEntry, room: usize) -> Option<usize>
-        ensures { result ≡ room_behind (room_of (shown_entry T.procedures self.now entry.now)) room }
-    {
-        let without_name = room
-            .checked_sub(4)?
-            .checked_sub(entry.name.as_slice().len())?;
-        without_name.checked_sub(self.type_name_at(entry.object).len())
     }
 
     // The name of the type of an object; the empty text where there is none.
@@ -136,40 +90,20 @@ impl<T: TypeSet> Store<T> {
         }
     }
 
-    // These entries, as a page tells them.
-    fn listed(&self, alloc: Global, shown: &[DirEntry]) -> Result<Vec<Listed>, AllocError>
-        ensures all { IfOk result (λ items. items.items
-            ≡ map listed (map (shown_entry T.procedures self.now) shown.now)) }
-        ensures none { shown.now ≡ [] → IsOk result }
+    // Entries of a directory's page, with the names of their objects' types.
+    fn listed(&self, alloc: Global, shown: Vec<PageEntry>) -> Result<Vec<Listed>, AllocError>
+        ensures all { IfOk result (λ items. items.items ≡ map (entry_listed T.procedures self.now) shown.items) }
+        ensures none { shown.items ≡ [] → IsOk result }
     {
         let mut items = Vec::new(alloc);
         for entry in shown {
+            let PageEntry { name, object } = entry;
             items.push(Listed {
-                name: Bytes::from_slice(alloc, entry.name.as_slice())?,
-                type_name: TypeName::new(self.type_name_at(entry.object)),
+                name,
+                type_name: TypeName::new(self.type_name_at(object)),
             })?;
         }
         Ok(items)
-    }
-}
-
-// Those of these entries that a page shows where there is room for them: the first alone, or all.
-fn wanted(left: &[DirEntry], single: bool) -> &[DirEntry]
-    ensures { result.now ≡ wanted_of left.now single }
-{
-    if single && left.len() > 1 {
-        return &left[..1];
-    }
-    left
-}
-
-// The entries behind a context that lie in a body.
-fn behind<F, I>(body: &StoredBody<F, I>, context: u64) -> &[DirEntry]
-    ensures { result.now ≡ filter (λ e. nat_lt context e.stamp) (entries_in body.now) }
-{
-    match body {
-        StoredBody::Directory(dir) => dir.after(context),
-        _ => &[],
     }
 }
 
@@ -181,31 +115,5 @@ fn type_name_of<T: TypeSet>(body: &StoredBody<T::Face, T::Inner>) -> &'static st
         StoredBody::Directory(_) => "Directory",
         StoredBody::Link(_) => "SymbolicLink",
         StoredBody::Other { face, .. } => T::type_name(T::kind_of(face)),
-    }
-}
-
-// The status of a page, by how many entries are left and how many are shown.
-fn page_status(left: usize, shown: usize, single: bool) -> Status
-    ensures { result ≡ page_status left shown single }
-{
-    if left == 0 {
-        return Status::NoMoreEntries;
-    }
-    if shown == 0 {
-        return Status::BufferTooSmall;
-    }
-    if !single && shown < left {
-        return Status::MoreEntries;
-    }
-    Status::Success
-}
-
-// The context behind these entries: the stamp of the last, or the context before them.
-fn last_stamp(context: u64, shown: &[DirEntry]) -> u64
-    ensures { result ≡ last_stamp_of context shown.now }
-{
-    match shown.last() {
-        Some(entry) => entry.stamp,
-        None => context,
     }
 }
