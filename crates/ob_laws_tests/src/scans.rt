@@ -1,5 +1,5 @@
-//! A large directory that is listed in pages of every size is shown whole each time, in the order in which its names
-//! were made.
+//! A directory of 20,000 names, listed in pages of every size from one entry to all, is shown whole each time, in the
+//! order in which the names were made.
 
 use ob_base::{Fault, Handle, Proc, Status};
 use ob_core::{Brought, Bytes, Command, Core, Entries, Given, OpenTable, Place, Reply, Started};
@@ -11,7 +11,7 @@ use std::test::Fail;
 type Namespace = Core<Plain, OpenTable>;
 
 // How many names the directory has.
-const NAMES: u32 = 2_000;
+const NAMES: u32 = 20_000;
 
 // The value of its handle, the first that is given.
 const DIRECTORY: Handle = Handle(4);
@@ -136,18 +136,45 @@ fn scan(core: &mut Namespace, asked: (u32, bool)) -> Result<(u32, u32), Fault> {
     Ok((NAMES, shown.saturating_add(count)))
 }
 
-// Pages of one entry, whether one alone is asked for or one alone fits; of two, of seven, of two hundred, and of all.
-// An entry takes 4 bytes, and 5 for each of its names.
-const SCANS: [((u32, bool), (u32, u32)); 6] = [
+// What an entry takes of a page's room: 4 bytes, and 5 for each of its names.
+const ENTRY: u32 = 14;
+
+// The first size from one on to another of whose pages a scan isn't as it should be: all names, in as few pages as can be.
+fn wrong_size(core: &mut Namespace, from: u32, to: u32) -> Result<Option<u32>, Fault> {
+    for size in from..=to {
+        let wanted = (NAMES.div_ceil(size.max(1)), NAMES);
+        if scan(core, (ENTRY.saturating_mul(size), false))? != wanted {
+            return Ok(Some(size));
+        }
+    }
+    Ok(None)
+}
+
+fn wrong_size_in_a_new_one(
+    alloc: Global,
+    core: &mut Namespace,
+    from: u32,
+    to: u32,
+) -> Result<Option<u32>, Fault> {
+    if !fill(alloc, core)? {
+        return Ok(Some(0));
+    }
+    wrong_size(core, from, to)
+}
+
+fn wrong_size_of(alloc: Global, from: u32, to: u32) -> Result<Option<u32>, Fault> {
+    let mut core = Core::new(alloc, Plain)?;
+    wrong_size_in_a_new_one(alloc, &mut core, from, to)
+}
+
+// Pages of one entry, whether one alone is asked for or a second lacks a byte, and pages of all with room to spare.
+const SCANS: [((u32, bool), (u32, u32)); 3] = [
     ((14, true), (NAMES, NAMES)),
     ((27, false), (NAMES, NAMES)),
-    ((28, false), (1_000, NAMES)),
-    ((98, false), (286, NAMES)),
-    ((2_800, false), (10, NAMES)),
     ((1_048_576, false), (1, NAMES)),
 ];
 
-// The first scan that isn't as it should be.
+// The room of the first scan that isn't as it should be.
 fn wrong_scan(alloc: Global, core: &mut Namespace) -> Result<Option<u32>, Fault> {
     if !fill(alloc, core)? {
         return Ok(Some(0));
@@ -166,8 +193,68 @@ fn wrong_scan_of_a_new_one(alloc: Global) -> Result<Option<u32>, Fault> {
 }
 
 #[test]
-fn pages_of_every_size_show_each_name_once(rt: HostRuntime) -> Result<(), Fail> {
+fn pages_of_one_and_of_all_show_each_name_once(rt: HostRuntime) -> Result<(), Fail> {
     scan_law::<PlainKind, Plain, PlainFace, PlainInner>();
     assert_eq!(rt; wrong_scan_of_a_new_one(rt.alloc())?, None);
+    Ok(())
+}
+
+#[test]
+fn pages_of_1_to_2000_entries_show_each_name_once(rt: HostRuntime) -> Result<(), Fail> {
+    assert_eq!(rt; wrong_size_of(rt.alloc(), 1, 2_000)?, None);
+    Ok(())
+}
+
+#[test]
+fn pages_of_2001_to_4000_entries_show_each_name_once(rt: HostRuntime) -> Result<(), Fail> {
+    assert_eq!(rt; wrong_size_of(rt.alloc(), 2_001, 4_000)?, None);
+    Ok(())
+}
+
+#[test]
+fn pages_of_4001_to_6000_entries_show_each_name_once(rt: HostRuntime) -> Result<(), Fail> {
+    assert_eq!(rt; wrong_size_of(rt.alloc(), 4_001, 6_000)?, None);
+    Ok(())
+}
+
+#[test]
+fn pages_of_6001_to_8000_entries_show_each_name_once(rt: HostRuntime) -> Result<(), Fail> {
+    assert_eq!(rt; wrong_size_of(rt.alloc(), 6_001, 8_000)?, None);
+    Ok(())
+}
+
+#[test]
+fn pages_of_8001_to_10000_entries_show_each_name_once(rt: HostRuntime) -> Result<(), Fail> {
+    assert_eq!(rt; wrong_size_of(rt.alloc(), 8_001, 10_000)?, None);
+    Ok(())
+}
+
+#[test]
+fn pages_of_10001_to_12000_entries_show_each_name_once(rt: HostRuntime) -> Result<(), Fail> {
+    assert_eq!(rt; wrong_size_of(rt.alloc(), 10_001, 12_000)?, None);
+    Ok(())
+}
+
+#[test]
+fn pages_of_12001_to_14000_entries_show_each_name_once(rt: HostRuntime) -> Result<(), Fail> {
+    assert_eq!(rt; wrong_size_of(rt.alloc(), 12_001, 14_000)?, None);
+    Ok(())
+}
+
+#[test]
+fn pages_of_14001_to_16000_entries_show_each_name_once(rt: HostRuntime) -> Result<(), Fail> {
+    assert_eq!(rt; wrong_size_of(rt.alloc(), 14_001, 16_000)?, None);
+    Ok(())
+}
+
+#[test]
+fn pages_of_16001_to_18000_entries_show_each_name_once(rt: HostRuntime) -> Result<(), Fail> {
+    assert_eq!(rt; wrong_size_of(rt.alloc(), 16_001, 18_000)?, None);
+    Ok(())
+}
+
+#[test]
+fn pages_of_18001_to_20000_entries_show_each_name_once(rt: HostRuntime) -> Result<(), Fail> {
+    assert_eq!(rt; wrong_size_of(rt.alloc(), 18_001, 20_000)?, None);
     Ok(())
 }
