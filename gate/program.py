@@ -133,7 +133,7 @@ CASES = [
     Case("a view is found behind 32 links, and not behind 33", (), 0, LINKED, script=LINKS + VIEWED + BEHIND),
     Case("a table that is filled refuses an open that waited, and takes it when there is room", (), 0, WAITED, script=WAITS + ROOM_AGAIN),
     Case("a thousand opens that wait outlive their processes", (), 0, MANY_WAIT + ALL_LEFT, script=MANY + LEFT),
-    Case("20,000 names are shown whole in pages of every size", (), 0, pages()[1], script=pages()[0]),
+    Case("20,000 names are shown whole in pages of six sizes", (), 0, pages()[1], script=pages()[0]),
 ]
 
 
