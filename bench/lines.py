@@ -154,16 +154,17 @@ def parts_seconds(program, parts):
 
 
 def scans(program):
-    """Scans of a directory: what an entry takes in a whole one, and what its first and its last page take. Those pages have
-    no room for an entry, so each begins where the one before it did."""
-    pages = 200_000
+    """Scans of a directory: what an entry takes in a whole one, and what its first and its last page take, each the least of
+    some runs. Those pages have no room for an entry, so each begins where the one before it did."""
+    pages, runs = 200_000, 3
     first, last = "p1 list held 1 first\n" * pages, "p1 list held 1 next\n" * pages
     for count in (1_000, 100_000):
         rounds = 2_000_000 // count
         scan = "p1 list held 1048576 first\np1 list held 1048576 next\n" * rounds
         full, rest = divmod(count - 1, 50_000)
         to_last = "".join(f"p1 list held {16 * size} next\n" for size in [50_000] * full + [rest])
-        _, scanned, at_first, _, at_last = parts_seconds(program, [listed(count), scan, first, "p1 list held 1 first\n" + to_last, last])
+        parts = [listed(count), scan, first, "p1 list held 1 first\n" + to_last, last]
+        _, scanned, at_first, _, at_last = map(min, zip(*(parts_seconds(program, parts) for _ in range(runs))))
         print(f"a whole scan, {count:,} entries: {count * rounds / scanned:,.0f} entries a second")
         print(f"the first page, {count:,} entries: {at_first / pages * 1e6:.2f} us")
         print(f"the last page, {count:,} entries: {at_last / pages * 1e6:.2f} us")

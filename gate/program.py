@@ -101,6 +101,20 @@ def pages():
     return b"".join(script), b"".join(prints)
 
 
+# the scripts of examples/ that list a directory and that open by parse, and what they print
+EXAMPLES = Path(__file__).resolve().parent.parent / "examples"
+LISTED = (
+    b"2: SUCCESS\n3: SUCCESS\n4: SUCCESS\n5: SUCCESS\n"
+    b'7: MORE_ENTRIES "start" Event "current" SymbolicLink\n9: SUCCESS\n10: SUCCESS\n'
+    b'11: SUCCESS "old" Directory "new" Mutant\n12: NO_MORE_ENTRIES\n14: SUCCESS "start" Event\n'
+)
+PARSED = (
+    b"2: SUCCESS\n3: SUCCESS\n4: SUCCESS\n5: TYPE_REFUSED 3\n7: SUCCESS\n8: SUCCESS\n9: SUCCESS\n10: SUCCESS\n"
+    b"12: PENDING\n13: SUCCESS\n14: objects 13 handles 6 opens 6 closes 1 deletes 0\n15: SUCCESS\n"
+    b"16: objects 13 handles 7 opens 7 closes 1 deletes 1\n"
+)
+
+
 @dataclass(frozen=True)
 class Case:
     shows: str
@@ -133,6 +147,8 @@ CASES = [
     Case("a view is found behind 32 links, and not behind 33", (), 0, LINKED, script=LINKS + VIEWED + BEHIND),
     Case("a table that is filled refuses an open that waited, and takes it when there is room", (), 0, WAITED, script=WAITS + ROOM_AGAIN),
     Case("a thousand opens that wait outlive their processes", (), 0, MANY_WAIT + ALL_LEFT, script=MANY + LEFT),
+    Case("a directory is listed in pages", ("run", str(EXAMPLES / "pages.ntns")), 0, LISTED),
+    Case("names go on behind devices and keys", ("run", str(EXAMPLES / "parses.ntns")), 0, PARSED),
     Case("20,000 names are shown whole in pages of six sizes", (), 0, pages()[1], script=pages()[0]),
 ]
 
