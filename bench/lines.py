@@ -153,19 +153,27 @@ def parts_seconds(program, parts):
     return [after - before for before, after in zip(times, times[1:])]
 
 
+def scan(count, room):
+    """The lines of a whole scan of so many entries in pages of this room, an entry taking 16 bytes of it, to the page that has
+    none."""
+    return f"p1 list held {room} first\n" + f"p1 list held {room} next\n" * -(-count // (room // 16))
+
+
 def scans(program):
-    """Scans of a directory: what an entry takes in a whole one, and what its first and its last page take, each the least of
-    some runs. Those pages have no room for an entry, so each begins where the one before it did."""
+    """Scans of a directory: what an entry takes in a whole one, in pages of a thousand entries and in the largest, and what its
+    first and its last page take, each the least of some runs. Those pages have no room for an entry, so each begins where the
+    one before it did."""
     pages, runs = 200_000, 3
     first, last = "p1 list held 1 first\n" * pages, "p1 list held 1 next\n" * pages
     for count in (1_000, 100_000):
         rounds = 2_000_000 // count
-        scan = "p1 list held 1048576 first\np1 list held 1048576 next\n" * rounds
         full, rest = divmod(count - 1, 50_000)
         to_last = "".join(f"p1 list held {16 * size} next\n" for size in [50_000] * full + [rest])
-        parts = [listed(count), scan, first, "p1 list held 1 first\n" + to_last, last]
-        _, scanned, at_first, _, at_last = map(min, zip(*(parts_seconds(program, parts) for _ in range(runs))))
-        print(f"a whole scan, {count:,} entries: {count * rounds / scanned:,.0f} entries a second")
+        usual, largest = scan(count, 16_000) * rounds, scan(count, 1_048_576) * rounds
+        parts = [listed(count), usual, largest, first, "p1 list held 1 first\n" + to_last, last]
+        _, scanned, at_most, at_first, _, at_last = map(min, zip(*(parts_seconds(program, parts) for _ in range(runs))))
+        print(f"a whole scan in pages of 16,000 bytes, {count:,} entries: {count * rounds / scanned:,.0f} entries a second")
+        print(f"a whole scan in pages of 1,048,576 bytes, {count:,} entries: {count * rounds / at_most:,.0f} entries a second")
         print(f"the first page, {count:,} entries: {at_first / pages * 1e6:.2f} us")
         print(f"the last page, {count:,} entries: {at_last / pages * 1e6:.2f} us")
 
