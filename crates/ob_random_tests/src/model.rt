@@ -1,13 +1,16 @@
 //! A plain model of the namespace over flat lists, which are searched from their beginning: what each command is
 //! answered, and what it leaves.
 
+mod pages;
+
 use crate::asks::{
     Ask, CASE_INSENSITIVE, Deed, EXCLUSIVE, INHERIT, LARGEST_ROOM, OPENIF, OPENLINK, PERMANENT,
     Part, Want, What, is_unlawful, is_wanted, type_name, want_of,
 };
 use crate::names::{Name, Path, absolute, joined, letters, spelled};
 use ob_base::{Handle, Status};
-use ob_model::{Given, Listed, Reply};
+use ob_model::{Given, Reply};
+use pages::page_status;
 use std::alloc::{AllocError, Global};
 
 // A lookup looks once, and once more behind each of 32 reparses.
@@ -94,16 +97,6 @@ enum Step {
     In(u32),
     Through(Path, usize),
     End(Answer),
-}
-
-// A page of a directory: the stamp behind which it begins, that of the last entry that it shows, or the same where it
-// shows none, and whether it ends because the next entry doesn't fit.
-#[derive(Clone, Copy)]
-struct Page {
-    directory: u32,
-    start: u64,
-    end: u64,
-    is_cut: bool,
 }
 
 /// How many objects and handles there are, and how often the set opened, closed and deleted one.
@@ -454,47 +447,6 @@ impl Model {
         }
     }
 
-    // The page of a directory that a process is shown.
-    fn page(&self, process: u32, directory: u32, part: Part) -> Page {
-        let start = match part.restart {
-            true => 0,
-            false => self.context(process),
-        };
-        let (mut end, mut left, mut is_cut) = (start, part.room, false);
-        for object in &self.objects {
-            let is_done = is_cut || (part.single && end > start);
-            if is_behind(*object, directory, start) && !is_done {
-                let room = entry_room(*object);
-                if room <= left {
-                    (end, left) = (object.stamp, left.wrapping_sub(room));
-                } else {
-                    is_cut = true;
-                }
-            }
-        }
-        Page {
-            directory,
-            start,
-            end,
-            is_cut,
-        }
-    }
-
-    // Whether a page shows these entries, in their order.
-    fn shows(&self, page: Page, entries: &[Listed]) -> bool {
-        let mut place: usize = 0;
-        for object in &self.objects {
-            if is_behind(*object, page.directory, page.start) && object.stamp <= page.end {
-                let listed = entries.get(place);
-                if !listed.is_some_and(|listed| is_listed(listed, *object)) {
-                    return false;
-                }
-                place = place.wrapping_add(1);
-            }
-        }
-        place == entries.len()
-    }
-
     // What an answer leaves, where a command is given this.
     fn change(
         &mut self,
@@ -619,19 +571,6 @@ impl Model {
             .retain(|open| open.process != process || !goes(open));
         let went = before.wrapping_sub(self.plain_handles());
         self.closes = self.closes.wrapping_add(went);
-    }
-
-    // A process turns to a page: whether this is what it gives.
-    fn turn_to(&mut self, process: u32, page: Page, given: &Given) -> bool {
-        let Given::Page { entries, context } = given else {
-            return false;
-        };
-        for live in self.processes.iter_mut() {
-            if live.number == process {
-                live.context = page.end;
-            }
-        }
-        *context == page.end && self.shows(page, entries.as_slice())
     }
 
     // Whether the target of a link is given.
@@ -836,34 +775,6 @@ fn missing(at: u32, component: Component, look: Look) -> Answer {
             Answer::Refused(Status::ObjectNameInvalid)
         }
         (true, true) => Answer::New(Some(Spot { directory, letter })),
-    }
-}
-
-// Whether an object stands in a directory behind a stamp.
-fn is_behind(object: Object, directory: u32, stamp: u64) -> bool {
-    object.is_named && object.spot.directory == directory && object.stamp > stamp
-}
-
-// The room that an entry takes: 4 bytes, and the lengths of its name and of its type's name.
-fn entry_room(object: Object) -> u32 {
-    let names = spelled(object.spot.letter)
-        .len()
-        .wrapping_add(type_name(object.what).len());
-    u32::try_from(names).unwrap_or(0).wrapping_add(4)
-}
-
-// Whether an entry is shown as an object.
-fn is_listed(listed: &Listed, object: Object) -> bool {
-    listed.name.as_slice() == spelled(object.spot.letter)
-        && listed.type_name.as_str() == type_name(object.what)
-}
-
-fn page_status(page: Page) -> Status {
-    match (page.end > page.start, page.is_cut) {
-        (true, false) => Status::Success,
-        (true, true) => Status::MoreEntries,
-        (false, true) => Status::BufferTooSmall,
-        (false, false) => Status::NoMoreEntries,
     }
 }
 
