@@ -158,7 +158,7 @@ fn listed(alloc: Global, shown: &[DirEntry]) -> Result<Vec<PageEntry>, AllocErro
     ensures all { IfOk result (λ items. items.items ≡ map page_entry shown.now) }
     ensures none { shown.now ≡ [] → IsOk result }
 {
-    let mut items = Vec::new(alloc);
+    let mut items = Vec::with_capacity(alloc, shown.len())?;
     for entry in shown {
         items.push(PageEntry {
             name: Bytes::from_slice(alloc, entry.name.as_slice())?,

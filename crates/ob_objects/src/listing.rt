@@ -95,7 +95,7 @@ impl<T: TypeSet> Store<T> {
         ensures all { IfOk result (λ items. items.items ≡ map (entry_listed T.procedures self.now) shown.items) }
         ensures none { shown.items ≡ [] → IsOk result }
     {
-        let mut items = Vec::new(alloc);
+        let mut items = Vec::with_capacity(alloc, shown.len())?;
         for entry in shown {
             let PageEntry { name, object } = entry;
             items.push(Listed {
