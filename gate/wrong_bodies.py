@@ -16,7 +16,10 @@ turns, and by no other; such an edit is tried alone. Not a refusal, and reported
 - its proof file cites a name that the edit takes away: then nothing is said of the body's meaning;
 - there is no verdict, since the edit does not compile, or does not apply, or the crate itself isn't proved.
 
-    gate/wrong_bodies.py [--jobs N] [--fresh] [--list] [CRATE | CRATE/EDIT ..]
+What is refused is kept on this machine (kept.py), and is not tried again while all that it rests on stays the same; --anew
+tries all.
+
+    gate/wrong_bodies.py [--jobs N] [--fresh] [--anew] [--list] [CRATE | CRATE/EDIT ..]
 
 The last line is 'N passed, M failed'. The exit status is 0 where none failed, else 1.
 """
@@ -33,6 +36,8 @@ from concurrent.futures import FIRST_COMPLETED, ThreadPoolExecutor, wait
 from dataclasses import dataclass, field
 from functools import cache
 from pathlib import Path
+
+import kept
 
 ROOT = Path(__file__).resolve().parent.parent
 
@@ -69,6 +74,7 @@ class Edit:
     function: Function
     pairs: list
     fits: bool  # whether each old text stands once in the function's own text too
+    kept_as: str  # the name under which it is kept that it is refused
     refusal: str = ""  # the code of the errors by which the compiler is to refuse it, before any proof
 
     @property
@@ -254,7 +260,8 @@ def read_edit(crate, path):
     if named != function.path.split("::")[-1]:
         raise Unfit(f"it is named for {named} and turns {function.path}")
     is_fit = fits(text[function.start : function.end], pairs)
-    return Edit(crate, path.stem, file, function, pairs, is_fit, refusal_of(path))
+    lines = {name: " ".join(crates_listed()[name]) for name in with_dependencies(crate)}
+    return Edit(crate, path.stem, file, function, pairs, is_fit, kept.name_of(ROOT, lines, path), refusal_of(path))
 
 
 def with_edits(text, edits):
@@ -499,6 +506,7 @@ class Trial:
                 fault = f"{edit.function.path} is not proved for what it calls alone"
             if fault is None:
                 del self.faults[edit.label]
+                kept.keep(edit.kept_as)
                 continue
             self.faults[edit.label] = fault
             print(f"wrong bodies: {edit.label}: not refused: {fault}", flush=True)
@@ -517,6 +525,12 @@ def run_all(trial, jobs):
                 return
             for ended in wait(running, return_when=FIRST_COMPLETED).done:
                 running.pop(ended)(ended.result())
+
+
+def left_to_try(edits):
+    """These edits, by crate, without those that an earlier run here found refused."""
+    left = {crate: [edit for edit in own if not kept.is_kept(edit.kept_as)] for crate, own in edits.items()}
+    return {crate: own for crate, own in left.items() if own}
 
 
 def gather(asked):
@@ -541,6 +555,7 @@ def main():
     parser.add_argument("asked", nargs="*", metavar="CRATE | CRATE/EDIT")
     parser.add_argument("--jobs", type=int, default=os.cpu_count() or 1, metavar="N")
     parser.add_argument("--fresh", action="store_true", help="use nothing of what earlier checks left in out/")
+    parser.add_argument("--anew", action="store_true", help="try all, also what an earlier run here found refused")
     parser.add_argument("--list", action="store_true", help="list the edits and their functions, and try none")
     words = parser.parse_args()
     listed = crates_listed()
@@ -554,6 +569,10 @@ def main():
             for edit in own:
                 print(f"{edit.label}: {edit.function.path}")
     else:
+        if not words.anew:
+            edits = left_to_try(edits)
+            known = count - len(faults) - sum(len(own) for own in edits.values())
+            print(f"wrong bodies: {known} are kept: an earlier run on this machine found them refused", flush=True)
         with tempfile.TemporaryDirectory(prefix="wrong-bodies-") as name:
             trial = Trial(edits, Path(name))
             copied(trial.needed, trial.base, words.fresh)
