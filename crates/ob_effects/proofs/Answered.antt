@@ -37,7 +37,7 @@ use Rattle.ob_lines.specs.Grammar.{form_seen, request_seen}
 use Rattle.ob_requests.specs.Words.{Words, handed_on, is_among, with_process, with_words, with_context}
 use Rattle.ob_requests.specs.Tables.{IsKept}
 use Rattle.ob_requests.specs.Commands.{changed, with_child, with_page}
-use Rattle.ob_effects.specs.Machine.{Space}
+use Rattle.ob_standard_core.specs.Machine.{Space}
 use Rattle.ob_effects.specs.Effects.{IsAsked, IsAnswered, IsUnanswered}
 
 -- a request is asked with words that are the same

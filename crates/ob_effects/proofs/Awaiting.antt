@@ -42,7 +42,7 @@ use Rattle.ob_lines.specs.declared.request.Request.{Request}
 use Rattle.ob_parts.specs.declared.name.NameForm.{NameForm}
 use Rattle.ob_requests.specs.Commands.{IsOpenObject, is_success, with_child, with_page, changed, words_after}
 use Rattle.ob_requests.specs.Words.{Words, first_words, with_ticket, with_number_of, with_word, without_words}
-use Rattle.ob_effects.specs.Machine.{Space}
+use Rattle.ob_standard_core.specs.Machine.{Space}
 use Rattle.ob_effects.specs.Kept.{WaitsUnder, AreWaiting}
 use Rattle.ob_effects.specs.Effects.{MakesStep, WantsMemory}
 use Rattle.ob_effects.specs.Waiting.{Steps, AreTickets, IsUnderWord, IsEvent, FindsNone, word_of, words_answered}

@@ -14,7 +14,7 @@ use Rattle.ob_lines.specs.declared.pending.PendingForm.TheVariants as pending
 use Rattle.ob_parts.specs.declared.name.NameForm.{NameForm}
 use Rattle.ob_requests.specs.Words.{Words, with_word, with_ticket}
 use Rattle.ob_standard.specs.Standard.{standard}
-use Rattle.ob_effects.specs.Machine.{Space}
+use Rattle.ob_standard_core.specs.Machine.{Space}
 use Rattle.ob_effects.specs.Effects.{MakesStep, IsCarried, IsStopped}
 use Rattle.ob_effects.specs.Kept.{AreWaiting}
 use Rattle.ob_effects.specs.Waiting.{words_answered}

@@ -21,7 +21,7 @@ use Rattle.ob_effects.specs.declared.notice.Notice.{Notice}
 use Rattle.ob_effects.specs.declared.notice.Notice.TheVariants as notice
 use Rattle.ob_requests.specs.Words.{Words}
 use Rattle.ob_requests.specs.Commands.{IsCommand, words_after}
-use Rattle.ob_effects.specs.Machine.{Space, counts_of}
+use Rattle.ob_standard_core.specs.Machine.{Space, counts_of}
 use Rattle.ob_effects.specs.Waiting.{Steps, word_of, is_waiting, told_instead, IsEvent, words_answered, FindsNone}
 
 -- A request of a process found no memory, with these words and in the state s: before its first step, so that there is

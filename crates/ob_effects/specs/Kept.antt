@@ -15,7 +15,7 @@ use Rattle.ob_effects.specs.declared.outcome.Outcome.{Outcome}
 use Rattle.ob_effects.specs.declared.outcome.Outcome.TheVariants as outcome
 use Rattle.ob_requests.specs.Tables.{words_in}
 use Rattle.ob_requests.specs.Words.{Words, first_words}
-use Rattle.ob_effects.specs.Machine.{Space}
+use Rattle.ob_standard_core.specs.Machine.{Space}
 use Rattle.ob_effects.specs.Waiting.{AreTickets}
 
 -- an open of a process waits under a ticket, for the parse of an object whose kind parses

@@ -1,5 +1,5 @@
 pub use Rattle.ob_begun.specs.Begun
-pub mod Machine
+pub use Rattle.ob_standard_core.specs.Machine
 pub mod Waiting
 pub mod Effects
 pub mod Kept

@@ -20,7 +20,7 @@ use Rattle.ob_lines.specs.declared.pending.PendingForm.TheVariants.{Begin, End, 
 use Rattle.ob_output.specs.Printed.{reply_text}
 use Rattle.ob_requests.specs.Commands.{IsOpenObject, given_handle}
 use Rattle.ob_requests.specs.Words.{Words, with_word, with_ticket}
-use Rattle.ob_effects.specs.Machine.{Space}
+use Rattle.ob_standard_core.specs.Machine.{Space}
 
 -- the steps of a run of the machine that a script asks for
 abbrev pub Steps : Type 0

@@ -10,19 +10,15 @@ ghost use Rattle.ob_requests.specs.Words.{handed_on, with_word, without_words};
 ghost use Rattle.ob_effects.specs.Effects.{IsAsked, IsUnanswered};
 
 use ob_base::{Handle, Proc, Status};
-use ob_complete::{Core, OpenTable, run_command};
 use ob_lines::Request;
 use ob_model::{Given, Reply};
 use ob_requests::{Asker, Table, Words, command_of, keep};
-use ob_standard::Standard;
+use ob_standard_core::StandardCore;
 use std::alloc::AllocError;
-
-// The namespace that scripts run over.
-pub(crate) type Space = Core<Standard, OpenTable>;
 
 // Runs the request of a process to its reply.
 pub(crate) fn ask(
-    core: &mut Space,
+    core: &mut StandardCore,
     words: &Words,
     process: Proc,
     request: Request<&[u8]>,
@@ -32,12 +28,12 @@ pub(crate) fn ask(
     ensures wanting { OnErr result (IsUnanswered (request_seen request.entry) process (words_in words.now) core.old core.new) }
 {
     let command = command_of(&Asker { words, process }, request)?;
-    run_command(core, words.alloc, process, &command)
+    core.run(words.alloc, process, &command)
 }
 
 // Runs the request of a process, and sets a word of its owner to the handle that was given, or to 0.
 pub(crate) fn set_word(
-    core: &mut Space,
+    core: &mut StandardCore,
     words: &mut Words,
     process: Proc,
     request: Request<&[u8]>,
@@ -71,7 +67,7 @@ pub(crate) fn given_handle(given: &Given) -> Handle
 
 // Runs the request of a process, and gives its word up where that succeeds.
 pub(crate) fn give_up(
-    core: &mut Space,
+    core: &mut StandardCore,
     words: &mut Words,
     process: Proc,
     request: Request<&[u8]>,
@@ -93,7 +89,7 @@ pub(crate) fn give_up(
 
 // Runs the request of a process, and gives all its words up where that succeeds.
 pub(crate) fn give_all_up(
-    core: &mut Space,
+    core: &mut StandardCore,
     words: &mut Words,
     process: Proc,
     request: Request<&[u8]>,
@@ -114,7 +110,7 @@ pub(crate) fn give_all_up(
 
 // Runs the request of a process, and keeps the context of the page that was given for its word, where one was.
 pub(crate) fn turn_page(
-    core: &mut Space,
+    core: &mut StandardCore,
     words: &mut Words,
     process: Proc,
     request: Request<&[u8]>,
@@ -141,7 +137,7 @@ pub(crate) fn turn_page(
 // Begins a child of a process, and sets its process word: to the child, which has the words that are
 // handed on to it, or to 0.
 pub(crate) fn begin_child(
-    core: &mut Space,
+    core: &mut StandardCore,
     words: &mut Words,
     process: Proc,
     request: Request<&[u8]>,
@@ -184,7 +180,7 @@ fn words_to_hand_on(words: &Words, process: Proc, inherit: bool) -> Result<Table
 }
 
 // The words of a child, from those that it may get: those whose values it holds.
-fn handed_on(core: &Space, child: Proc, own: Table<u32>) -> Table<u32>
+fn handed_on(core: &StandardCore, child: Proc, own: Table<u32>) -> Table<u32>
     ensures { number_in result ≡ handed_on (number_in own) true (values_in core.now child) }
 {
     let mut own = own;

@@ -2,7 +2,6 @@
 #![tactic(auto)]
 
 mod asking;
-mod counts;
 mod notice;
 mod outcome;
 mod session;

@@ -8,16 +8,13 @@ ghost use Rattle.ob_effects.specs.Effects.{IsAnswered, IsUnanswered, IsRequestDo
 ghost use Rattle.ob_effects.specs.Kept.{IsFirst, IsSession, space_of, words_of};
 ghost use Rattle.ob_effects.specs.Waiting.{Steps, GiveAllUp};
 
-use crate::asking::{Space, ask, begin_child, give_all_up, give_up, set_word, turn_page};
-use crate::counts::counts_of;
+use crate::asking::{ask, begin_child, give_all_up, give_up, set_word, turn_page};
 use crate::outcome::Outcome;
 use ob_base::Proc;
-use ob_begun::{Waits, give_all_up as abandon_all};
-use ob_complete::Core;
 use ob_lines::{Change, Form, Request, change_of};
 use ob_model::Reply;
 use ob_requests::Words;
-use ob_standard::{Standard, standard};
+use ob_standard_core::{StandardCore, StandardWaits};
 use std::alloc::{AllocError, Global};
 
 /// A script's session with a namespace over the standard set of types: the namespace, the words of the script, and
@@ -26,9 +23,9 @@ use std::alloc::{AllocError, Global};
 /// A contract sees the words by `words_of`, the state of the abstract machine by `space_of`, and what holds of both
 /// and of the opens that wait as `IsSession`. (this profile)
 pub struct Session {
-    pub(crate) core: Space,
+    pub(crate) core: StandardCore,
     pub(crate) words: Words,
-    pub(crate) waits: Waits<Standard>,
+    pub(crate) waits: StandardWaits,
 }
 
 impl Session {
@@ -38,11 +35,9 @@ impl Session {
         ensures first { IfOk result IsFirst }
         ensures kept { IfOk result IsSession }
     {
-        let Ok(core) = Core::new(alloc, standard()) else {
-            return Err(AllocError);
-        };
+        let core = StandardCore::new(alloc)?;
         let words = Words::new(alloc)?;
-        let waits = Waits::new(alloc);
+        let waits = StandardWaits::new(alloc);
         Ok(Session { core, words, waits })
     }
 
@@ -57,7 +52,7 @@ impl Session {
         match form {
             None => Outcome::NoLine,
             Some(Form::Nothing) => Outcome::Idle,
-            Some(Form::Stat) => Outcome::Counted(counts_of(&self.core)),
+            Some(Form::Stat) => Outcome::Counted(self.core.counts()),
             Some(Form::Asks { process, request }) => {
                 let process = self.words.process_of(process);
                 self.answer(process, request)
@@ -80,7 +75,7 @@ impl Session {
             words: _,
             waits,
         } = self;
-        abandon_all(&mut core, waits);
+        waits.give_all_up(&mut core);
     }
 
     // What became of the request of a process.
@@ -101,7 +96,7 @@ impl Session {
 // Runs the request of a process, and changes the words that its reply changes. All that can want memory
 // comes before the step.
 fn reply_to(
-    core: &mut Space,
+    core: &mut StandardCore,
     words: &mut Words,
     process: Proc,
     request: Request<&[u8]>,

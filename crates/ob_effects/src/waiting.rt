@@ -13,16 +13,15 @@ ghost use Rattle.ob_effects.specs.Kept.{IsSession, outcome_of, space_of, words_o
 ghost use Rattle.ob_requests.specs.Words.{with_ticket};
 ghost use Rattle.ob_effects.specs.Waiting.{words_answered};
 
-use crate::asking::{Space, given_handle};
+use crate::asking::given_handle;
 use crate::notice::Notice;
 use crate::outcome::Outcome;
 use crate::session::Session;
 use ob_base::{Proc, Status};
-use ob_begun::{Begun, Waits, begin_open, drop_open, end_open};
 use ob_lines::{KindForm, NameForm, PendingForm, Request};
 use ob_model::{Given, Reply};
 use ob_requests::{Asker, Words, command_of};
-use ob_standard::Standard;
+use ob_standard_core::{Begun, StandardCore, StandardWaits};
 use std::alloc::AllocError;
 
 impl Session {
@@ -99,7 +98,7 @@ impl Session {
             return Outcome::Told(Notice::NoPending);
         }
         self.core.state_is_sound();
-        drop_open(&mut self.core, &mut self.waits, ticket);
+        self.waits.abandon(&mut self.core, ticket);
         self.words.clear_ticket(process, word);
         self.words.give_up(process, word);
         Outcome::Replied(Reply {
@@ -125,9 +124,9 @@ fn outcome_of(begun: Result<Begun, AllocError>) -> Outcome
 
 // Begins an open of a process, and keeps under its word what becomes of it.
 fn begin_under(
-    core: &mut Space,
+    core: &mut StandardCore,
     words: &mut Words,
-    waits: &mut Waits<Standard>,
+    waits: &mut StandardWaits,
     process: Proc,
     asked: OpenForm<'_>,
     word: &[u8],
@@ -152,16 +151,16 @@ fn begin_under(
         word,
     };
     let command = command_of(&Asker { words, process }, request)?;
-    let begun = begin_open(core, waits, process, &command)?;
+    let begun = waits.begin(core, process, &command)?;
     keep(words, process, word, &begun);
     Ok(begun)
 }
 
 // Runs the parse of the open that waits under a word of a process, brings it, and keeps under the word what becomes of it.
 fn end_waiting(
-    core: &mut Space,
+    core: &mut StandardCore,
     words: &mut Words,
-    waits: &mut Waits<Standard>,
+    waits: &mut StandardWaits,
     process: Proc,
     word: &[u8],
     ticket: u64,
@@ -178,7 +177,7 @@ fn end_waiting(
 {
     words.room_for_handle(process, word)?;
     words.room_for_ticket(process, word)?;
-    match end_open(core, waits, words.alloc, ticket) {
+    match waits.end(core, words.alloc, ticket) {
         Ok(begun) => {
             keep(words, process, word, &begun);
             Ok(begun)

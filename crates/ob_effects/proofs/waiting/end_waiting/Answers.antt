@@ -23,7 +23,7 @@ returns-in-Err-clause-stopped c =
     let faltered = c.in-Err.ensures.faltered in (
       faltered.0,
       inr (
-        subst (λ n. GivesUp standard n faltered.0 c.args.core.now c.end_open.new.core) (sym c.requires.under) faltered.1,
+        subst (λ n. GivesUp standard n faltered.0 c.args.core.now c.end.new.core) (sym c.requires.under) faltered.1,
         c.clear_ticket.ensures ∙ ap (λ (w : Words). with_ticket w c.args.process c.args.word.now 0) same,
       ),
     )

@@ -10,18 +10,18 @@ use Rattle.ob_effects.proofs.session.Session.drop_under.Goals as goal
 
 pub returns-clause-kept : goal.returns-clause-kept
 returns-clause-kept c = record {
-  waiting = drop_keeps c.args.self.now.core c.drop_open.new.core (words_in c.args.self.now.words) (words_in c.give_up.new.self) c.args.process c.args.word.now c.ticket_of-ticket.result
-      (tickets_of c.args.self.now.waits) (tickets_of c.drop_open.new.waits) c.state_is_sound.ensures c.requires.kept.waiting c.ticket_of-ticket.ensures
+  waiting = drop_keeps c.args.self.now.core c.abandon.new.core (words_in c.args.self.now.words) (words_in c.give_up.new.self) c.args.process c.args.word.now c.ticket_of-ticket.result
+      (tickets_of c.args.self.now.waits) (tickets_of c.abandon.new.self) c.state_is_sound.ensures c.requires.kept.waiting c.ticket_of-ticket.ensures
       c.if-ticket-eq0.false
-      (c.give_up.ensures ∙ ap (λ (w : Words). with_word w c.args.process c.args.word.now 0) c.clear_ticket.ensures) c.drop_open.ensures.tickets c.drop_open.ensures.step;
-  awaited = c.drop_open.ensures.awaited;
+      (c.give_up.ensures ∙ ap (λ (w : Words). with_word w c.args.process c.args.word.now 0) c.clear_ticket.ensures) c.abandon.ensures.tickets c.abandon.ensures.step;
+  awaited = c.abandon.ensures.awaited;
 }
 
 pub returns-clause-done : goal.returns-clause-done
 returns-clause-done c = (
   makes_drop (words_in c.args.self.now.words) c.args.process c.args.word.now (not_none _ _ c.if-ticket-eq0.false c.ticket_of-ticket.ensures),
   (
-    (Abandon c.ticket_of-ticket.result Unrun, ap (λ n. Abandon n Unrun) c.ticket_of-ticket.ensures, c.drop_open.ensures.step),
+    (Abandon c.ticket_of-ticket.result Unrun, ap (λ n. Abandon n Unrun) c.ticket_of-ticket.ensures, c.abandon.ensures.step),
     c.give_up.ensures ∙ ap (λ (w : Words). with_word w c.args.process c.args.word.now 0) c.clear_ticket.ensures,
   ),
 )

@@ -1,0 +1,106 @@
+//! The core over the standard set.
+
+ghost use Rattle.std.specs.Prelude.{◌≡◌, List, IfOk, OnErr};
+ghost use Rattle.std.specs.Option.{is_some};
+ghost use Rattle.ob_model.specs.declared.reply.Event.TheVariants.{Start};
+ghost use Rattle.ob_model.specs.Opening.{opening};
+ghost use Rattle.ob_model.specs.Sound.{IsSound};
+ghost use Rattle.ob_model.specs.State.{held_of};
+ghost use Rattle.ob_complete.specs.Completes.{Made, Completes, Falters};
+ghost use Rattle.ob_standard.specs.Standard.{IsFresh, StandardKind, Standard as StandardSet, standard};
+ghost use Rattle.ob_standard_core.specs.Machine.{counts_of};
+
+use ob_base::{Handle, Proc};
+use ob_complete::{Core, OpenTable, run_command};
+use ob_model::{Command, Reply};
+use ob_output::Counts;
+use ob_standard::{Standard, StandardKind, standard};
+use std::alloc::{AllocError, Global};
+use std::marker::Model;
+
+/// The [`Core`](ob_core::Core) over the standard set of types and the ordered handle table, with the calls of it that
+/// scripts make.
+///
+/// Contracts see the state of the abstract machine. (this profile)
+#[derive(Drop)]
+pub struct StandardCore {
+    pub(crate) core: Core<Standard, OpenTable>,
+}
+
+impl Model for StandardCore {
+    ghost use Rattle.ob_standard_core.specs.Machine.{Space};
+
+    ghost Value = { Space };
+
+    ghost view = { λ a. a.core };
+}
+
+impl StandardCore {
+    /// The opening state, in which the set has counted nothing. The only fault is want of memory. (this profile)
+    pub fn new(alloc: Global) -> Result<StandardCore, AllocError>
+        ensures { IfOk result (λ core. (first : StandardSet) × IsFresh first × (core ≡ opening first)) }
+    {
+        match Core::new(alloc, standard()) {
+            Ok(core) => Ok(StandardCore { core }),
+            Err(_) => Err(AllocError),
+        }
+    }
+
+    /// Runs a command of a process to its reply, and each parse that it waits for meanwhile, with nothing else done between
+    /// these steps. The only fault is want of memory: before the first step, where nothing has changed, or behind steps
+    /// that give the open up.
+    ///
+    /// Source: Windows Internals, Object Manager (parse methods); that a parse is run between two steps is this profile.
+    pub fn run(
+        &mut self,
+        alloc: Global,
+        process: Proc,
+        command: &Command<StandardKind>,
+    ) -> Result<Reply, AllocError>
+        ensures done { IfOk result (λ reply. (steps : List (Made StandardKind))
+            × Completes standard (Start process command.now) steps self.old reply self.new) }
+        ensures faltered { OnErr result ((steps : List (Made StandardKind))
+            × Falters standard (Start process command.now) steps self.old self.new) }
+    {
+        run_command(&mut self.core, alloc, process, command)
+    }
+
+    /// What there is now, and what the set has counted. Takes no memory. (this profile)
+    pub fn counts(&self) -> Counts
+        ensures { result ≡ counts_of self.now }
+    {
+        let set = self.core.set();
+        Counts {
+            objects: self.core.objects(),
+            handles: self.core.handles(),
+            opens: set.opens(),
+            closes: set.closes(),
+            deletes: set.deletes(),
+        }
+    }
+
+    /// Whether a process has a handle of exactly this value; the low two bits count. Takes no memory.
+    ///
+    /// Source: Windows Internals, Object Manager: handles and the process handle table.
+    pub fn holds(&self, process: Proc, handle: Handle) -> bool
+        ensures { result ≡ is_some (held_of self.now process handle) }
+    {
+        self.core.holds(process, handle)
+    }
+
+    /// The number that the next process gets, whichever makes it: above those of all that ever were. Source: this
+    /// profile.
+    pub fn next_process(&self) -> Proc
+        ensures { result ≡ self.now.next_process }
+    {
+        self.core.next_process()
+    }
+
+    /// The law that the state of every core is sound. The call does nothing; a caller makes it to have the fact. (this
+    /// profile)
+    pub fn state_is_sound(&self)
+        ensures { IsSound self.now }
+    {
+        self.core.state_is_sound();
+    }
+}
