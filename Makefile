@@ -1,6 +1,6 @@
 # make try    runs examples/first.ntns, or the script that SCRIPT names, without proofs: in a minute or two
 # make run    the same by the proved program; the first build proves everything, which takes some minutes
-# make test   the gate: every proof from nothing, the wrong bodies that must be refused, every test
+# make test   the gate: every proof and the wrong bodies that must be refused, but for what passed here before, and every test
 # make definitions  tries turned definitions, which the laws and examples must refuse; by hand
 # make random plays COMMANDS random commands, 1,000,000 if nothing is said, beside a plain model; the 60 seconds of a test allow some 5,000,000
 # make times  the gate again, with the processor seconds of each crate
