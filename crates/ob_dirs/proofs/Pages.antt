@@ -2,12 +2,13 @@
 -- told of it.
 use Rattle.std.proofs.Common.{◌≡◌, ◌∙◌, ℕ, zero, suc, ◌-◌, ◌==◌, get_or, slice_get, nat_le, nat_lt, Bool, true, false, cond, List, [], ◌∷◌, length, take, map, Some, refl, ap, sym, arith, leb-true, leb-false, le-ltb, lt-ltb}
 use Rattle.std.proofs.lemmas.Bool.{ne_eqb}
+use Rattle.std.proofs.lemmas.List.Elements.{All-head, All-tail}
 use Rattle.std.proofs.lemmas.Option.{get_or_from_slice_get}
 use Rattle.ob_base.specs.declared.status.Status.TheVariants.{Success, MoreEntries, NoMoreEntries, BufferTooSmall}
 use Rattle.ob_model.specs.Enumeration.{Shown, Page, room_of, fitting, last_stamp, page_of}
 use Rattle.ob_dirs.specs.declared.entry.DirEntry.{DirEntry}
 use Rattle.ob_dirs.specs.declared.page.DirPage.{DirPage}
-use Rattle.ob_dirs.specs.Page.{IsPage, entries_behind, shown_entry, page_told, page_entry, wanted_of, shown_of, page_status, last_stamp_of}
+use Rattle.ob_dirs.specs.Page.{IsPage, TellsLengths, entries_behind, shown_entry, page_told, wanted_of, shown_of, page_status, last_stamp_of}
 
 -- ---- what fits
 
@@ -67,6 +68,19 @@ wanted_are_front left wanted fit single is =
     go : (one : Bool) → take fit (wanted_of left one) ≡ take (length (take fit (wanted_of left one))) left
     go true = take_is_front fit 1 left
     go false = some_is_front fit left
+
+-- ---- what is told of objects, one after another
+
+-- the first that is told is the length of a name, and so are those that follow it
+pub told_next : {F : Type 0} (Tells : F → ℕ → ℕ → F → Type 0) (f g : F) (id n : ℕ) (type_name : ℕ → List ℕ)
+    → TellsLengths Tells f type_name → Tells f id n g → TellsLengths Tells g type_name
+told_next {F} Tells f g id n type_name tells step told last runs =
+    All-tail (λ x. x.1 ≡ length (type_name x.0)) (id, n) told (tells ((id, n) ∷ told) last (g, step, runs))
+
+pub told_first : {F : Type 0} (Tells : F → ℕ → ℕ → F → Type 0) (f g : F) (id n : ℕ) (type_name : ℕ → List ℕ)
+    → TellsLengths Tells f type_name → Tells f id n g → n ≡ length (type_name id)
+told_first {F} Tells f g id n type_name tells step =
+    All-head (λ x. x.1 ≡ length (type_name x.0)) (id, n) [] (tells ((id, n) ∷ []) g (g, step, refl))
 
 -- ---- one page
 
@@ -170,15 +184,14 @@ module _ (type_name : ℕ → List ℕ) (entries left shown : List DirEntry) (co
   shown_told = ap (λ (page : Page). page.entries) told_is ∙ sym shows
 
   pub is_page : (page : DirPage) → shown ≡ take (length shown) left → page.status ≡ page_status (length left) (length shown) single
-      → page.entries.items ≡ map page_entry shown → page.context ≡ last_stamp_of context shown
+      → page.entries.now ≡ shown → page.context ≡ last_stamp_of context shown
       → IsPage (page_told type_name entries context room single) (entries_behind entries context) page
   is_page page front status_is entries_are context_is = record {
     status = status_is ∙ counted ∙ sym (ap (λ (page : Page). page.status) told_is);
     entries =
-        entries_are
-        ∙ ap (map page_entry)
-        (front ∙ ap (λ n. take n left) (sym (ap length shown_told ∙ same_length (shown_entry type_name) shown))
-        ∙ ap (take (length (page_told type_name entries context room single).entries)) same);
+        entries_are ∙ front
+        ∙ ap (λ n. take n left) (sym (ap length shown_told ∙ same_length (shown_entry type_name) shown))
+        ∙ ap (take (length (page_told type_name entries context room single).entries)) same;
     context =
         context_is ∙ sym (last_is (shown_entry type_name) (λ e. refl) context shown)
         ∙ ap (last_stamp context) shows ∙ sym (ap (λ (page : Page). page.context) told_is);
@@ -188,11 +201,3 @@ module _ (type_name : ℕ → List ℕ) (entries left shown : List DirEntry) (co
       counted =
           (λ i. page_status (sym (same_length (shown_entry type_name) left) i) (sym (same_length (shown_entry type_name) shown) i) single)
           ∙ ap (λ (es : List Shown). page_status (length (map (shown_entry type_name) left)) (length es) single) shows
-
-  -- a page of which nothing is told shows none of the entries
-  pub none_is_shown : (page_told type_name entries context room single).entries ≡ [] → shown ≡ []
-  none_is_shown none = go shown (sym shown_told ∙ none)
-    where
-      go : (es : List DirEntry) → map (shown_entry type_name) es ≡ [] → es ≡ []
-      go [] none = refl
-      go (e ∷ es) none = cc

@@ -2,17 +2,18 @@
 --
 -- Sources: ZwQueryDirectoryObject (Windows Driver Kit) for the statuses and the context; that a context is a
 -- stamp, and the size of an entry, are this profile.
-use Rattle.std.specs.Prelude.{◌≡◌, ℕ, ◌-◌, Bool, ◌==◌, nat_le, nat_lt, if◌then◌else◌, List, [], ◌∷◌, length, take, map, filter, Option, Some, None}
+use Rattle.std.specs.Prelude.{◌≡◌, ℕ, ◌-◌, Bool, ◌==◌, nat_le, nat_lt, if◌then◌else◌, List, [], ◌∷◌, length, take, map, filter, Option, Some, None, All}
+use Rattle.std.specs.List.{FoldsTo}
 use Rattle.ob_base.specs.declared.status.Status.{Status}
 use Rattle.ob_base.specs.declared.status.Status.TheVariants.{Success, MoreEntries, NoMoreEntries, BufferTooSmall}
 use Rattle.ob_model.specs.Enumeration.{Shown, Page, fitting, page_of}
 use Rattle.ob_dirs.specs.declared.entry.DirEntry.{DirEntry}
 use Rattle.ob_dirs.specs.declared.page.DirPage.{DirPage}
-use Rattle.ob_dirs.specs.declared.page.PageEntry.{PageEntry}
 
--- what is told of objects are the lengths of these names of their types
-abbrev pub TellsLengths : (ℕ → ℕ → Type 0) → (ℕ → List ℕ) → Type 0
-TellsLengths Tells type_name = (id n : ℕ) → Tells id n → n ≡ length (type_name id)
+-- what is told of objects, one after another from here on, are the lengths of these names of their types
+abbrev pub TellsLengths : {F : Type 0} → (F → ℕ → ℕ → F → Type 0) → F → (ℕ → List ℕ) → Type 0
+TellsLengths {F} Tells teller type_name =
+    (told : List (ℕ × ℕ)) (last : F) → FoldsTo (λ f x g. Tells f x.0 x.1 g) teller told last → All (λ x. x.1 ≡ length (type_name x.0)) told
 
 -- the entries of a directory behind a context
 abbrev pub entries_behind : List DirEntry → ℕ → List DirEntry
@@ -26,15 +27,11 @@ shown_entry type_name e = record { stamp = e.stamp; name = e.name; type_name = t
 abbrev pub page_told : (ℕ → List ℕ) → List DirEntry → ℕ → ℕ → Bool → Page
 page_told type_name entries context room single = page_of (map (shown_entry type_name) (entries_behind entries context)) context room single
 
--- an entry as a page gives it
-abbrev pub page_entry : DirEntry → PageEntry
-page_entry e = record { name = e.name; object = e.object }
-
 -- a page gives what is told: its status, its context, and of the entries that are left as many as are shown,
 -- from the first one on
 pub record IsPage (told : Page) (left : List DirEntry) (page : DirPage) : Type 0 where
   pub status : page.status ≡ told.status
-  pub entries : page.entries.items ≡ map page_entry (take (length told.entries) left)
+  pub entries : page.entries.now ≡ take (length told.entries) left
   pub context : page.context ≡ told.context
 
 -- ---- on the way to a page

@@ -78,11 +78,6 @@ impl Dir {
         self.entries.as_slice()
     }
 
-    // What a page of the directory takes its memory from: what the directory itself does.
-    pub(crate) fn alloc(&self) -> Global {
-        *self.entries.allocator()
-    }
-
     /// What stands under a component, of any length and with any bytes: of the entries whose names
     /// are equal to it, with `fold` for equality without regard to case, the one of least stamp; its
     /// stamp and its object. `None` exactly where no name is equal.

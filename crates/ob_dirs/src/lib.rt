@@ -8,4 +8,4 @@ mod page;
 
 pub use dir::{Dir, dir_finds_what_the_state_finds, entries_follow_the_rows, not_found_is_free};
 pub use entry::DirEntry;
-pub use page::{DirPage, PageEntry};
+pub use page::DirPage;

@@ -1,6 +1,6 @@
 //! Pages of a directory.
 
-ghost use Rattle.std.specs.Prelude.{◌≡◌, ◌≤◌, ℕ, [], List, length, map, take, IsOk, IfOk, IfErr};
+ghost use Rattle.std.specs.Prelude.{◌≡◌, ◌≤◌, ℕ, List, length, map, take, IsOk, IfOk};
 ghost use Rattle.ob_model.specs.Enumeration.{fitting, room_of};
 ghost use Rattle.ob_dirs.specs.Dir.{IsDir};
 ghost use Rattle.ob_dirs.specs.Page.{
@@ -8,7 +8,6 @@ ghost use Rattle.ob_dirs.specs.Page.{
   TellsLengths,
   entries_behind,
   last_stamp_of,
-  page_entry,
   page_status,
   page_told,
   room_behind,
@@ -19,30 +18,17 @@ ghost use Rattle.ob_dirs.specs.Page.{
 
 use crate::{Dir, DirEntry};
 use ob_base::{Fault, ObjId, Status};
-use ob_model::Bytes;
-use std::alloc::{AllocError, Global};
-
-/// One entry as a page gives it.
-///
-/// Source: ZwQueryDirectoryObject (Windows Driver Kit); that the object is told by its id is this profile.
-#[derive(Debug, Drop)]
-pub struct PageEntry {
-    /// The name, in the spelling that it was inserted with.
-    pub name: Bytes,
-    /// The object that it names, with any id.
-    pub object: ObjId,
-}
 
 /// A page of a directory: its entries behind a context, as many as fit into a room.
 ///
 /// Source: ZwQueryDirectoryObject (Windows Driver Kit); that a context is a stamp is this profile.
-#[derive(Debug, Drop)]
-pub struct DirPage {
+#[derive(Clone, Copy, Debug)]
+pub struct DirPage<'a> {
     /// `NoMoreEntries` where no entry is left, `BufferTooSmall` where the first doesn't fit, `MoreEntries`
     /// where more are left than are shown and not one alone was asked for, else `Success`.
     pub status: Status,
-    /// The entries that are shown, by rising stamps.
-    pub entries: Vec<PageEntry>,
+    /// The entries that are shown, by rising stamps: those of the directory, each with its name and its object.
+    pub entries: &'a [DirEntry],
     /// The stamp of the last entry shown, behind which the next page begins; where none is shown, the
     /// context that was used.
     pub context: u64,
@@ -52,35 +38,32 @@ impl Dir {
     /// A page of the directory behind a context, which may be any number: of the entries of a greater stamp,
     /// by rising stamps, as many as fit into the room, or the first alone for a single one. An entry takes
     /// 4 bytes of the room, and the lengths of its name and of the name of its object's type, which `len_of`
-    /// tells. Where the page begins is sought by halves; then only what is shown is looked at, and the
+    /// tells of one entry after another, once for each. Where the page begins is sought by halves; then only what is shown is looked at, and the
     /// first entry that isn't.
     ///
-    /// The only fault is `Memory`, which a page that shows no entry doesn't take.
+    /// The only fault is `Memory`. A page lends its entries and takes no memory, so it is always `Ok`.
     ///
     /// Source: ZwQueryDirectoryObject (Windows Driver Kit); the size of an entry, and that a context is a
     /// stamp, are this profile.
-    pub fn after<F: Fn(ObjId) -> usize>(
+    pub fn after<F: FnMut(ObjId) -> usize>(
         &self,
         context: u64,
         room: u32,
         single: bool,
         len_of: F,
-    ) -> Result<DirPage, Fault>
+    ) -> Result<DirPage<'_>, Fault>
         requires { F.IsAlwaysCallable len_of }
-        ensures page { IfOk result (λ page. (type_name : ℕ → List ℕ) → TellsLengths (λ id n. F.post len_of id n) type_name
+        ensures page { IfOk result (λ page. (type_name : ℕ → List ℕ) → TellsLengths (λ f id n g. F.step f id n g) len_of type_name
             → IsPage (page_told type_name self.now context room single) (entries_behind self.now context) page) }
-        ensures empty { (type_name : ℕ → List ℕ) → TellsLengths (λ id n. F.post len_of id n) type_name
-            → (page_told type_name self.now context room single).entries ≡ [] → IsOk result }
-        ensures memory { IfErr result (λ fault. fault ≡ Fault.Memory) }
+        ensures no_memory { IsOk result }
     {
         let left = behind(self.as_slice(), context);
         let shown = shown_of(left, room as usize, single, len_of);
         let status = page_status(left.len(), shown.len(), single);
         let context = last_stamp(context, shown);
-        let entries = listed(self.alloc(), shown)?;
         Ok(DirPage {
             status,
-            entries,
+            entries: shown,
             context,
         })
     }
@@ -96,14 +79,14 @@ fn behind(entries: &[DirEntry], context: u64) -> &[DirEntry]
 }
 
 // Of these entries those that a page shows.
-fn shown_of<'a, F: Fn(ObjId) -> usize>(
+fn shown_of<'a, F: FnMut(ObjId) -> usize>(
     left: &'a [DirEntry],
     room: usize,
     single: bool,
     len_of: F,
 ) -> &'a [DirEntry]
     requires { F.IsAlwaysCallable len_of }
-    ensures shown { (type_name : ℕ → List ℕ) → TellsLengths (λ id n. F.post len_of id n) type_name
+    ensures shown { (type_name : ℕ → List ℕ) → TellsLengths (λ f id n g. F.step f id n g) len_of type_name
         → map (shown_entry type_name) result.now ≡ shown_of (map (shown_entry type_name) left.now) room single }
     ensures front { result.now ≡ take (length result.now) left.now }
 {
@@ -123,9 +106,9 @@ fn wanted(left: &[DirEntry], single: bool) -> &[DirEntry]
 }
 
 // How many of these entries fit into the room, from the first one on.
-fn count_fitting<F: Fn(ObjId) -> usize>(left: &[DirEntry], room: usize, len_of: F) -> usize
+fn count_fitting<F: FnMut(ObjId) -> usize>(left: &[DirEntry], room: usize, mut len_of: F) -> usize
     requires { F.IsAlwaysCallable len_of }
-    ensures count { (type_name : ℕ → List ℕ) → TellsLengths (λ id n. F.post len_of id n) type_name
+    ensures count { (type_name : ℕ → List ℕ) → TellsLengths (λ f id n g. F.step f id n g) len_of type_name
         → result ≡ length (fitting room (map (shown_entry type_name) left.now)) }
     ensures within { result ≤ length left.now }
 {
@@ -151,21 +134,6 @@ fn room_behind(entry: &DirEntry, type_length: usize, room: usize) -> Option<usiz
         .checked_sub(4)?
         .checked_sub(entry.name.as_slice().len())?;
     without_name.checked_sub(type_length)
-}
-
-// These entries, as a page gives them.
-fn listed(alloc: Global, shown: &[DirEntry]) -> Result<Vec<PageEntry>, AllocError>
-    ensures all { IfOk result (λ items. items.items ≡ map page_entry shown.now) }
-    ensures none { shown.now ≡ [] → IsOk result }
-{
-    let mut items = Vec::with_capacity(alloc, shown.len())?;
-    for entry in shown {
-        items.push(PageEntry {
-            name: Bytes::from_slice(alloc, entry.name.as_slice())?,
-            object: entry.object,
-        })?;
-    }
-    Ok(items)
 }
 
 // The status of a page, by how many entries are left and how many are shown.

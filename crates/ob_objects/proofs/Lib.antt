@@ -9,3 +9,4 @@ pub mod LastBefore
 pub mod Follow
 pub mod Free
 pub mod Pages
+mod Ahead

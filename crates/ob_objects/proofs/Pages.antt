@@ -10,7 +10,7 @@ use Rattle.ob_model.specs.State.{State}
 use Rattle.ob_dirs.specs.declared.entry.DirEntry.{DirEntry}
 use Rattle.ob_dirs.specs.declared.page.DirPage.{DirPage}
 use Rattle.ob_dirs.specs.Dir.{row_of}
-use Rattle.ob_dirs.specs.Page.{IsPage, entries_behind, page_entry, page_told, shown_entry}
+use Rattle.ob_dirs.specs.Page.{IsPage, entries_behind, page_told, shown_entry}
 use Rattle.ob_dirs.proofs.Rows.{filter_both, filter-map}
 use Rattle.ob_dirs.proofs.Pages.{map_take, told_is_front}
 use Rattle.ob_objects.specs.declared.object.StoredObject.{StoredObject}
@@ -68,14 +68,14 @@ module _ {K T F I : Type 0} (g : Procedures K T F I) (s : State K T F I) (store 
 
 -- what a store gives of a page
 module _ {K T F I : Type 0} (g : Procedures K T F I) (store : Entries F I) where
-  entries_listed : (es : List DirEntry) → map (entry_listed g store) (map page_entry es) ≡ map listed (map (shown_entry (type_name_at g store)) es)
+  entries_listed : (es : List DirEntry) → map (entry_listed g store) es ≡ map listed (map (shown_entry (type_name_at g store)) es)
   entries_listed [] = refl
   entries_listed (e ∷ es) = ap (λ xs. record { name = e.name; type_name = type_name_at g store e.object } ∷ xs) (entries_listed es)
 
   -- a directory's page, with the names of types, is the one that is told
   pub given_is : (entries : List DirEntry) (context room : ℕ) (single : Bool) (page : DirPage) (items : List Listed)
       → IsPage (page_told (type_name_at g store) entries context room single) (entries_behind entries context) page
-      → items ≡ map (entry_listed g store) page.entries.items
+      → items ≡ map (entry_listed g store) page.entries.now
       → record { status = page.status; entries = items; context = page.context } ≡ page_given (page_told (type_name_at g store) entries context room single)
   given_is entries context room single page items is items_are =
       let told = page_told (type_name_at g store) entries context room single in
@@ -89,6 +89,6 @@ module _ {K T F I : Type 0} (g : Procedures K T F I) (store : Entries F I) where
   -- a page of which nothing is told gives no entry
   pub none_is_given : (entries : List DirEntry) (context room : ℕ) (single : Bool) (page : DirPage)
       → IsPage (page_told (type_name_at g store) entries context room single) (entries_behind entries context) page
-      → (page_told (type_name_at g store) entries context room single).entries ≡ [] → page.entries.items ≡ []
+      → (page_told (type_name_at g store) entries context room single).entries ≡ [] → page.entries.now ≡ []
   none_is_given entries context room single page is none =
-      is.entries ∙ ap (λ (es : List Shown). map page_entry (take (length es) (entries_behind entries context))) none
+      is.entries ∙ ap (λ (es : List Shown). take (length es) (entries_behind entries context)) none

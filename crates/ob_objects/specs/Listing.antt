@@ -8,7 +8,7 @@ use Rattle.ob_model.specs.declared.entries.Listed.{Listed}
 use Rattle.ob_model.specs.Enumeration.{body_type_name, listed}
 use Rattle.ob_model.specs.Enumeration.{Page as Told}
 use Rattle.ob_model.specs.Procedures.{Procedures}
-use Rattle.ob_dirs.specs.declared.page.PageEntry.{PageEntry}
+use Rattle.ob_dirs.specs.declared.entry.DirEntry.{DirEntry}
 use Rattle.ob_objects.specs.declared.listing.Page.{Page}
 use Rattle.ob_objects.specs.Store.{Entries, stored_at, body_of_stored}
 
@@ -21,6 +21,6 @@ module _ {K T F I : Type 0} (g : Procedures K T F I) where
   abbrev pub type_name_at : Entries F I → ℕ → List ℕ
   type_name_at store id = option_map_or (λ x. body_type_name g (body_of_stored x.body)) (stored_at store id) []
 
-  -- an entry of a directory's page as a store tells it
-  abbrev pub entry_listed : Entries F I → PageEntry → Listed
+  -- an entry of a directory as a store tells it
+  abbrev pub entry_listed : Entries F I → DirEntry → Listed
   entry_listed store e = record { name = e.name; type_name = type_name_at store e.object }

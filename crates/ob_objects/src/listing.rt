@@ -7,10 +7,11 @@ ghost use Rattle.ob_model.specs.Enumeration.{enumerated, body_type_name};
 ghost use Rattle.ob_objects.specs.Store.{IsStore, Shows, body_of_stored, directory_at};
 ghost use Rattle.ob_objects.specs.Listing.{entry_listed, page_given, type_name_at};
 
+use crate::walk::Walk;
 use crate::{Store, StoredBody};
 use ob_base::{ObjId, Status};
-use ob_dirs::{Dir, PageEntry};
-use ob_model::{Entries, Listed, TypeName};
+use ob_dirs::{Dir, DirEntry};
+use ob_model::{Bytes, Entries, Listed, TypeName};
 use ob_types::TypeSet;
 use std::alloc::{AllocError, Global};
 
@@ -58,7 +59,11 @@ impl<T: TypeSet> Store<T> {
                 context,
             });
         };
-        let Ok(page) = dir.after(context, room, single, |id| self.type_name_at(id).len()) else {
+        let mut walk = self.walk();
+        let told = dir.after(context, room, single, |id| {
+            type_name_at::<T>(&mut walk, id).len()
+        });
+        let Ok(page) = told else {
             return Err(AllocError);
         };
         let entries = self.listed(alloc, page.entries)?;
@@ -80,30 +85,31 @@ impl<T: TypeSet> Store<T> {
         }
     }
 
-    // The name of the type of an object; the empty text where there is none.
-    fn type_name_at(&self, id: ObjId) -> &'static str
-        ensures { result.now ≡ type_name_at T.procedures self.now id }
+    // Entries of a directory, with the names of their objects' types.
+    fn listed(&self, alloc: Global, shown: &[DirEntry]) -> Result<Vec<Listed>, AllocError>
+        ensures all { IfOk result (λ items. items.items ≡ map (entry_listed T.procedures self.now) shown.now) }
+        ensures none { shown.now ≡ [] → IsOk result }
     {
-        match self.get(id) {
-            Some(stored) => type_name_of::<T>(&stored.body),
-            None => "",
-        }
-    }
-
-    // Entries of a directory's page, with the names of their objects' types.
-    fn listed(&self, alloc: Global, shown: Vec<PageEntry>) -> Result<Vec<Listed>, AllocError>
-        ensures all { IfOk result (λ items. items.items ≡ map (entry_listed T.procedures self.now) shown.items) }
-        ensures none { shown.items ≡ [] → IsOk result }
-    {
+        let mut walk = self.walk();
         let mut items = Vec::with_capacity(alloc, shown.len())?;
         for entry in shown {
-            let PageEntry { name, object } = entry;
             items.push(Listed {
-                name,
-                type_name: TypeName::new(self.type_name_at(object)),
+                name: Bytes::from_slice(alloc, entry.name.as_slice())?,
+                type_name: TypeName::new(type_name_at::<T>(&mut walk, entry.object)),
             })?;
         }
         Ok(items)
+    }
+}
+
+// The name of the type of an object that a walk comes to; the empty text where there is none.
+fn type_name_at<T: TypeSet>(walk: &mut Walk<'_, T::Face, T::Inner>, id: ObjId) -> &'static str
+    ensures told { result.now ≡ type_name_at T.procedures walk.old id }
+    ensures unchanged { walk.new ≡ walk.old }
+{
+    match walk.get(id) {
+        Some(stored) => type_name_of::<T>(&stored.body),
+        None => "",
     }
 }
 

@@ -19,6 +19,7 @@ ghost use Rattle.ob_objects.specs.Changes.{
   set_after_close,
 };
 
+use crate::walk::Walk;
 use crate::{Named, Place, StoredObject, changes, named, places};
 use ob_base::{Fault, ObjId};
 use ob_names::NameBuf;
@@ -174,6 +175,13 @@ impl<T: TypeSet> Store<T> {
             return None;
         };
         Some(ObjId(*last))
+    }
+
+    // A walk through the objects, by rising ids.
+    pub(crate) fn walk(&self) -> Walk<'_, T::Face, T::Inner>
+        ensures { result ≡ self.now }
+    {
+        Walk::through(&self.objects)
     }
 
     /// Stores an object under an id that no object has; it stands in order of ids, before the first of a

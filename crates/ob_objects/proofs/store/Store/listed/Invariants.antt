@@ -1,7 +1,8 @@
--- The entries passed are told.
-use Rattle.std.proofs.Common.{◌≡◌, map}
+-- The entries passed are told, and the walk stays one through the store.
+use Rattle.std.proofs.Common.{◌≡◌, map, take}
 use Rattle.ob_objects.specs.Listing.{entry_listed}
 use Rattle.ob_objects.proofs.store.Store.listed.Given as goal
 
 abbrev pub invariant-loop-entry : goal.invariant-loop-entry
-invariant-loop-entry g l = l.items.items ≡ map (entry_listed g.T.TypeSet.procedures l.fn.self) l.yielded
+invariant-loop-entry g l =
+    (l.walk ≡ l.fn.self) × (l.items.items ≡ map (entry_listed g.T.TypeSet.procedures l.fn.self) (take l.entry-index l.shown))
