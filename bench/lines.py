@@ -126,9 +126,17 @@ def parses(program):
         a_line(program, f"an open that is begun and dropped, {count:,} others waiting", devices(count), begun, 20_000)
 
 
-def listed(count):
-    """A directory with so many permanent events, each of whose entries takes 16 bytes of a page."""
-    return HELD + "".join(f'p1 make Event "\\Device\\Bench\\E{n:06}" P "" =e\np1 close e\n' for n in range(count))
+def listed(count, apart=False):
+    """A directory with so many permanent events, each of whose entries takes 16 bytes of a page; with `apart` an event elsewhere
+    was made before each one, a thousand to a directory, so that no two of those listed stand side by side in the store."""
+    lines = [HELD]
+    for n in range(count):
+        if apart and n % 1_000 == 0:
+            lines.append(f'p1 dir "\\Device\\S{n // 1_000}" P =s\n')
+        if apart:
+            lines.append(f'p1 make Event s:"E{n}" P "" =e\np1 close e\n')
+        lines.append(f'p1 make Event "\\Device\\Bench\\E{n:06}" P "" =e\np1 close e\n')
+    return "".join(lines)
 
 
 def parts_seconds(program, parts):
@@ -160,20 +168,24 @@ def scan(count, room):
 
 
 def scans(program):
-    """Scans of a directory: what an entry takes in a whole one, in pages of a thousand entries and in the largest, and what its
-    first and its last page take, each the least of some runs. Those pages have no room for an entry, so each begins where the
-    one before it did."""
-    pages, runs = 200_000, 3
+    """Scans of a directory, each the least of some: what an entry takes in a whole one, in pages of a thousand entries and in the
+    largest, where the listed objects were made one after another and where others were made between them; and what the first
+    and the last page take. Those pages have no room for an entry, so each begins where the one before it did."""
+    rooms, pages, times = (16_000, 1_048_576), 200_000, 8
+    for apart in (False, True):
+        made = "made between others" if apart else "made one after another"
+        for count in (1_000, 100_000):
+            rounds = 400_000 // count
+            whole = [scan(count, room) * rounds for room in rooms]
+            _, *took = parts_seconds(program, [listed(count, apart)] + whole * times)
+            for turn, room in enumerate(rooms):
+                rate = count * rounds / min(took[turn :: len(rooms)])
+                print(f"a whole scan in pages of {room:,} bytes, {count:,} entries {made}: {rate:,.0f} entries a second")
     first, last = "p1 list held 1 first\n" * pages, "p1 list held 1 next\n" * pages
     for count in (1_000, 100_000):
-        rounds = 2_000_000 // count
         full, rest = divmod(count - 1, 50_000)
         to_last = "".join(f"p1 list held {16 * size} next\n" for size in [50_000] * full + [rest])
-        usual, largest = scan(count, 16_000) * rounds, scan(count, 1_048_576) * rounds
-        parts = [listed(count), usual, largest, first, "p1 list held 1 first\n" + to_last, last]
-        _, scanned, at_most, at_first, _, at_last = map(min, zip(*(parts_seconds(program, parts) for _ in range(runs))))
-        print(f"a whole scan in pages of 16,000 bytes, {count:,} entries: {count * rounds / scanned:,.0f} entries a second")
-        print(f"a whole scan in pages of 1,048,576 bytes, {count:,} entries: {count * rounds / at_most:,.0f} entries a second")
+        _, at_first, _, at_last = parts_seconds(program, [listed(count), first, "p1 list held 1 first\n" + to_last, last])
         print(f"the first page, {count:,} entries: {at_first / pages * 1e6:.2f} us")
         print(f"the last page, {count:,} entries: {at_last / pages * 1e6:.2f} us")
 
