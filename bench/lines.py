@@ -171,7 +171,7 @@ def scans(program):
     """Scans of a directory, each the least of some: what an entry takes in a whole one, in pages of a thousand entries and in the
     largest, where the listed objects were made one after another and where others were made between them; and what the first
     and the last page take. Those pages have no room for an entry, so each begins where the one before it did."""
-    rooms, pages, times = (16_000, 1_048_576), 200_000, 8
+    rooms, pages, times = (16_000, 1_048_576), 200_000, 40
     for apart in (False, True):
         made = "made between others" if apart else "made one after another"
         for count in (1_000, 100_000):
