@@ -1,11 +1,12 @@
 //! Names: a checked slice, and one that owns its bytes.
 
-ghost use Rattle.std.specs.Prelude.{◌≡◌, ◌<◌, ◌↔◌, length, false};
+ghost use Rattle.std.specs.Prelude.{◌≡◌, ◌<◌, ◌≤◌, ◌↔◌, length, false};
 ghost use Rattle.std.specs.Prelude.{IsTrue, IsOk, IfOk, IfErr};
 ghost use Rattle.ob_model.specs.Names.{is_name, is_profile_text, longest_name};
 ghost use Rattle.ob_names.specs.Reading.{refusal_of};
 
 use ob_base::Status;
+use smallvec::SmallVec;
 use std::alloc::{AllocError, Global};
 use std::marker::Model;
 
@@ -86,11 +87,11 @@ fn is_profile_text(bytes: &[u8]) -> bool
     bytes.iter().all(|byte| matches!(byte, 0x20..=0x7E))
 }
 
-/// A name that owns its bytes: at most 32,767, each from 0x20 to 0x7E. A contract sees a `NameBuf`
-/// as the list of its bytes.
+/// A name that owns its bytes: at most 32,767, each from 0x20 to 0x7E. Up to 16 of them lie in the value
+/// itself, more in memory of their own. A contract sees a `NameBuf` as the list of its bytes.
 #[derive(Debug, Drop)]
 pub struct NameBuf {
-    bytes: Vec<u8>,
+    bytes: SmallVec<u8, 16>,
 }
 
 impl Model for NameBuf {
@@ -110,15 +111,18 @@ impl NameBuf {
         requires { IsTrue (is_name bytes.items) }
         ensures { result ≡ bytes.items }
     {
-        NameBuf { bytes }
+        NameBuf {
+            bytes: SmallVec::from_vec(bytes),
+        }
     }
 
-    /// A copy of a name. The only error is want of memory.
+    /// A copy of a name. The only error is want of memory, which a name of up to 16 bytes doesn't take.
     pub fn from_name(alloc: Global, name: Name<'_>) -> Result<NameBuf, AllocError>
-        ensures { IfOk result (λ owned. owned ≡ name.entry) }
+        ensures copied { IfOk result (λ owned. owned ≡ name.entry) }
+        ensures no_memory { length name.entry ≤ 16 → IsOk result }
     {
         Ok(NameBuf {
-            bytes: name.as_slice().to_vec(alloc)?,
+            bytes: SmallVec::from_slice(alloc, name.as_slice())?,
         })
     }
 
