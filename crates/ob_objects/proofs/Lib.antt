@@ -9,4 +9,5 @@ pub mod LastBefore
 pub mod Follow
 pub mod Free
 pub mod Pages
-mod Ahead
+pub mod KeptTypes
+mod Asked

@@ -1,6 +1,7 @@
 pub mod Rows
 pub mod Named
 pub mod Store
+pub mod Types
 pub mod Changes
 pub mod Laws
 pub mod Listing

@@ -96,10 +96,6 @@ module _ {F I : Type 0} where
     pub is_store : IsStore store
     pub places : (id : ℕ) → lookup (is_at (nat_cmp id)) kept ≡ place_at store id
 
-  -- what is ahead in a walk through a store stands in it
-  abbrev pub IsAhead : Entries F I → Entries F I → Type 0
-  IsAhead store ahead = All (λ e. stored_at store e.0 ≡ Some e.1) ahead
-
   -- the objects and the rows of the state are those of the store
   pub record Shows {K T : Type 0} (s : State K T F I) (store : Entries F I) : Type 0 where
     pub objects : s.objects ≡ objects_of store

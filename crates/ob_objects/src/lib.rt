@@ -9,6 +9,7 @@ mod named;
 mod object;
 mod places;
 mod store;
+mod types;
 mod walk;
 
 pub use listing::Page;

@@ -3,12 +3,13 @@
 ghost use Rattle.std.specs.Prelude.{◌≡◌, [], map, IsOk, IfOk};
 ghost use Rattle.std.specs.Option.{option_copied};
 ghost use Rattle.ob_model.specs.State.{State};
-ghost use Rattle.ob_model.specs.Enumeration.{enumerated, body_type_name};
-ghost use Rattle.ob_objects.specs.Store.{IsStore, Shows, body_of_stored, directory_at};
-ghost use Rattle.ob_objects.specs.Listing.{entry_listed, page_given, type_name_at};
+ghost use Rattle.ob_model.specs.Enumeration.{enumerated};
+ghost use Rattle.ob_objects.specs.Store.{IsStore, Shows, directory_at};
+ghost use Rattle.ob_objects.specs.Listing.{entry_listed, page_given};
+ghost use Rattle.ob_objects.specs.Types.{type_name_among};
 
 use crate::walk::Walk;
-use crate::{Store, StoredBody};
+use crate::{Store, StoredBody, types};
 use ob_base::{ObjId, Status};
 use ob_dirs::{Dir, DirEntry};
 use ob_model::{Bytes, Entries, Listed, TypeName};
@@ -103,23 +104,12 @@ impl<T: TypeSet> Store<T> {
 }
 
 // The name of the type of an object that a walk comes to; the empty text where there is none.
-fn type_name_at<T: TypeSet>(walk: &mut Walk<'_, T::Face, T::Inner>, id: ObjId) -> &'static str
-    ensures told { result.now ≡ type_name_at T.procedures walk.old id }
+fn type_name_at<T: TypeSet>(walk: &mut Walk<'_, T::Kind>, id: ObjId) -> &'static str
+    ensures told { result.now ≡ type_name_among T.procedures walk.old id }
     ensures unchanged { walk.new ≡ walk.old }
 {
     match walk.get(id) {
-        Some(stored) => type_name_of::<T>(&stored.body),
+        Some(of) => types::name_of::<T>(of),
         None => "",
-    }
-}
-
-// The name of the type of what a body is.
-fn type_name_of<T: TypeSet>(body: &StoredBody<T::Face, T::Inner>) -> &'static str
-    ensures { result.now ≡ body_type_name T.procedures (body_of_stored body.now) }
-{
-    match body {
-        StoredBody::Directory(_) => "Directory",
-        StoredBody::Link(_) => "SymbolicLink",
-        StoredBody::Other { face, .. } => T::type_name(T::kind_of(face)),
     }
 }

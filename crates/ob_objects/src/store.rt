@@ -9,6 +9,7 @@ ghost use Rattle.ob_model.specs.State.{is_directory_body};
 ghost use Rattle.ob_types.specs.Told.{reason_of};
 ghost use Rattle.ob_objects.specs.Store.{IsStore, stored_at, directory_at, entries_in, entries_at, place_at};
 ghost use Rattle.ob_objects.specs.Store.{objects_of, rows_of};
+ghost use Rattle.ob_objects.specs.Types.{KeepsTypes};
 ghost use Rattle.ob_objects.specs.Named.{row_of_named, IsLastBefore};
 ghost use Rattle.ob_objects.specs.Changes.{with_entry, without_object, with_name, without_name, with_permanence};
 ghost use Rattle.ob_objects.specs.Changes.{
@@ -19,8 +20,9 @@ ghost use Rattle.ob_objects.specs.Changes.{
   set_after_close,
 };
 
+use crate::types::StoredType;
 use crate::walk::Walk;
-use crate::{Named, Place, StoredObject, changes, named, places};
+use crate::{Named, Place, StoredObject, changes, named, places, types};
 use ob_base::{Fault, ObjId};
 use ob_names::NameBuf;
 use ob_types::{Reason, TypeSet};
@@ -35,23 +37,26 @@ use std::marker::Model;
 /// the code that fills it.
 ///
 /// With each name a store keeps its place, under the object that it names, so that the name of an
-/// object is not searched for. No object has two names.
+/// object is not searched for. No object has two names. The types of objects it keeps in a map of their own,
+/// in which they lie close together, so that a listing of a directory doesn't touch the objects.
 ///
 /// Source: Windows Internals, Object Manager: object headers and bodies; the ids are this profile.
 #[derive(Drop)]
 pub struct Store<T: TypeSet> {
     objects: BTreeMap<u64, StoredObject<T::Face, T::Inner>>,
+    types: BTreeMap<u64, StoredType<T::Kind>>,
     places: BTreeMap<u64, Place>,
 }
 
 impl<T: TypeSet> Model for Store<T> {
-    ghost use Rattle.ob_objects.specs.Store.{Entries, KeepsPlaces};
+    ghost use Rattle.ob_objects.specs.Store.{Entries};
+    ghost use Rattle.ob_objects.specs.Types.{Keeps};
 
     ghost Value = { Entries T.Face T.Inner };
 
     ghost view = { λ store. store.objects.entries };
 
-    ghost invariant = { λ store. KeepsPlaces store.objects.entries store.places.entries };
+    ghost invariant = { λ store. Keeps T.procedures store.objects.entries store.types.entries store.places.entries };
 }
 
 impl<T: TypeSet> Store<T> {
@@ -61,6 +66,7 @@ impl<T: TypeSet> Store<T> {
     {
         Store {
             objects: BTreeMap::new(alloc),
+            types: BTreeMap::new(alloc),
             places: BTreeMap::new(alloc),
         }
     }
@@ -177,11 +183,11 @@ impl<T: TypeSet> Store<T> {
         Some(ObjId(*last))
     }
 
-    // A walk through the objects, by rising ids.
-    pub(crate) fn walk(&self) -> Walk<'_, T::Face, T::Inner>
-        ensures { result ≡ self.now }
+    // A walk through the types of the objects, by rising ids.
+    pub(crate) fn walk(&self) -> Walk<'_, T::Kind>
+        ensures { KeepsTypes T.procedures self.now result }
     {
-        Walk::through(&self.objects)
+        Walk::through(&self.types)
     }
 
     /// Stores an object under an id that no object has; it stands in order of ids, before the first of a
@@ -222,9 +228,14 @@ impl<T: TypeSet> Store<T> {
         ensures returned { IfErr result (λ back. back ≡ object) }
         ensures unchanged { OnErr result (self.new ≡ self.old) }
     {
+        let of = types::type_of::<T>(&object.body);
+        let Ok(_) = self.types.insert(id.0, of) else {
+            return Err(object);
+        };
         let Err(want) = self.objects.insert(id.0, object) else {
             return Ok(());
         };
+        self.types.remove(&id.0);
         let (_, back) = want.value;
         Err(back)
     }
@@ -236,6 +247,7 @@ impl<T: TypeSet> Store<T> {
         ensures others { self.new ≡ without_object self.old id }
     {
         let stored = self.objects.remove(&id.0)?;
+        self.types.remove(&id.0);
         places::forget(&mut self.places, &stored);
         Some(stored)
     }

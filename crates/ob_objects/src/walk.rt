@@ -1,73 +1,91 @@
 //! Walks through the objects of a store.
 
 ghost use Rattle.std.specs.Prelude.{◌≡◌, Some, IfSome};
-ghost use Rattle.std.specs.Option.{option_copied};
-ghost use Rattle.ob_objects.specs.Store.{stored_at};
+ghost use Rattle.std.specs.BTreeMap.{is_at};
+ghost use Rattle.std.specs.Map.{lookup};
+ghost use Rattle.std.specs.Ordering.{nat_cmp};
 
-use crate::StoredObject;
+use crate::types::StoredType;
 use ob_base::ObjId;
 use std::collections::BTreeMap;
 use std::collections::btree_map::Range;
 use std::marker::Model;
 
-/// A walk through the objects of a store. What stands right behind the object that was asked for last is at
+// How many objects a walk passes by before it seeks one.
+const NEAR: usize = 4;
+
+/// A walk through the types of objects. What stands shortly behind the object that was asked for last is at
 /// hand; any other is sought. Objects that were made one after another have ids one after another, so who
 /// asks for the objects of a directory in the order of its entries mostly walks.
 ///
-/// A contract sees a walk as the entries of the store.
+/// A contract sees a walk as the types, by the ids of their objects.
 #[derive(Drop)]
-pub(crate) struct Walk<'a, F, I> {
-    objects: &'a BTreeMap<u64, StoredObject<F, I>>,
-    ahead: Range<'a, u64, StoredObject<F, I>>,
+pub(crate) struct Walk<'a, K> {
+    types: &'a BTreeMap<u64, StoredType<K>>,
+    ahead: Range<'a, u64, StoredType<K>>,
 }
 
-impl<'a, F, I> Model for Walk<'a, F, I> {
-    ghost use Rattle.ob_objects.specs.Store.{Entries, IsAhead};
+impl<'a, K> Model for Walk<'a, K> {
+    ghost use Rattle.ob_objects.specs.Types.{Types, IsAhead};
 
-    ghost Value = { Entries F I };
+    ghost Value = { Types K };
 
-    ghost view = { λ walk. walk.objects.now.entries };
+    ghost view = { λ walk. walk.types.now.entries };
 
-    ghost invariant = { λ walk. IsAhead walk.objects.now.entries walk.ahead };
+    ghost invariant = { λ walk. IsAhead walk.types.now.entries walk.ahead };
 }
 
-impl<'a, F, I> Walk<'a, F, I> {
-    /// A walk through these objects, from the first one on. Takes no memory.
-    pub(crate) fn through(objects: &'a BTreeMap<u64, StoredObject<F, I>>) -> Self
-        ensures { result ≡ objects.now.entries }
+impl<'a, K: Copy> Walk<'a, K> {
+    /// A walk through these types, from that of the first object on. Takes no memory.
+    pub(crate) fn through(types: &'a BTreeMap<u64, StoredType<K>>) -> Self
+        ensures { result ≡ types.now.entries }
     {
         Walk {
-            objects,
-            ahead: objects.range(..),
+            types,
+            ahead: types.range(..),
         }
     }
 
-    /// What is stored under an id, and `None` exactly where nothing is. Takes no memory.
-    pub(crate) fn get(&mut self, id: ObjId) -> Option<&'a StoredObject<F, I>>
-        ensures stored { option_copied result ≡ stored_at self.old id }
+    /// The type of the object of an id, and `None` exactly where there is none. Takes no memory.
+    pub(crate) fn get(&mut self, id: ObjId) -> Option<StoredType<K>>
+        ensures stored { result ≡ lookup (is_at (nat_cmp id)) self.old }
         ensures unchanged { self.new ≡ self.old }
     {
-        let next = self.next_with(id);
-        if next.is_some() {
-            return next;
+        let near = self.near(id);
+        if near.is_some() {
+            return near;
         }
-        self.ahead = self.objects.range(id.0..);
+        self.ahead = self.types.range(id.0..);
         let sought = self.next_with(id);
         if sought.is_some() {
             return sought;
         }
-        self.objects.get(&id.0)
+        self.types.get(&id.0).copied()
+    }
+
+    // What stands shortly ahead, where that has this id.
+    fn near(&mut self, id: ObjId) -> Option<StoredType<K>>
+        ensures stored { IfSome result (λ next. lookup (is_at (nat_cmp id)) self.old ≡ Some next) }
+        ensures unchanged { self.new ≡ self.old }
+    {
+        for _ in 0..NEAR {
+            let next = self.next_with(id);
+            if next.is_some() {
+                return next;
+            }
+        }
+        None
     }
 
     // What stands next, where that has this id.
-    fn next_with(&mut self, id: ObjId) -> Option<&'a StoredObject<F, I>>
-        ensures stored { IfSome result (λ next. stored_at self.old id ≡ Some next.now) }
+    fn next_with(&mut self, id: ObjId) -> Option<StoredType<K>>
+        ensures stored { IfSome result (λ next. lookup (is_at (nat_cmp id)) self.old ≡ Some next) }
         ensures unchanged { self.new ≡ self.old }
     {
-        let (next, stored) = self.ahead.next()?;
+        let (next, of) = self.ahead.next()?;
         if *next != id.0 {
             return None;
         }
-        Some(stored)
+        Some(*of)
     }
 }

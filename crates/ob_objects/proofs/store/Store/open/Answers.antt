@@ -3,6 +3,7 @@ use Rattle.std.proofs.Common.{◌≡◌, ◌∙◌, ap, sym, subst, Some, None, 
 use Rattle.std.specs.Option.{option_copied_mut}
 use Rattle.ob_types.specs.Told.{reason_of}
 use Rattle.ob_objects.specs.Changes.{stored_opened}
+use Rattle.ob_objects.proofs.KeptTypes.{types_stay, opened_type}
 use Rattle.ob_objects.proofs.Written.{on_error, left_changed, written_changed, written_same, changed_keeps, refusal_found, set_opened}
 use Rattle.ob_objects.proofs.Shown.{opened_entries}
 use Rattle.ob_objects.proofs.store.Store.open.Goals as goal
@@ -25,10 +26,14 @@ returns-in_default-clause-set g c =
 pub invariant_of-self-2 : goal.invariant_of-self-2
 invariant_of-self-2 g c =
     let found = sym c.get_mut.ensures.value ∙ ap option_copied_mut c.in-Some.is in
-    changed_keeps _ c.self.inside.objects.entries c.self.inside.places.entries c.id.inside.0
-    (λ x. record x { body = stored_opened g.T.TypeSet.procedures c.args.set.now (reason_of c.args.reason) x.body }) c.in-Some.stored.now c.open.new.stored
-    c.self.invariant found ((c.get_mut.follows.holds c.open.new.stored).0) c.open.ensures.opened
-    (λ x. opened_entries g.T.TypeSet.procedures c.args.set.now (reason_of c.args.reason) x.body)
+    record {
+      places = changed_keeps _ c.self.inside.objects.entries c.self.inside.places.entries c.id.inside.0
+          (λ x. record x { body = stored_opened g.T.TypeSet.procedures c.args.set.now (reason_of c.args.reason) x.body }) c.in-Some.stored.now c.open.new.stored
+          c.self.invariant.places found ((c.get_mut.follows.holds c.open.new.stored).0) c.open.ensures.opened
+          (λ x. opened_entries g.T.TypeSet.procedures c.args.set.now (reason_of c.args.reason) x.body);
+      types = types_stay g.T.TypeSet.procedures _ c.self.inside.objects.entries c.self.inside.types.entries c.id.inside.0 (λ x. record x { body = stored_opened g.T.TypeSet.procedures c.args.set.now (reason_of c.args.reason) x.body }) c.in-Some.stored.now c.open.new.stored
+          c.self.invariant.types found ((c.get_mut.follows.holds c.open.new.stored).0) c.open.ensures.opened (λ x. opened_type g.T.TypeSet.procedures c.args.set.now (reason_of c.args.reason) x.body);
+    }
 
 pub returns-clause-accepted : goal.returns-clause-accepted
 returns-clause-accepted g c =
@@ -47,7 +52,7 @@ returns-clause-opened g c =
     let found = sym c.get_mut.ensures.value ∙ ap option_copied_mut c.in-Some.is in
     written_changed _ c.self.inside.objects.entries c.args.self.now c.id.inside.0 c.args.id
     (λ x. record x { body = stored_opened g.T.TypeSet.procedures c.args.set.now (reason_of c.args.reason) x.body }) c.in-Some.stored.now c.open.new.stored
-    c.self.invariant.is_store found ((c.get_mut.follows.holds c.open.new.stored).0) c.open.ensures.opened c.self.view_is c.id.view_is
+    c.self.invariant.places.is_store found ((c.get_mut.follows.holds c.open.new.stored).0) c.open.ensures.opened c.self.view_is c.id.view_is
 
 pub returns-clause-set : goal.returns-clause-set
 returns-clause-set g c =

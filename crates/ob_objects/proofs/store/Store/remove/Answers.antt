@@ -1,6 +1,7 @@
--- The id that goes is in one entry at most, and the places of what lay in it go too.
+-- The id that goes is in one entry at most; its object's type and the places of what lay in it go too.
 use Rattle.std.proofs.Common.{◌∙◌, sym, Some, refl}
 use Rattle.ob_objects.specs.Store.{entries_in}
+use Rattle.ob_objects.proofs.KeptTypes.{types_go}
 use Rattle.ob_objects.proofs.Written.{found_stored, entries_found, removed_without, removed_keeps}
 use Rattle.ob_objects.proofs.store.Store.remove.Goals as goal
 
@@ -11,14 +12,18 @@ returns-in_err-stored-clause-there g c =
 
 pub returns-in_err-stored-clause-others : goal.returns-in_err-stored-clause-others
 returns-in_err-stored-clause-others g c =
-    removed_without c.remove.new.self.entries c.self.inside.objects.entries c.args.self.now c.id.inside.0 c.args.id c.self.invariant.is_store c.remove.ensures.entries c.self.view_is c.id.view_is
+    removed_without c.remove.new.self.entries c.self.inside.objects.entries c.args.self.now c.id.inside.0 c.args.id c.self.invariant.places.is_store c.remove.ensures.entries c.self.view_is c.id.view_is
 
 pub invariant_of-self-2 : goal.invariant_of-self-2
 invariant_of-self-2 g c =
-    removed_keeps c.remove.new.self.entries c.self.inside.objects.entries c.self.inside.places.entries c.forget.new.places.entries c.id.inside.0 (entries_in c.in_ok-stored.stored.body)
-    c.self.invariant c.remove.ensures.entries c.remove.ensures.ordered
-    (entries_found c.self.inside.objects.entries c.self.inside.objects.entries c.id.inside.0 c.id.inside.0 (Some c.in_ok-stored.stored) (sym c.remove.ensures.value ∙ c.in_ok-stored.was) refl refl)
-    c.forget.ensures
+    record {
+      places = removed_keeps c.remove.new.self.entries c.self.inside.objects.entries c.self.inside.places.entries c.forget.new.places.entries c.id.inside.0 (entries_in c.in_ok-stored.stored.body)
+          c.self.invariant.places c.remove.ensures.entries c.remove.ensures.ordered
+          (entries_found c.self.inside.objects.entries c.self.inside.objects.entries c.id.inside.0 c.id.inside.0 (Some c.in_ok-stored.stored) (sym c.remove.ensures.value ∙ c.in_ok-stored.was) refl refl)
+          c.forget.ensures;
+      types = types_go g.T.TypeSet.procedures c.self.inside.objects.entries c.remove.new.self.entries c.self.inside.types.entries c.remove-2.new.self.entries c.id.inside.0 c.self.invariant.types
+          (λ id. c.remove-2.ensures.updates.0 id) (λ id. c.remove.ensures.updates.0 id);
+    }
 
 pub returns-clause-there : goal.returns-clause-there
 returns-clause-there g c =
@@ -27,4 +32,4 @@ returns-clause-there g c =
 
 pub returns-clause-others : goal.returns-clause-others
 returns-clause-others g c =
-    removed_without c.remove.new.self.entries c.self.inside.objects.entries c.args.self.now c.id.inside.0 c.args.id c.self.invariant.is_store c.remove.ensures.entries c.self.view_is c.id.view_is
+    removed_without c.remove.new.self.entries c.self.inside.objects.entries c.args.self.now c.id.inside.0 c.args.id c.self.invariant.places.is_store c.remove.ensures.entries c.self.view_is c.id.view_is
