@@ -126,16 +126,17 @@ def parses(program):
         a_line(program, f"an open that is begun and dropped, {count:,} others waiting", devices(count), begun, 20_000)
 
 
-def listed(count, apart=False):
-    """A directory with so many permanent events, each of whose entries takes 16 bytes of a page; with `apart` an event elsewhere
-    was made before each one, a thousand to a directory, so that no two of those listed stand side by side in the store."""
-    lines = [HELD]
+def listed(word, count, apart=False):
+    """A directory that a word names, with so many permanent events, each of whose entries takes 16 bytes of a page; with `apart` an
+    event elsewhere was made before each one, a thousand to a directory, so that no two of those listed stand side by side in the
+    store."""
+    lines = [f'p1 dir "\\Device\\{word}" - ={word}\n']
     for n in range(count):
         if apart and n % 1_000 == 0:
-            lines.append(f'p1 dir "\\Device\\S{n // 1_000}" P =s\n')
+            lines.append(f'p1 dir "\\Device\\{word}{n // 1_000}" P =s\n')
         if apart:
             lines.append(f'p1 make Event s:"E{n}" P "" =e\np1 close e\n')
-        lines.append(f'p1 make Event "\\Device\\Bench\\E{n:06}" P "" =e\np1 close e\n')
+        lines.append(f'p1 make Event {word}:"E{n:06}" P "" =e\np1 close e\n')
     return "".join(lines)
 
 
@@ -161,33 +162,41 @@ def parts_seconds(program, parts):
     return [after - before for before, after in zip(times, times[1:])]
 
 
-def scan(count, room):
+def scan(word, count, room):
     """The lines of a whole scan of so many entries in pages of this room, an entry taking 16 bytes of it, to the page that has
     none."""
-    return f"p1 list held {room} first\n" + f"p1 list held {room} next\n" * -(-count // (room // 16))
+    return f"p1 list {word} {room} first\n" + f"p1 list {word} {room} next\n" * -(-count // (room // 16))
 
 
 def scans(program):
-    """Scans of a directory, each the least of some: what an entry takes in a whole one, in pages of a thousand entries and in the
-    largest, where the listed objects were made one after another and where others were made between them; and what the first
-    and the last page take. Those pages have no room for an entry, so each begins where the one before it did."""
-    rooms, pages, times = (16_000, 1_048_576), 200_000, 40
+    """What an entry takes in a whole scan of a small directory and of a large one, in pages of a thousand entries and in the largest,
+    where the listed objects were made one after another and where others were made between them. Both are scanned in turn in one
+    run, so that what else the machine does meets both alike, and each time is the least of some."""
+    counts, rooms, times, entries_timed = {"small": 1_000, "large": 100_000}, (16_000, 1_048_576), 40, 400_000
     for apart in (False, True):
         made = "made between others" if apart else "made one after another"
-        for count in (1_000, 100_000):
-            rounds = 400_000 // count
-            whole = [scan(count, room) * rounds for room in rooms]
-            _, *took = parts_seconds(program, [listed(count, apart)] + whole * times)
-            for turn, room in enumerate(rooms):
-                rate = count * rounds / min(took[turn :: len(rooms)])
-                print(f"a whole scan in pages of {room:,} bytes, {count:,} entries {made}: {rate:,.0f} entries a second")
-    first, last = "p1 list held 1 first\n" * pages, "p1 list held 1 next\n" * pages
+        there = "".join(listed(word, count, apart) for word, count in counts.items())
+        kinds = [(word, count, room) for room in rooms for word, count in counts.items()]
+        whole = [scan(*kind) * (entries_timed // kind[1]) for kind in kinds]
+        _, *took = parts_seconds(program, [there] + whole * times)
+        rates = [entries_timed / min(took[turn :: len(kinds)]) for turn in range(len(kinds))]
+        for (_, count, room), rate in zip(kinds, rates):
+            print(f"a whole scan in pages of {room:,} bytes, {count:,} entries {made}: {rate:,.0f} entries a second")
+        for turn, room in enumerate(rooms):
+            print(f"the small directory's rate is that of the large one {rates[2 * turn] / rates[2 * turn + 1]:.2f} times, in pages of {room:,} bytes")
+
+
+def ends(program):
+    """What the first page of a directory takes, and the last, each the least of some. The pages have no room for an entry, so each
+    begins where the one before it did."""
+    pages, times = 40_000, 5
+    at_first, at_last = "p1 list held 1 first\n" * pages, "p1 list held 1 next\n" * pages
     for count in (1_000, 100_000):
         full, rest = divmod(count - 1, 50_000)
-        to_last = "".join(f"p1 list held {16 * size} next\n" for size in [50_000] * full + [rest])
-        _, at_first, _, at_last = parts_seconds(program, [listed(count), first, "p1 list held 1 first\n" + to_last, last])
-        print(f"the first page, {count:,} entries: {at_first / pages * 1e6:.2f} us")
-        print(f"the last page, {count:,} entries: {at_last / pages * 1e6:.2f} us")
+        to_last = "p1 list held 1 first\n" + "".join(f"p1 list held {16 * size} next\n" for size in [50_000] * full + [rest])
+        _, *took = parts_seconds(program, [listed("held", count)] + [at_first, to_last, at_last] * times)
+        print(f"the first page, {count:,} entries: {min(took[::3]) / pages * 1e6:.2f} us")
+        print(f"the last page, {count:,} entries: {min(took[2::3]) / pages * 1e6:.2f} us")
 
 
 def views(program):
@@ -237,6 +246,7 @@ def main():
         a_line(program, told, deep(count), "p1 name deep\n", 20_000, b'SUCCESS "\\Device\\Bench\\In\\D"')
     parses(program)
     scans(program)
+    ends(program)
     for count in (1_000, 20_000):
         script = temporaries(count) + "".join(f"p1 close e{n}\n" for n in range(count))
         took, _ = seconds(program, script)

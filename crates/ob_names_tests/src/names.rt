@@ -45,14 +45,17 @@ fn refuses_names(rt: HostRuntime) -> Result<(), Fail> {
 
 #[test]
 fn keeps_names(rt: HostRuntime) -> Result<(), Fail> {
-    let text = b"\\Device\\Mailslot".as_slice();
-    let owned = NameBuf::from_name(rt.alloc(), Name::read(text)?)?;
-    assert_eq!(rt; owned.as_slice(), text);
-    assert_eq!(rt; owned.as_name().as_slice(), text);
+    // Of 16 bytes, which lie in the value, and of 17.
+    let texts: [&[u8]; 2] = [b"\\Device\\Mailslot", b"\\Device\\NamedPipe"];
+    for text in texts {
+        let owned = NameBuf::from_name(rt.alloc(), Name::read(text)?)?;
+        assert_eq!(rt; owned.as_slice(), text);
+        assert_eq!(rt; owned.as_name().as_slice(), text);
 
-    let bytes = text.to_vec(rt.alloc())?;
-    assert!(rt; Name::read(bytes.as_slice()).is_ok());
-    assert_eq!(rt; NameBuf::new(bytes).as_slice(), text);
+        let bytes = text.to_vec(rt.alloc())?;
+        assert!(rt; Name::read(bytes.as_slice()).is_ok());
+        assert_eq!(rt; NameBuf::new(bytes).as_slice(), text);
+    }
     Ok(())
 }
 
