@@ -26,8 +26,9 @@ count() {
     if [ "$(cat "$logs/$1.status")" -ne 0 ] && [ "${counts#* }" -eq 0 ]; then failed=$((failed + 1)); fi
 }
 
-# `rt ci` goes up one long chain of crates and leaves processors idle: the wrong bodies take what it leaves
-part wrong_bodies nice -n 19 gate/wrong_bodies.py --fresh --jobs "$(nproc)" > /dev/null &
+# `rt ci` goes up one long chain of crates and leaves processors idle: the wrong bodies take what it leaves, but for
+# the proofs that they go over, which are a chain as long
+part wrong_bodies gate/wrong_bodies.py --fresh --jobs "$(nproc)" > /dev/null &
 beside=$!
 part ci rt ci
 wait "$beside"

@@ -5,7 +5,8 @@ Each edit there turns the body of one function. It must be refused by the contra
 function. One check of a crate tells the functions apart, so edits of different functions are tried
 together: a batch holds one edit of each function, in a copy of the repository, and `rt check` prints a
 verdict for every function. The crates are proved in a copy of their own first, lowest first, and each batch
-goes over that work; the batches of a crate begin as soon as it is proved, while others still are.
+goes over that work; the batches of a crate begin as soon as it is proved, while others still are. A batch runs at the lowest
+priority; a proof doesn't, since all that stands on its crate waits for it.
 
 What counts as a refusal is a goal of the function itself, or of a closure in it, that isn't proved. An edit with a
 line 'refusal: CODE' is to be refused by the compiler, before any proof: by errors of that code, in the file that it
@@ -43,6 +44,9 @@ ROOT = Path(__file__).resolve().parent.parent
 
 # `rt` itself takes minutes to begin a check of the highest crates
 QUICK_RT = str(ROOT / "gate" / "quick_rt.py")
+
+# in front of a command that is to take only what others leave
+LAST = ("nice", "-n", "19")
 
 # how the prover says that a proof file names what isn't there
 GONE = re.compile(r"has no field|has no `|is not in scope|can be named from here|was not admitted")
@@ -369,7 +373,8 @@ def check(crate, edits, base, folder):
     for file in {edit.file for edit in edits}:
         text = (home / file).read_text()
         rewrite(home / file, with_edits(text, [edit for edit in edits if edit.file == file]))
-    run = subprocess.run([QUICK_RT, "check", "--jobs", "1"], cwd=home, capture_output=True, text=True, check=False)
+    words = [*LAST, QUICK_RT, "check", "--jobs", "1"]
+    run = subprocess.run(words, cwd=home, capture_output=True, text=True, check=False)
     shutil.rmtree(folder)
     output = run.stdout + run.stderr
     return verdicts(output), output
@@ -455,15 +460,16 @@ class Trial:
         """How many crates stand on a crate: the one with the most is proved first."""
         return sum(crate in with_dependencies(other) for other in self.needed)
 
-    def next(self):
-        """What can be begun, as a function to call and what takes its result; none where all waits or is done."""
+    def next(self, free):
+        """What can be begun where so many places are free, as a function to call and what takes its result; none where
+        all waits or is done. While crates are left to prove, batches leave a place to them."""
         place = self.folder / f"check-{self.begun}"
         self.begun += 1
         for crate in self.to_prove:
             if with_dependencies(crate) - {crate} <= self.proved:
                 self.to_prove.remove(crate)
                 return (lambda: prove(crate, self.base, place)), (lambda said: self.after_proof(crate, said))
-        if not self.to_try:
+        if not self.to_try or (self.to_prove and free == 1):
             return None
         batch = max(self.to_try, key=len)
         self.to_try.remove(batch)
@@ -518,7 +524,7 @@ def run_all(trial, jobs):
     running = {}
     with ThreadPoolExecutor(jobs) as pool:
         while True:
-            while len(running) < jobs and (task := trial.next()) is not None:
+            while len(running) < jobs and (task := trial.next(jobs - len(running))) is not None:
                 work, after = task
                 running[pool.submit(work)] = after
             if not running:
