@@ -23,7 +23,7 @@ pub struct Left {
 
 impl Left {
     // A run that left this.
-    pub fn new(status: u8, output: Vec<u8>, errors: Vec<u8>) -> Left {
+    pub(crate) fn new(status: u8, output: Vec<u8>, errors: Vec<u8>) -> Left {
         Left {
             status,
             output,
@@ -32,7 +32,7 @@ impl Left {
     }
 
     // Whether it is this.
-    pub fn is(&self, status: u8, output: &[u8], errors: &[u8]) -> bool {
+    pub(crate) fn is(&self, status: u8, output: &[u8], errors: &[u8]) -> bool {
         self.status == status
             && self.output.as_slice() == output
             && self.errors.as_slice() == errors
@@ -40,7 +40,7 @@ impl Left {
 }
 
 // Runs a script.
-pub fn run(alloc: Global, script: &[u8]) -> Left {
+pub(crate) fn run(alloc: Global, script: &[u8]) -> Left {
     let mut reader = script;
     let mut output = Vec::new(alloc);
     let mut errors = Vec::new(alloc);
@@ -58,7 +58,7 @@ fn open_one(path: &str) -> io::Result<&'static [u8]> {
 }
 
 // Serves the words over an empty input and these files.
-pub fn serve_words<'a>(alloc: Global, words: &'a [&'a str]) -> Left {
+pub(crate) fn serve_words<'a>(alloc: Global, words: &'a [&'a str]) -> Left {
     let mut nothing: &[u8] = b"";
     let mut output = Vec::new(alloc);
     let mut errors = Vec::new(alloc);

@@ -31,7 +31,7 @@ pub struct Trickle<'a> {
 }
 
 impl<'a> Trickle<'a> {
-    pub fn new(rest: &'a [u8], calls: usize, kind: ErrorKind, lasts: Lasts) -> Trickle<'a> {
+    pub(crate) fn new(rest: &'a [u8], calls: usize, kind: ErrorKind, lasts: Lasts) -> Trickle<'a> {
         Trickle {
             rest,
             calls,
@@ -41,7 +41,7 @@ impl<'a> Trickle<'a> {
     }
 
     /// What no call has given yet.
-    pub fn rest(&self) -> &'a [u8] {
+    pub(crate) fn rest(&self) -> &'a [u8] {
         self.rest
     }
 }
@@ -79,7 +79,7 @@ pub struct Sip {
 }
 
 impl Sip {
-    pub fn new(alloc: Global, calls: usize, end: End, lasts: Lasts) -> Sip {
+    pub(crate) fn new(alloc: Global, calls: usize, end: End, lasts: Lasts) -> Sip {
         Sip {
             taken: Vec::new(alloc),
             calls,
@@ -89,7 +89,7 @@ impl Sip {
     }
 
     /// What the calls took.
-    pub fn taken(&self) -> &[u8] {
+    pub(crate) fn taken(&self) -> &[u8] {
         self.taken.as_slice()
     }
 }
