@@ -1,7 +1,8 @@
 # make try    runs examples/first.ntns, or the script that SCRIPT names, without proofs: in a minute or two
-# make run    the same by the proved program; the first build proves everything, which takes some minutes
-# make test   the gate: every proof and the wrong bodies that must be refused, but for what passed here before, and every test
-# make definitions  tries turned definitions, which the laws and examples must refuse; by hand
+# make run    the same by the proved program; the first build proves every crate, which takes about half an hour
+# make test   the gate: every proof, every test, the records of what was refused, and runs of the program
+# make wrong  tries the wrong bodies that no record covers; those of one crate with CRATE=name, all anew with ALL=1
+# make definitions  the same for the turned definitions, which the laws and examples must refuse
 # make random plays COMMANDS random commands, 1,000,000 if nothing is said, beside a plain model; the 60 seconds of a test allow some 5,000,000
 # make times  the gate again, with the processor seconds of each crate
 # make hostile refuses each request for memory of a run in turn; it takes a quarter of an hour
@@ -10,21 +11,23 @@
 SCRIPT ?= examples/first.ntns
 COMMANDS ?= 1000000
 
-.PHONY: try run test definitions random times bench hostile build
+.PHONY: try run test wrong definitions random times bench hostile build
 
 try:
 	@echo "make try: compiled without proofs, which takes a minute or two; nothing of it is proved" >&2
 	@cd crates/ntns && rt try < "$(abspath $(SCRIPT))"
 
-run:
-	@test -x crates/ntns/out/ntns || echo "make run: the first build proves every crate and takes some minutes; make try shows the program sooner" >&2
-	@cd crates/ntns && ../../gate/quick_rt.py run < "$(abspath $(SCRIPT))"
+run: build
+	@crates/ntns/out/ntns < "$(SCRIPT)"
 
 test:
 	gate/test.sh
 
+wrong:
+	gate/wrong_bodies.py $(if $(ALL),--all) $(CRATE)
+
 definitions:
-	gate/definitions.py
+	gate/definitions.py $(if $(ALL),--all) $(CRATE)
 
 random:
 	cd crates/ob_random_tests && COMMANDS=$(COMMANDS) ../../gate/quick_rt.py test
@@ -33,7 +36,7 @@ times:
 	gate/times.py gate/test.sh
 
 build:
-	cd crates/ntns && ../../gate/quick_rt.py run < /dev/null
+	@gate/build.py ntns
 
 bench: build
 	bench/lines.py crates/ntns/out/ntns

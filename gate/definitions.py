@@ -1,69 +1,99 @@
 #!/usr/bin/env python3
-"""Tries the turned definitions in crates/NAME/definitions/, one at a time.
+"""Tries the turned definitions in crates/NAME/definitions/ that no record covers, and records those that are refused.
 
-Each edit there makes a definition mean something else, so that a law or a worked example is false. The
-check of its crate must refuse it. It is tried by hand, when a definition or a law changes.
+Each edit there makes a definition, a constant or a statement mean something else, so that a law or a worked example is
+false, or a function no longer does what it states. Its name begins with that function's, and the check of that very function
+must refuse it. The checks go over what the checks of the work tree kept, each in a folder of its own; what isn't
+proved there yet is proved first.
 
-    gate/definitions.py [CRATE..]
+    gate/definitions.py [--jobs N] [--all] [CRATE..]
 
 The last line is 'N passed, M failed'. The exit status is 0 where none failed, else 1.
 """
 
-import concurrent.futures
+import argparse
 import os
 import re
 import shutil
 import subprocess
 import sys
 import tempfile
+from concurrent.futures import ThreadPoolExecutor
 from pathlib import Path
 
-from wrong_bodies import ROOT, Unfit, copied, crates_listed, prove, read_pairs, replaced, rewrite, with_dependencies, workshop
+import build
+import records
+from crates import QUICK_RT, folder_of, listed, rewrite, workshop
+from edits import Unfit, file_of, functions_of
+from verdicts import verdicts
+
+FOLDER = "definitions"
 
 
-def fault_of(crate, path, folder, base):
+def functions_named(crate, name):
+    """The paths of a crate's functions of this name."""
+    home = folder_of(crate)
+    files = [path.relative_to(home) for path in sorted((home / "src").rglob("*.rt"))]
+    found = [it for file in files for it in functions_of(crate, str(file), (home / file).read_text())]
+    return [it for it in found if it.name == name]
+
+
+def fault_of(crate, path, folder):
     """Why an edit is not refused; nothing where it is."""
-    file, pairs = read_pairs(path)
-    text = replaced((ROOT / "crates" / crate / file).read_text(), pairs)
-    home = workshop(crate, base, folder / f"{crate}-{path.stem}")
-    rewrite(home / file, text)
-    run = subprocess.run(["rt", "check", "--jobs", "1"], cwd=home, capture_output=True, text=True, check=False)
-    shutil.rmtree(folder / f"{crate}-{path.stem}")
-    last = [line for line in run.stdout.splitlines() if line.startswith("logic=")][-1:]
-    if run.returncode == 0:
-        return "the crate is proved with it"
-    if last != ["logic=not-proved"]:
-        return "the check did not reach the prover"
-    if re.search(rf"{re.escape(file)}:\d+:\d+: error", run.stdout + run.stderr):
-        return "the turned definition can't be read"
+    file, _, turned = file_of(crate, path)
+    functions = functions_named(crate, path.stem.split("-")[0])
+    if not functions:
+        return "its name begins with that of no function of the crate"
+    home = workshop(crate, folder)
+    try:
+        rewrite(home / file, turned)
+        words = [QUICK_RT, "check", "--jobs", "1", *(word for it in functions for word in ("--only", it.path))]
+        run = subprocess.run(words, cwd=home, capture_output=True, text=True, errors="replace", check=False)
+    finally:
+        shutil.rmtree(folder)
+    output = run.stdout + run.stderr
+    if re.search(rf"^(?:\./)?{re.escape(file)}:\d+:\d+: error", output, re.M):
+        return "the turned text can't be read"
+    found = verdicts(output)
+    own = [verdict for name, verdict in found.items() if any(it.owns(name) for it in functions)]
+    if not own:
+        return f"there is no verdict: {(output.splitlines() or ['nothing was printed'])[-1]}"
+    if all(verdict.proved for verdict in own):
+        return f"{functions[0].path} is proved with it"
     return ""
 
 
+def tried(crate, path, folder):
+    """The fault of an edit, where it can't be tried too."""
+    try:
+        return fault_of(crate, path, folder)
+    except (Unfit, OSError) as error:
+        return str(error)
+
+
 def main():
-    tried = [
-        (crate, path)
-        for crate in sys.argv[1:] or crates_listed()
-        for path in sorted((ROOT / "crates" / crate / "definitions").glob("*.edit"))
-    ]
-    failed = 0
-    with tempfile.TemporaryDirectory(prefix="definitions-") as name:
-        folder = Path(name)
-        base = folder / "proved"
-        needed = set().union(*(with_dependencies(crate) for crate, _ in tried))
-        copied(needed, base, False)
-        for crate in crates_listed():
-            if crate in needed and prove(crate, base, folder / crate) is not None:
-                sys.exit(f"definitions: {crate} itself is not proved")
-        with concurrent.futures.ThreadPoolExecutor(os.cpu_count() or 1) as pool:
-            runs = [(crate, path, pool.submit(fault_of, crate, path, folder, base)) for crate, path in tried]
-            for crate, path, run in runs:
-                try:
-                    fault = run.result()
-                except (Unfit, OSError) as error:
-                    fault = str(error)
-                failed += bool(fault)
-                print(f"definitions: {crate}/{path.stem} ... {fault or 'refused'}", flush=True)
-    print(f"{len(tried) - failed} passed, {failed} failed")
+    parser = argparse.ArgumentParser(description="Tries the turned definitions in crates/NAME/definitions/.")
+    parser.add_argument("crates", nargs="*", metavar="CRATE", choices=[*listed(), []])
+    parser.add_argument("--jobs", type=int, default=os.cpu_count() or 1, metavar="N")
+    parser.add_argument("--all", action="store_true", help="try all, also what a record covers")
+    words = parser.parse_args()
+    asked = words.crates or records.with_edits_in(FOLDER)
+    left = [crate for crate in asked if words.all or not records.covers(crate, FOLDER)]
+    edits = [(crate, path) for crate in left for path in records.edits_in(crate, FOLDER)]
+    known = sum(len(records.edits_in(crate, FOLDER)) for crate in asked) - len(edits)
+    print(f"definitions: {known} stand in a record, {len(edits)} are to be tried", flush=True)
+    if left and not build.make(left, max(1, words.jobs)):
+        sys.exit("definitions: not tried, since what they go over isn't proved\n0 passed, 1 failed")
+    faults = {crate: 0 for crate in left}
+    with tempfile.TemporaryDirectory(prefix="definitions-") as name, ThreadPoolExecutor(max(1, words.jobs)) as pool:
+        runs = [pool.submit(tried, crate, path, Path(name) / str(at)) for at, (crate, path) in enumerate(edits)]
+        for (crate, path), run in zip(edits, runs):
+            faults[crate] += bool(run.result())
+            print(f"definitions: {crate}/{path.stem} ... {run.result() or 'refused'}", flush=True)
+    for crate, failed in faults.items():
+        (records.remove if failed else records.write)(crate, FOLDER)
+    failed = sum(faults.values())
+    print(f"{known + len(edits) - failed} passed, {failed} failed")
     return 1 if failed else 0
 
 

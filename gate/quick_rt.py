@@ -1,10 +1,10 @@
 #!/usr/bin/env python3
-"""Runs `rt`, and has it form the sum of each crate once.
+"""Runs `rt`, and has it form the sum of each crate once: for kits before `rattle-kit-13f`, which do so of themselves.
 
-Whether what is kept of a crate can be used, `rt` tells by a sum of its files and of those of all crates below. It forms
-that anew for each way that leads down to a crate, of which the highest crates have thousands, so that it takes them
-minutes before a check begins. Here the sum of a crate is kept, for as long as one command runs: nothing may change
-the files meanwhile. What is proved, and how, is the same.
+Whether what is kept of a crate can be used, `rt` tells by a sum of its files and of those of all crates below. Such a kit,
+`rattle-kit-13b` among them, forms that anew for each way that leads down to a crate, of which the highest crates have
+thousands, so that it takes them minutes before a check begins. Here the sum of a crate is kept, for as long as one command
+runs: nothing may change the files meanwhile. What is proved, and how, is the same.
 
     gate/quick_rt.py WORD..
 """
@@ -17,20 +17,21 @@ import shutil
 import sys
 
 
-def loaded(path):
-    """The program at a path, as a module."""
-    loader = importlib.machinery.SourceFileLoader("rt", path)
+@functools.cache
+def loaded_quickly():
+    """The program `rt` as a module, which forms each sum once; not to be had of another `rt` than this was written for."""
+    loader = importlib.machinery.SourceFileLoader("rt", os.path.realpath(shutil.which("rt")))
     made = importlib.util.module_from_spec(importlib.util.spec_from_loader("rt", loader))
     loader.exec_module(made)
+    made.rtlib.Crate.stamp = functools.cache(made.rtlib.Crate.stamp)
     return made
 
 
 def main():
     try:
-        rt = loaded(os.path.realpath(shutil.which("rt")))
-        rt.rtlib.Crate.stamp = functools.cache(rt.rtlib.Crate.stamp)
+        rt = loaded_quickly()
     except (AttributeError, OSError, TypeError):
-        # another `rt` than the one that this was written for: it takes longer
+        # it takes longer
         os.execvp("rt", ["rt", *sys.argv[1:]])
     return rt.main(sys.argv[1:])
 

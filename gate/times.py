@@ -5,8 +5,8 @@
 
 The seconds are those of the prover's processes, looked at once a second while they run, so that a short
 one may be missed: what stands in docs/GATE.md is right to some seconds. A process belongs to the crate that
-its words name; it proves tests where they say `--test`, wrong bodies where it works outside the
-repository, and else the crate itself.
+its words name; it proves tests where they say `--test`, tries an edit where it works outside the
+repository, and else proves the crate itself.
 """
 
 import os
@@ -18,7 +18,7 @@ from pathlib import Path
 
 ROOT = Path(__file__).resolve().parent.parent
 TICKS = os.sysconf("SC_CLK_TCK")
-PHASES = ("proof", "tests", "wrong bodies")
+PHASES = ("proof", "tests", "edits")
 
 
 def seen_of(process):
@@ -29,7 +29,7 @@ def seen_of(process):
     crate = words[words.index("--crate-name") + 1]
     folder = Path(os.readlink(process / "cwd"))
     inside = folder.is_relative_to(ROOT) and not any(word.startswith("/tmp/") for word in words)
-    phase = "wrong bodies" if not inside else "tests" if "--test" in words else "proof"
+    phase = "edits" if not inside else "tests" if "--test" in words else "proof"
     fields = (process / "stat").read_text().rpartition(")")[2].split()
     return crate, phase, (int(fields[11]) + int(fields[12])) / TICKS
 

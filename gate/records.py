@@ -1,0 +1,146 @@
+#!/usr/bin/env python3
+"""The records of what was refused, and the part of the gate that holds the crates to them.
+
+An edit in crates/NAME/wrong/ or crates/NAME/definitions/ that was refused is refused for as long as the crate, the contracts
+that it stands on and the prover's logic are the same. So these edits are tried when a crate changes, by `make wrong` and
+`make definitions`, and each of the two folders has a file RECORD of four lines:
+
+    own: the sum of the crate's sources, specs and proofs, and of the edits
+    below: the sum of the contracts that it stands on: the sources of all crates below without their bodies, and their specs
+    logic: the prover's logic, as `rt version` tells it
+    refused: how many edits were refused, which is all of them
+
+Where the first isn't today's, nothing is known of some edit, and the gate fails. Where only what lies below, or the logic, has
+changed, that is told in a line.
+
+    gate/records.py
+
+The last line is 'N passed, M failed', a record each. The exit status is 0 where none failed, else 1.
+"""
+
+import hashlib
+import subprocess
+import sys
+from functools import cache
+
+from crates import below, folder_of, listed
+from edits import without_bodies
+
+READ = ("src", "specs", "proofs")
+NAME = "RECORD"
+
+# the folders of edits that have a record, and the command that makes it
+COMMANDS = {"wrong": "make wrong", "definitions": "make definitions"}
+
+
+def sum_of(*texts):
+    """The sum of some texts, in which the end of each is told."""
+    made = hashlib.sha256()
+    for text in texts:
+        made.update(b"%d:" % len(text) + text)
+    return made.hexdigest()
+
+
+def edits_in(crate, folder):
+    """The edits that one of a crate's folders holds."""
+    return sorted((folder_of(crate) / folder).glob("*.edit"))
+
+
+@cache
+def files_of(crate):
+    """The names and texts of all that a check of the crate reads of its own."""
+    home = folder_of(crate)
+    files = sorted(path for part in READ for path in (home / part).rglob("*") if path.is_file())
+    return [text for path in files for text in (str(path.relative_to(home)).encode(), path.read_bytes())]
+
+
+def own_sum(crate, edits):
+    """The sum of a crate's own files and of these edits."""
+    return sum_of(*files_of(crate), *(text for path in edits for text in (path.name.encode(), path.read_bytes())))
+
+
+@cache
+def contracts_of(crate):
+    """The sum of what others can rest on of a crate."""
+    home = folder_of(crate)
+    specs = sorted(path for path in (home / "specs").rglob("*") if path.is_file())
+    sources = sorted((home / "src").rglob("*.rt"))
+    texts = [(path, path.read_bytes()) for path in specs]
+    texts += [(path, without_bodies(path.read_text()).encode()) for path in sources]
+    return sum_of(*(text for path, read in texts for text in (str(path.relative_to(home)).encode(), read)))
+
+
+def below_sum(crate):
+    """The sum of the contracts that a crate stands on."""
+    return sum_of(*(text.encode() for name in sorted(below(crate)) for text in (name, contracts_of(name))))
+
+
+@cache
+def logic():
+    """The prover's logic, which is the same in kits of other names."""
+    words = subprocess.run(["rt", "version"], capture_output=True, text=True, check=True).stdout.split()
+    return words[words.index("logic") + 1]
+
+
+def record_of(crate, folder):
+    """What the record of all edits in this folder says, where each was refused today."""
+    edits = edits_in(crate, folder)
+    lines = {"own": own_sum(crate, edits), "below": below_sum(crate), "logic": logic(), "refused": str(len(edits))}
+    return lines
+
+
+def read(crate, folder):
+    """What the record in this folder says; empty where there is none."""
+    path = folder_of(crate) / folder / NAME
+    if not path.is_file():
+        return {}
+    return dict(line.partition(": ")[::2] for line in path.read_text().splitlines())
+
+
+def write(crate, folder):
+    """Writes that each edit in this folder was refused."""
+    lines = [f"{key}: {value}\n" for key, value in record_of(crate, folder).items()]
+    (folder_of(crate) / folder / NAME).write_text("".join(lines))
+
+
+def remove(crate, folder):
+    """Takes a record away, since an edit in this folder was not refused."""
+    (folder_of(crate) / folder / NAME).unlink(missing_ok=True)
+
+
+def covers(crate, folder):
+    """Whether the record says of today's files, own and below, and of today's logic, that all was refused."""
+    return read(crate, folder) == record_of(crate, folder)
+
+
+def with_edits_in(folder):
+    """The crates that have edits in such a folder."""
+    return [crate for crate in listed() if edits_in(crate, folder)]
+
+
+def held():
+    """How many records there are that hold, those that are older than what lies below or than the logic, and the faults."""
+    passed, older, faults = 0, [], []
+    for folder, command in COMMANDS.items():
+        for crate in with_edits_in(folder):
+            said, wanted = read(crate, folder), record_of(crate, folder)
+            if any(said.get(key) != wanted[key] for key in ("own", "refused")):
+                why = "has no record" if not said else "is not what its record was made of"
+                faults.append(f"records: error: {crate}/{folder} {why}: run {command} CRATE={crate}")
+                continue
+            passed += 1
+            if said != wanted:
+                older.append(f"{crate}/{folder}")
+    return passed, older, faults
+
+
+def main():
+    passed, older, faults = held()
+    if older:
+        print(f"records: older than what lies below, or than the logic, and to be renewed: {' '.join(older)}")
+    print(*faults, f"{passed} passed, {len(faults)} failed", sep="\n")
+    return 1 if faults else 0
+
+
+if __name__ == "__main__":
+    sys.exit(main())
