@@ -108,9 +108,9 @@ def faults_of_records(folder):
     (home / "wrong" / "RECORD").write_text(text.replace("refused: ", "refused: 1"))
     yield "records: a made-up count fails", len(records.held()[2]) == 1
     work = wrong_bodies.Work({"ob_small": [edits.read_edit("ob_small", home / "wrong" / "one-is_two.edit")]}, folder)
-    trial = work.next()[1]
+    tries = work.next()[1]
     with contextlib.redirect_stdout(io.StringIO()):
-        work.after(trial, "fn ob_small::one: proved\n")
+        work.after(tries, "fn ob_small::one: proved\n")
     wrong_bodies.settle("ob_small", work)
     yield "records: a right body is named, and leaves none", bool(work.faults) and not (home / "wrong" / "RECORD").exists()
 

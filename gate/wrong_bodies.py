@@ -53,16 +53,13 @@ LARGEST = 16
 
 
 @dataclass
-class Trial:
-    """Some edits of a crate that one check tries."""
+class Try:
+    """An edit that is to be tried."""
 
-    edits: list[Edit]
+    edit: Edit
     without: dict = field(default_factory=dict)  # by proof file, its text without the answers that no longer fit
-    gone: dict = field(default_factory=dict)  # by edit, the names of these answers
-
-    @property
-    def crate(self):
-        return self.edits[0].crate
+    gone: list = field(default_factory=list)  # the names of these answers
+    alone: bool = False  # whether it has a check of its own
 
 
 def kept_as(crate, path):
@@ -76,14 +73,14 @@ def path_of(crate, name):
     return folder_of(crate) / FOLDER / f"{name}.edit"
 
 
-def check(trial, folder):
+def check(tries, folder):
     """What a check of a crate with these edits prints."""
-    home = workshop(trial.crate, folder)
+    home = workshop(tries[0].edit.crate, folder)
     try:
-        for file in {edit.file for edit in trial.edits}:
-            edits = [edit for edit in trial.edits if edit.file == file]
+        for file in {it.edit.file for it in tries}:
+            edits = [it.edit for it in tries if it.edit.file == file]
             rewrite(home / file, with_edits((home / file).read_text(), edits))
-        for file, text in trial.without.items():
+        for file, text in (left for it in tries for left in it.without.items()):
             rewrite(home / file, text)
         words = [QUICK_RT, "check", "--jobs", "1"]
         run = subprocess.run(words, cwd=home, capture_output=True, text=True, errors="replace", check=False)
@@ -92,19 +89,18 @@ def check(trial, folder):
         shutil.rmtree(folder)
 
 
-def batches(edits):
-    """Edits in as few trials as can be, of like sizes, each with at most one edit of a function; those that are not to compile alone."""
-    alone = [edit for edit in edits if edit.refusal]
+def batches(tries):
+    """The edits in as few checks as can be, of like sizes, each with at most one edit of a function, and some alone."""
     by_function = {}
-    for edit in edits:
-        if not edit.refusal:
-            by_function.setdefault(edit.function, []).append(edit)
+    for it in tries:
+        if not it.alone:
+            by_function.setdefault(it.edit.function, []).append(it)
     most = max((len(own) for own in by_function.values()), default=0)
     made = [[] for _ in range(max(most, -(-sum(map(len, by_function.values())) // LARGEST)))]
     for own in sorted(by_function.values(), key=len, reverse=True):
-        for batch, edit in zip(sorted(made, key=len), own):
-            batch.append(edit)
-    return [Trial(batch) for batch in made if batch] + [Trial([edit]) for edit in alone]
+        for batch, it in zip(sorted(made, key=len), own):
+            batch.append(it)
+    return [batch for batch in made if batch] + [[it] for it in tries if it.alone]
 
 
 def refusal_fault(edit, output):
@@ -117,30 +113,39 @@ def refusal_fault(edit, output):
 
 
 class Work:
-    """All edits that are to be tried, by crate, the trials that are left, and the faults found."""
+    """All edits that are to be tried, by crate: the checks that are left, what waits for a second try, and the faults found."""
 
     def __init__(self, edits, folder):
-        self.folder, self.begun, self.faults = folder, 0, {}
+        self.folder, self.begun, self.faults, self.left = folder, 0, {}, []
         self.open = {crate: {edit.label for edit in own} for crate, own in edits.items()}
-        self.left = [trial for own in edits.values() for trial in batches(own)]
-        self.left.sort(key=lambda trial: (build.behind(trial.crate), len(trial.edits)))
+        self.again = {crate: [] for crate in edits}
+        self.under_way = dict.fromkeys(edits, 0)
+        for own in edits.values():
+            self.add([Try(edit, alone=bool(edit.refusal)) for edit in own])
+
+    def add(self, tries):
+        """Has these edits of a crate tried."""
+        made = batches(tries)
+        self.under_way[tries[0].edit.crate] += len(made)
+        self.left += made
+        self.left.sort(key=lambda batch: (build.behind(batch[0].edit.crate), len(batch)))
 
     def next(self):
-        """A trial to begin, as a function to call and the trial."""
-        trial, place = self.left.pop(), self.folder / f"check-{self.begun}"
+        """A check to begin, as a function to call and the edits that it tries."""
+        tries, place = self.left.pop(), self.folder / f"check-{self.begun}"
         self.begun += 1
-        return (lambda: self.timed(trial, place)), trial
+        return (lambda: self.timed(tries, place)), tries
 
-    def timed(self, trial, place):
+    def timed(self, tries, place):
         started = time.monotonic()
-        output = check(trial, place)
-        names = f"{len(trial.edits)} of {trial.crate}" if len(trial.edits) > 1 else trial.edits[0].label
-        again = ", without answers that don't fit" if trial.without else ""
+        output = check(tries, place)
+        names = f"{len(tries)} of {tries[0].edit.crate}" if len(tries) > 1 else tries[0].edit.label
+        again = ", some without answers that don't fit" if any(it.without for it in tries) else ""
         print(f"wrong bodies: {names} tried in {time.monotonic() - started:.0f} s{again}", flush=True)
         return output
 
     def close(self, edit, fault):
-        """Notes what became of an edit, and where it was the last of its crate, writes the crate's record."""
+        """Notes what became of an edit."""
         self.open[edit.crate].discard(edit.label)
         if fault:
             self.faults[edit.label] = fault
@@ -149,69 +154,64 @@ class Work:
             REFUSED.mkdir(parents=True, exist_ok=True)
             kept_as(edit.crate, path_of(edit.crate, edit.name)).touch()
 
-    def after(self, trial, output):
-        """Judges a trial by what its check printed, and has tried again what that leaves open."""
-        found = verdicts(output)
-        if trial.edits[0].refusal:
-            self.close(trial.edits[0], refusal_fault(trial.edits[0], output))
-            return
-        if not found and len(trial.edits) > 1:
-            half = len(trial.edits) // 2
-            self.left += [Trial(trial.edits[:half]), Trial(trial.edits[half:])]
-            return
-        misfits = []
-        for edit in trial.edits:
-            said = judge(edit.function, found)
-            if not found:
-                lines = output.splitlines() or ["it printed nothing"]
-                self.close(edit, f"it can't be checked: {next((line for line in lines if 'error' in line), lines[-1])}")
-            elif said == "refused":
-                self.close(edit, None)
-            elif said == "misfits":
-                misfits.append(edit)
-            elif said == "inherited" and len(trial.edits) > 1:
-                self.left.append(Trial([edit], dict(trial.without), dict(trial.gone)))
+    def after(self, tries, output):
+        """Judges edits by what their check printed; what that leaves open is tried again once the crate's others were tried."""
+        crate, found = tries[0].edit.crate, verdicts(output)
+        for it in tries:
+            if it.edit.refusal:
+                self.close(it.edit, refusal_fault(it.edit, output))
+            elif found:
+                self.after_one(it, judge(it.edit.function, found), found, len(tries) == 1)
+            elif len(tries) > 1:
+                self.again[crate].append(Try(it.edit, it.without, it.gone, alone=True))
             else:
-                self.close(edit, self.fault_of(edit, said, trial))
-        if misfits:
-            self.try_without(trial, misfits, found)
+                lines = output.splitlines() or ["it printed nothing"]
+                self.close(it.edit, f"it can't be checked: {next((line for line in lines if 'error' in line), lines[-1])}")
+        self.under_way[crate] -= 1
+        if not self.under_way[crate] and self.again[crate]:
+            again, self.again[crate] = self.again[crate], []
+            self.add(again)
 
-    def fault_of(self, edit, said, trial):
-        """A verdict that is no refusal, in words."""
-        path = edit.function.path
-        if said == "proved":
-            gone = trial.gone.get(edit.label)
-            return f"{path} is proved with it" + (f", without the answers {', '.join(gone)}" if gone else "")
-        return f"{path} is not proved for what it calls alone" if said == "inherited" else said
+    def after_one(self, it, said, found, is_alone):
+        """Takes the verdict on an edit, beside what is said of all functions."""
+        path = it.edit.function.path
+        if said == "refused":
+            self.close(it.edit, None)
+        elif said == "misfits":
+            self.try_without(it, found)
+        elif said == "inherited" and not is_alone:
+            self.again[it.edit.crate].append(Try(it.edit, it.without, it.gone, alone=True))
+        elif said == "inherited":
+            self.close(it.edit, f"{path} is not proved for what it calls alone")
+        elif said == "proved":
+            self.close(it.edit, f"{path} is proved with it" + (f", without the answers {', '.join(it.gone)}" if it.gone else ""))
+        else:
+            self.close(it.edit, said)
 
-    def try_without(self, trial, edits, found):
-        """Has edits tried once more without the answers that no longer fit."""
-        again = Trial([], dict(trial.without), dict(trial.gone))
-        for edit in edits:
-            own = [(path, verdict) for path, verdict in found.items() if edit.function.owns(path) and verdict.misfits]
-            if any(set(verdict.misfits) != {"Answers"} for _, verdict in own):
-                self.close(edit, f"an invariant or a whole proof of {edit.function.path} doesn't fit it any more")
+    def try_without(self, it, found):
+        """Has an edit tried once more without the answers that no longer fit."""
+        edit, without, gone = it.edit, dict(it.without), list(it.gone)
+        for path, verdict in found.items():
+            if not edit.function.owns(path) or not verdict.misfits:
                 continue
-            gone = []
-            for path, verdict in own:
-                file = self.answers_of(edit.crate, path)
-                text = again.without.get(file) or (folder_of(edit.crate) / file).read_text()
-                again.without[file], names = without_answers(text, verdict.misfits["Answers"])
-                gone += names
-            if not gone:
-                self.close(edit, f"the file of answers of {edit.function.path} doesn't fit it any more")
-                continue
-            again.gone[edit.label] = again.gone.get(edit.label, []) + gone
-            again.edits.append(edit)
-        if again.edits:
-            self.left.append(again)
+            if set(verdict.misfits) != {"Answers"}:
+                self.close(edit, f"an invariant or a whole proof of {path} doesn't fit it any more")
+                return
+            file = answers_of(edit.crate, path)
+            text = without.get(file) or (folder_of(edit.crate) / file).read_text()
+            without[file], names = without_answers(text, verdict.misfits["Answers"])
+            gone += names
+        if len(gone) == len(it.gone):
+            self.close(edit, f"the file of answers of {edit.function.path} doesn't fit it any more")
+            return
+        self.again[edit.crate].append(Try(edit, without, gone, it.alone))
 
-    def answers_of(self, crate, path):
-        """The file with the answers of a function or a closure."""
-        inside = path.partition("::")[2].split("::")
-        home = folder_of(crate)
-        plain = Path("proofs", *inside, "Answers.antt")
-        return str(plain if (home / plain).is_file() else Path("proofs", *inside[:-1], f"+{inside[-1]}", "Answers.antt"))
+
+def answers_of(crate, path):
+    """The file with the answers of a function or a closure."""
+    inside = path.partition("::")[2].split("::")
+    plain = Path("proofs", *inside, "Answers.antt")
+    return str(plain if (folder_of(crate) / plain).is_file() else Path("proofs", *inside[:-1], f"+{inside[-1]}", "Answers.antt"))
 
 
 def run_all(work, jobs):
@@ -220,12 +220,12 @@ def run_all(work, jobs):
     with ThreadPoolExecutor(jobs) as pool:
         while work.left or running:
             while work.left and len(running) < jobs:
-                call, trial = work.next()
-                running[pool.submit(call)] = trial
+                call, tries = work.next()
+                running[pool.submit(call)] = tries
             for ended in wait(running, return_when=FIRST_COMPLETED).done:
-                trial = running.pop(ended)
-                work.after(trial, ended.result())
-                settle(trial.crate, work)
+                tries = running.pop(ended)
+                work.after(tries, ended.result())
+                settle(tries[0].edit.crate, work)
 
 
 def settle(crate, work):
