@@ -11,9 +11,9 @@ that it stands on and the prover's logic are the same. So these edits are tried 
     refused: how many edits were refused, which is all of them
 
 Where the first isn't today's, nothing is known of some edit, and the gate fails. Where only what lies below, or the logic, has
-changed, that is told in a line.
+changed, that is told in a line. The edits of a folder that has no record yet are tried by the gate itself, which takes it much longer.
 
-    gate/records.py
+    gate/records.py [--lacking wrong|definitions]    with a word: the crates that have edits there and no record
 
 The last line is 'N passed, M failed', a record each. The exit status is 0 where none failed, else 1.
 """
@@ -124,9 +124,10 @@ def held():
     for folder, command in COMMANDS.items():
         for crate in with_edits_in(folder):
             said, wanted = read(crate, folder), record_of(crate, folder)
+            if not said:
+                continue
             if any(said.get(key) != wanted[key] for key in ("own", "refused")):
-                why = "has no record" if not said else "is not what its record was made of"
-                faults.append(f"records: error: {crate}/{folder} {why}: run {command} CRATE={crate}")
+                faults.append(f"records: error: {crate}/{folder} is not what its record was made of: run {command} CRATE={crate}")
                 continue
             passed += 1
             if said != wanted:
@@ -134,8 +135,21 @@ def held():
     return passed, older, faults
 
 
+def lacking(folder):
+    """The crates that have edits in such a folder, and no record of them."""
+    return [crate for crate in with_edits_in(folder) if not read(crate, folder)]
+
+
 def main():
+    if sys.argv[1:2] == ["--lacking"] and sys.argv[2:] in ([it] for it in COMMANDS):
+        print(*lacking(sys.argv[2]))
+        return 0
+    if sys.argv[1:]:
+        sys.exit("usage: gate/records.py [--lacking wrong|definitions]")
     passed, older, faults = held()
+    for folder, command in COMMANDS.items():
+        for crate in lacking(folder):
+            print(f"records: {crate}/{folder} has no record yet, so the gate tries its edits; {command} CRATE={crate} makes one")
     if older:
         print(f"records: older than what lies below, or than the logic, and to be renewed: {' '.join(older)}")
     print(*faults, f"{passed} passed, {len(faults)} failed", sep="\n")

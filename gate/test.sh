@@ -1,6 +1,6 @@
 #!/bin/sh
-# The gate: its own tools, the records of what was refused, `rt ci`, and runs of the built program, one behind another. Each ends in a line
-# 'N passed, M failed'; the last line here is their sum.
+# The gate: its own tools, the records of what was refused, `rt ci`, the edits that have no record yet, and runs of the built
+# program, one behind another. Each ends in a line 'N passed, M failed'; the last line here is their sum.
 # usage: gate/test.sh      at the top of the repository
 set -u
 logs=$(mktemp -d)
@@ -25,11 +25,17 @@ part() {
 part selftest gate/selftest.py
 part records gate/records.py
 part ci gate/quick_rt.py ci
+# what has no record is tried here; a record that is made so belongs to what is committed next
+for folder in wrong definitions; do
+    crates=$(gate/records.py --lacking "$folder")
+    tool=gate/$(test "$folder" = wrong && echo wrong_bodies || echo definitions).py
+    if [ -n "$crates" ]; then part "$folder" "$tool" $crates; fi
+done
 part program gate/program.py crates/ntns/out/ntns
 
 # a run is long, and only its end may be on record: what failed is named once more there
 if [ "$failed" -ne 0 ]; then
-    cat "$logs/selftest" "$logs/records" "$logs/ci" "$logs/program" | grep -E '(^|[^0-9])error|[Ff]ailed|FAILED|NOT REFUSED|not proved|refused:' | tail -n 100
+    cat "$logs"/selftest "$logs"/records "$logs"/ci "$logs"/wrong "$logs"/definitions "$logs"/program 2> /dev/null | grep -E '(^|[^0-9])error|[Ff]ailed|FAILED|NOT REFUSED|not proved|refused:' | tail -n 100
 fi
 echo "$passed passed, $failed failed"
 [ "$failed" -eq 0 ]
