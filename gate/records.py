@@ -3,15 +3,16 @@
 
 An edit in crates/NAME/wrong/ or crates/NAME/definitions/ that was refused is refused for as long as the crate, the contracts
 that it stands on and the prover's logic are the same. So these edits are tried when a crate changes, by `make wrong` and
-`make definitions`, and each of the two folders has a file RECORD of four lines:
+`make definitions`, and each of the two folders has a file RECORD of five lines:
 
     own: the sum of the crate's sources, specs and proofs, and of the edits
     below: the sum of the contracts that it stands on: the sources of all crates below without their bodies, and their specs
     logic: the prover's logic, as `rt version` tells it
+    judge: by which rules a refusal was told (JUDGE, below)
     refused: how many edits were refused, which is all of them
 
-Where the first isn't today's, nothing is known of some edit, and the gate fails. Where only what lies below, or the logic, has
-changed, that is told in a line. The edits of a folder that has no record yet are tried by the gate itself, which takes it much longer.
+Where the first isn't today's, nothing is known of some edit, and the gate fails. Where only what lies below, the logic or the
+judge has changed, that is told in a line. The edits of a folder that has no record yet are tried by the gate itself, which takes it much longer.
 
     gate/records.py [--lacking wrong|definitions]    with a word: the crates that have edits there and no record
 
@@ -28,6 +29,10 @@ from edits import without_bodies
 
 READ = ("src", "specs", "proofs")
 NAME = "RECORD"
+
+# the rules by which a refusal is told. By the first an answer that no longer fits counted as one, and of an edit that `rt ci` tried
+# any function's refusal; by the second only the function's own goals do, tried once more without such answers
+JUDGE = "2"
 
 # the folders of edits that have a record, and the command that makes it
 COMMANDS = {"wrong": "make wrong", "definitions": "make definitions"}
@@ -85,7 +90,8 @@ def logic():
 def record_of(crate, folder):
     """What the record of all edits in this folder says, where each was refused today."""
     edits = edits_in(crate, folder)
-    lines = {"own": own_sum(crate, edits), "below": below_sum(crate), "logic": logic(), "refused": str(len(edits))}
+    lines = {"own": own_sum(crate, edits), "below": below_sum(crate), "logic": logic()}
+    lines |= {"judge": JUDGE, "refused": str(len(edits))}
     return lines
 
 
@@ -119,7 +125,7 @@ def with_edits_in(folder):
 
 
 def held():
-    """How many records there are that hold, those that are older than what lies below or than the logic, and the faults."""
+    """How many records there are that hold, those that are older than what lies below, the logic or the judge, and the faults."""
     passed, older, faults = 0, [], []
     for folder, command in COMMANDS.items():
         for crate in with_edits_in(folder):
@@ -151,7 +157,7 @@ def main():
         for crate in lacking(folder):
             print(f"records: {crate}/{folder} has no record yet, so the gate tries its edits; {command} CRATE={crate} makes one")
     if older:
-        print(f"records: older than what lies below, or than the logic, and to be renewed: {' '.join(older)}")
+        print(f"records: older than what lies below, the logic or the judge, and to be renewed: {' '.join(older)}")
     print(*faults, f"{passed} passed, {len(faults)} failed", sep="\n")
     return 1 if faults else 0
 

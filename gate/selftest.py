@@ -48,7 +48,7 @@ def faults_of_verdicts():
         yield f"verdicts: {shows}", judge(FUNCTION, verdicts(output)) == wanted
     yield "answers: the item of a line goes, and no other", without_answers(ANSWERS, [5]) == (ANSWERS.replace("pub first : goal.first\nfirst c =\n    one\n\n", ""), ["first"])
     yield "answers: the last item goes too", without_answers(ANSWERS, [7, 8])[1] == ["second"]
-    yield "answers: a line of an import takes nothing away", without_answers(ANSWERS, [1])[1] == []
+    yield "answers: an import that doesn't fit goes alone", without_answers(ANSWERS, [1]) == (ANSWERS.removeprefix("use a.b\n\n"), ["use"])
 
 
 def read(folder, crate, name, text):

@@ -74,8 +74,8 @@ def judge(function, found):
 
 
 def without_answers(text, lines):
-    """A file of answers without the items at these lines, and the names of those that went."""
-    head, *items = re.split(r"(?m)^(?=(?:pub )?[^\s:]+ (?:\{[^}]*\} )*:(?: |$))", text)
+    """A file of answers without the items at these lines, imports among them, and the names of those that went."""
+    head, *items = re.split(r"(?m)^(?=use |(?:pub )?[^\s:]+ (?:\{[^}]*\} )*:(?: |$))", text)
     kept, gone, at = [head], [], 1 + head.count("\n")
     for item in items:
         end = at + item.count("\n")

@@ -46,7 +46,7 @@ from verdicts import judge, verdicts, without_answers
 FOLDER = "wrong"
 
 # what was refused in crates that have no record yet
-REFUSED = ROOT / "out" / "refused"
+REFUSED = ROOT / "out" / f"refused-{records.JUDGE}"
 
 # more edits than this in one check leave processors idle at the end
 LARGEST = 16
