@@ -5,6 +5,10 @@
 #[cfg(test)]
 mod cases;
 #[cfg(test)]
+mod lengths;
+#[cfg(test)]
+mod links;
+#[cfg(test)]
 mod maps;
 #[cfg(test)]
 mod pages;

@@ -1,62 +1,253 @@
 //! Worked cases of device maps: what `\??` stands for in each process.
 
-use crate::runs::{Case, run};
+use crate::runs::assert_cases;
 
-const CASES: [Case; 8] = [
-    Case {
-        shows: b"a local link of a device name shadows the global one, and gives it free when it goes",
-        script: b"p1 dir \"\\Sessions\\1\" - =s\np1 map s\np1 link \"\\GLOBAL??\\C:\" - \"\\Device\" =g\np1 link \"\\??\\C:\" - \"\\Sessions\" =l\np1 openlink \"\\??\\C:\" - =x\np1 target x\np1 close x\np1 close l\np1 openlink \"\\??\\C:\" - =x\np1 target x\np1 opendir \"\\??\" - =y\np1 name y\n",
-        prints: b"1: SUCCESS\n2: SUCCESS\n3: SUCCESS\n4: SUCCESS\n5: SUCCESS\n6: SUCCESS \"\\Sessions\"\n7: SUCCESS\n8: SUCCESS\n9: SUCCESS\n10: SUCCESS \"\\Device\"\n11: SUCCESS\n12: SUCCESS \"\\Sessions\\1\"\n",
-        status: 0,
-    },
-    Case {
-        shows: b"a device name is redirected for one process, and not for its sibling",
-        script: b"p1 link \"\\GLOBAL??\\X:\" P \"\\Device\" =g\np1 new plain =q\np1 new plain =r\nq dir \"\\Sessions\\q\" - =s\nq map s\nq link \"\\??\\X:\" - \"\\BaseNamedObjects\" =l\nq opendir \"\\??\\X:\" - =d\nq name d\nr opendir \"\\??\\X:\" - =d\nr name d\nq opendir \"\\DosDevices\\X:\" - =e\nq name e\nq opendir \"\\GLOBAL??\\X:\" - =f\nq name f\n",
-        prints: b"1: SUCCESS\n2: SUCCESS\n3: SUCCESS\n4: SUCCESS\n5: SUCCESS\n6: SUCCESS\n7: SUCCESS\n8: SUCCESS \"\\BaseNamedObjects\"\n9: SUCCESS\n10: SUCCESS \"\\Device\"\n11: SUCCESS\n12: SUCCESS \"\\BaseNamedObjects\"\n13: SUCCESS\n14: SUCCESS \"\\Device\"\n",
-        status: 0,
-    },
-    Case {
-        shows: b"a map directory without name and handle serves until its last process ends",
-        script: b"p1 new plain =q\nq dir \"\\M\" - =m\nq map m\nq make Event \"\\??\\E\" - \"\" =e\nq name e\nq close m\nq name e\nq open Event \"\\??\\E\" - =f\nq close e\nq close f\nq open Event \"\\??\\E\" - =f\nstat\nq new plain =r\nq exit\nstat\nr make Event \"\\??\\F\" - \"\" =g\nr close g\nr exit\nstat\n",
-        prints: b"1: SUCCESS\n2: SUCCESS\n3: SUCCESS\n4: SUCCESS\n5: SUCCESS \"\\M\\E\"\n6: SUCCESS\n7: SUCCESS \"\"\n8: SUCCESS\n9: SUCCESS\n10: SUCCESS\n11: OBJECT_NAME_NOT_FOUND\n12: objects 7 handles 0 opens 2 closes 2 deletes 1\n13: SUCCESS\n14: SUCCESS\n15: objects 7 handles 0 opens 2 closes 2 deletes 1\n16: SUCCESS\n17: SUCCESS\n18: SUCCESS\n19: objects 6 handles 0 opens 3 closes 3 deletes 2\n",
-        status: 0,
-    },
-    Case {
-        shows: b"a map directory that nothing else holds goes where another map is set",
-        script: b"p1 dir \"\\M\" - =m\np1 map m\np1 close m\nstat\np1 opendir \"\\Sessions\" - =s\np1 map s\nstat\np1 map s+2\np1 close s\np1 opendir \"\\??\" - =v\np1 name v\n",
-        prints: b"1: SUCCESS\n2: SUCCESS\n3: SUCCESS\n4: objects 7 handles 0 opens 0 closes 0 deletes 0\n5: SUCCESS\n6: SUCCESS\n7: objects 6 handles 1 opens 0 closes 0 deletes 0\n8: SUCCESS\n9: SUCCESS\n10: SUCCESS\n11: SUCCESS \"\\Sessions\"\n",
-        status: 0,
-    },
-    Case {
-        shows: b"what is no directory is no map, and a refusal leaves the map",
-        script: b"p1 map z\nq map z\np1 make Event \"\\E\" - \"\" =e\np1 map e\np1 openlink \"\\DosDevices\" - =l\np1 map l\np1 opendir \"\\??\" - =v\np1 name v\n",
-        prints: b"1: INVALID_HANDLE\n2: PROCESS_GONE\n3: SUCCESS\n4: OBJECT_TYPE_MISMATCH\n5: SUCCESS\n6: OBJECT_TYPE_MISMATCH\n7: SUCCESS\n8: SUCCESS \"\\GLOBAL??\"\n",
-        status: 0,
-    },
-    Case {
-        shows: b"the view itself is the local directory, or the global one, and a handle to it is one to that directory",
-        script: b"p1 dir \"\\??\" - =c\np1 dir \"\\??\" O =c\np1 name c\np1 dir \"\\Sessions\\1\" - =s\np1 map s\np1 dir \"\\??\" O =d\np1 name d\np1 make Event d:\"E\" - \"\" =e\np1 open Event \"\\??\\E\" - =f\np1 link \"\\GLOBAL??\\G\" - \"\\Device\" =g\np1 openlink d:\"G\" - =x\np1 openlink \"\\??\\G\" - =x\np1 opendir \"\\??\\\" - =y\np1 opendir \"\\??x\" - =y\np1 dir \"\\??\\N\\M\" - =y\np1 opendir \"\\\" - =r\np1 opendir r:\"??\" - =y\np1 dir r:\"??\" - =y\n",
-        prints: b"1: OBJECT_NAME_COLLISION\n2: OBJECT_NAME_EXISTS\n3: SUCCESS \"\\GLOBAL??\"\n4: SUCCESS\n5: SUCCESS\n6: OBJECT_NAME_EXISTS\n7: SUCCESS \"\\Sessions\\1\"\n8: SUCCESS\n9: SUCCESS\n10: SUCCESS\n11: OBJECT_NAME_NOT_FOUND\n12: SUCCESS\n13: OBJECT_NAME_INVALID\n14: OBJECT_NAME_NOT_FOUND\n15: OBJECT_PATH_NOT_FOUND\n16: SUCCESS\n17: OBJECT_NAME_NOT_FOUND\n18: OBJECT_NAME_INVALID\n",
-        status: 0,
-    },
-    Case {
-        shows: b"only the component right behind the view is searched in both, and a create there looks in the local directory alone",
-        script: b"p1 dir \"\\GLOBAL??\\D\" P =a\np1 dir \"\\GLOBAL??\\D\\E\" P =b\np1 dir \"\\L\" P =l\np1 dir \"\\L\\D\" P =c\np1 map l\np1 opendir \"\\??\\d\" C =x\np1 name x\np1 opendir \"\\??\\D\\E\" - =x\np1 dir \"\\??\\D\\E\" - =y\np1 name y\np1 dir \"\\??\\D\" - =z\np1 dir \"\\GLOBAL??\\F\" P =f\np1 opendir \"\\??\\F\" - =g\np1 name g\np1 dir \"\\??\\F\" - =h\np1 name h\np1 dir \"\\??\\F\\G\" - =i\np1 name i\n",
-        prints: b"1: SUCCESS\n2: SUCCESS\n3: SUCCESS\n4: SUCCESS\n5: SUCCESS\n6: SUCCESS\n7: SUCCESS \"\\L\\D\"\n8: OBJECT_NAME_NOT_FOUND\n9: SUCCESS\n10: SUCCESS \"\\L\\D\\E\"\n11: OBJECT_NAME_COLLISION\n12: SUCCESS\n13: SUCCESS\n14: SUCCESS \"\\GLOBAL??\\F\"\n15: SUCCESS\n16: SUCCESS \"\\L\\F\"\n17: SUCCESS\n18: SUCCESS \"\\L\\F\\G\"\n",
-        status: 0,
-    },
-    Case {
-        shows: b"a child has the map that its parent had when it began",
-        script: b"p1 dir \"\\M\" P =m\np1 map m\np1 new plain =q\np1 opendir \"\\Sessions\" - =s\np1 map s\nq opendir \"\\??\" - =v\nq name v\np1 opendir \"\\??\" - =v\np1 name v\nq opendir \"\\GLOBAL??\" - =g\nq map g\nq opendir \"\\??\" - =v\nq name v\n",
-        prints: b"1: SUCCESS\n2: SUCCESS\n3: SUCCESS\n4: SUCCESS\n5: SUCCESS\n6: SUCCESS\n7: SUCCESS \"\\M\"\n8: SUCCESS\n9: SUCCESS \"\\Sessions\"\n10: SUCCESS\n11: SUCCESS\n12: SUCCESS\n13: SUCCESS \"\\GLOBAL??\"\n",
-        status: 0,
-    },
-];
+const CASES: &'static str =
+    r#"== a local link of a device name shadows the global one, and gives it free when it goes
+p1 dir "\Sessions\1" - =s
+p1 map s
+p1 link "\GLOBAL??\C:" - "\Device" =g
+p1 link "\??\C:" - "\Sessions" =l
+p1 openlink "\??\C:" - =x
+p1 target x
+p1 close x
+p1 close l
+p1 openlink "\??\C:" - =x
+p1 target x
+p1 opendir "\??" - =y
+p1 name y
+-- ends with 0
+1: SUCCESS
+2: SUCCESS
+3: SUCCESS
+4: SUCCESS
+5: SUCCESS
+6: SUCCESS "\Sessions"
+7: SUCCESS
+8: SUCCESS
+9: SUCCESS
+10: SUCCESS "\Device"
+11: SUCCESS
+12: SUCCESS "\Sessions\1"
+== a device name is redirected for one process, and not for its sibling
+p1 link "\GLOBAL??\X:" P "\Device" =g
+p1 new plain =q
+p1 new plain =r
+q dir "\Sessions\q" - =s
+q map s
+q link "\??\X:" - "\BaseNamedObjects" =l
+q opendir "\??\X:" - =d
+q name d
+r opendir "\??\X:" - =d
+r name d
+q opendir "\DosDevices\X:" - =e
+q name e
+q opendir "\GLOBAL??\X:" - =f
+q name f
+-- ends with 0
+1: SUCCESS
+2: SUCCESS
+3: SUCCESS
+4: SUCCESS
+5: SUCCESS
+6: SUCCESS
+7: SUCCESS
+8: SUCCESS "\BaseNamedObjects"
+9: SUCCESS
+10: SUCCESS "\Device"
+11: SUCCESS
+12: SUCCESS "\BaseNamedObjects"
+13: SUCCESS
+14: SUCCESS "\Device"
+== a map directory without name and handle serves until its last process ends
+p1 new plain =q
+q dir "\M" - =m
+q map m
+q make Event "\??\E" - "" =e
+q name e
+q close m
+q name e
+q open Event "\??\E" - =f
+q close e
+q close f
+q open Event "\??\E" - =f
+stat
+q new plain =r
+q exit
+stat
+r make Event "\??\F" - "" =g
+r close g
+r exit
+stat
+-- ends with 0
+1: SUCCESS
+2: SUCCESS
+3: SUCCESS
+4: SUCCESS
+5: SUCCESS "\M\E"
+6: SUCCESS
+7: SUCCESS ""
+8: SUCCESS
+9: SUCCESS
+10: SUCCESS
+11: OBJECT_NAME_NOT_FOUND
+12: objects 7 handles 0 opens 2 closes 2 deletes 1
+13: SUCCESS
+14: SUCCESS
+15: objects 7 handles 0 opens 2 closes 2 deletes 1
+16: SUCCESS
+17: SUCCESS
+18: SUCCESS
+19: objects 6 handles 0 opens 3 closes 3 deletes 2
+== a map directory that nothing else holds goes where another map is set
+p1 dir "\M" - =m
+p1 map m
+p1 close m
+stat
+p1 opendir "\Sessions" - =s
+p1 map s
+stat
+p1 map s+2
+p1 close s
+p1 opendir "\??" - =v
+p1 name v
+-- ends with 0
+1: SUCCESS
+2: SUCCESS
+3: SUCCESS
+4: objects 7 handles 0 opens 0 closes 0 deletes 0
+5: SUCCESS
+6: SUCCESS
+7: objects 6 handles 1 opens 0 closes 0 deletes 0
+8: SUCCESS
+9: SUCCESS
+10: SUCCESS
+11: SUCCESS "\Sessions"
+== what is no directory is no map, and a refusal leaves the map
+p1 map z
+q map z
+p1 make Event "\E" - "" =e
+p1 map e
+p1 openlink "\DosDevices" - =l
+p1 map l
+p1 opendir "\??" - =v
+p1 name v
+-- ends with 0
+1: INVALID_HANDLE
+2: PROCESS_GONE
+3: SUCCESS
+4: OBJECT_TYPE_MISMATCH
+5: SUCCESS
+6: OBJECT_TYPE_MISMATCH
+7: SUCCESS
+8: SUCCESS "\GLOBAL??"
+== the view itself is the local directory, or the global one, and a handle to it is one to that directory
+p1 dir "\??" - =c
+p1 dir "\??" O =c
+p1 name c
+p1 dir "\Sessions\1" - =s
+p1 map s
+p1 dir "\??" O =d
+p1 name d
+p1 make Event d:"E" - "" =e
+p1 open Event "\??\E" - =f
+p1 link "\GLOBAL??\G" - "\Device" =g
+p1 openlink d:"G" - =x
+p1 openlink "\??\G" - =x
+p1 opendir "\??\" - =y
+p1 opendir "\??x" - =y
+p1 dir "\??\N\M" - =y
+p1 opendir "\" - =r
+p1 opendir r:"??" - =y
+p1 dir r:"??" - =y
+-- ends with 0
+1: OBJECT_NAME_COLLISION
+2: OBJECT_NAME_EXISTS
+3: SUCCESS "\GLOBAL??"
+4: SUCCESS
+5: SUCCESS
+6: OBJECT_NAME_EXISTS
+7: SUCCESS "\Sessions\1"
+8: SUCCESS
+9: SUCCESS
+10: SUCCESS
+11: OBJECT_NAME_NOT_FOUND
+12: SUCCESS
+13: OBJECT_NAME_INVALID
+14: OBJECT_NAME_NOT_FOUND
+15: OBJECT_PATH_NOT_FOUND
+16: SUCCESS
+17: OBJECT_NAME_NOT_FOUND
+18: OBJECT_NAME_INVALID
+== only the component right behind the view is searched in both, and a create there looks in the local directory alone
+p1 dir "\GLOBAL??\D" P =a
+p1 dir "\GLOBAL??\D\E" P =b
+p1 dir "\L" P =l
+p1 dir "\L\D" P =c
+p1 map l
+p1 opendir "\??\d" C =x
+p1 name x
+p1 opendir "\??\D\E" - =x
+p1 dir "\??\D\E" - =y
+p1 name y
+p1 dir "\??\D" - =z
+p1 dir "\GLOBAL??\F" P =f
+p1 opendir "\??\F" - =g
+p1 name g
+p1 dir "\??\F" - =h
+p1 name h
+p1 dir "\??\F\G" - =i
+p1 name i
+-- ends with 0
+1: SUCCESS
+2: SUCCESS
+3: SUCCESS
+4: SUCCESS
+5: SUCCESS
+6: SUCCESS
+7: SUCCESS "\L\D"
+8: OBJECT_NAME_NOT_FOUND
+9: SUCCESS
+10: SUCCESS "\L\D\E"
+11: OBJECT_NAME_COLLISION
+12: SUCCESS
+13: SUCCESS
+14: SUCCESS "\GLOBAL??\F"
+15: SUCCESS
+16: SUCCESS "\L\F"
+17: SUCCESS
+18: SUCCESS "\L\F\G"
+== a child has the map that its parent had when it began
+p1 dir "\M" P =m
+p1 map m
+p1 new plain =q
+p1 opendir "\Sessions" - =s
+p1 map s
+q opendir "\??" - =v
+q name v
+p1 opendir "\??" - =v
+p1 name v
+q opendir "\GLOBAL??" - =g
+q map g
+q opendir "\??" - =v
+q name v
+-- ends with 0
+1: SUCCESS
+2: SUCCESS
+3: SUCCESS
+4: SUCCESS
+5: SUCCESS
+6: SUCCESS
+7: SUCCESS "\M"
+8: SUCCESS
+9: SUCCESS "\Sessions"
+10: SUCCESS
+11: SUCCESS
+12: SUCCESS
+13: SUCCESS "\GLOBAL??"
+"#;
 
 #[test]
 fn worked_cases_of_device_maps_print_what_they_show(rt: HostRuntime) {
-    for case in &CASES {
-        let left = run(rt.alloc(), case.script);
-        assert!(rt; left.is(case.status, case.prints, b""), "{:?}", case.shows);
-    }
+    assert_cases(&rt, rt.alloc(), CASES);
 }

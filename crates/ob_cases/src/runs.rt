@@ -1,74 +1,175 @@
-//! Runs of the program over memory: what each left.
+//! Runs of the program over streams in memory, and cases that a text tells.
 
-use ob_tasks::{End, perform, serve};
+use ob_tasks::{End, perform, refuse, serve};
 use ob_words::Task;
 use std::alloc::Global;
 use std::io;
+use std::io::{Error, ErrorKind, Read, Write};
+use std::process::Abort;
 
-// A script, what it prints, and the program's status.
-pub struct Case {
-    pub shows: &'static [u8],
-    pub script: &'static [u8],
-    pub prints: &'static [u8],
-    pub status: u8,
-}
-
-// What a run of the program left: its status, and what it wrote.
+/// An input: bytes, one that never ends, or one whose every read fails.
 #[derive(Drop)]
-pub struct Left {
-    pub status: u8,
-    pub output: Vec<u8>,
-    pub errors: Vec<u8>,
+pub enum Input<'a> {
+    Bytes(&'a [u8]),
+    Endless,
+    Broken,
 }
 
-impl Left {
-    // A run that left this.
-    pub(crate) fn new(status: u8, output: Vec<u8>, errors: Vec<u8>) -> Left {
-        Left {
-            status,
-            output,
-            errors,
+impl Read for Input<'_> {
+    fn read(&mut self, buf: &mut [u8]) -> io::Result<usize> {
+        match self {
+            Input::Bytes(bytes) => bytes.read(buf),
+            Input::Endless => io::repeat(b'#').read(buf),
+            Input::Broken => Err(Error::from(ErrorKind::Interrupted)),
+        }
+    }
+}
+
+/// An output that keeps its bytes, or whose every write fails.
+#[derive(Drop)]
+pub struct Output {
+    pub bytes: Vec<u8>,
+    pub is_broken: bool,
+}
+
+impl Output {
+    /// An output that is whole and empty.
+    pub(crate) fn new(alloc: Global) -> Output {
+        Output {
+            bytes: Vec::new(alloc),
+            is_broken: false,
+        }
+    }
+}
+
+impl Write for Output {
+    fn write(&mut self, buf: &[u8]) -> io::Result<usize> {
+        if self.is_broken {
+            return Err(Error::from(ErrorKind::Interrupted));
+        }
+        self.bytes.write(buf)
+    }
+
+    fn flush(&mut self) -> io::Result<()> {
+        Ok(())
+    }
+}
+
+/// The streams of a run, and whether it opened a file.
+#[derive(Drop)]
+pub struct Streams<'a> {
+    pub input: Input<'a>,
+    pub output: Output,
+    pub errors: Output,
+    pub has_opened: bool,
+}
+
+impl<'a> Streams<'a> {
+    /// An input, and outputs that are whole and empty.
+    pub(crate) fn new(alloc: Global, input: Input<'a>) -> Streams<'a> {
+        Streams {
+            input,
+            output: Output::new(alloc),
+            errors: Output::new(alloc),
+            has_opened: false,
         }
     }
 
-    // Whether it is this.
-    pub(crate) fn is(&self, status: u8, output: &[u8], errors: &[u8]) -> bool {
-        self.status == status
-            && self.output.as_slice() == output
-            && self.errors.as_slice() == errors
+    /// Does a task.
+    pub(crate) fn perform(&mut self, alloc: Global, task: Task<'_>) -> End {
+        End::Task(perform(
+            alloc,
+            task,
+            &mut self.input,
+            &mut self.output,
+            &mut self.errors,
+        ))
+    }
+
+    /// Serves the words, over the files of the tests.
+    pub(crate) fn serve(&mut self, alloc: Global, words: &[&str]) -> End {
+        let Streams {
+            input,
+            output,
+            errors,
+            has_opened,
+        } = self;
+        let opener = |path| {
+            *has_opened = true;
+            open_one(path)
+        };
+        serve(alloc, words, opener, input, output, errors)
+    }
+
+    /// Tells a fault of the words.
+    pub(crate) fn refuse(&mut self, alloc: Global, fault: &clap::Error) -> End {
+        refuse(alloc, fault, &mut self.output, &mut self.errors)
+    }
+
+    /// Whether the run left this.
+    pub(crate) fn hold(&self, output: &[u8], errors: &[u8]) -> bool {
+        self.output.bytes.as_slice() == output && self.errors.bytes.as_slice() == errors
     }
 }
 
-// Runs a script.
-pub(crate) fn run(alloc: Global, script: &[u8]) -> Left {
-    let mut reader = script;
-    let mut output = Vec::new(alloc);
-    let mut errors = Vec::new(alloc);
-    let outcome = perform(alloc, Task::Script, &mut reader, &mut output, &mut errors);
-    Left::new(End::Task(outcome).status(), output, errors)
-}
-
-// The files of the tests: one script, one that wants memory, and no other.
-fn open_one(path: &str) -> io::Result<&'static [u8]> {
+// The files of the tests: a script, one that wants memory, and no other.
+fn open_one(path: &str) -> io::Result<Input<'static>> {
     match path {
-        "one" => Ok(b"p1 close z\nq close z\n"),
-        "big" => Err(io::Error::from(io::ErrorKind::OutOfMemory)),
-        _ => Err(io::Error::from(io::ErrorKind::NotFound)),
+        "one" => Ok(Input::Bytes(b"p1 close z\nq close z\n")),
+        "big" => Err(Error::from(ErrorKind::OutOfMemory)),
+        _ => Err(Error::from(ErrorKind::NotFound)),
     }
 }
 
-// Serves the words over an empty input and these files.
-pub(crate) fn serve_words<'a>(alloc: Global, words: &'a [&'a str]) -> Left {
-    let mut nothing: &[u8] = b"";
-    let mut output = Vec::new(alloc);
-    let mut errors = Vec::new(alloc);
-    let end = serve(
-        alloc,
-        words,
-        open_one,
-        &mut nothing,
-        &mut output,
-        &mut errors,
+/// Whether a script ends with this status and leaves this.
+pub(crate) fn plays(
+    alloc: Global,
+    script: &[u8],
+    status: u8,
+    output: &[u8],
+    errors: &[u8],
+) -> bool {
+    let mut streams = Streams::new(alloc, Input::Bytes(script));
+    let end = streams.perform(alloc, Task::Script);
+    end.status() == status && streams.hold(output, errors)
+}
+
+/// Asserts that the words, over an empty input, end with this status and leave this.
+pub(crate) fn assert_serves(
+    rt: &impl Abort,
+    alloc: Global,
+    words: &[&str],
+    status: u8,
+    output: &[u8],
+    errors: &[u8],
+) {
+    let mut streams = Streams::new(alloc, Input::Bytes(b""));
+    let end = streams.serve(alloc, words);
+    assert!(rt;
+        end.status() == status && streams.hold(output, errors),
+        "at {words:?}"
     );
-    Left::new(end.status(), output, errors)
+}
+
+// Whether a case leaves what it tells: behind the line of what it shows stand its script, the line of the
+// program's status, and what it prints.
+fn passes(alloc: Global, case: &str) -> Option<bool> {
+    let (_shows, case) = case.split_once("\n")?;
+    let (script, case) = case.split_once("-- ends with ")?;
+    let (status, prints) = case.split_once("\n")?;
+    let status = if status == "0" { 0 } else { 1 };
+    Some(plays(alloc, script.as_bytes(), status, prints.as_bytes(), b""))
+}
+
+/// Asserts that each case of a text leaves what it tells. A case begins with `== ` and what it shows.
+pub(crate) fn assert_cases(rt: &impl Abort, alloc: Global, text: &str) {
+    let mut rest = text.strip_prefix("== ").unwrap_or("");
+    for _ in 0..text.len() {
+        let (case, behind) = rest.split_once("== ").unwrap_or((rest, ""));
+        assert!(rt; passes(alloc, case) == Some(true), "{case}");
+        if behind.is_empty() {
+            return;
+        }
+        rest = behind;
+    }
 }
