@@ -1,9 +1,7 @@
 //! The shell's public functions over streams that trickle and fail, and its faults in words.
 
 use crate::streams::{End, Lasts, Sip, Tally, Trickle};
-use ob_shell::{
-    Ending, ShellFault, offsets_are_added_in_full, read_script, run_script, shown_law, write_out,
-};
+use ob_shell::{Ending, ShellFault, read_script, run_script, write_out};
 use std::alloc::{AllocError, Global};
 use std::io::{ErrorKind, Read, repeat};
 use std::test::Fail;
@@ -39,23 +37,30 @@ fn slow_writer(alloc: Global) -> Sip {
     Sip::new(alloc, usize::MAX, End::NoByte, Lasts::Always)
 }
 
-#[test]
-fn reads_what_memory_holds(rt: HostRuntime) -> Result<(), Fail> {
-    let mut bytes = READ;
-    let script = read_script(rt.alloc(), &mut bytes)?;
-    assert_eq!(rt; script.as_slice(), READ);
-    let mut nothing: &[u8] = b"";
-    let empty = read_script(rt.alloc(), &mut nothing)?;
-    assert_eq!(rt; empty.len(), 0);
-    Ok(())
+// Whether a reader is read whole, and gives these bytes.
+fn gives<R: Read>(alloc: Global, reader: &mut R, bytes: &[u8]) -> bool {
+    match read_script(alloc, reader) {
+        Ok(script) => script.as_slice() == bytes,
+        Err(_) => false,
+    }
 }
 
 #[test]
-fn reads_byte_after_byte(rt: HostRuntime) -> Result<(), Fail> {
+fn reads_what_memory_holds_and_what_comes_byte_after_byte(rt: HostRuntime) {
+    let mut bytes = READ;
+    assert!(rt; gives(rt.alloc(), &mut bytes, READ));
+    let mut nothing: &[u8] = b"";
+    assert!(rt; gives(rt.alloc(), &mut nothing, b""));
     let mut slow = slow_reader(READ);
-    let script = read_script(rt.alloc(), &mut slow)?;
-    assert_eq!(rt; script.as_slice(), READ);
-    Ok(())
+    assert!(rt; gives(rt.alloc(), &mut slow, READ));
+}
+
+// Whether a fault of the reader's call is told, and the reader stands behind the calls before it.
+fn read_fails_at(alloc: Global, call: usize, kind: ErrorKind, lasts: Lasts) -> bool {
+    let mut failing = Trickle::new(READ, call, kind, lasts);
+    let outcome = read_script(alloc, &mut failing);
+    matches!(&outcome, Err(ShellFault::Read))
+        && failing.rest().len() == READ.len().saturating_sub(call)
 }
 
 #[test]
@@ -63,48 +68,47 @@ fn one_failed_read_ends_it(rt: HostRuntime) {
     for lasts in BOTH {
         for kind in KINDS {
             for call in 0..READ.len() + 1 {
-                let mut failing = Trickle::new(READ, call, kind, lasts);
-                let outcome = read_script(rt.alloc(), &mut failing);
                 assert!(rt;
-                    matches!(&outcome, Err(ShellFault::Read)),
+                    read_fails_at(rt.alloc(), call, kind, lasts),
                     "{lasts:?} at call {call}"
                 );
-                assert_eq!(rt; failing.rest().len(), READ.len() - call);
             }
         }
     }
 }
 
+// How many bytes are read of a reader, or the fault.
+fn length_of<R: Read>(alloc: Global, reader: &mut R) -> Result<usize, ShellFault> {
+    match read_script(alloc, reader) {
+        Ok(script) => Ok(script.len()),
+        Err(fault) => Err(fault),
+    }
+}
+
 #[test]
-fn the_limit_is_16_777_216_bytes(rt: HostRuntime) -> Result<(), Fail> {
+fn the_limit_is_16_777_216_bytes(rt: HostRuntime) {
     let mut longest = repeat(b'#').take(16_777_216);
-    let script = read_script(rt.alloc(), &mut longest)?;
-    assert_eq!(rt; script.len(), 16_777_216);
+    assert!(rt; length_of(rt.alloc(), &mut longest) == Ok(16_777_216));
     let mut longer = repeat(b'#').take(16_777_217);
-    let refused = read_script(rt.alloc(), &mut longer);
-    assert!(rt; matches!(&refused, Err(ShellFault::TooLong)));
+    assert!(rt; length_of(rt.alloc(), &mut longer) == Err(ShellFault::TooLong));
     let mut endless = repeat(b'#');
-    let refused = read_script(rt.alloc(), &mut endless);
-    assert!(rt; matches!(&refused, Err(ShellFault::TooLong)));
-    Ok(())
+    assert!(rt; length_of(rt.alloc(), &mut endless) == Err(ShellFault::TooLong));
 }
 
 #[test]
-fn writes_to_memory(rt: HostRuntime) -> Result<(), Fail> {
+fn writes_to_memory_and_byte_after_byte(rt: HostRuntime) {
     let mut kept = Vec::new(rt.alloc());
-    write_out(&mut kept, WRITTEN)?;
-    assert_eq!(rt; kept.as_slice(), WRITTEN);
-    write_out(&mut kept, b"")?;
-    assert_eq!(rt; kept.as_slice(), WRITTEN);
-    Ok(())
+    assert!(rt; write_out(&mut kept, WRITTEN) == Ok(()) && kept.as_slice() == WRITTEN);
+    assert!(rt; write_out(&mut kept, b"") == Ok(()) && kept.as_slice() == WRITTEN);
+    let mut slow = slow_writer(rt.alloc());
+    assert!(rt; write_out(&mut slow, WRITTEN) == Ok(()) && slow.taken() == WRITTEN);
 }
 
-#[test]
-fn writes_byte_after_byte(rt: HostRuntime) -> Result<(), Fail> {
-    let mut slow = slow_writer(rt.alloc());
-    write_out(&mut slow, WRITTEN)?;
-    assert_eq!(rt; slow.taken(), WRITTEN);
-    Ok(())
+// Whether a fault of the writer's call is told, and the writer has what the calls before it took.
+fn write_fails_at(alloc: Global, call: usize, end: End, lasts: Lasts) -> bool {
+    let mut failing = Sip::new(alloc, call, end, lasts);
+    let outcome = write_out(&mut failing, WRITTEN);
+    outcome == Err(ShellFault::Write) && Some(failing.taken()) == WRITTEN.get(..call)
 }
 
 #[test]
@@ -112,26 +116,31 @@ fn one_failed_write_ends_it(rt: HostRuntime) {
     for lasts in BOTH {
         for end in ENDS {
             for call in 0..WRITTEN.len() {
-                let mut failing = Sip::new(rt.alloc(), call, end, lasts);
-                let outcome = write_out(&mut failing, WRITTEN);
                 assert!(rt;
-                    matches!(outcome, Err(ShellFault::Write)),
+                    write_fails_at(rt.alloc(), call, end, lasts),
                     "{lasts:?} {end:?} at call {call}"
                 );
-                assert_eq!(rt; failing.taken(), &WRITTEN[..call]);
             }
         }
     }
 }
 
 #[test]
-fn a_script_may_come_and_go_byte_after_byte(rt: HostRuntime) -> Result<(), Fail> {
+fn a_script_may_come_and_go_byte_after_byte(rt: HostRuntime) {
     let mut reader = slow_reader(SCRIPT);
     let mut writer = slow_writer(rt.alloc());
-    let ended = run_script(rt.alloc(), &mut reader, &mut writer)?;
-    assert_eq!(rt; ended, Ending::Done);
-    assert_eq!(rt; writer.taken(), SHOWN);
-    Ok(())
+    let ended = run_script(rt.alloc(), &mut reader, &mut writer);
+    assert!(rt; ended == Ok(Ending::Done) && writer.taken() == SHOWN);
+}
+
+// Whether a fault of the reader's call ends the run, and nothing is written.
+fn run_fails_to_read_at(alloc: Global, call: usize, kind: ErrorKind, lasts: Lasts) -> bool {
+    let mut reader = Trickle::new(SCRIPT, call, kind, lasts);
+    let mut writer = slow_writer(alloc);
+    let outcome = run_script(alloc, &mut reader, &mut writer);
+    outcome == Err(ShellFault::Read)
+        && writer.taken().is_empty()
+        && reader.rest().len() == SCRIPT.len().saturating_sub(call)
 }
 
 #[test]
@@ -139,18 +148,21 @@ fn a_failed_read_runs_nothing(rt: HostRuntime) {
     for lasts in BOTH {
         for kind in KINDS {
             for call in 0..SCRIPT.len() + 1 {
-                let mut reader = Trickle::new(SCRIPT, call, kind, lasts);
-                let mut writer = slow_writer(rt.alloc());
-                let outcome = run_script(rt.alloc(), &mut reader, &mut writer);
                 assert!(rt;
-                    matches!(outcome, Err(ShellFault::Read)),
+                    run_fails_to_read_at(rt.alloc(), call, kind, lasts),
                     "{lasts:?} at call {call}"
                 );
-                assert_eq!(rt; writer.taken().len(), 0);
-                assert_eq!(rt; reader.rest().len(), SCRIPT.len() - call);
             }
         }
     }
+}
+
+// Whether a fault of the writer's call ends the run, and what the calls before it took was written.
+fn run_fails_to_write_at(alloc: Global, call: usize, end: End, lasts: Lasts) -> bool {
+    let mut reader = slow_reader(SCRIPT);
+    let mut writer = Sip::new(alloc, call, end, lasts);
+    let outcome = run_script(alloc, &mut reader, &mut writer);
+    outcome == Err(ShellFault::Write) && Some(writer.taken()) == SHOWN.get(..call)
 }
 
 #[test]
@@ -158,41 +170,42 @@ fn a_failed_write_leaves_a_beginning(rt: HostRuntime) {
     for lasts in BOTH {
         for end in ENDS {
             for call in 0..SHOWN.len() {
-                let mut reader = SCRIPT;
-                let mut writer = Sip::new(rt.alloc(), call, end, lasts);
-                let outcome = run_script(rt.alloc(), &mut reader, &mut writer);
                 assert!(rt;
-                    matches!(outcome, Err(ShellFault::Write)),
+                    run_fails_to_write_at(rt.alloc(), call, end, lasts),
                     "{lasts:?} {end:?} at call {call}"
                 );
-                assert_eq!(rt; writer.taken(), &SHOWN[..call]);
             }
         }
     }
 }
 
+// The calls and the bytes of the writer in which so many closes of a word that was never set are run.
+fn calls_and_bytes(alloc: Global, lines: usize) -> Result<(usize, usize), ShellFault> {
+    let mut script = Vec::new(alloc);
+    for _ in 0..lines {
+        script.extend_from_slice(b"p1 close a\n")?;
+    }
+    let mut reader = slow_reader(script.as_slice());
+    let mut writer = Tally { calls: 0, bytes: 0 };
+    run_script(alloc, &mut reader, &mut writer)?;
+    Ok((writer.calls, writer.bytes))
+}
+
 // Closes of a word that was never set print 9 lines of 18 bytes, 90 of 19, 900 of 20, and then lines of 21:
 // 2,000 print 40,893 bytes, which one block has room for, and 4,000 print 82,893.
 #[test]
-fn output_is_written_in_blocks(rt: HostRuntime) -> Result<(), Fail> {
+fn output_is_written_in_blocks(rt: HostRuntime) {
     for (lines, calls, bytes) in [
         (0, 0, 0),
         (1, 1, 18),
         (2_000, 1, 40_893),
         (4_000, 2, 82_893),
     ] {
-        let mut script = Vec::new(rt.alloc());
-        for _ in 0..lines {
-            script.extend_from_slice(b"p1 close a\n")?;
-        }
-        let mut reader = script.as_slice();
-        let mut writer = Tally { calls: 0, bytes: 0 };
-        let ended = run_script(rt.alloc(), &mut reader, &mut writer)?;
-        assert_eq!(rt; ended, Ending::Done);
-        assert_eq!(rt; writer.calls, calls);
-        assert_eq!(rt; writer.bytes, bytes);
+        assert!(rt;
+            calls_and_bytes(rt.alloc(), lines) == Ok((calls, bytes)),
+            "{lines} lines"
+        );
     }
-    Ok(())
 }
 
 const FAULTS: [(ShellFault, &'static str); 5] = [
@@ -224,11 +237,4 @@ fn stored(alloc: Global, byte: u8) -> Result<usize, ShellFault> {
 fn want_of_memory_is_memory(rt: HostRuntime) {
     assert_eq!(rt; stored(rt.alloc(), 7), Ok(1));
     assert_eq!(rt; ShellFault::from(AllocError), ShellFault::Memory);
-}
-
-// The calls answer nothing; what they are for is told by their contracts, and here they return.
-#[test]
-fn a_script_shows_one_thing() {
-    offsets_are_added_in_full();
-    shown_law();
 }
