@@ -1,12 +1,16 @@
-//! A small directory, searched with case and without.
+//! A small directory, searched with case and without as its entries come and go.
 
-ghost use Rattle.std.specs.Prelude.{◌<◌, ◌≤◌, All, IfOk};
+ghost use Rattle.std.specs.Prelude.{◌≡◌, ◌<◌, ◌≤◌, [], All, IfOk};
 
 use ob_base::ObjId;
-use ob_dirs::{Dir, dir_finds_what_the_state_finds, entries_follow_the_rows, not_found_is_free};
+use ob_dirs::Dir;
 use ob_names::{Name, NameBuf};
 use std::alloc::Global;
+use std::process::Abort;
 use std::test::Fail;
+
+// What is looked for, without case or with it, and the stamp and the object that are found.
+type Search = (&'static [u8], bool, Option<(u64, ObjId)>);
 
 // Puts an entry behind the others, where a search says that its spelling is free.
 fn put(alloc: Global, dir: &mut Dir, stamp: u64, bytes: &[u8], id: u64) -> Result<(), Fail>
@@ -21,107 +25,104 @@ fn put(alloc: Global, dir: &mut Dir, stamp: u64, bytes: &[u8], id: u64) -> Resul
     Ok(())
 }
 
-// A directory with `Foo`, then `Bar`, then `foo`, under the stamps 3, 5 and 9.
-fn three(alloc: Global) -> Result<Dir, Fail>
-    ensures { IfOk result (λ dir. All (λ entry. entry.stamp ≤ 9) dir) }
+// Puts `Foo`, then `Bar`, then `foo`, under the stamps 3, 5 and 9.
+fn put_three(alloc: Global, dir: &mut Dir) -> Result<(), Fail>
+    requires { dir.old ≡ [] }
+    ensures { IfOk result (λ _. All (λ entry. entry.stamp ≤ 9) dir.new) }
 {
-    let mut dir = Dir::new(alloc);
-    put(alloc, &mut dir, 3, b"Foo", 10)?;
-    put(alloc, &mut dir, 5, b"Bar", 11)?;
-    put(alloc, &mut dir, 9, b"foo", 12)?;
-    Ok(dir)
+    put(alloc, dir, 3, b"Foo", 10)?;
+    put(alloc, dir, 5, b"Bar", 11)?;
+    put(alloc, dir, 9, b"foo", 12)
 }
 
-#[test]
-fn a_new_directory_is_empty(rt: HostRuntime) {
-    let dir = Dir::new(rt.alloc());
-    assert!(rt; dir.is_empty() && dir.len() == 0 && dir.find(b"Foo", true).is_none());
-}
+// The searches of the three entries, of those that are left without the first, and of those with a new one.
+const OF_THREE: [Search; 9] = [
+    (b"Foo", false, Some((3, ObjId(10)))),
+    (b"foo", false, Some((9, ObjId(12)))),
+    (b"FOO", false, None),
+    (b"Foo", true, Some((3, ObjId(10)))),
+    (b"foo", true, Some((3, ObjId(10)))),
+    (b"FOO", true, Some((3, ObjId(10)))),
+    (b"bAR", true, Some((5, ObjId(11)))),
+    (b"Fo", true, None),
+    (b"", true, None),
+];
 
-#[test]
-fn the_first_inserted_is_found(rt: HostRuntime) -> Result<(), Fail> {
-    let dir = three(rt.alloc())?;
-    assert!(rt; !dir.is_empty() && dir.len() == 3);
-    let finds: [(&[u8], bool, Option<(u64, ObjId)>); 9] = [
-        (b"Foo", false, Some((3, ObjId(10)))),
-        (b"foo", false, Some((9, ObjId(12)))),
-        (b"FOO", false, None),
-        (b"Foo", true, Some((3, ObjId(10)))),
-        (b"foo", true, Some((3, ObjId(10)))),
-        (b"FOO", true, Some((3, ObjId(10)))),
-        (b"bAR", true, Some((5, ObjId(11)))),
-        (b"Fo", true, None),
-        (b"", true, None),
-    ];
-    for (component, fold, want) in finds {
-        assert!(rt; dir.find(component, fold) == want, "at {component:?}");
+const OF_TWO: [Search; 3] = [
+    (b"Foo", false, None),
+    (b"Foo", true, Some((9, ObjId(12)))),
+    (b"Bar", false, Some((5, ObjId(11)))),
+];
+
+const WITH_A_NEW_ONE: [Search; 3] = [
+    (b"Foo", false, Some((12, ObjId(13)))),
+    (b"Foo", true, Some((9, ObjId(12)))),
+    (b"foo", false, Some((9, ObjId(12)))),
+];
+
+// The number, from 0, of the first search that finds another entry than is wanted.
+fn first_other(dir: &Dir, searches: &[Search]) -> Option<usize> {
+    for (number, &(component, fold, wanted)) in searches.iter().enumerate() {
+        if dir.find(component, fold) != wanted {
+            return Some(number);
+        }
     }
-    Ok(())
+    None
 }
 
-#[test]
-fn entries_are_told_in_their_order(rt: HostRuntime) -> Result<(), Fail> {
-    let dir = three(rt.alloc())?;
-    assert_eq!(rt; dir.as_slice().len(), 3);
-    for (entry, want) in dir.as_slice().iter().zip([(3, 10), (5, 11), (9, 12)]) {
-        assert!(rt; (entry.stamp, entry.object.0) == want);
+// Whether the entries, in their order, have these stamps and objects, and each is told by its stamp.
+fn are_entries(dir: &Dir, wanted: &[(u64, u64)]) -> bool {
+    if dir.len() != wanted.len() || dir.as_slice().len() != wanted.len() {
+        return false;
     }
-    let empty = Dir::new(rt.alloc());
-    assert!(rt; empty.as_slice().is_empty());
-    Ok(())
+    for (entry, wanted) in dir.as_slice().iter().zip(wanted) {
+        if (entry.stamp, entry.object.0) != *wanted || object_of(dir, wanted.0) != Some(wanted.1) {
+            return false;
+        }
+    }
+    dir.is_empty() == wanted.is_empty()
 }
 
-#[test]
-fn a_removed_entry_is_not_found(rt: HostRuntime) -> Result<(), Fail> {
-    let mut dir = three(rt.alloc())?;
-    for (stamp, goes, left) in [(4, false, 3), (3, true, 2), (3, false, 2)] {
-        assert!(rt;
-            dir.remove(stamp).is_some() == goes && dir.len() == left,
-            "at {stamp}"
-        );
+// The object of the entry of a stamp.
+fn object_of(dir: &Dir, stamp: u64) -> Option<u64> {
+    match dir.get(stamp) {
+        Some(entry) => Some(entry.object.0),
+        None => None,
     }
-    let finds: [(&[u8], bool, Option<(u64, ObjId)>); 3] = [
-        (b"Foo", false, None),
-        (b"Foo", true, Some((9, ObjId(12)))),
-        (b"Bar", false, Some((5, ObjId(11)))),
-    ];
-    for (component, fold, want) in finds {
-        assert!(rt; dir.find(component, fold) == want, "at {component:?}");
-    }
-    assert!(rt; dir.remove(9).is_some() && dir.remove(5).is_some() && dir.is_empty());
-    Ok(())
 }
 
-#[test]
-fn an_entry_is_told_by_its_stamp(rt: HostRuntime) -> Result<(), Fail> {
-    let dir = three(rt.alloc())?;
-    let table = [
-        (3, Some(10)),
-        (5, Some(11)),
-        (9, Some(12)),
-        (4, None),
-        (10, None),
-    ];
-    for (stamp, wanted) in table {
-        let object = dir.get(stamp).map(|entry| entry.object.0);
-        assert!(rt; object == wanted, "at {stamp}");
-    }
-    Ok(())
-}
+// The stamps whose entries are removed, in this order: whether one goes, and how many entries are left.
+const REMOVED: [(u64, bool, usize); 5] = [
+    (4, false, 3),
+    (3, false, 3),
+    (9, true, 2),
+    (5, true, 1),
+    (12, true, 0),
+];
 
-#[test]
-fn a_name_comes_back_as_the_newest(rt: HostRuntime) -> Result<(), Fail> {
-    let mut dir = three(rt.alloc())?;
+fn come_and_go(rt: &impl Abort, alloc: Global, dir: &mut Dir) -> Result<(), Fail>
+    requires { dir.old ≡ [] }
+{
+    assert!(rt; are_entries(dir, &[]) && dir.find(b"Foo", true).is_none());
+    put_three(alloc, dir)?;
+    assert!(rt; are_entries(dir, &[(3, 10), (5, 11), (9, 12)]));
+    assert!(rt; object_of(dir, 4).is_none() && object_of(dir, 10).is_none());
+    assert_eq!(rt; first_other(dir, &OF_THREE), None);
     assert!(rt; dir.remove(3).is_some());
-    put(rt.alloc(), &mut dir, 12, b"Foo", 13)?;
-    let (exactly, folded) = (dir.find(b"Foo", false), dir.find(b"Foo", true));
-    assert!(rt; exactly == Some((12, ObjId(13))) && folded == Some((9, ObjId(12))));
+    assert_eq!(rt; first_other(dir, &OF_TWO), None);
+    put(alloc, dir, 12, b"Foo", 13)?;
+    assert_eq!(rt; first_other(dir, &WITH_A_NEW_ONE), None);
+    assert!(rt; are_entries(dir, &[(5, 11), (9, 12), (12, 13)]));
+    for (stamp, goes, left) in REMOVED {
+        let went = dir.remove(stamp).is_some();
+        assert!(rt; went == goes && dir.len() == left, "at {stamp}");
+    }
+    assert!(rt; dir.is_empty());
     Ok(())
 }
 
 #[test]
-fn laws_can_be_called(_rt: HostRuntime) {
-    dir_finds_what_the_state_finds::<u8, u8, u8, u8>();
-    not_found_is_free();
-    entries_follow_the_rows();
+fn entries_are_found_in_their_order_as_they_come_and_go(rt: HostRuntime) -> Result<(), Fail> {
+    let mut dir = Dir::new(rt.alloc());
+    come_and_go(&rt, rt.alloc(), &mut dir)
 }

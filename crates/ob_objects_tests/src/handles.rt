@@ -1,12 +1,13 @@
 //! What no clause says: that handles are granted where memory is ample, which value a new one gets, and
 //! where a table ends.
 
-ghost use Rattle.std.specs.Prelude.{◌≡◌, ◌<◌, All, IfOk};
+ghost use Rattle.std.specs.Prelude.{◌≡◌, ◌<◌, [], All, IfOk};
 
 use ob_base::{Fault, Handle, ObjId, Proc, Status};
-use ob_handles::{HandleTable, MOST_HANDLES, OpenTable, laws};
+use ob_handles::{HandleTable, MOST_HANDLES, OpenTable};
 use ob_model::Held;
 use std::alloc::Global;
+use std::process::Abort;
 use std::test::Fail;
 
 const CHILD: Proc = Proc(7);
@@ -34,68 +35,65 @@ fn held(value: u32, object: u64, inherit: bool, order: u64) -> Held
     }
 }
 
-#[test]
-fn a_handle_is_granted_found_and_taken(rt: HostRuntime) -> Result<(), Fail> {
-    let mut table: OpenTable = filled(rt.alloc(), 2)?;
+// A handle is granted, found and taken.
+fn one_comes_and_goes<H: HandleTable>(rt: &impl Abort, alloc: Global) -> Result<(), Fail> {
+    let mut table: H = filled(alloc, 2)?;
     let value = table.grant(CHILD, ObjId(5), true, 2)?;
-    assert_eq!(rt; (value, table.len()), (Handle(12), 3));
-    assert_eq!(rt; table.get(value), Some(held(12, 5, true, 2)));
-    assert_eq!(rt; table.take(value), Some(held(12, 5, true, 2)));
-    assert_eq!(rt; table.take(value), None);
-    assert_eq!(rt; table.get(value), None);
-    assert_eq!(rt; (table.get(Handle(5)), table.len()), (None, 2));
+    let wanted = Some(held(12, 5, true, 2));
+    assert!(rt; value == Handle(12) && table.len() == 3 && table.get(value) == wanted);
+    let (first, again) = (table.take(value), table.take(value));
+    assert!(rt; first == wanted && again.is_none() && table.get(value).is_none());
+    assert!(rt; table.get(Handle(5)).is_none() && table.len() == 2);
     Ok(())
 }
 
-#[test]
-fn handles_go_from_the_oldest_on(rt: HostRuntime) -> Result<(), Fail> {
-    let mut table: OpenTable = filled(rt.alloc(), 3)?;
+// Handles go from the oldest on.
+fn all_go<H: HandleTable>(rt: &impl Abort, alloc: Global) -> Result<(), Fail> {
+    let mut table: H = filled(alloc, 3)?;
     table.take(Handle(4));
-    let mut orders = Vec::new(rt.alloc());
-    for _ in 0..3 {
+    for wanted in [1, 2] {
         let Some(oldest) = table.oldest() else {
-            break;
+            return Err(Fail::from("a handle is gone"));
         };
-        orders.push(oldest.order)?;
+        assert_eq!(rt; oldest.order, wanted);
         table.take(oldest.value);
     }
-    assert_eq!(rt; orders.as_slice(), [1, 2].as_slice());
-    assert_eq!(rt; table.len(), 0);
+    assert!(rt; table.oldest().is_none() && table.len() == 0);
+    Ok(())
+}
+
+// The greatest value is put, as by a child that inherits it, and the next one is the least.
+fn one_is_inherited<H: HandleTable>(rt: &impl Abort, alloc: Global) -> Result<(), Fail> {
+    let mut table = H::new(alloc);
+    table.put(held(262_140, 5, true, 1))?;
+    let next = table.grant(CHILD, ObjId(9), false, 2)?;
+    assert!(rt; next == Handle(4) && table.get(Handle(262_140)) == Some(held(262_140, 5, true, 1)));
+    Ok(())
+}
+
+// A full table has room for one in place of one that went, and for no more.
+fn a_full_one_takes_no_more<H: HandleTable>(rt: &impl Abort, alloc: Global) -> Result<(), Fail> {
+    let mut table: H = filled(alloc, 65_535)?;
+    assert_eq!(rt; table.len(), MOST_HANDLES);
+    let taken = table.take(Handle(40));
+    let granted = table.grant(CHILD, ObjId(9), false, 65_535)?;
+    assert!(rt; taken.is_some() && granted == Handle(40) && table.len() == MOST_HANDLES);
+    let refused = table.grant(CHILD, ObjId(9), false, 65_536);
+    assert!(rt; refused == Err(Fault::Refused(Status::InsufficientResources)));
+    assert!(rt; table.len() == MOST_HANDLES);
     Ok(())
 }
 
 #[test]
-fn an_inherited_handle_keeps_its_value(rt: HostRuntime) -> Result<(), Fail> {
-    let mut table = OpenTable::new(rt.alloc());
-    table.put(held(262_140, 5, true, 1))?;
-    let next = table.grant(CHILD, ObjId(9), false, 2)?;
-    assert_eq!(rt; next, Handle(4));
-    assert_eq!(rt; table.get(Handle(262_140)), Some(held(262_140, 5, true, 1)));
-    Ok(())
+fn handles_come_under_the_least_free_value_and_go_from_the_oldest_on(
+    rt: HostRuntime,
+) -> Result<(), Fail> {
+    one_comes_and_goes::<OpenTable>(&rt, rt.alloc())?;
+    all_go::<OpenTable>(&rt, rt.alloc())?;
+    one_is_inherited::<OpenTable>(&rt, rt.alloc())
 }
 
 #[test]
 fn a_table_ends_at_65535_handles(rt: HostRuntime) -> Result<(), Fail> {
-    let mut table: OpenTable = filled(rt.alloc(), 65_535)?;
-    assert_eq!(rt; table.len(), MOST_HANDLES);
-    let refused = table.grant(CHILD, ObjId(9), false, 65_535);
-    assert_eq!(rt; refused, Err(Fault::Refused(Status::InsufficientResources)));
-    assert_eq!(rt; table.len(), MOST_HANDLES);
-    Ok(())
-}
-
-#[test]
-fn a_full_table_has_room_for_one_that_went(rt: HostRuntime) -> Result<(), Fail> {
-    let mut table: OpenTable = filled(rt.alloc(), 65_535)?;
-    assert!(rt; table.take(Handle(40)).is_some());
-    let granted = table.grant(CHILD, ObjId(9), false, 65_535)?;
-    assert_eq!(rt; granted, Handle(40));
-    Ok(())
-}
-
-#[test]
-fn laws_are_called(_rt: HostRuntime) {
-    laws::a_new_handle_is_found();
-    laws::a_taken_handle_is_gone();
-    laws::the_oldest_was_opened_first();
+    a_full_one_takes_no_more::<OpenTable>(&rt, rt.alloc())
 }

@@ -1,12 +1,12 @@
 //! What no clause says: that opens are pending where memory is ample, at a concrete type of kinds.
 
-ghost use Rattle.std.specs.Prelude.{◌≡◌};
+ghost use Rattle.std.specs.Prelude.{◌≡◌, []};
 
 use ob_base::{ObjId, Proc};
 use ob_model::{Bytes, Pending, Wanted};
 use ob_pending::PendingOpens;
 use std::alloc::{AllocError, Global};
-use std::test::Fail;
+use std::process::Abort;
 
 const SEVEN: Option<ObjId> = Some(ObjId(7));
 
@@ -27,13 +27,20 @@ fn open_at(alloc: Global, ticket: u64, object: u64) -> Pending<bool>
     }
 }
 
-// Opens of the tickets 4 and 9 at the object 7, and of the ticket 5 at the object 8.
-fn three_opens(alloc: Global) -> Result<PendingOpens<bool>, AllocError> {
-    let mut opens = PendingOpens::new(alloc);
+// Opens of the tickets 4 and 9 at the object 7, and of the ticket 5 at the object 8, come.
+fn three_come(alloc: Global, opens: &mut PendingOpens<bool>) -> Result<(), AllocError>
+    requires { opens.old ≡ [] }
+{
     opens.insert(open_at(alloc, 4, 7))?;
     opens.insert(open_at(alloc, 5, 8))?;
-    opens.insert(open_at(alloc, 9, 7))?;
-    Ok(opens)
+    opens.insert(open_at(alloc, 9, 7))
+}
+
+fn object_of(open: Option<&Pending<bool>>) -> Option<ObjId> {
+    match open {
+        Some(open) => Some(open.object),
+        None => None,
+    }
 }
 
 // What is told: how many opens are pending, whether none is, the object of the ticket 5, and whether the
@@ -42,16 +49,21 @@ fn told(opens: &PendingOpens<bool>) -> (usize, bool, Option<ObjId>, bool, bool) 
     (
         opens.len(),
         opens.is_empty(),
-        opens.get(5).map(|open| open.object),
+        object_of(opens.get(5)),
         opens.is_pinned(ObjId(7)),
         opens.is_pinned(ObjId(8)),
     )
 }
 
-#[test]
-fn opens_pin_their_objects_until_they_are_taken(rt: HostRuntime) -> Result<(), Fail> {
-    let mut opens = three_opens(rt.alloc())?;
-    assert!(rt; told(&opens) == (3, false, EIGHT, true, true));
+fn pin_until_taken(
+    rt: &impl Abort,
+    alloc: Global,
+    opens: &mut PendingOpens<bool>,
+) -> Result<(), AllocError>
+    requires { opens.old ≡ [] }
+{
+    three_come(alloc, opens)?;
+    assert!(rt; told(opens) == (3, false, EIGHT, true, true));
     let steps = [
         (4, SEVEN, (2, false, EIGHT, true, true)),
         (4, None, (2, false, EIGHT, true, true)),
@@ -60,8 +72,16 @@ fn opens_pin_their_objects_until_they_are_taken(rt: HostRuntime) -> Result<(), F
     ];
     for (ticket, object, wanted) in steps {
         let taken = opens.take(ticket);
-        assert!(rt; taken.map(|open| open.object) == object);
-        assert!(rt; told(&opens) == wanted);
+        assert!(rt;
+            object_of(taken.as_ref()) == object && told(opens) == wanted,
+            "at {ticket}"
+        );
     }
     Ok(())
+}
+
+#[test]
+fn opens_pin_their_objects_until_they_are_taken(rt: HostRuntime) -> Result<(), AllocError> {
+    let mut opens = PendingOpens::new(rt.alloc());
+    pin_until_taken(&rt, rt.alloc(), &mut opens)
 }

@@ -1,13 +1,14 @@
-//! What no clause says: that processes begin and handles are granted where memory is ample, at the
-//! concrete type of tables.
+//! What no clause says: that processes begin and handles are granted where memory is ample. All but the
+//! tests is over any type of tables.
 
 ghost use Rattle.std.specs.Prelude.{◌≡◌, [], ◌∷◌, IfOk};
 
 use ob_base::{Handle, ObjId, Proc};
-use ob_handles::OpenTable;
+use ob_handles::{HandleTable, OpenTable};
 use ob_model::Held;
-use ob_processes::Processes;
+use ob_processes::{Ending, Processes};
 use std::alloc::{AllocError, Global};
+use std::process::Abort;
 use std::test::Fail;
 
 const PARENT: Proc = Proc(1);
@@ -16,16 +17,16 @@ const CHILD: Proc = Proc(2);
 
 const DIRECTORY: ObjId = ObjId(7);
 
-// A parent without a device map and a child with one, and no handle.
-fn two_processes(alloc: Global) -> Result<Processes<OpenTable>, AllocError>
-    ensures processes { IfOk result (λ all. all.processes
+// A parent begins without a device map and a child with one.
+fn start_two<H: HandleTable>(all: &mut Processes<H>) -> Result<(), AllocError>
+    requires { all.old ≡ record { processes = []; handles = [] } }
+    ensures processes { IfOk result (λ _. all.new.processes
         ≡ record { number = 1; map = None } ∷ record { number = 2; map = Some 7 } ∷ []) }
-    ensures handles { IfOk result (λ all. all.handles ≡ []) }
+    ensures handles { IfOk result (λ _. all.new.handles ≡ []) }
 {
-    let mut all = Processes::new(alloc);
     all.start(PARENT, None)?;
     all.start(CHILD, Some(DIRECTORY))?;
-    Ok(all)
+    Ok(())
 }
 
 fn held(process: Proc, value: Handle, object: u64, inherit: bool, order: u64) -> Held
@@ -40,9 +41,46 @@ fn held(process: Proc, value: Handle, object: u64, inherit: bool, order: u64) ->
     }
 }
 
+// The directories of the device maps of the parent and of the child.
+fn local_maps<H: HandleTable>(all: &Processes<H>) -> (Option<ObjId>, Option<ObjId>) {
+    (all.view(PARENT).local, all.view(CHILD).local)
+}
+
+// A process gets a map, and another in its place, and its map goes with it.
+fn get_maps<H: HandleTable>(rt: &impl Abort, all: &mut Processes<H>) -> Result<(), Fail>
+    requires { all.old ≡ record { processes = []; handles = [] } }
+{
+    let (other, none) = (ObjId(8), Proc(3));
+    start_two(all)?;
+    assert!(rt; local_maps(all) == (None, Some(DIRECTORY)) && all.is_mapped(DIRECTORY));
+    all.set_map(PARENT, DIRECTORY)?;
+    all.set_map(CHILD, other)?;
+    assert!(rt; local_maps(all) == (Some(DIRECTORY), Some(other)) && all.is_mapped(DIRECTORY));
+    all.set_map(PARENT, other)?;
+    all.set_map(none, DIRECTORY)?;
+    assert!(rt; local_maps(all) == (Some(other), Some(other)) && all.is_mapped(other));
+    assert!(rt; all.view(none).local.is_none() && !all.is_mapped(DIRECTORY));
+    all.end(PARENT);
+    assert!(rt; !all.is_live(PARENT) && all.is_live(CHILD) && all.count() == 1);
+    assert!(rt; local_maps(all) == (None, Some(other)) && all.is_mapped(other));
+    all.end(CHILD);
+    assert!(rt; local_maps(all) == (None, None) && !all.is_mapped(other));
+    Ok(())
+}
+
+fn maps_of<H: HandleTable>(rt: &impl Abort, alloc: Global) -> Result<(), Fail> {
+    let mut all: Processes<H> = Processes::new(alloc);
+    get_maps(rt, &mut all)
+}
+
+#[test]
+fn a_process_gets_a_map_in_place_of_its_own_until_it_ends(rt: HostRuntime) -> Result<(), Fail> {
+    maps_of::<OpenTable>(&rt, rt.alloc())
+}
+
 // Of an object: its handles in all, in the parent and in the child, and whether another than the parent
 // has one.
-fn counts(all: &Processes<OpenTable>, object: u64) -> (usize, usize, usize, bool) {
+fn counts<H: HandleTable>(all: &Processes<H>, object: u64) -> (usize, usize, usize, bool) {
     let object = ObjId(object);
     (
         all.count_of(object),
@@ -54,7 +92,7 @@ fn counts(all: &Processes<OpenTable>, object: u64) -> (usize, usize, usize, bool
 
 // What is told of the processes: how many live, how many handles there are in all, in the parent and in
 // the child, and the parent's oldest handle.
-fn told(all: &Processes<OpenTable>) -> (usize, usize, usize, usize, Option<Held>) {
+fn told<H: HandleTable>(all: &Processes<H>) -> (usize, usize, usize, usize, Option<Held>) {
     (
         all.count(),
         all.len(),
@@ -64,81 +102,77 @@ fn told(all: &Processes<OpenTable>) -> (usize, usize, usize, usize, Option<Held>
     )
 }
 
-// The parent with two handles, of which the child has the first too.
-fn three_handles(alloc: Global) -> Result<Processes<OpenTable>, Fail> {
-    let mut all = two_processes(alloc)?;
+// The parent gets two handles, of which the child gets the first too.
+fn open_three<H: HandleTable>(all: &mut Processes<H>) -> Result<(), Fail>
+    requires { all.old ≡ record { processes = []; handles = [] } }
+{
+    start_two(all)?;
     let first = all.grant(PARENT, ObjId(5), false, 1)?;
     all.put(held(CHILD, first, 5, true, 2))?;
     all.grant(PARENT, ObjId(6), false, 3)?;
-    Ok(all)
+    Ok(())
+}
+
+// Processes hold handles of their own.
+fn hold_handles<H: HandleTable>(rt: &impl Abort, all: &mut Processes<H>) -> Result<(), Fail>
+    requires { all.old ≡ record { processes = []; handles = [] } }
+{
+    let (first, last) = (Handle(4), Handle(8));
+    let oldest = held(PARENT, first, 5, false, 1);
+    open_three(all)?;
+    assert!(rt; told(all) == (2, 3, 2, 1, Some(oldest)));
+    assert!(rt; counts(all, 5) == (2, 1, 1, true) && counts(all, 6) == (1, 1, 0, false));
+    assert!(rt; all.take(PARENT, first) == Some(oldest) && all.take(PARENT, first).is_none());
+    assert!(rt; all.get(CHILD, first).is_some() && all.get(PARENT, first).is_none());
+    assert!(rt; told(all) == (2, 2, 1, 1, Some(held(PARENT, last, 6, false, 3))));
+    assert!(rt; counts(all, 5) == (1, 0, 1, true) && counts(all, 7) == (0, 0, 0, false));
+    Ok(())
+}
+
+fn handles_of<H: HandleTable>(rt: &impl Abort, alloc: Global) -> Result<(), Fail> {
+    let mut all: Processes<H> = Processes::new(alloc);
+    hold_handles(rt, &mut all)
 }
 
 #[test]
 fn processes_hold_handles_of_their_own(rt: HostRuntime) -> Result<(), Fail> {
-    let mut all = three_handles(rt.alloc())?;
-    let (first, last) = (Handle(4), Handle(8));
-    let oldest = held(PARENT, first, 5, false, 1);
-    assert!(rt; told(&all) == (2, 3, 2, 1, Some(oldest)));
-    assert!(rt; counts(&all, 5) == (2, 1, 1, true) && counts(&all, 6) == (1, 1, 0, false));
-    assert!(rt; all.take(PARENT, first) == Some(oldest) && all.take(PARENT, first).is_none());
-    assert!(rt; all.get(CHILD, first).is_some() && all.get(PARENT, first).is_none());
-    assert!(rt; told(&all) == (2, 2, 1, 1, Some(held(PARENT, last, 6, false, 3))));
-    assert!(rt; counts(&all, 5) == (1, 0, 1, true) && counts(&all, 7) == (0, 0, 0, false));
+    handles_of::<OpenTable>(&rt, rt.alloc())
+}
+
+// The parent's handles, which are the child's no more, go from the oldest on, and leave what they touched.
+fn leave_handles<H: HandleTable>(rt: &impl Abort, mut ending: Ending<H>) {
+    assert!(rt; ending.count_of(ObjId(5)) == 1 && ending.count_of(ObjId(7)) == 0);
+    assert!(rt; ending.next() == Some(held(PARENT, Handle(4), 5, false, 1)));
+    assert!(rt; ending.count_of(ObjId(5)) == 0 && ending.count_of(ObjId(6)) == 1);
+    assert!(rt; ending.next() == Some(held(PARENT, Handle(8), 6, false, 3)));
+    assert!(rt; ending.next().is_none());
+    let touched = ending.into_touched();
+    assert!(rt; touched.holds(ObjId(5)) && touched.holds(ObjId(6)) && !touched.holds(ObjId(7)));
+    for (id, last) in [(9, Some(ObjId(6))), (6, Some(ObjId(5))), (5, None)] {
+        assert!(rt; touched.last_before(ObjId(id)) == last, "at {id}");
+    }
+}
+
+fn end<H: HandleTable>(rt: &impl Abort, all: &mut Processes<H>) -> Result<(), Fail>
+    requires { all.old ≡ record { processes = []; handles = [] } }
+{
+    open_three(all)?;
+    let Some(ending) = all.end(PARENT) else {
+        return Err(Fail::from("the parent is gone"));
+    };
+    assert!(rt; all.len() == 1 && counts(all, 5) == (1, 0, 1, true));
+    assert!(rt; counts(all, 6) == (0, 0, 0, false));
+    leave_handles(rt, ending);
+    assert!(rt; all.end(PARENT).is_none());
     Ok(())
 }
 
-#[test]
-fn a_process_ends_without_handles(rt: HostRuntime) -> Result<(), Fail> {
-    let mut all = two_processes(rt.alloc())?;
-    all.end(PARENT);
-    assert!(rt; !all.is_live(PARENT) && all.is_live(CHILD) && all.count() == 1);
-    assert!(rt; local_maps(&all) == (None, Some(DIRECTORY)));
-    all.end(CHILD);
-    assert!(rt; local_maps(&all) == (None, None) && !all.is_mapped(DIRECTORY));
-    Ok(())
-}
-
-// The directories of the device maps of the parent and of the child.
-fn local_maps(all: &Processes<OpenTable>) -> (Option<ObjId>, Option<ObjId>) {
-    (all.view(PARENT).local, all.view(CHILD).local)
-}
-
-#[test]
-fn a_process_gets_a_map_in_place_of_its_own(rt: HostRuntime) -> Result<(), Fail> {
-    let mut all = two_processes(rt.alloc())?;
-    let (other, none) = (ObjId(8), Proc(3));
-    assert!(rt; local_maps(&all) == (None, Some(DIRECTORY)) && all.is_mapped(DIRECTORY));
-    all.set_map(PARENT, DIRECTORY)?;
-    all.set_map(CHILD, other)?;
-    assert!(rt; local_maps(&all) == (Some(DIRECTORY), Some(other)) && all.is_mapped(DIRECTORY));
-    all.set_map(PARENT, other)?;
-    all.set_map(none, DIRECTORY)?;
-    assert!(rt; local_maps(&all) == (Some(other), Some(other)) && all.is_mapped(other));
-    assert!(rt; all.view(none).local.is_none() && !all.is_mapped(DIRECTORY));
-    Ok(())
+fn end_of<H: HandleTable>(rt: &impl Abort, alloc: Global) -> Result<(), Fail> {
+    let mut all: Processes<H> = Processes::new(alloc);
+    end(rt, &mut all)
 }
 
 #[test]
 fn a_process_leaves_its_handles_from_the_oldest_on(rt: HostRuntime) -> Result<(), Fail> {
-    let mut all = three_handles(rt.alloc())?;
-    let Some(mut ending) = all.end(PARENT) else {
-        return Err(Fail::from("the parent is gone"));
-    };
-    assert!(rt;
-        all.len() == 1 && counts(&all, 5) == (1, 0, 1, true) && counts(&all, 6) == (0, 0, 0, false)
-    );
-    assert!(rt; ending.count_of(ObjId(5)) == 1 && ending.count_of(ObjId(7)) == 0);
-    assert!(rt; ending.next() == Some(held(PARENT, Handle(4), 5, false, 1)));
-    assert!(rt; ending.count_of(ObjId(5)) == 0 && ending.count_of(ObjId(6)) == 1);
-    assert!(rt;
-        ending.next() == Some(held(PARENT, Handle(8), 6, false, 3)) && ending.next().is_none()
-    );
-    let touched = ending.into_touched();
-    assert!(rt; touched.holds(ObjId(5)) && touched.holds(ObjId(6)) && !touched.holds(ObjId(7)));
-    let (last, first) = (touched.last_before(ObjId(9)), touched.last_before(ObjId(6)));
-    assert!(rt;
-        last == Some(ObjId(6)) && first == Some(ObjId(5)) && touched.last_before(ObjId(5)).is_none()
-    );
-    assert!(rt; all.end(PARENT).is_none());
-    Ok(())
+    end_of::<OpenTable>(&rt, rt.alloc())
 }

@@ -3,7 +3,7 @@ use Rattle.std.proofs.Common.{◌≡◌, ◌∙◌, ◌<◌, ◌==◌, List, [],
 use Rattle.std.proofs.lemmas.List.Elements.{All-nil, All-cons}
 use Rattle.ob_model.specs.declared.state.Held.{Held}
 use Rattle.ob_handles.specs.Table.{IsUnused}
-use Rattle.ob_objects_tests.proofs.handles.an_inherited_handle_keeps_its_value.Goals as goal
+use Rattle.ob_objects_tests.proofs.handles.one_is_inherited.Goals as goal
 
 first_unused : (handles : List Held) (held : Held) → handles ≡ [] → held.value ≡ 262140 → IsUnused handles held.value
 first_unused handles held empty value = (
@@ -15,7 +15,7 @@ first_below : (held : Held) → held.order ≡ 1 → All (λ h. h.order < 2) (he
 first_below held first = All-cons (λ (h : Held). h.order < 2) held [] (omega (arith, first)) (All-nil (λ (h : Held). h.order < 2))
 
 pub put-requires-clause-unused : goal.put-requires-clause-unused
-put-requires-clause-unused g c = first_unused c.new-table.result c.held.result c.new-table.ensures (ap (λ (h : Held). h.value) c.held.ensures)
+put-requires-clause-unused g c = first_unused (g.H.HandleTable.handles c.new-table.result) c.held.result c.new-table.ensures (ap (λ (h : Held). h.value) c.held.ensures)
 
 pub grant-requires : goal.grant-requires
 grant-requires g c = record {
