@@ -18,9 +18,9 @@ pub(crate) enum End<'a> {
 
 // What an object is.
 #[derive(Clone, Copy)]
-pub(crate) enum Kind {
+pub(crate) enum Kind<'a> {
     Directory,
-    Link(&'static [u8]),
+    Link(&'a [u8]),
     File,
     Device,
 }
@@ -31,7 +31,7 @@ pub(crate) struct PlainRow {
     pub(crate) directory: u64,
     pub(crate) name: u8,
     pub(crate) object: u64,
-    pub(crate) kind: Kind,
+    pub(crate) kind: Kind<'static>,
 }
 
 // What comes of one component, or of none.
@@ -165,9 +165,12 @@ fn next_turn(
 
 // The first row of a name in a directory.
 fn find(rows: &[PlainRow], mode: Mode, directory: u64, name: u8) -> Option<PlainRow> {
-    rows.iter()
-        .find(|row| row.directory == directory && is_same(row.name, name, mode.fold))
-        .copied()
+    for row in rows {
+        if row.directory == directory && is_same(row.name, name, mode.fold) {
+            return Some(*row);
+        }
+    }
+    None
 }
 
 // What comes of a component that names an object.

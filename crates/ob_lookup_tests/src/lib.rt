@@ -3,6 +3,10 @@
 #![tactic(auto)]
 
 #[cfg(test)]
+mod beside;
+#[cfg(test)]
+mod bodies;
+#[cfg(test)]
 mod flat_rows;
 #[cfg(test)]
 mod lookup;

@@ -1,4 +1,4 @@
-//! Small namespaces, for tests.
+//! Small namespaces, for tests, over any set of types.
 
 ghost use Rattle.std.specs.Prelude.{◌≡◌, ◌≢◌, ◌<◌, ◌+◌, ◌^◌, ◌-◌, [], All, IsSome, IsTrue};
 ghost use Rattle.std.specs.Option.{option_copied};
@@ -6,12 +6,14 @@ ghost use Rattle.ob_objects.specs.Store.{directory_at, entries_at, entries_in, I
 ghost use Rattle.ob_lookup.specs.Closed.{IsClosed, IsViewThere};
 ghost use Rattle.ob_lookup_tests.specs.Space.{IsSpace};
 
+use crate::bodies::body;
+use crate::flat_rows::Kind;
 use ob_base::{Fault, ObjId};
-use ob_device::{DeviceFace, DeviceInner, DeviceSet};
 use ob_devmap::View;
 use ob_dirs::Dir;
 use ob_names::{Name, NameBuf};
 use ob_objects::{Store, StoredBody, StoredObject};
+use ob_types::TypeSet;
 use std::alloc::Global;
 use std::marker::Model;
 use std::test::Fail;
@@ -19,27 +21,25 @@ use std::test::Fail;
 // A store in which each name leads to an object, and the number that the next object gets, which is
 // the stamp of its name too. The first one is the root.
 #[derive(Drop)]
-pub(crate) struct Space {
-    store: Store<DeviceSet>,
+pub(crate) struct Space<T: TypeSet> {
+    store: Store<T>,
     next: u64,
 }
 
-impl Model for Space {
+impl<T: TypeSet> Model for Space<T> {
     ghost use Rattle.ob_objects.specs.Store.{Entries};
     ghost use Rattle.ob_lookup_tests.specs.Space.{IsSpace};
-    ghost use Rattle.ob_device.specs.declared.device.DeviceFace.{DeviceFace};
-    ghost use Rattle.ob_device.specs.declared.device.DeviceInner.{DeviceInner};
 
-    ghost Value = { Entries DeviceFace DeviceInner };
+    ghost Value = { Entries T.Face T.Inner };
 
     ghost view = { λ space. space.store };
 
     ghost invariant = { λ space. IsSpace space.store space.next };
 }
 
-impl Space {
+impl<T: TypeSet> Space<T> {
     // A namespace of a root directory alone.
-    pub(crate) fn new(alloc: Global) -> Result<Space, Fail> {
+    pub(crate) fn new(alloc: Global) -> Result<Space<T>, Fail> {
         let mut store = Store::new(alloc);
         let root = temporary(StoredBody::Directory(Dir::new(alloc)));
         store.insert(ObjId(1), root)?;
@@ -47,27 +47,28 @@ impl Space {
     }
 
     // The store.
-    pub(crate) fn store(&self) -> &Store<DeviceSet>
+    pub(crate) fn store(&self) -> &Store<T>
         ensures { IsClosed result.now }
     {
         &self.store
     }
 
-    // Adds an object in which no entry lies, under a name in a directory, and gives its id.
+    // Adds an object of a kind under a name in a directory, where this kind of the set is that of devices, and gives
+    // its id.
     pub(crate) fn add(
         &mut self,
         alloc: Global,
+        devices: T::Kind,
         directory: ObjId,
         name: &[u8],
-        body: StoredBody<DeviceFace, DeviceInner>,
-    ) -> Result<ObjId, Fail>
-        requires { entries_in body ≡ [] }
-    {
+        kind: Kind<'_>,
+    ) -> Result<ObjId, Fail> {
         let name = NameBuf::from_name(alloc, Name::read(name)?)?;
         let id = self.next;
         if id == u64::MAX || !is_free(&self.store, directory, name.as_slice()) {
             return Err(Fail::from("no place for the object"));
         }
+        let body = body::<T>(alloc, devices, kind)?;
         self.next += 1;
         put(&mut self.store, directory, id, name, temporary(body))?;
         Ok(ObjId(id))
@@ -75,7 +76,7 @@ impl Space {
 }
 
 // A temporary object, not exclusive.
-fn temporary(body: StoredBody<DeviceFace, DeviceInner>) -> StoredObject<DeviceFace, DeviceInner>
+fn temporary<F, I>(body: StoredBody<F, I>) -> StoredObject<F, I>
     ensures { result.body ≡ body }
 {
     StoredObject {
@@ -86,7 +87,7 @@ fn temporary(body: StoredBody<DeviceFace, DeviceInner>) -> StoredObject<DeviceFa
 }
 
 // Whether the directories of a view are there.
-pub(crate) fn has_view(store: &Store<DeviceSet>, view: &View) -> bool
+pub(crate) fn has_view<T: TypeSet>(store: &Store<T>, view: &View) -> bool
     ensures { IsTrue result → IsViewThere store.now view.now }
 {
     let has_local = match view.local {
@@ -97,7 +98,7 @@ pub(crate) fn has_view(store: &Store<DeviceSet>, view: &View) -> bool
 }
 
 // Whether a directory is there and has no entry of this spelling.
-fn is_free(store: &Store<DeviceSet>, directory: ObjId, name: &[u8]) -> bool
+fn is_free<T: TypeSet>(store: &Store<T>, directory: ObjId, name: &[u8]) -> bool
     ensures there { IsTrue result → IsSome (directory_at store.now directory) }
     ensures free { IsTrue result → All (λ entry. entry.name ≢ name.now) (entries_at store.now directory) }
 {
@@ -108,7 +109,7 @@ fn is_free(store: &Store<DeviceSet>, directory: ObjId, name: &[u8]) -> bool
 }
 
 // The entries of a directory, where it is one.
-fn dir_of(store: &Store<DeviceSet>, id: ObjId) -> Option<&Dir>
+fn dir_of<T: TypeSet>(store: &Store<T>, id: ObjId) -> Option<&Dir>
     ensures { option_copied result ≡ directory_at store.now id }
 {
     match store.get(id) {
@@ -123,12 +124,12 @@ fn dir_of(store: &Store<DeviceSet>, id: ObjId) -> Option<&Dir>
 }
 
 // Puts an object and a name for it into a store, both with this number.
-fn put(
-    store: &mut Store<DeviceSet>,
+fn put<T: TypeSet>(
+    store: &mut Store<T>,
     directory: ObjId,
     id: u64,
     name: NameBuf,
-    object: StoredObject<DeviceFace, DeviceInner>,
+    object: StoredObject<T::Face, T::Inner>,
 ) -> Result<(), Fault>
     requires space { IsSpace store.old id }
     requires there { IsSome (directory_at store.old directory) }

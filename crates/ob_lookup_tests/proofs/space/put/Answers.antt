@@ -5,28 +5,28 @@ use Rattle.ob_lookup_tests.proofs.Spaces.{next_is_free, space_with_object, direc
 use Rattle.ob_lookup_tests.proofs.space.put.Goals as goal
 
 pub insert-requires-clause-free : goal.insert-requires-clause-free
-insert-requires-clause-free c = λ κs. next_is_free c.args.store.now c.args.id c.requires.space
+insert-requires-clause-free g c = λ κs _. next_is_free c.args.store.now c.args.id c.requires.space
 
 pub insert_name-requires-clause-there : goal.insert_name-requires-clause-there
-insert_name-requires-clause-there c = λ κs. directory_there c.insert.new.self c.args.store.now c.args.id c.args.directory c.args.object c.in_ok-insert.ensures.put (next_is_free c.args.store.now c.args.id c.requires.space) c.requires.there
+insert_name-requires-clause-there g c = λ κs _. directory_there c.insert.new.self c.args.store.now c.args.id c.args.directory c.args.object c.in_ok-insert.ensures.put (next_is_free c.args.store.now c.args.id c.requires.space) c.requires.there
 
 pub insert_name-requires-clause-free : goal.insert_name-requires-clause-free
-insert_name-requires-clause-free c = λ κs.
+insert_name-requires-clause-free g c = λ κs _.
     entries_free c.insert.new.self c.args.store.now c.args.id c.args.directory c.args.object c.args.name c.in_ok-insert.ensures.put (next_is_free c.args.store.now c.args.id c.requires.space) c.requires.there c.requires.free
 
 pub insert_name-requires-clause-newest : goal.insert_name-requires-clause-newest
-insert_name-requires-clause-newest c = λ κs.
+insert_name-requires-clause-newest g c = λ κs _.
     entries_newest c.insert.new.self c.args.store.now c.args.id c.args.directory c.args.object c.in_ok-insert.ensures.put c.requires.empty c.len.ensures.store c.requires.space.stamps
 
 pub insert_name-requires-clause-unnamed : goal.insert_name-requires-clause-unnamed
-insert_name-requires-clause-unnamed c = λ κs. rows_unnamed c.insert.new.self c.args.store.now c.args.id c.args.object c.in_ok-insert.ensures.put c.requires.space c.requires.empty
+insert_name-requires-clause-unnamed g c = λ κs _. rows_unnamed c.insert.new.self c.args.store.now c.args.id c.args.object c.in_ok-insert.ensures.put c.requires.space c.requires.empty
 
 pub returns-in_err-insert_name : goal.returns-in_err-insert_name
-returns-in_err-insert_name c =
+returns-in_err-insert_name g c =
     subst (λ s. IsSpace s (c.args.id + 1)) (sym c.in_err-insert_name.ensures.unchanged)
     (space_with_object c.insert.new.self c.args.store.now c.args.id c.args.object c.in_ok-insert.ensures.put c.requires.space c.requires.empty)
 
 pub returns : goal.returns
-returns c =
+returns g c =
     space_with_name c.insert_name.new.self c.insert.new.self c.args.store.now c.args.id c.args.directory c.args.object c.args.name
     c.in_ok-insert.ensures.put c.in_ok-insert_name.ensures.last c.requires.space c.requires.empty c.len.ensures.store c.requires.there
