@@ -1,217 +1,180 @@
-//! Processes: what they inherit, duplicate and close, told by the replies and by the counts that are left.
+//! Processes: what they inherit, duplicate and close, and how many they and their handles may be, told by the replies and
+//! by the counts that are left.
 
-use crate::scenes::{Ask, EXCLUSIVE, INHERIT, Name, PERMANENT, Step, again, play};
-use ob_base::{Fault, Handle, Proc, Status};
-use ob_core::{Core, OpenTable};
-use ob_plain::{Counting, Plain, PlainKind, Standard};
-use std::alloc::Global;
+use crate::scenes::{Ask, EXCLUSIVE, INHERIT, PERMANENT, Scene, Step, played};
+use ob_base::Status;
+use ob_plain::{Plain, PlainKind};
 use std::test::Fail;
-
-type Namespace = Core<Standard, OpenTable>;
 
 const KINDS: (PlainKind, PlainKind) = (PlainKind::Event, PlainKind::Mutant);
 
-// What is there behind the steps: objects, handles, and the set's opens, closes and deletes.
-type Left = (usize, usize, u64, u64, u64);
+const ROOT: &[u8] = b"\\";
 
-fn left(core: &Namespace) -> Left {
-    let set = core.set();
+const EVENT: &[u8] = b"\\E";
+
+const SHARED: [Scene; 9] = [
     (
-        core.objects(),
-        core.handles(),
-        set.opens(),
-        set.closes(),
-        set.deletes(),
-    )
-}
-
-// What the steps leave of a namespace, if each is answered with its status.
-fn left_in(alloc: Global, core: &mut Namespace, steps: &[Step]) -> Result<Option<Left>, Fault> {
-    let played = play(alloc, core, KINDS, steps)?;
-    Ok((played == steps.len()).then_some(left(core)))
-}
-
-// What the steps leave of a new one.
-fn left_by(alloc: Global, steps: &[Step]) -> Result<Option<Left>, Fault> {
-    let mut core = Core::new(alloc, Counting::new(Plain))?;
-    left_in(alloc, &mut core, steps)
-}
+        "an inherited handle keeps its object, and the exit of the child closes it",
+        &[
+            Step::Asks(1, Ask::Make(EVENT, INHERIT), Status::Success),
+            Step::Asks(1, Ask::Begin(true), Status::Success),
+            Step::Asks(1, Ask::Close(0), Status::Success),
+            Step::Asks(2, Ask::Path(1), Status::Success),
+            Step::Asks(2, Ask::Exit, Status::Success),
+            Step::Asks(2, Ask::Path(1), Status::ProcessGone),
+        ],
+        (6, 0, [2, 2, 1]),
+    ),
+    (
+        "a child that inherits nothing has no handle, nor one that isn't marked",
+        &[
+            Step::Asks(1, Ask::Make(EVENT, INHERIT), Status::Success),
+            Step::Asks(1, Ask::Open(EVENT, 0), Status::Success),
+            Step::Asks(1, Ask::Begin(false), Status::Success),
+            Step::Asks(2, Ask::Path(0), Status::InvalidHandle),
+            Step::Asks(1, Ask::Begin(true), Status::Success),
+            Step::Asks(3, Ask::Path(0), Status::Success),
+            Step::Asks(3, Ask::Path(1), Status::InvalidHandle),
+        ],
+        (7, 3, [3, 0, 0]),
+    ),
+    (
+        "what was inherited is inherited again",
+        &[
+            Step::Asks(1, Ask::Make(EVENT, INHERIT), Status::Success),
+            Step::Asks(1, Ask::Begin(true), Status::Success),
+            Step::Asks(2, Ask::Begin(true), Status::Success),
+            Step::Asks(1, Ask::Exit, Status::Success),
+            Step::Asks(2, Ask::Exit, Status::Success),
+            Step::Asks(3, Ask::Path(2), Status::Success),
+            Step::Asks(3, Ask::Close(2), Status::Success),
+        ],
+        (6, 0, [3, 3, 1]),
+    ),
+    (
+        "an exclusive object is its holder's alone, and free again after its exit",
+        &[
+            Step::Asks(1, Ask::Begin(false), Status::Success),
+            Step::Asks(1, Ask::Make(EVENT, EXCLUSIVE | PERMANENT), Status::Success),
+            Step::Asks(1, Ask::Open(EVENT, EXCLUSIVE), Status::Success),
+            Step::Asks(1, Ask::Open(EVENT, 0), Status::Success),
+            Step::Asks(1, Ask::Open(EVENT, INHERIT), Status::InvalidParameter),
+            Step::Asks(2, Ask::Open(EVENT, 0), Status::AccessDenied),
+            Step::Asks(1, Ask::Duplicate(1, 2, false), Status::AccessDenied),
+            Step::Asks(1, Ask::Duplicate(1, 1, false), Status::Success),
+            Step::Asks(1, Ask::Exit, Status::Success),
+            Step::Asks(2, Ask::Open(EVENT, EXCLUSIVE), Status::Success),
+        ],
+        (7, 1, [5, 4, 0]),
+    ),
+    (
+        "exclusive is refused where the object isn't",
+        &[
+            Step::Asks(1, Ask::Make(EVENT, 0), Status::Success),
+            Step::Asks(1, Ask::Open(EVENT, EXCLUSIVE), Status::InvalidParameter),
+        ],
+        (7, 1, [1, 0, 0]),
+    ),
+    (
+        "a duplicate goes to a live process, and has its own mark",
+        &[
+            Step::Asks(1, Ask::Make(EVENT, INHERIT), Status::Success),
+            Step::Asks(1, Ask::Begin(false), Status::Success),
+            Step::Asks(1, Ask::Duplicate(0, 2, false), Status::Success),
+            Step::Asks(2, Ask::Begin(true), Status::Success),
+            Step::Asks(3, Ask::Path(2), Status::InvalidHandle),
+            Step::Asks(2, Ask::Exit, Status::Success),
+            Step::Asks(1, Ask::Duplicate(0, 2, false), Status::ProcessGone),
+            Step::Asks(1, Ask::Duplicate(6, 1, false), Status::InvalidHandle),
+        ],
+        (7, 1, [2, 1, 0]),
+    ),
+    (
+        "a process that was never made, and one that ended, are gone",
+        &[
+            Step::Asks(0, Ask::Begin(true), Status::ProcessGone),
+            Step::Asks(2, Ask::Exit, Status::ProcessGone),
+            Step::Asks(1, Ask::Exit, Status::Success),
+            Step::Asks(1, Ask::Exit, Status::ProcessGone),
+            Step::Asks(1, Ask::Begin(false), Status::ProcessGone),
+        ],
+        (6, 0, [0, 0, 0]),
+    ),
+    (
+        "a value that was given up is used again for another handle",
+        &[
+            Step::Asks(1, Ask::Make(EVENT, 0), Status::Success),
+            Step::Asks(1, Ask::Open(EVENT, 0), Status::Success),
+            Step::Asks(1, Ask::Close(0), Status::Success),
+            Step::Asks(1, Ask::Close(1), Status::Success),
+            Step::Asks(1, Ask::Make(EVENT, 0), Status::Success),
+            Step::Asks(1, Ask::Path(4), Status::Success),
+            Step::Asks(1, Ask::Close(4), Status::Success),
+            Step::Asks(1, Ask::Close(4), Status::InvalidHandle),
+        ],
+        (6, 0, [3, 3, 2]),
+    ),
+    (
+        "a child of a process with 1,000 handles begins and ends",
+        &[
+            Step::Asks(1, Ask::Make(EVENT, INHERIT), Status::Success),
+            Step::Repeats(1, Ask::Open(EVENT, INHERIT), 999),
+            Step::Asks(1, Ask::Begin(true), Status::Success),
+            Step::Asks(1, Ask::Exit, Status::Success),
+            Step::Has(1, 0),
+            Step::Has(2, 1_000),
+            Step::Holds(2, 4, true),
+            Step::Holds(2, 6, false),
+            Step::Holds(2, 4_000, true),
+            Step::Holds(2, 4_004, false),
+            Step::Holds(1, 4, false),
+            Step::Asks(2, Ask::Exit, Status::Success),
+        ],
+        (6, 0, [2_000, 2_000, 1]),
+    ),
+];
 
 #[test]
 fn processes_share_objects_by_their_handles(rt: HostRuntime) -> Result<(), Fail> {
-    let scenes: [(&[u8], &[Step], Left); 8] = [
-        (
-            b"an inherited handle keeps its object, and the exit of the child closes it",
-            &[
-                (1, Ask::Make(Name::Object, INHERIT), Status::Success),
-                (1, Ask::Begin(true), Status::Success),
-                (1, Ask::Close(0), Status::Success),
-                (2, Ask::Path(1), Status::Success),
-                (2, Ask::Exit, Status::Success),
-                (2, Ask::Path(1), Status::ProcessGone),
-            ],
-            (6, 0, 2, 2, 1),
-        ),
-        (
-            b"a child that inherits nothing has no handle, nor one that isn't marked",
-            &[
-                (1, Ask::Make(Name::Object, INHERIT), Status::Success),
-                (1, Ask::Open(0), Status::Success),
-                (1, Ask::Begin(false), Status::Success),
-                (2, Ask::Path(0), Status::InvalidHandle),
-                (1, Ask::Begin(true), Status::Success),
-                (3, Ask::Path(0), Status::Success),
-                (3, Ask::Path(1), Status::InvalidHandle),
-            ],
-            (7, 3, 3, 0, 0),
-        ),
-        (
-            b"what was inherited is inherited again",
-            &[
-                (1, Ask::Make(Name::Object, INHERIT), Status::Success),
-                (1, Ask::Begin(true), Status::Success),
-                (2, Ask::Begin(true), Status::Success),
-                (1, Ask::Exit, Status::Success),
-                (2, Ask::Exit, Status::Success),
-                (3, Ask::Path(2), Status::Success),
-                (3, Ask::Close(2), Status::Success),
-            ],
-            (6, 0, 3, 3, 1),
-        ),
-        (
-            b"an exclusive object is its holder's alone, and free again after its exit",
-            &[
-                (1, Ask::Begin(false), Status::Success),
-                (
-                    1,
-                    Ask::Make(Name::Object, EXCLUSIVE | PERMANENT),
-                    Status::Success,
-                ),
-                (1, Ask::Open(EXCLUSIVE), Status::Success),
-                (1, Ask::Open(0), Status::Success),
-                (1, Ask::Open(INHERIT), Status::InvalidParameter),
-                (2, Ask::Open(0), Status::AccessDenied),
-                (1, Ask::Duplicate(1, 2, false), Status::AccessDenied),
-                (1, Ask::Duplicate(1, 1, false), Status::Success),
-                (1, Ask::Exit, Status::Success),
-                (2, Ask::Open(EXCLUSIVE), Status::Success),
-            ],
-            (7, 1, 5, 4, 0),
-        ),
-        (
-            b"exclusive is refused where the object isn't",
-            &[
-                (1, Ask::Make(Name::Object, 0), Status::Success),
-                (1, Ask::Open(EXCLUSIVE), Status::InvalidParameter),
-            ],
-            (7, 1, 1, 0, 0),
-        ),
-        (
-            b"a duplicate goes to a live process, and has its own mark",
-            &[
-                (1, Ask::Make(Name::Object, INHERIT), Status::Success),
-                (1, Ask::Begin(false), Status::Success),
-                (1, Ask::Duplicate(0, 2, false), Status::Success),
-                (2, Ask::Begin(true), Status::Success),
-                (3, Ask::Path(2), Status::InvalidHandle),
-                (2, Ask::Exit, Status::Success),
-                (1, Ask::Duplicate(0, 2, false), Status::ProcessGone),
-                (1, Ask::Duplicate(6, 1, false), Status::InvalidHandle),
-            ],
-            (7, 1, 2, 1, 0),
-        ),
-        (
-            b"a process that was never made, and one that ended, are gone",
-            &[
-                (0, Ask::Begin(true), Status::ProcessGone),
-                (2, Ask::Exit, Status::ProcessGone),
-                (1, Ask::Exit, Status::Success),
-                (1, Ask::Exit, Status::ProcessGone),
-                (1, Ask::Begin(false), Status::ProcessGone),
-            ],
-            (6, 0, 0, 0, 0),
-        ),
-        (
-            b"a value that was given up is used again for another handle",
-            &[
-                (1, Ask::Make(Name::Object, 0), Status::Success),
-                (1, Ask::Open(0), Status::Success),
-                (1, Ask::Close(0), Status::Success),
-                (1, Ask::Close(1), Status::Success),
-                (1, Ask::Make(Name::Object, 0), Status::Success),
-                (1, Ask::Path(4), Status::Success),
-                (1, Ask::Close(4), Status::Success),
-                (1, Ask::Close(4), Status::InvalidHandle),
-            ],
-            (6, 0, 3, 3, 2),
-        ),
-    ];
-    for (shows, steps, left) in scenes {
-        assert_eq!(rt; left_by(rt.alloc(), steps)?, Some(left), "{shows:?}");
+    for (shows, steps, left) in SHARED {
+        let told = played(rt.alloc(), Plain, KINDS, steps)?;
+        assert_eq!(rt; told, (steps.len(), left), "{shows}");
     }
     Ok(())
 }
 
-// The statuses of the 1,023rd child, of one more, of the end of the last child, and of one more then.
-fn last_children(alloc: Global, core: &mut Namespace) -> Result<[Status; 4], Fault> {
-    let begin = Ask::Begin(true);
-    let last = again(alloc, core, KINDS, (1, begin), 1_023)?;
-    let beyond = again(alloc, core, KINDS, (1, begin), 1)?;
-    let ended = again(alloc, core, KINDS, (1_024, Ask::Exit), 1)?;
-    let next = again(alloc, core, KINDS, (1, begin), 1)?;
-    Ok([last, beyond, ended, next])
-}
-
-fn many_children(alloc: Global) -> Result<[Status; 4], Fault> {
-    let mut core = Core::new(alloc, Counting::new(Plain))?;
-    last_children(alloc, &mut core)
-}
-
-#[test]
-fn there_are_1024_processes_at_most(rt: HostRuntime) -> Result<(), Fail> {
-    let told = many_children(rt.alloc())?;
-    let (done, full) = (Status::Success, Status::InsufficientResources);
-    assert_eq!(rt; told, [done, full, done, done]);
-    Ok(())
-}
-
-// A process opens 1,000 handles to its event, all of which a child inherits, and ends.
-fn outlived(alloc: Global, core: &mut Namespace) -> Result<(), Fault> {
-    again(alloc, core, KINDS, (1, Ask::Make(Name::Object, INHERIT)), 1)?;
-    again(alloc, core, KINDS, (1, Ask::Open(INHERIT)), 999)?;
-    again(alloc, core, KINDS, (1, Ask::Begin(true)), 1)?;
-    again(alloc, core, KINDS, (1, Ask::Exit), 1)?;
-    Ok(())
-}
-
-// How many handles a parent and its child have, whether they have handles of some values, and what is left when
-// the child ends too.
-type Inherited = ((usize, usize), [bool; 5], Left);
-
-fn held(core: &Namespace) -> ((usize, usize), [bool; 5]) {
-    let counts = (core.handles_of(Proc(1)), core.handles_of(Proc(2)));
-    let holds = [(2, 4), (2, 6), (2, 4_000), (2, 4_004), (1, 4)];
-    let told = holds.map(|(process, value)| core.holds(Proc(process), Handle(value)));
-    (counts, told)
-}
-
-fn inherited(alloc: Global, core: &mut Namespace) -> Result<Inherited, Fault> {
-    outlived(alloc, core)?;
-    let (counts, told) = held(core);
-    again(alloc, core, KINDS, (2, Ask::Exit), 1)?;
-    Ok((counts, told, left(core)))
-}
-
-fn child_of_many(alloc: Global) -> Result<Inherited, Fault> {
-    let mut core = Core::new(alloc, Counting::new(Plain))?;
-    inherited(alloc, &mut core)
-}
+const FULL: [Scene; 2] = [
+    (
+        "a process that ends makes room for another",
+        &[
+            Step::Repeats(1, Ask::Begin(true), 1_023),
+            Step::Asks(1, Ask::Begin(true), Status::InsufficientResources),
+            Step::Asks(1_024, Ask::Exit, Status::Success),
+            Step::Asks(1, Ask::Begin(true), Status::Success),
+        ],
+        (6, 0, [0, 0, 0]),
+    ),
+    (
+        "a full table has room for a handle where one was closed, under its value",
+        &[
+            Step::Repeats(1, Ask::OpenDirectory(ROOT), 65_535),
+            Step::Has(1, 65_535),
+            Step::Has(2, 0),
+            Step::Asks(1, Ask::OpenDirectory(ROOT), Status::InsufficientResources),
+            Step::Asks(1, Ask::Close(0), Status::Success),
+            Step::Holds(1, 262_140, false),
+            Step::Asks(1, Ask::OpenDirectory(ROOT), Status::Success),
+            Step::Holds(1, 262_140, true),
+        ],
+        (6, 65_535, [0, 0, 0]),
+    ),
+];
 
 #[test]
-fn a_child_of_1000_handles_begins_and_ends(rt: HostRuntime) -> Result<(), Fail> {
-    let (held, told, left) = child_of_many(rt.alloc())?;
-    assert_eq!(rt; held, (0, 1000));
-    assert_eq!(rt; told, [true, false, true, false, false]);
-    assert_eq!(rt; left, (6, 0, 2000, 2000, 1));
+fn there_are_1024_processes_of_65535_handles_at_most(rt: HostRuntime) -> Result<(), Fail> {
+    for (shows, steps, left) in FULL {
+        let told = played(rt.alloc(), Plain, KINDS, steps)?;
+        assert_eq!(rt; told, (steps.len(), left), "{shows}");
+    }
     Ok(())
 }

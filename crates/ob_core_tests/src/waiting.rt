@@ -1,326 +1,256 @@
 //! Opens that wait for a parse: they go on when it is brought, in the state as it is then, or are given up. The
 //! object that they pin stays until then.
 
-use crate::scenes::{Ask, Name, Told, again, answer, answered, tell};
-use ob_base::{Fault, Handle, Proc, Status};
-use ob_core::{Brought, Bytes, Command, Core, OpenTable, Parsed, Parsing, Place, Started};
+use crate::scenes::{Ask, Step, answer, play, start, tell};
+use ob_base::{Fault, Handle, Status};
+use ob_core::{Brought, Core, OpenTable, Started};
 use ob_device::{DeviceKind, DeviceSet};
-use std::alloc::{AllocError, Global};
+use ob_types::TypeSet;
+use std::alloc::Global;
 use std::test::Fail;
 
-type Devices = Core<DeviceSet, OpenTable>;
-
 const KINDS: (DeviceKind, DeviceKind) = (DeviceKind::Device, DeviceKind::File);
+
+const DEVICE: &[u8] = b"\\Device\\Serial0";
 
 const PORT: &[u8] = b"\\Device\\Serial0\\com1";
 
 const DEEP: &[u8] = b"\\Device\\Serial0\\a\\b";
 
+// A device of the files `com1` and `a\b`, to which process 1 gets the handle 4, and a child without handles.
+const FIRST: [Step; 2] = [
+    Step::Asks(1, Ask::MakeWith(DEVICE, b"com1;a\\b"), Status::Success),
+    Step::Asks(1, Ask::Begin(false), Status::Success),
+];
+
 // The ticket of the first open that waits, behind the six objects of a new namespace and the device.
 const TICKET: u64 = 8;
 
-fn make(alloc: Global) -> Result<Command<DeviceKind>, AllocError> {
-    let name = Bytes::from_slice(alloc, b"\\Device\\Serial0")?;
-    Ok(Command::CreateObject {
-        place: Place::At { root: None, name },
-        attrs: 0,
-        kind: DeviceKind::Device,
-        args: Bytes::from_slice(alloc, b"com1;a\\b")?,
-    })
-}
+// An open: its process, its name, what of the name is behind the device, whether the parse is run, what comes between
+// the open and the end of its parse.
+type Opens = (u32, &'static [u8], &'static [u8], bool, Between);
 
-fn open(alloc: Global, name: &[u8]) -> Result<Command<DeviceKind>, AllocError> {
-    Ok(Command::OpenObject {
-        root: None,
-        name: Bytes::from_slice(alloc, name)?,
-        attrs: 0,
-        want: None,
-    })
-}
-
-// Makes a device of the files `com1` and `a\b`, and gives process 1 the handle 4 to it.
-fn make_device(alloc: Global, core: &mut Devices) -> Result<Told, Fault> {
-    let make = make(alloc)?;
-    answered(core, 1, &make)
-}
-
-// The parse that an open of process 1 waits for.
-fn start(
-    core: &mut Devices,
-    process: u32,
-    command: &Command<DeviceKind>,
-) -> Result<Parsing<DeviceSet>, Fault> {
-    match core.start(Proc(process), command)? {
-        Started::Parsing(parsing) => Ok(parsing),
-        Started::Done(_) => Err(Fault::Refused(Status::InvalidParameter)),
-    }
-}
-
-fn begun(
-    alloc: Global,
-    core: &mut Devices,
-    process: u32,
-    name: &[u8],
-) -> Result<Parsing<DeviceSet>, Fault> {
-    let open = open(alloc, name)?;
-    start(core, process, &open)
-}
-
-// The parse of an open, run.
-fn run(
-    alloc: Global,
-    core: &mut Devices,
-    process: u32,
-    name: &[u8],
-) -> Result<Parsed<DeviceSet>, Fault> {
-    Ok(begun(alloc, core, process, name)?.run(alloc))
-}
-
-// What a parse is answered that is brought. One that isn't taken is let go, as is one that is to be run.
-fn resumed(core: &mut Devices, parsed: Parsed<DeviceSet>) -> Result<Told, Fault> {
-    match core.resume(parsed) {
-        Ok(Started::Done(reply)) => Ok(tell(reply)),
-        Ok(Started::Parsing(parsing)) => {
-            core.abandon(Brought::Unrun(parsing));
-            Err(Fault::Refused(Status::ReparseLimit))
-        }
-        Err((fault, parsed)) => {
-            core.abandon(Brought::Run(parsed));
-            Err(fault)
-        }
-    }
-}
-
-// What there is: objects, and handles.
-fn counts(core: &Devices) -> (usize, usize) {
-    (core.objects(), core.handles())
-}
-
-// An open that is begun, run and resumed: its ticket, how many reparses are left to it, its status and its handle,
-// and what there is then.
-type Opened = (u64, Option<u32>, Status, Handle, (usize, usize));
-
-fn opened_in(alloc: Global, core: &mut Devices, name: &[u8]) -> Result<Opened, Fault> {
-    make_device(alloc, core)?;
-    let parsed = run(alloc, core, 1, name)?;
-    let (ticket, left) = (parsed.ticket(), core.left(TICKET));
-    let Told { status, handle } = resumed(core, parsed)?;
-    Ok((ticket, left, status, handle, counts(core)))
-}
-
-fn opened(alloc: Global, name: &[u8]) -> Result<Opened, Fault> {
-    let mut core = Core::new(alloc, DeviceSet)?;
-    opened_in(alloc, &mut core, name)
-}
-
-#[test]
-fn an_open_goes_on_with_its_parse(rt: HostRuntime) -> Result<(), Fail> {
-    let names: [(&[u8], Status, Handle, (usize, usize)); 5] = [
-        (PORT, Status::Success, Handle(8), (8, 2)),
-        (DEEP, Status::Success, Handle(8), (8, 2)),
-        (b"\\Device\\Serial0", Status::Success, Handle(8), (8, 2)),
-        (
-            b"\\Device\\Serial0\\com2",
-            Status::TypeRefused(3),
-            Handle(0),
-            (7, 1),
-        ),
-        (
-            b"\\Device\\Serial0\\",
-            Status::TypeRefused(3),
-            Handle(0),
-            (7, 1),
-        ),
-    ];
-    for (name, status, handle, counts) in names {
-        let told = opened(rt.alloc(), name)?;
-        let wanted = (TICKET, Some(32), status, handle, counts);
-        assert_eq!(rt; told, wanted, "{name:?}");
-    }
-    Ok(())
-}
-
-// What may come between an open and its parse.
+// What may come between an open and the end of its parse.
 #[derive(Clone, Copy)]
 enum Between {
     Nothing,
-    // The device's last handle is closed, so that its name goes.
-    Close,
-    // The process that asked ends, which has no handle.
-    Exit,
+    // A process asks for something else.
+    Asked(u32, Ask),
+    // The parse of another namespace is brought, of the same ticket, for an open of some name.
+    Brought(&'static [u8]),
+    // The open is given up by such a parse.
+    GivenUp(&'static [u8]),
 }
 
-fn come_between(alloc: Global, core: &mut Devices, between: Between) -> Result<(), Fault> {
-    match between {
-        Between::Nothing => {}
-        Between::Close => {
-            answer(alloc, core, KINDS, 1, Ask::Close(0), &[Handle(4)])?;
-        }
-        Between::Exit => {
-            again(alloc, core, KINDS, (2, Ask::Exit), 1)?;
+// What becomes of a parse: the status and the handle that are answered; its ticket, where it is handed back as a
+// stranger's; and whether it gives an open up.
+type End = (Option<(Status, Handle)>, Option<u64>, bool);
+
+const STRANGER: End = (None, Some(TICKET), false);
+
+const GIVEN_UP: End = (None, None, true);
+
+// What is seen while an open waits, behind what came between: how many reparses are left to it, objects, and handles.
+type Waits = (Option<u32>, usize, usize);
+
+// An open, as it is told: whether its ticket and its rest are as they should be; what became of the parse that came
+// between; what was seen then; what becomes of its own parse; and objects and handles in the end.
+type Told = (bool, Option<End>, Waits, End, (usize, usize));
+
+// The parse that an open waits for, run or not, and whether its ticket and its rest are as they should be.
+fn begun<T: TypeSet>(
+    alloc: Global,
+    core: &mut Core<T, OpenTable>,
+    kinds: (T::Kind, T::Kind),
+    opens: Opens,
+) -> Result<(Brought<T>, bool), Fault> {
+    let (process, name, rest, is_run, _) = opens;
+    play(alloc, core, kinds, &FIRST)?;
+    match start(alloc, core, kinds, (process, Ask::OpenAny(name)), &[])? {
+        Started::Done(_) => Err(Fault::Refused(Status::InvalidParameter)),
+        Started::Parsing(parsing) => {
+            let is_asked = parsing.ticket() == TICKET && parsing.rest() == rest;
+            match is_run {
+                true => Ok((Brought::Run(parsing.run(alloc)), is_asked)),
+                false => Ok((Brought::Unrun(parsing), is_asked)),
+            }
         }
     }
-    Ok(())
 }
 
-// An open of process 2, which something comes between: the status, what there is while it waits, and then.
-type Resumed = (Status, (usize, usize), (usize, usize));
-
-fn resumed_in(alloc: Global, core: &mut Devices, between: Between) -> Result<Resumed, Fault> {
-    make_device(alloc, core)?;
-    again(alloc, core, KINDS, (1, Ask::Begin(false)), 1)?;
-    let parsed = run(alloc, core, 2, PORT)?;
-    let came = come_between(alloc, core, between);
-    let waiting = counts(core);
-    let told = resumed(core, parsed)?;
-    came?;
-    Ok((told.status, waiting, counts(core)))
+// The parse that an open of process 1 waits for in another namespace, run.
+fn of_another<T: TypeSet>(
+    alloc: Global,
+    other: &mut Core<T, OpenTable>,
+    kinds: (T::Kind, T::Kind),
+    name: &'static [u8],
+) -> Result<Brought<T>, Fault> {
+    let opens: Opens = (1, name, b"", true, Between::Nothing);
+    let (brought, _) = begun(alloc, other, kinds, opens)?;
+    Ok(brought)
 }
 
-fn resumed_after(alloc: Global, between: Between) -> Result<Resumed, Fault> {
-    let mut core = Core::new(alloc, DeviceSet)?;
-    resumed_in(alloc, &mut core, between)
-}
-
-#[test]
-fn an_open_is_judged_when_its_parse_is_brought(rt: HostRuntime) -> Result<(), Fail> {
-    let scenes = [
-        (Between::Nothing, Status::Success, (7, 1), (8, 2)),
-        (Between::Close, Status::Success, (7, 0), (7, 1)),
-        (Between::Exit, Status::ProcessGone, (7, 1), (7, 1)),
-    ];
-    for (between, status, waiting, then) in scenes {
-        let told = resumed_after(rt.alloc(), between)?;
-        assert_eq!(rt; told, (status, waiting, then));
-    }
-    Ok(())
-}
-
-// What is told of a parse that isn't taken: whether its fault is a stranger's, its ticket as it is handed back, and
-// whether it can give an open up.
-type Refused = Option<(bool, u64, bool)>;
-
-fn refused(core: &mut Devices, parsed: Parsed<DeviceSet>) -> Refused {
+// What becomes of a parse: one that was run is brought, and one that isn't taken, or wasn't run, gives its open up.
+fn ended<T: TypeSet>(core: &mut Core<T, OpenTable>, brought: Brought<T>) -> End {
+    let parsed = match brought {
+        Brought::Run(parsed) => parsed,
+        unrun => return (None, None, core.abandon(unrun)),
+    };
     match core.resume(parsed) {
-        Ok(Started::Done(_)) => None,
-        Ok(Started::Parsing(parsing)) => {
-            core.abandon(Brought::Unrun(parsing));
-            None
+        Ok(Started::Done(reply)) => {
+            let told = tell(&reply);
+            (Some((told.status, told.handle)), None, false)
         }
+        Ok(Started::Parsing(parsing)) => (None, None, core.abandon(Brought::Unrun(parsing))),
         Err((fault, parsed)) => {
             let is_stranger = matches!(fault, Fault::Refused(Status::InvalidParameter));
-            let ticket = parsed.ticket();
-            let given_up = core.abandon(Brought::Run(parsed));
-            Some((is_stranger, ticket, given_up))
+            let ticket = is_stranger.then_some(parsed.ticket());
+            (None, ticket, core.abandon(Brought::Run(parsed)))
         }
     }
 }
 
-// The parse of another namespace, of the same ticket, for an open of some name.
-fn run_first(alloc: Global, other: &mut Devices, name: &[u8]) -> Result<Parsed<DeviceSet>, Fault> {
-    make_device(alloc, other)?;
-    run(alloc, other, 1, name)
-}
-
-fn of_another(alloc: Global, name: &[u8]) -> Result<Parsed<DeviceSet>, Fault> {
-    let mut other = Core::new(alloc, DeviceSet)?;
-    run_first(alloc, &mut other, name)
-}
-
-// The parse that an open of `com1` waits for, and the other namespace's.
-type Two = (Parsing<DeviceSet>, Parsed<DeviceSet>);
-
-fn two(alloc: Global, core: &mut Devices, name: &[u8]) -> Result<Two, Fault> {
-    make_device(alloc, core)?;
-    let stranger = of_another(alloc, name)?;
-    match begun(alloc, core, 1, PORT) {
-        Ok(own) => Ok((own, stranger)),
-        Err(fault) => {
-            core.abandon(Brought::Run(stranger));
-            Err(fault)
+// What comes between, and what becomes of the parse with which it comes.
+fn come_between<T: TypeSet>(
+    alloc: Global,
+    core: &mut Core<T, OpenTable>,
+    other: &mut Core<T, OpenTable>,
+    kinds: (T::Kind, T::Kind),
+    between: Between,
+) -> Result<Option<End>, Fault> {
+    match between {
+        Between::Nothing => Ok(None),
+        Between::Asked(process, ask) => {
+            answer(alloc, core, kinds, (process, ask), &[Handle(4)])?;
+            Ok(None)
+        }
+        Between::Brought(name) => {
+            let stranger = of_another(alloc, other, kinds, name)?;
+            Ok(Some(ended(core, stranger)))
+        }
+        Between::GivenUp(name) => {
+            let twin = of_another(alloc, other, kinds, name)?;
+            Ok(Some((None, None, core.abandon(twin))))
         }
     }
 }
 
-// What is told of a stranger's parse of another rest, how many reparses are left to the open then, what there is,
-// and what its own parse is answered.
-type Beside = (Refused, Option<u32>, (usize, usize), Status);
-
-fn beside(alloc: Global, core: &mut Devices) -> Result<Beside, Fault> {
-    let (own, stranger) = two(alloc, core, DEEP)?;
-    let told = refused(core, stranger);
-    let (left, waiting) = (core.left(TICKET), counts(core));
-    let own = resumed(core, own.run(alloc))?;
-    Ok((told, left, waiting, own.status))
+fn told_in<T: TypeSet>(
+    alloc: Global,
+    core: &mut Core<T, OpenTable>,
+    other: &mut Core<T, OpenTable>,
+    kinds: (T::Kind, T::Kind),
+    opens: Opens,
+) -> Result<Told, Fault> {
+    let (own, is_asked) = begun(alloc, core, kinds, opens)?;
+    let came = come_between(alloc, core, other, kinds, opens.4);
+    let waits = (core.left(TICKET), core.objects(), core.handles());
+    let end = ended(core, own);
+    let counts = (core.objects(), core.handles());
+    Ok((is_asked, came?, waits, end, counts))
 }
 
-fn beside_a_stranger(alloc: Global) -> Result<Beside, Fault> {
-    let mut core = Core::new(alloc, DeviceSet)?;
-    beside(alloc, &mut core)
+// What is told of an open in a new namespace, beside another.
+fn told<T: TypeSet>(
+    alloc: Global,
+    sets: (T, T),
+    kinds: (T::Kind, T::Kind),
+    opens: Opens,
+) -> Result<Told, Fault> {
+    let mut core = Core::new(alloc, sets.0)?;
+    let mut other = Core::new(alloc, sets.1)?;
+    told_in(alloc, &mut core, &mut other, kinds, opens)
 }
 
-#[test]
-fn a_strangers_parse_is_handed_back(rt: HostRuntime) -> Result<(), Fail> {
-    let (told, left, waiting, status) = beside_a_stranger(rt.alloc())?;
-    assert_eq!(rt; told, Some((true, TICKET, false)));
-    assert_eq!(rt; left, Some(32));
-    assert_eq!(rt; waiting, (7, 1));
-    assert_eq!(rt; status, Status::Success);
-    Ok(())
-}
-
-// Whether a parse like its own gives the open up, how many reparses are left to it then, what is told of its own, and
-// what there is.
-type GivenUp = (bool, Option<u32>, Refused, (usize, usize));
-
-fn given_up_in(alloc: Global, core: &mut Devices) -> Result<GivenUp, Fault> {
-    let (own, twin) = two(alloc, core, PORT)?;
-    let is_given_up = core.abandon(Brought::Run(twin));
-    let left = core.left(TICKET);
-    let told = refused(core, own.run(alloc));
-    Ok((is_given_up, left, told, counts(core)))
-}
-
-fn given_up(alloc: Global) -> Result<GivenUp, Fault> {
-    let mut core = Core::new(alloc, DeviceSet)?;
-    given_up_in(alloc, &mut core)
+// An open that is answered.
+fn answered(status: Status, handle: u32) -> End {
+    (Some((status, Handle(handle))), None, false)
 }
 
 #[test]
-fn the_parse_of_an_open_that_was_given_up_is_a_strangers(rt: HostRuntime) -> Result<(), Fail> {
-    let (is_given_up, left, told, then) = given_up(rt.alloc())?;
-    assert!(rt; is_given_up);
-    assert_eq!(rt; left, None);
-    assert_eq!(rt; told, Some((true, TICKET, false)));
-    assert_eq!(rt; then, (7, 1));
-    Ok(())
-}
-
-// What an open waits for whose parse isn't run, whether it is given up, and what there is before and then, where the
-// device's handle is closed between.
-type Unrun = ((u64, bool), bool, (usize, usize), (usize, usize));
-
-fn unrun_in(alloc: Global, core: &mut Devices) -> Result<Unrun, Fault> {
-    make_device(alloc, core)?;
-    let parsing = begun(alloc, core, 1, DEEP)?;
-    let asked = (parsing.ticket(), parsing.rest() == b"\\a\\b".as_slice());
-    let came = come_between(alloc, core, Between::Close);
-    let waiting = counts(core);
-    let is_given_up = core.abandon(Brought::Unrun(parsing));
-    came?;
-    Ok((asked, is_given_up, waiting, counts(core)))
-}
-
-fn unrun(alloc: Global) -> Result<Unrun, Fault> {
-    let mut core = Core::new(alloc, DeviceSet)?;
-    unrun_in(alloc, &mut core)
-}
-
-#[test]
-fn what_an_open_pins_stays_until_it_is_given_up(rt: HostRuntime) -> Result<(), Fail> {
-    let (asked, is_given_up, waiting, then) = unrun(rt.alloc())?;
-    assert_eq!(rt; asked, (TICKET, true));
-    assert!(rt; is_given_up);
-    assert_eq!(rt; (waiting, then), ((7, 0), (6, 0)));
+fn opens_that_wait_go_on_with_their_parse_or_are_given_up(rt: HostRuntime) -> Result<(), Fail> {
+    let nothing = Between::Nothing;
+    let close = Between::Asked(1, Ask::Close(0));
+    let exit = Between::Asked(2, Ask::Exit);
+    let (waits, closed) = ((Some(32), 7, 1), (Some(32), 7, 0));
+    let scenes: [(&str, Opens, Told); 11] = [
+        (
+            "a file that the device has",
+            (1, PORT, b"\\com1", true, nothing),
+            (true, None, waits, answered(Status::Success, 8), (8, 2)),
+        ),
+        (
+            "a file two components deep",
+            (1, DEEP, b"\\a\\b", true, nothing),
+            (true, None, waits, answered(Status::Success, 8), (8, 2)),
+        ),
+        (
+            "the device itself",
+            (1, DEVICE, b"", true, nothing),
+            (true, None, waits, answered(Status::Success, 8), (8, 2)),
+        ),
+        (
+            "a file that it hasn't",
+            (1, b"\\Device\\Serial0\\com2", b"\\com2", true, nothing),
+            (
+                true,
+                None,
+                waits,
+                answered(Status::TypeRefused(3), 0),
+                (7, 1),
+            ),
+        ),
+        (
+            "an empty component",
+            (1, b"\\Device\\Serial0\\", b"\\", true, nothing),
+            (
+                true,
+                None,
+                waits,
+                answered(Status::TypeRefused(3), 0),
+                (7, 1),
+            ),
+        ),
+        (
+            "an open of another process",
+            (2, PORT, b"\\com1", true, nothing),
+            (true, None, waits, answered(Status::Success, 4), (8, 2)),
+        ),
+        (
+            "the device is pinned, though its last handle is closed and its name goes",
+            (2, PORT, b"\\com1", true, close),
+            (true, None, closed, answered(Status::Success, 4), (7, 1)),
+        ),
+        (
+            "the process that asked ends, and is judged when the parse is brought",
+            (2, PORT, b"\\com1", true, exit),
+            (true, None, waits, answered(Status::ProcessGone, 0), (7, 1)),
+        ),
+        (
+            "a stranger's parse is handed back",
+            (1, PORT, b"\\com1", true, Between::Brought(DEEP)),
+            (
+                true,
+                Some(STRANGER),
+                waits,
+                answered(Status::Success, 8),
+                (8, 2),
+            ),
+        ),
+        (
+            "the parse of an open that was given up by another like it is a stranger's",
+            (1, PORT, b"\\com1", true, Between::GivenUp(PORT)),
+            (true, Some(GIVEN_UP), (None, 7, 1), STRANGER, (7, 1)),
+        ),
+        (
+            "what an open pins stays until it is given up",
+            (1, DEEP, b"\\a\\b", false, close),
+            (true, None, closed, GIVEN_UP, (6, 0)),
+        ),
+    ];
+    for (shows, opens, wanted) in scenes {
+        let told = told(rt.alloc(), (DeviceSet, DeviceSet), KINDS, opens)?;
+        assert_eq!(rt; told, wanted, "{shows}");
+    }
     Ok(())
 }

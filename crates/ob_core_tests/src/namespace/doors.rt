@@ -17,11 +17,9 @@ pub(crate) enum Door {
     Locked,
 }
 
-/// Doors and walls, with the number of the last call: 0 for none yet, 1 for a close, 2 for a delete.
+/// Doors and walls.
 #[derive(Drop)]
-pub(crate) struct Doors {
-    pub(crate) last: u8,
-}
+pub(crate) struct Doors;
 
 /// A door is of the kind `true`; a wall, of the kind `false`, can't be made. A door that is made with
 /// arguments is locked.
@@ -43,8 +41,8 @@ impl TypeSet for Doors {
       parsed = λ _ _. Refused 3;
       refuses_to_open = λ _ inner _. elim inner [ Free ↦ None | Through ↦ Some 9 | Locked ↦ Some 5 ];
       opened = λ set inner _. (set, elim inner [ Free ↦ Through | Through ↦ Through | Locked ↦ Locked ]);
-      closed = λ set inner _ _. (record set { last = 1 }, elim inner [ Free ↦ Free | Through ↦ Free | Locked ↦ Locked ]);
-      deleted = λ set _. record set { last = 2 };
+      closed = λ set inner _ _. (set, elim inner [ Free ↦ Free | Through ↦ Free | Locked ↦ Locked ]);
+      deleted = λ set _. set;
     } };
 
     ghost idle = { λ inner. elim inner [ Free ↦ false | Through ↦ true | Locked ↦ false ] ≡ false };
@@ -99,12 +97,9 @@ impl TypeSet for Doors {
         if let Door::Through = *inner {
             *inner = Door::Free;
         }
-        self.last = 1;
     }
 
-    fn on_delete(&mut self, _inner: Door) {
-        self.last = 2;
-    }
+    fn on_delete(&mut self, _inner: Door) {}
 
     ghost refused_open = { λ _. elim [ Free ↦ λ _ _ e. Prim.search rules | Through ↦ λ _ _ _. refl | Locked ↦ λ _ _ _. refl ] };
 
