@@ -80,15 +80,18 @@ def main():
     asked = words.crates or records.with_edits_in(FOLDER)
     left = [crate for crate in asked if words.all or not records.covers(crate, FOLDER)]
     edits = [(crate, path) for crate in left for path in records.edits_in(crate, FOLDER)]
+    edits = [it for it in edits if words.all or not records.is_kept(*it)]
     known = sum(len(records.edits_in(crate, FOLDER)) for crate in asked) - len(edits)
-    print(f"definitions: {known} stand in a record, {len(edits)} are to be tried", flush=True)
-    if left and not build.make(left, max(1, words.jobs)):
+    print(f"definitions: {known} were refused before, {len(edits)} are to be tried", flush=True)
+    if edits and not build.make(left, max(1, words.jobs)):
         sys.exit("definitions: not tried, since what they go over isn't proved\n0 passed, 1 failed")
     faults = {crate: 0 for crate in left}
     with tempfile.TemporaryDirectory(prefix="definitions-") as name, ThreadPoolExecutor(max(1, words.jobs)) as pool:
         runs = [pool.submit(tried, crate, path, Path(name) / str(at)) for at, (crate, path) in enumerate(edits)]
         for (crate, path), run in zip(edits, runs):
             faults[crate] += bool(run.result())
+            if not run.result():
+                records.keep(crate, path)
             print(f"definitions: {crate}/{path.stem} ... {run.result() or 'refused'}", flush=True)
     for crate, failed in faults.items():
         (records.remove if failed else records.write)(crate, FOLDER)

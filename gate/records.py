@@ -24,7 +24,7 @@ import subprocess
 import sys
 from functools import cache
 
-from crates import below, folder_of, listed
+from crates import ROOT, below, folder_of, listed
 from edits import without_bodies
 
 READ = ("src", "specs", "proofs")
@@ -33,6 +33,9 @@ NAME = "RECORD"
 # the rules by which a refusal is told. By the first an answer that no longer fits counted as one, and of an edit that `rt ci` tried
 # any function's refusal; by the second only the function's own goals do, tried once more without such answers
 JUDGE = "2"
+
+# what was refused in folders that have no record yet
+REFUSED = ROOT / "out" / f"refused-{JUDGE}"
 
 # the folders of edits that have a record, and the command that makes it
 COMMANDS = {"wrong": "make wrong", "definitions": "make definitions"}
@@ -93,6 +96,22 @@ def record_of(crate, folder):
     lines = {"own": own_sum(crate, edits), "below": below_sum(crate), "logic": logic()}
     lines |= {"judge": JUDGE, "refused": str(len(edits))}
     return lines
+
+
+def kept_as(crate, path):
+    """The file that says that an edit was refused, named by the sum of all that this rests on."""
+    return REFUSED / sum_of(*(part.encode() for part in (own_sum(crate, [path]), below_sum(crate), logic())))
+
+
+def is_kept(crate, path):
+    """Whether an edit was refused, in a folder that may have no record yet."""
+    return kept_as(crate, path).is_file()
+
+
+def keep(crate, path):
+    """Keeps that an edit was refused."""
+    REFUSED.mkdir(parents=True, exist_ok=True)
+    kept_as(crate, path).touch()
 
 
 def read(crate, folder):

@@ -39,14 +39,11 @@ from pathlib import Path
 
 import build
 import records
-from crates import QUICK_RT, ROOT, folder_of, listed, rewrite, workshop
+from crates import QUICK_RT, folder_of, listed, rewrite, workshop
 from edits import Edit, Unfit, read_edit, with_edits
 from verdicts import judge, verdicts, without_answers
 
 FOLDER = "wrong"
-
-# what was refused in crates that have no record yet
-REFUSED = ROOT / "out" / f"refused-{records.JUDGE}"
 
 # more edits than this in one check leave processors idle at the end
 LARGEST = 16
@@ -60,12 +57,6 @@ class Try:
     without: dict = field(default_factory=dict)  # by proof file, its text without the answers that no longer fit
     gone: list = field(default_factory=list)  # the names of these answers
     alone: bool = False  # whether it has a check of its own
-
-
-def kept_as(crate, path):
-    """The file that says that an edit was refused, named by the sum of all that this rests on."""
-    parts = (records.own_sum(crate, [path]), records.below_sum(crate), records.logic())
-    return REFUSED / records.sum_of(*(part.encode() for part in parts))
 
 
 def path_of(crate, name):
@@ -151,8 +142,7 @@ class Work:
             self.faults[edit.label] = fault
             print(f"wrong bodies: {edit.label}: not refused: {fault}", flush=True)
         else:
-            REFUSED.mkdir(parents=True, exist_ok=True)
-            kept_as(edit.crate, path_of(edit.crate, edit.name)).touch()
+            records.keep(edit.crate, path_of(edit.crate, edit.name))
 
     def after(self, tries, output):
         """Judges edits by what their check printed; what that leaves open is tried again once the crate's others were tried."""
@@ -234,7 +224,7 @@ def settle(crate, work):
         return
     if any(label.split("/")[0] == crate for label in work.faults):
         records.remove(crate, FOLDER)
-    elif all(kept_as(crate, path).is_file() for path in records.edits_in(crate, FOLDER)):
+    elif all(records.is_kept(crate, path) for path in records.edits_in(crate, FOLDER)):
         records.write(crate, FOLDER)
 
 
@@ -260,7 +250,7 @@ def left_to_try(edits, asked, anew):
         if crate not in asked or anew:
             left[crate] = own
         elif not records.covers(crate, FOLDER):
-            left[crate] = [edit for edit in own if not kept_as(crate, path_of(crate, edit.name)).is_file()]
+            left[crate] = [edit for edit in own if not records.is_kept(crate, path_of(crate, edit.name))]
     return left
 
 
