@@ -100,6 +100,31 @@ const REMOVED: [(u64, bool, usize); 5] = [
     (12, true, 0),
 ];
 
+// Each table is named in one short function: one that is named in a longer function is gone through at each step of
+// its proof.
+fn first_other_of_three(dir: &Dir) -> Option<usize> {
+    first_other(dir, &OF_THREE)
+}
+
+fn first_other_of_two(dir: &Dir) -> Option<usize> {
+    first_other(dir, &OF_TWO)
+}
+
+fn first_other_with_a_new_one(dir: &Dir) -> Option<usize> {
+    first_other(dir, &WITH_A_NEW_ONE)
+}
+
+// The first of the removals that goes otherwise.
+fn first_other_removal(dir: &mut Dir) -> Option<u64> {
+    for (stamp, goes, left) in REMOVED {
+        let went = dir.remove(stamp).is_some();
+        if went != goes || dir.len() != left {
+            return Some(stamp);
+        }
+    }
+    None
+}
+
 fn come_and_go(rt: &impl Abort, alloc: Global, dir: &mut Dir) -> Result<(), Fail>
     requires { dir.old ≡ [] }
 {
@@ -107,16 +132,13 @@ fn come_and_go(rt: &impl Abort, alloc: Global, dir: &mut Dir) -> Result<(), Fail
     put_three(alloc, dir)?;
     assert!(rt; are_entries(dir, &[(3, 10), (5, 11), (9, 12)]));
     assert!(rt; object_of(dir, 4).is_none() && object_of(dir, 10).is_none());
-    assert_eq!(rt; first_other(dir, &OF_THREE), None);
-    assert!(rt; dir.remove(3).is_some());
-    assert_eq!(rt; first_other(dir, &OF_TWO), None);
+    assert_eq!(rt; first_other_of_three(dir), None);
+    let went = dir.remove(3).is_some();
+    assert!(rt; went && first_other_of_two(dir).is_none());
     put(alloc, dir, 12, b"Foo", 13)?;
-    assert_eq!(rt; first_other(dir, &WITH_A_NEW_ONE), None);
     assert!(rt; are_entries(dir, &[(5, 11), (9, 12), (12, 13)]));
-    for (stamp, goes, left) in REMOVED {
-        let went = dir.remove(stamp).is_some();
-        assert!(rt; went == goes && dir.len() == left, "at {stamp}");
-    }
+    assert_eq!(rt; first_other_with_a_new_one(dir), None);
+    assert_eq!(rt; first_other_removal(dir), None);
     assert!(rt; dir.is_empty());
     Ok(())
 }

@@ -15,7 +15,11 @@ const PARENT: Proc = Proc(1);
 
 const CHILD: Proc = Proc(2);
 
+const STRANGER: Proc = Proc(3);
+
 const DIRECTORY: ObjId = ObjId(7);
+
+const OTHER: ObjId = ObjId(8);
 
 // A parent begins without a device map and a child with one.
 fn start_two<H: HandleTable>(all: &mut Processes<H>) -> Result<(), AllocError>
@@ -29,9 +33,7 @@ fn start_two<H: HandleTable>(all: &mut Processes<H>) -> Result<(), AllocError>
     Ok(())
 }
 
-fn held(process: Proc, value: Handle, object: u64, inherit: bool, order: u64) -> Held
-    ensures { result ≡ record { process = process; value = value; object = object; inherit = inherit; order = order } }
-{
+fn held(process: Proc, value: Handle, object: u64, inherit: bool, order: u64) -> Held {
     Held {
         process,
         value,
@@ -41,30 +43,83 @@ fn held(process: Proc, value: Handle, object: u64, inherit: bool, order: u64) ->
     }
 }
 
-// The directories of the device maps of the parent and of the child.
-fn local_maps<H: HandleTable>(all: &Processes<H>) -> (Option<ObjId>, Option<ObjId>) {
-    (all.view(PARENT).local, all.view(CHILD).local)
+// What is told of maps: the directories of those of the parent and of the child, whether the first directory and the
+// other are mapped, and whether the parent and the child are live.
+type MapsTold = (Option<ObjId>, Option<ObjId>, [bool; 2], [bool; 2]);
+
+fn maps_told<H: HandleTable>(all: &Processes<H>) -> MapsTold {
+    (
+        all.view(PARENT).local,
+        all.view(CHILD).local,
+        [all.is_mapped(DIRECTORY), all.is_mapped(OTHER)],
+        [all.is_live(PARENT), all.is_live(CHILD)],
+    )
+}
+
+// Processes get maps, and others in their place, and end where none is said; and what is told then.
+const MAPS: [(Proc, Option<ObjId>, usize, MapsTold); 6] = [
+    (
+        PARENT,
+        Some(DIRECTORY),
+        2,
+        (
+            Some(DIRECTORY),
+            Some(DIRECTORY),
+            [true, false],
+            [true, true],
+        ),
+    ),
+    (
+        CHILD,
+        Some(OTHER),
+        2,
+        (Some(DIRECTORY), Some(OTHER), [true, true], [true, true]),
+    ),
+    (
+        PARENT,
+        Some(OTHER),
+        2,
+        (Some(OTHER), Some(OTHER), [false, true], [true, true]),
+    ),
+    (
+        STRANGER,
+        Some(DIRECTORY),
+        2,
+        (Some(OTHER), Some(OTHER), [false, true], [true, true]),
+    ),
+    (
+        PARENT,
+        None,
+        1,
+        (None, Some(OTHER), [false, true], [false, true]),
+    ),
+    (CHILD, None, 0, (None, None, [false, false], [false, false])),
+];
+
+// The number, from 0, of the first step behind which something else is told.
+fn first_other_map<H: HandleTable>(all: &mut Processes<H>) -> Result<Option<usize>, AllocError> {
+    for (number, (process, map, count, wanted)) in MAPS.into_iter().enumerate() {
+        match map {
+            Some(directory) => all.set_map(process, directory)?,
+            None => {
+                all.end(process);
+            }
+        }
+        if maps_told(all) != wanted || all.count() != count {
+            return Ok(Some(number));
+        }
+    }
+    Ok(None)
 }
 
 // A process gets a map, and another in its place, and its map goes with it.
 fn get_maps<H: HandleTable>(rt: &impl Abort, all: &mut Processes<H>) -> Result<(), Fail>
     requires { all.old ≡ record { processes = []; handles = [] } }
 {
-    let (other, none) = (ObjId(8), Proc(3));
     start_two(all)?;
-    assert!(rt; local_maps(all) == (None, Some(DIRECTORY)) && all.is_mapped(DIRECTORY));
-    all.set_map(PARENT, DIRECTORY)?;
-    all.set_map(CHILD, other)?;
-    assert!(rt; local_maps(all) == (Some(DIRECTORY), Some(other)) && all.is_mapped(DIRECTORY));
-    all.set_map(PARENT, other)?;
-    all.set_map(none, DIRECTORY)?;
-    assert!(rt; local_maps(all) == (Some(other), Some(other)) && all.is_mapped(other));
-    assert!(rt; all.view(none).local.is_none() && !all.is_mapped(DIRECTORY));
-    all.end(PARENT);
-    assert!(rt; !all.is_live(PARENT) && all.is_live(CHILD) && all.count() == 1);
-    assert!(rt; local_maps(all) == (None, Some(other)) && all.is_mapped(other));
-    all.end(CHILD);
-    assert!(rt; local_maps(all) == (None, None) && !all.is_mapped(other));
+    assert!(rt; maps_told(all) == (None, Some(DIRECTORY), [true, false], [true, true]));
+    assert_eq!(rt; first_other_map(all)?, None);
+    assert!(rt; all.view(STRANGER).local.is_none());
     Ok(())
 }
 
@@ -108,7 +163,13 @@ fn open_three<H: HandleTable>(all: &mut Processes<H>) -> Result<(), Fail>
 {
     start_two(all)?;
     let first = all.grant(PARENT, ObjId(5), false, 1)?;
-    all.put(held(CHILD, first, 5, true, 2))?;
+    all.put(Held {
+        process: CHILD,
+        value: first,
+        object: ObjId(5),
+        inherit: true,
+        order: 2,
+    })?;
     all.grant(PARENT, ObjId(6), false, 3)?;
     Ok(())
 }
@@ -122,7 +183,8 @@ fn hold_handles<H: HandleTable>(rt: &impl Abort, all: &mut Processes<H>) -> Resu
     open_three(all)?;
     assert!(rt; told(all) == (2, 3, 2, 1, Some(oldest)));
     assert!(rt; counts(all, 5) == (2, 1, 1, true) && counts(all, 6) == (1, 1, 0, false));
-    assert!(rt; all.take(PARENT, first) == Some(oldest) && all.take(PARENT, first).is_none());
+    let (taken, again) = (all.take(PARENT, first), all.take(PARENT, first));
+    assert!(rt; taken == Some(oldest) && again.is_none());
     assert!(rt; all.get(CHILD, first).is_some() && all.get(PARENT, first).is_none());
     assert!(rt; told(all) == (2, 2, 1, 1, Some(held(PARENT, last, 6, false, 3))));
     assert!(rt; counts(all, 5) == (1, 0, 1, true) && counts(all, 7) == (0, 0, 0, false));
@@ -139,13 +201,30 @@ fn processes_hold_handles_of_their_own(rt: HostRuntime) -> Result<(), Fail> {
     handles_of::<OpenTable>(&rt, rt.alloc())
 }
 
+// The handles of an ending that are left, to the objects 5, 6 and 7.
+fn counts_left<H: HandleTable>(ending: &Ending<H>) -> (usize, usize, usize) {
+    (
+        ending.count_of(ObjId(5)),
+        ending.count_of(ObjId(6)),
+        ending.count_of(ObjId(7)),
+    )
+}
+
 // The parent's handles, which are the child's no more, go from the oldest on, and leave what they touched.
 fn leave_handles<H: HandleTable>(rt: &impl Abort, mut ending: Ending<H>) {
-    assert!(rt; ending.count_of(ObjId(5)) == 1 && ending.count_of(ObjId(7)) == 0);
-    assert!(rt; ending.next() == Some(held(PARENT, Handle(4), 5, false, 1)));
-    assert!(rt; ending.count_of(ObjId(5)) == 0 && ending.count_of(ObjId(6)) == 1);
-    assert!(rt; ending.next() == Some(held(PARENT, Handle(8), 6, false, 3)));
-    assert!(rt; ending.next().is_none());
+    let (first, last) = (
+        held(PARENT, Handle(4), 5, false, 1),
+        held(PARENT, Handle(8), 6, false, 3),
+    );
+    assert!(rt; counts_left(&ending) == (1, 1, 0));
+    for (wanted, counts) in [
+        (Some(first), (0, 1, 0)),
+        (Some(last), (0, 0, 0)),
+        (None, (0, 0, 0)),
+    ] {
+        let next = ending.next();
+        assert!(rt; next == wanted && counts_left(&ending) == counts);
+    }
     let touched = ending.into_touched();
     assert!(rt; touched.holds(ObjId(5)) && touched.holds(ObjId(6)) && !touched.holds(ObjId(7)));
     for (id, last) in [(9, Some(ObjId(6))), (6, Some(ObjId(5))), (5, None)] {
