@@ -111,7 +111,7 @@ class Work:
         self.open = {crate: {edit.label for edit in own} for crate, own in edits.items()}
         self.again = {crate: [] for crate in edits}
         self.under_way = dict.fromkeys(edits, 0)
-        for own in edits.values():
+        for own in filter(None, edits.values()):
             self.add([Try(edit, alone=bool(edit.refusal)) for edit in own])
 
     def add(self, tries):
