@@ -1,6 +1,6 @@
 //! The words that every crate shares, against the public tables.
 
-use ob_base::{Attrs, Fault, Handle, Status, codes_tell_statuses, texts_tell_statuses};
+use ob_base::{Attrs, Fault, Handle, Status};
 use std::alloc::{AllocError, Global};
 
 // What a set says of its flags: inherit, permanent, exclusive, without case, open-if and open-link.
@@ -154,10 +154,4 @@ fn statuses_have_their_words_and_numbers(rt: HostRuntime) {
         let has_both = status.text().as_bytes() == text && status.code() == code;
         assert!(rt; has_both, "at {code}");
     }
-}
-
-#[test]
-fn laws_can_be_called(_rt: HostRuntime) {
-    codes_tell_statuses();
-    texts_tell_statuses();
 }

@@ -1,6 +1,6 @@
-//! Tests of what knows no namespace: flags and statuses, the model's laws and examples, names, and sets
-//! of types, by their public functions: tables from outside, and what no clause says. The crate holds
-//! tests alone, since a crate with tests is proved twice.
+//! Tests of what knows no namespace: flags and statuses, bytes, names, and sets of types, by their public
+//! functions: tables from outside, and what no clause says. The crate holds tests alone, since a crate with
+//! tests is proved twice.
 #![tactic(auto)]
 
 #[cfg(test)]

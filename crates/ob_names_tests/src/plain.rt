@@ -2,7 +2,6 @@
 
 use ob_plain::{
     Counting, Plain, PlainFace, PlainInner, PlainKind, Standard, accepted_opens_count, limit_of,
-    limits_are_decimal,
 };
 use ob_types::{Reason, Refusal, TypeSet, close_last, is_one_kind, laws, open_or_leave};
 
@@ -93,5 +92,4 @@ fn laws_at_the_standard_set(_rt: HostRuntime) {
     laws::equal_kinds::<Standard>();
     laws::is_lawful::<Standard>();
     accepted_opens_count::<Plain>();
-    limits_are_decimal();
 }

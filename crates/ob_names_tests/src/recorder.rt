@@ -1,10 +1,7 @@
 //! Lives of objects, recorded.
 
 use ob_base::Fault;
-use ob_plain::{
-    Call, CallKind, Counting, Plain, PlainKind, Recorder, accepted_opens_are_noted,
-    first_calls_are_kept,
-};
+use ob_plain::{Call, CallKind, Counting, Plain, PlainKind, Recorder, accepted_opens_are_noted};
 use ob_types::{Reason, TypeSet, close_last, is_one_kind, laws, open_or_leave};
 
 // The set that is recorded in these tests: one that counts, so that both can be compared.
@@ -103,5 +100,4 @@ fn laws_at_a_recorder(_rt: HostRuntime) {
     laws::same_answers::<Recording>();
     laws::is_lawful::<Recording>();
     accepted_opens_are_noted::<Counting<Plain>>();
-    first_calls_are_kept();
 }
