@@ -129,7 +129,7 @@ def make(crates, lanes):
     if not missing:
         return True
     LOG.parent.mkdir(exist_ok=True)
-    say(f"{len(missing)} crates are to be proved; the prover's own lines go to {LOG}")
+    say(f"crates to be proved: {len(missing)}; the prover's own lines go to {LOG}")
     with tempfile.TemporaryDirectory(prefix="build-") as folder, LOG.open("w") as log:
         return Build(missing, lanes, Path(folder), log).run()
 
