@@ -123,7 +123,7 @@ module _ {K T F I : Type 0} (g : Procedures K T F I) (s : State K T F I) (p : �
       go false None h = refused n look ObjectPathSyntaxBad h
       go false (Some at) h = goes at.0 at.1 h
 
-  looks_hand_on : (n : ℕ) (place : Origin) (text : List ℕ) (look : Look) → Looks g s p mode n place text look → HandsOn n look
+  pub looks_hand_on : (n : ℕ) (place : Origin) (text : List ℕ) (look : Look) → Looks g s p mode n place text look → HandsOn n look
   looks_hand_on zero place text look h =
       ends_hand_on zero h.1 (λ target rest. look ≡ Refused ReparseLimit) look (next_hands_on zero h.0 h.1 h.3) (λ target rest told. refused zero look ReparseLimit told) h.4
   looks_hand_on (suc n) place text look h =

@@ -1,0 +1,21 @@
+//! The journal of a namespace: its entries, and the lines that they are written as.
+//!
+//! An [`Entry`] is one event of a history with its number, the seat whose caller asked, and how it ended. Contracts see it
+//! as the entry of a run of the abstract machine, so that a list of entries may be a run. Entries are compared by
+//! [`is_same_entry`], what they are made of is copied by [`copy_command`] and [`copy_reply`], and [`write_header`] and
+//! [`write_line`] write the lines of a journal.
+#![tactic(auto)]
+
+mod alike;
+mod copies;
+mod entry;
+mod lines;
+mod replies;
+mod steps;
+mod texts;
+mod words;
+
+pub use alike::is_same_entry;
+pub use copies::{copy_command, copy_reply};
+pub use entry::Entry;
+pub use lines::{write_header, write_line};

@@ -1,0 +1,56 @@
+//! The lines of a journal.
+
+ghost use Rattle.std.specs.Prelude.{◌≡◌, false, IfOk};
+ghost use Rattle.serde_json.specs.View.{view};
+ghost use Rattle.serde_json.specs.Written.{has_float};
+ghost use Rattle.ob_journal.specs.Lines.{header_value, header_line, entry_value, entry_line, line_of};
+
+use crate::entry::Entry;
+use crate::replies::make_answer;
+use crate::steps::make_step;
+use ob_types::TypeSet;
+use serde_json::{Value, json};
+use std::alloc::{AllocError, Global};
+
+/// The first line of a journal of version 1: `{"journal":1,"seats":S}` and LF, where S is the number of seats. A journal has 1
+/// to 1,024 seats, which isn't judged here. The only error is want of memory. (RFC 8259; the keys: this profile)
+pub fn write_header(alloc: Global, seats: u32) -> Result<Vec<u8>, AllocError>
+    ensures { IfOk result (λ line. line.items ≡ header_line seats) }
+{
+    let header = make_header(alloc, seats)?;
+    write_value(alloc, &header)
+}
+
+/// The line of an entry: a compact JSON object with its keys in rising order, and LF. The number and the seat are written as they
+/// are, and so is what was asked. The only error is want of memory. (RFC 8259; the keys: this profile)
+pub fn write_line<T: TypeSet>(alloc: Global, entry: &Entry<T::Kind>) -> Result<Vec<u8>, AllocError>
+    ensures { IfOk result (λ line. line.items ≡ entry_line (T.procedures).type_name entry.now) }
+{
+    let value = make_entry::<T>(alloc, entry)?;
+    write_value(alloc, &value)
+}
+
+// The value of the first line.
+fn make_header(alloc: Global, seats: u32) -> Result<Value, AllocError>
+    ensures { IfOk result (λ header. view header ≡ header_value seats) }
+{
+    json!(in alloc; {"journal": 1u32, "seats": seats})
+}
+
+// The value of an entry.
+fn make_entry<T: TypeSet>(alloc: Global, entry: &Entry<T::Kind>) -> Result<Value, AllocError>
+    ensures { IfOk result (λ value. view value ≡ entry_value (T.procedures).type_name entry.now) }
+{
+    let reply = make_answer(alloc, &entry.reply)?;
+    let step = make_step::<T>(alloc, &entry.step)?;
+    json!(in alloc; {"n": entry.number, "reply": reply, "seat": entry.seat, "step": step})
+}
+
+// The line of a value, which has no floats.
+fn write_value(alloc: Global, value: &Value) -> Result<Vec<u8>, AllocError>
+    ensures { IfOk result (λ line. has_float (view value.now) ≡ false → line.items ≡ line_of (view value.now)) }
+{
+    let mut line = value.to_vec(alloc)?;
+    line.push(b'\n')?;
+    Ok(line)
+}

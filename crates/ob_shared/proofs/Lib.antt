@@ -1,0 +1,5 @@
+pub mod Answered
+pub mod Placed
+pub mod Pendings
+pub mod Starts
+pub mod Keeps

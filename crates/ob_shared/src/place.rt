@@ -1,0 +1,55 @@
+//! Places for receipts.
+
+ghost use Rattle.std.specs.Prelude.{◌≡◌, [], ◌∷◌, ◌+◌, ◌^◌, ◌<◌, ◌++◌, length};
+
+use ob_journal::Entry;
+use ob_model::{Answer, Event, ParseRun};
+use std::alloc::{AllocError, Global};
+use std::collections::LinkedList;
+use std::marker::Model;
+
+/// The place of one receipt, which is made before the step that fills it, so that no memory is wanted then. It may be let go.
+#[derive(Drop)]
+pub(crate) struct ReceiptPlace<K> {
+    cell: LinkedList<Entry<K>>,
+}
+
+impl<K> Model for ReceiptPlace<K> {
+    ghost use Rattle.std.specs.Prelude.{◌≡◌, length};
+
+    ghost Value = { Unit {0} };
+
+    ghost view = { λ p. tt };
+
+    ghost invariant = { λ p. length p.cell ≡ 1 };
+}
+
+impl<K: Copy> ReceiptPlace<K> {
+    /// A place. The only error is want of memory.
+    pub(crate) fn new(alloc: Global) -> Result<ReceiptPlace<K>, AllocError> {
+        let mut cell = LinkedList::new(alloc);
+        let blank = Entry {
+            number: 0,
+            seat: 0,
+            step: Event::Abandon {
+                ticket: 0,
+                parse: ParseRun::Unrun,
+            },
+            reply: Answer::Ticket(0),
+        };
+        cell.push_back(blank)?;
+        Ok(ReceiptPlace { cell })
+    }
+
+    /// Puts a receipt behind these. Takes no memory.
+    pub(crate) fn fill(self, receipts: &mut LinkedList<Entry<K>>, receipt: Entry<K>)
+        requires { length receipts.old < 2 ^ 62 }
+        ensures { receipts.new ≡ receipts.old ++ receipt ∷ [] }
+    {
+        let ReceiptPlace { mut cell } = self;
+        if let Some(place) = cell.front_mut() {
+            *place = receipt;
+        }
+        let _ = receipts.append(&mut cell);
+    }
+}
