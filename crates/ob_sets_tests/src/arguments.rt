@@ -1,92 +1,112 @@
 //! Arguments: which can be read, where they are cut, and paths.
 
+use crate::tables::{assert_lines, fields};
 use ob_arguments::{LONGEST_ARGUMENTS, Path, cut, is_readable, split};
 use std::alloc::{AllocError, Global};
 use std::test::Fail;
 
-// Arguments, and whether they can be read.
-const READABLE: [(&'static [u8], bool); 8] = [
-    (b"", true),
-    (b" ~", true),
-    (b"\\a;b>c", true),
-    (b"\x1f", false),
-    (b"\x7f", false),
-    (b"a\x00b", false),
-    (b"a\x80", false),
-    (b"\xff", false),
-];
+const READABLE: [&'static [u8]; 3] = [b"", b" ~", b"\\a;b>c"];
+
+const UNREADABLE: [&'static [u8]; 5] = [b"\x1f", b"\x7f", b"a\x00b", b"a\x80", b"\xff"];
 
 #[test]
 fn bytes_of_the_profile_are_readable(rt: HostRuntime) {
-    for (args, is_so) in READABLE {
-        assert!(rt; is_readable(args) == is_so, "at {args:?}");
+    for args in READABLE {
+        assert!(rt; is_readable(args), "at {args:?}");
     }
+}
+
+#[test]
+fn other_bytes_are_not_readable(rt: HostRuntime) {
+    for args in UNREADABLE {
+        assert!(rt; !is_readable(args), "at {args:?}");
+    }
+}
+
+fn are_readable(alloc: Global, count: usize) -> Result<bool, AllocError> {
+    let args = vec![in alloc; b'a'; count]?;
+    Ok(is_readable(args.as_slice()))
 }
 
 #[test]
 fn at_most_65535_bytes_are_readable(rt: HostRuntime) -> Result<(), Fail> {
-    let mut args = vec![in rt.alloc(); b'a'; 65_535]?;
-    assert!(rt; LONGEST_ARGUMENTS == args.len() && is_readable(args.as_slice()));
-    args.push(b'a')?;
-    assert!(rt; !is_readable(args.as_slice()));
+    assert!(rt; LONGEST_ARGUMENTS == 65_535 && are_readable(rt.alloc(), 65_535)?);
+    assert!(rt; !are_readable(rt.alloc(), 65_536)?);
     Ok(())
 }
 
-// A text, what stands before its first semicolon, and what stands behind it.
-const CUTS: [(&'static [u8], &'static [u8], Option<&'static [u8]>); 6] = [
-    (b"", b"", None),
-    (b"ab", b"ab", None),
-    (b";", b"", Some(b"")),
-    (b"ab;", b"ab", Some(b"")),
-    (b";ab", b"", Some(b"ab")),
-    (b"a;b;c", b"a", Some(b"b;c")),
-];
+// A text, what stands before its first semicolon, and what stands from it on.
+const CUTS: &'static str = r"
+      |    |
+ab    | ab |
+;     |    | ;
+ab;   | ab | ;
+;ab   |    | ;ab
+a;b;c | a  | ;b;c
+";
 
-#[test]
-fn texts_are_cut_at_the_first(rt: HostRuntime) {
-    for (text, before, behind) in CUTS {
-        assert!(rt; cut(text, b';') == (before, behind), "at {text:?}");
-    }
+fn is_cut_so(_alloc: Global, line: &str) -> Result<bool, Fail> {
+    let [text, before, from, ..] = fields(line);
+    let (found, behind) = cut(text.as_bytes(), b';');
+    let wanted = from.strip_prefix(";").map(|text| text.as_bytes());
+    Ok(found == before.as_bytes() && behind == wanted)
 }
 
-// Arguments, and their pieces, each with a bar behind it.
-const PIECES: [(&'static [u8], &'static [u8]); 7] = [
-    (b"", b""),
-    (b"a", b"a|"),
-    (b"a,b", b"a,b|"),
-    (b"ab;c;\\d", b"ab|c|\\d|"),
-    (b";", b"||"),
-    (b"a;", b"a||"),
-    (b";;a", b"||a|"),
-];
+#[test]
+fn texts_are_cut_at_the_first(rt: HostRuntime) -> Result<(), Fail> {
+    assert_lines(&rt, rt.alloc(), CUTS, is_cut_so)
+}
 
-fn barred(alloc: Global, args: &[u8]) -> Result<Vec<u8>, AllocError> {
+// Arguments, and their pieces, each with a slash behind it.
+const PIECES: &'static str = r"
+        |
+a       | a/
+a,b     | a,b/
+ab;c;\d | ab/c/\d/
+;       | //
+a;      | a//
+;;a     | //a/
+";
+
+fn slashed(alloc: Global, args: &[u8]) -> Result<Vec<u8>, AllocError> {
     let mut text = Vec::new(alloc);
     for piece in &split(alloc, args)? {
         text.extend_from_slice(piece)?;
-        text.push(b'|')?;
+        text.push(b'/')?;
     }
     Ok(text)
 }
 
+fn has_pieces(alloc: Global, line: &str) -> Result<bool, Fail> {
+    let [args, pieces, ..] = fields(line);
+    let found = slashed(alloc, args.as_bytes())?;
+    Ok(found.as_slice() == pieces.as_bytes())
+}
+
 #[test]
 fn pieces_stand_between_semicolons(rt: HostRuntime) -> Result<(), Fail> {
-    for (args, pieces) in PIECES {
-        let found = barred(rt.alloc(), args)?;
-        assert!(rt; found.as_slice() == pieces, "at {args:?}");
-    }
-    Ok(())
+    assert_lines(&rt, rt.alloc(), PIECES, has_pieces)
 }
 
 // Two texts, and whether they are one path.
-const PATHS: [(&'static [u8], &'static [u8], bool); 6] = [
-    (b"", b"", true),
-    (b"\\a\xff", b"\\a\xff", true),
-    (b"a", b"A", false),
-    (b"a", b"", false),
-    (b"a", b"ab", false),
-    (b"a\\b", b"a\\c", false),
-];
+const PATHS: &'static str = r"
+    |     | same
+a   | A   | other
+a   |     | other
+a   | ab  | other
+a\b | a\c | other
+";
+
+// Whether a path with a copy of some bytes keeps them, and is equal to another or not.
+fn compares_copy(
+    alloc: Global,
+    copied: &[u8],
+    other: &Path,
+    are_equal: bool,
+) -> Result<bool, AllocError> {
+    let path = Path::new(alloc, copied)?;
+    Ok(path.as_slice() == copied && (path == *other) == are_equal)
+}
 
 // Whether paths with these bytes keep them, and are equal as they are to be.
 fn compares(
@@ -95,16 +115,20 @@ fn compares(
     taken: &[u8],
     are_equal: bool,
 ) -> Result<bool, AllocError> {
-    let a = Path::new(alloc, copied)?;
-    let b = Path::from_vec(taken.to_vec(alloc)?);
-    Ok(a.as_slice() == copied && b.as_slice() == taken && (a == b) == are_equal)
+    let path = Path::from_vec(taken.to_vec(alloc)?);
+    if path.as_slice() != taken {
+        return Ok(false);
+    }
+    compares_copy(alloc, copied, &path, are_equal)
+}
+
+fn compares_so(alloc: Global, line: &str) -> Result<bool, Fail> {
+    let [copied, taken, equal, ..] = fields(line);
+    Ok(compares(alloc, copied.as_bytes(), taken.as_bytes(), equal == "same")?)
 }
 
 #[test]
 fn paths_keep_their_bytes(rt: HostRuntime) -> Result<(), Fail> {
-    for (a, b, are_equal) in PATHS {
-        let is_so = compares(rt.alloc(), a, b, are_equal)?;
-        assert!(rt; is_so, "at {a:?} and {b:?}");
-    }
-    Ok(())
+    assert!(rt; compares(rt.alloc(), b"\\a\xff", b"\\a\xff", true)?);
+    assert_lines(&rt, rt.alloc(), PATHS, compares_so)
 }

@@ -1,222 +1,195 @@
 //! Devices and files: their arguments, and the files that names lead to.
 
+use crate::objects::{
+    Told, answers, are_counted, are_same, hand_over_laws, refusal, refusal_of_letters,
+};
+use crate::tables::{assert_lines, fields, refused, word};
 use ob_arguments::Path;
 use ob_device::{DeviceFace, DeviceInner, DeviceKind, DeviceSet, PathTable};
-use ob_types::{
-    ParseAnswer, Reason, Refusal, TypeSet, a_parse_run_has_one_end, close_last, is_one_kind, laws,
-    same_faces_end_alike,
-};
+use ob_types::{Reason, TypeSet, is_one_kind};
 use std::alloc::{AllocError, Global};
 use std::test::Fail;
 
-// The arguments of a table, a path, whether the table has it, and whether one of the paths is empty.
-const TABLES: [(&'static [u8], &'static [u8], bool, bool); 9] = [
-    (b"", b"", false, false),
-    (b"", b"a", false, false),
-    (b"a", b"a", true, false),
-    (b"ab", b"a", false, false),
-    (b"a;b\\c", b"b\\c", true, false),
-    (b"a;b\\c", b"b", false, false),
-    (b"a;b", b"A", false, false),
-    (b"a;", b"a", true, true),
-    (b";a", b"", true, true),
-];
+impl Told for DeviceSet {
+    fn kind(name: &str) -> DeviceKind {
+        match name {
+            "Device" => DeviceKind::Device,
+            _ => DeviceKind::File,
+        }
+    }
 
-fn has_so(
-    alloc: Global,
-    args: &[u8],
-    path: &[u8],
-    is_there: bool,
-    is_empty_there: bool,
-) -> Result<bool, AllocError> {
-    let table = PathTable::read(alloc, args)?;
-    Ok(table.has(path) == is_there && table.has_empty() == is_empty_there)
+    fn is_new(face: &DeviceFace, inner: &DeviceInner, field: &str) -> bool {
+        let (name, wanted) = word(field);
+        match face {
+            DeviceFace::File(path) => {
+                name == "file" && path.as_slice() == wanted.as_bytes() && inner.handles == 0
+            }
+            DeviceFace::Device(_) => false,
+        }
+    }
+
+    fn handles(inner: &DeviceInner) -> u32 {
+        inner.handles
+    }
+}
+
+// The arguments of a table, a path, whether the table has it, and whether one of the paths is empty.
+const TABLES: &'static str = r"
+      |     | none  | none
+      | a   | none  | none
+a     | a   | there | none
+ab    | a   | none  | none
+a;b\c | b\c | there | none
+a;b\c | b   | none  | none
+a;b   | A   | none  | none
+a;    | a   | there | empty
+;a    |     | there | empty
+";
+
+fn has(table: &PathTable, path: &str, has_path: bool, has_empty: bool) -> bool {
+    table.has(path.as_bytes()) == has_path && table.has_empty() == has_empty
+}
+
+fn has_so(alloc: Global, line: &str) -> Result<bool, Fail> {
+    let [args, path, there, empty, ..] = fields(line);
+    let table = PathTable::read(alloc, args.as_bytes())?;
+    Ok(has(&table, path, there == "there", empty == "empty"))
 }
 
 #[test]
 fn tables_have_the_paths_of_their_arguments(rt: HostRuntime) -> Result<(), Fail> {
-    for (args, path, is_there, is_empty_there) in TABLES {
-        let is_so = has_so(rt.alloc(), args, path, is_there, is_empty_there)?;
-        assert!(rt; is_so, "at {args:?} and {path:?}");
-    }
-    Ok(())
+    assert_lines(&rt, rt.alloc(), TABLES, has_so)
 }
 
-// The kind and the arguments of a make, and the number that refuses it.
-const MAKES: [(DeviceKind, &'static [u8], Option<u16>); 14] = [
-    (DeviceKind::Device, b"", None),
-    (DeviceKind::Device, b"a", None),
-    (DeviceKind::Device, b"\\", None),
-    (DeviceKind::Device, b"a;b\\c d~", None),
-    (DeviceKind::Device, b"a;a", None),
-    (DeviceKind::Device, b";", Some(1)),
-    (DeviceKind::Device, b"a;", Some(1)),
-    (DeviceKind::Device, b";a", Some(1)),
-    (DeviceKind::Device, b"a;;b", Some(1)),
-    (DeviceKind::Device, b"a\x1f", Some(1)),
-    (DeviceKind::Device, b"\x7f", Some(1)),
-    (DeviceKind::File, b"", Some(5)),
-    (DeviceKind::File, b"a", Some(5)),
-    (DeviceKind::File, b"\x00", Some(5)),
-];
+// The kind and the arguments of a make, and whether an object is made or a number refuses it.
+const MAKES: &'static str = "
+Device |           | made
+Device | a         | made
+Device | \\        | made
+Device | a;b\\c d~ | made
+Device | a;a       | made
+Device | ;         | refused 1
+Device | a;        | refused 1
+Device | ;a        | refused 1
+Device | a;;b      | refused 1
+Device | a\x1f     | refused 1
+Device | \x7f      | refused 1
+File   |           | refused 5
+File   | a         | refused 5
+File   | \x00      | refused 5
+";
 
-// The number that refuses a make.
-fn refusal(alloc: Global, kind: DeviceKind, args: &[u8]) -> Result<Option<u16>, AllocError> {
-    match DeviceSet::make(alloc, kind, args) {
-        Ok(_) => Ok(None),
-        Err(Refusal::Code(code)) => Ok(Some(code)),
-        Err(Refusal::Memory) => Err(AllocError),
-    }
+fn is_made_so(alloc: Global, line: &str) -> Result<bool, Fail> {
+    let [name, args, wanted, ..] = fields(line);
+    let code = refusal::<DeviceSet>(alloc, DeviceSet::kind(name), args.as_bytes())?;
+    Ok(code == refused(wanted))
 }
 
 #[test]
 fn devices_are_made_of_paths_and_files_never(rt: HostRuntime) -> Result<(), Fail> {
-    for (kind, args, code) in MAKES {
-        let refused = refusal(rt.alloc(), kind, args)?;
-        assert!(rt; refused == code, "at {args:?}");
-    }
-    Ok(())
+    assert_lines(&rt, rt.alloc(), MAKES, is_made_so)
 }
 
 #[test]
 fn arguments_above_65535_bytes_are_refused(rt: HostRuntime) -> Result<(), Fail> {
-    let mut args = vec![in rt.alloc(); b'a'; 65_535]?;
-    let longest = refusal(rt.alloc(), DeviceKind::Device, args.as_slice())?;
-    args.push(b'a')?;
-    let device = refusal(rt.alloc(), DeviceKind::Device, args.as_slice())?;
-    let file = refusal(rt.alloc(), DeviceKind::File, args.as_slice())?;
-    assert!(rt; (longest, device, file) == (None, Some(1), Some(5)));
+    let (device, file) = (DeviceKind::Device, DeviceKind::File);
+    assert!(rt; refusal_of_letters::<DeviceSet>(rt.alloc(), device, 65_535)?.is_none());
+    assert!(rt; refusal_of_letters::<DeviceSet>(rt.alloc(), device, 65_536)? == Some(1));
+    assert!(rt; refusal_of_letters::<DeviceSet>(rt.alloc(), file, 65_536)? == Some(5));
     Ok(())
 }
 
-// A device of a table, or a file.
-#[derive(Clone, Copy)]
-enum Object {
-    Device(&'static [u8]),
-    File(&'static [u8]),
-}
-
-fn face(alloc: Global, object: Object) -> Result<DeviceFace, AllocError> {
-    match object {
-        Object::Device(args) => Ok(DeviceFace::Device(PathTable::read(alloc, args)?)),
-        Object::File(path) => Ok(DeviceFace::File(Path::new(alloc, path)?)),
+// The face that a field says: a device of a table, or a file.
+fn face(alloc: Global, field: &str) -> Result<DeviceFace, AllocError> {
+    let (name, text) = word(field);
+    if name == "device" {
+        return Ok(DeviceFace::Device(PathTable::read(alloc, text.as_bytes())?));
     }
+    Ok(DeviceFace::File(Path::new(alloc, text.as_bytes())?))
 }
 
-// What is answered to a rest: the bytes used and the path of the file, or a number.
-#[derive(Clone, Copy)]
-enum Answer {
-    File(usize, &'static [u8]),
-    Refused(u16),
-}
+// A device or a file, a rest there, and what is answered.
+const PARSES: &'static str = r"
+device       |      | 0 file
+device a     |      | 0 file
+device a     | a    | 1 file a
+device a     | \a   | 2 file a
+device a;b\c | \b\c | 4 file b\c
+device a;a   | \a   | 2 file a
+device \a    | \\a  | 3 file \a
+device \a    | \a   | refused 3
+device a     | \    | refused 3
+device a     | \A   | refused 3
+device a     | \a\  | refused 3
+device a\b   | \a   | refused 3
+device a     | /a   | refused 3
+device       | \a   | refused 3
+file         |      | refused 3
+file a       | \a   | refused 3
+";
 
-// A rest at an object, and what is answered.
-const PARSES: [(Object, &'static [u8], Answer); 16] = [
-    (Object::Device(b""), b"", Answer::File(0, b"")),
-    (Object::Device(b"a"), b"", Answer::File(0, b"")),
-    (Object::Device(b"a"), b"a", Answer::File(1, b"a")),
-    (Object::Device(b"a"), b"\\a", Answer::File(2, b"a")),
-    (
-        Object::Device(b"a;b\\c"),
-        b"\\b\\c",
-        Answer::File(4, b"b\\c"),
-    ),
-    (Object::Device(b"a;a"), b"\\a", Answer::File(2, b"a")),
-    (Object::Device(b"\\a"), b"\\\\a", Answer::File(3, b"\\a")),
-    (Object::Device(b"\\a"), b"\\a", Answer::Refused(3)),
-    (Object::Device(b"a"), b"\\", Answer::Refused(3)),
-    (Object::Device(b"a"), b"\\A", Answer::Refused(3)),
-    (Object::Device(b"a"), b"\\a\\", Answer::Refused(3)),
-    (Object::Device(b"a\\b"), b"\\a", Answer::Refused(3)),
-    (Object::Device(b"a"), b"/a", Answer::Refused(3)),
-    (Object::Device(b""), b"\\a", Answer::Refused(3)),
-    (Object::File(b""), b"", Answer::Refused(3)),
-    (Object::File(b"a"), b"\\a", Answer::Refused(3)),
-];
-
-fn is_answer(answer: &ParseAnswer<DeviceFace, DeviceInner>, wanted: Answer) -> bool {
-    match (answer, wanted) {
-        (
-            ParseAnswer::Front {
-                used,
-                next: DeviceFace::File(path),
-                inner,
-            },
-            Answer::File(bytes, name),
-        ) => { *used == bytes && path.as_slice() == name && inner.handles == 0 }
-        (ParseAnswer::Refused(code), Answer::Refused(number)) => *code == number,
-        _ => false,
-    }
-}
-
-fn answers_so(
-    alloc: Global,
-    object: Object,
-    rest: &[u8],
-    wanted: Answer,
-) -> Result<bool, AllocError> {
+fn answers_so(alloc: Global, line: &str) -> Result<bool, Fail> {
+    let [object, rest, wanted, ..] = fields(line);
     let face = face(alloc, object)?;
-    let answer = DeviceSet::parse(alloc, &face, rest)?;
-    Ok(is_answer(&answer, wanted))
+    answers::<DeviceSet>(alloc, &face, rest, wanted)
 }
 
 #[test]
 fn devices_lead_to_the_files_of_their_paths(rt: HostRuntime) -> Result<(), Fail> {
-    for (object, rest, wanted) in PARSES {
-        let is_so = answers_so(rt.alloc(), object, rest, wanted)?;
-        assert!(rt; is_so, "at {rest:?}");
-    }
-    Ok(())
+    assert_lines(&rt, rt.alloc(), PARSES, answers_so)
 }
 
 // Two objects, and whether they are the same.
-const FACES: [(Object, Object, bool); 9] = [
-    (Object::Device(b"a;b"), Object::Device(b"a;b"), true),
-    (Object::Device(b""), Object::Device(b""), true),
-    (Object::Device(b"a;b"), Object::Device(b"b;a"), false),
-    (Object::Device(b"a"), Object::Device(b"a;a"), false),
-    (Object::Device(b"a"), Object::Device(b"A"), false),
-    (Object::File(b"a"), Object::File(b"a"), true),
-    (Object::File(b"a"), Object::File(b""), false),
-    (Object::File(b"a"), Object::Device(b"a"), false),
-    (Object::Device(b""), Object::File(b""), false),
-];
+const FACES: &'static str = r"
+device a;b | device a;b | same
+device     | device     | same
+device a;b | device b;a | other
+device a   | device a;a | other
+device a   | device A   | other
+file a     | file a     | same
+file a     | file       | other
+file a     | device a   | other
+device     | file       | other
+";
 
-fn compares(alloc: Global, a: Object, b: Object, is_same: bool) -> Result<bool, AllocError> {
-    let a = face(alloc, a)?;
+fn is_same_as(alloc: Global, a: &DeviceFace, b: &str, is_same: bool) -> Result<bool, Fail> {
     let b = face(alloc, b)?;
-    Ok(DeviceSet::same(&a, &b) == is_same && DeviceSet::same(&b, &a) == is_same)
+    Ok(are_same::<DeviceSet>(a, &b, is_same))
+}
+
+fn compares_so(alloc: Global, line: &str) -> Result<bool, Fail> {
+    let [a, b, wanted, ..] = fields(line);
+    let a = face(alloc, a)?;
+    is_same_as(alloc, &a, b, wanted == "same")
 }
 
 #[test]
 fn same_objects_have_one_table_or_one_path(rt: HostRuntime) -> Result<(), Fail> {
-    for (index, (a, b, is_same)) in FACES.into_iter().enumerate() {
-        let is_so = compares(rt.alloc(), a, b, is_same)?;
-        assert!(rt; is_so, "at {index}");
-    }
-    Ok(())
+    assert_lines(&rt, rt.alloc(), FACES, compares_so)
 }
 
-// An object, its kind, the name of the type, and whether it parses.
-const KINDS: [(Object, DeviceKind, &'static str, bool); 2] = [
-    (Object::Device(b"a"), DeviceKind::Device, "Device", true),
-    (Object::File(b"a"), DeviceKind::File, "File", false),
-];
+// A device or a file, the name of its kind's type, and whether it parses.
+const KINDS: &'static str = "
+device a | Device | parses
+file a   | File   | no
+";
 
-fn is_kind(alloc: Global, object: Object, kind: DeviceKind) -> Result<bool, AllocError> {
+fn is_of_kind(face: &DeviceFace, name: &str, parses: bool) -> bool {
+    let kind = DeviceSet::kind_of(face);
+    let is_kind = is_one_kind::<DeviceSet>(kind, DeviceSet::kind(name));
+    is_kind && DeviceSet::type_name(kind) == name && DeviceSet::parses(kind) == parses
+}
+
+fn is_kind_so(alloc: Global, line: &str) -> Result<bool, Fail> {
+    let [object, name, parses, ..] = fields(line);
     let face = face(alloc, object)?;
-    Ok(is_one_kind::<DeviceSet>(DeviceSet::kind_of(&face), kind))
+    Ok(is_of_kind(&face, name, parses == "parses"))
 }
 
 #[test]
 fn devices_parse_and_files_do_not(rt: HostRuntime) -> Result<(), Fail> {
-    for (object, kind, name, parses) in KINDS {
-        let is_kind = is_kind(rt.alloc(), object, kind)?;
-        let is_so = DeviceSet::type_name(kind) == name && DeviceSet::parses(kind) == parses;
-        assert!(rt; is_kind && is_so, "at {name}");
-    }
     assert!(rt; DeviceKind::Device != DeviceKind::File);
-    Ok(())
+    assert_lines(&rt, rt.alloc(), KINDS, is_kind_so)
 }
 
 // The handles before and behind an open.
@@ -229,30 +202,14 @@ const OPENS: [(u32, u32); 4] = [
 
 #[test]
 fn handles_of_devices_are_counted(rt: HostRuntime) {
-    for (before, behind) in OPENS {
-        let mut inner = DeviceInner { handles: before };
-        let opened = DeviceSet.on_open(&mut inner, Reason::Duplicated);
-        assert!(rt; opened == Ok(()) && inner.handles == behind, "at {before}");
-        DeviceSet.on_close(&mut inner, 2, 5);
-        assert!(rt; inner.handles == 5);
-        close_last(&mut DeviceSet, inner);
+    for (handles, behind) in OPENS {
+        let inner = DeviceInner { handles };
+        let are_so = are_counted(&mut DeviceSet, inner, Reason::Duplicated, behind);
+        assert!(rt; are_so, "at {handles}");
     }
 }
 
 #[test]
 fn laws_at_devices(_rt: HostRuntime) {
-    laws::refused_open::<DeviceSet>();
-    laws::made_idle::<DeviceSet>();
-    laws::closed_idle::<DeviceSet>();
-    laws::one_kind::<DeviceSet>();
-    laws::own_kind::<DeviceSet>();
-    laws::equal_kinds::<DeviceSet>();
-    laws::front_is_used::<DeviceSet>();
-    laws::itself_at_end::<DeviceSet>();
-    laws::parsed_idle::<DeviceSet>();
-    laws::own_face::<DeviceSet>();
-    laws::same_answers::<DeviceSet>();
-    laws::is_lawful::<DeviceSet>();
-    a_parse_run_has_one_end::<DeviceSet>();
-    same_faces_end_alike::<DeviceSet>();
+    hand_over_laws::<DeviceSet>();
 }

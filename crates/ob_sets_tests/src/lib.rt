@@ -11,6 +11,10 @@ mod entries;
 #[cfg(test)]
 mod keys;
 #[cfg(test)]
+mod objects;
+#[cfg(test)]
 mod parsing;
 #[cfg(test)]
 mod sum;
+#[cfg(test)]
+mod tables;

@@ -1,253 +1,215 @@
 //! The sum of the plain types, of devices and of keys.
 
+use crate::objects::{Told, are_same, face, is_end, is_made_so, made};
+use crate::tables::{assert_lines, fields, refused};
 use either::Either;
-use ob_device::{DeviceFace, DeviceInner, DeviceKind, DeviceSet};
-use ob_key::{KeyFace, KeyInner, KeyKind, KeySet};
+use ob_device::DeviceSet;
+use ob_key::KeySet;
 use ob_plain::{Plain, PlainFace, PlainInner, PlainKind};
-use ob_types::{
-    Both, Outcome, Reason, Refusal, TypeSet, calls_go_to_their_part, close_last, laws, run_parse,
-};
-use std::alloc::{AllocError, Global};
+use ob_types::{Both, Reason, TypeSet, calls_go_to_their_part, close_last, laws, run_parse};
+use std::alloc::Global;
 use std::test::Fail;
 
 type Sum = Both<Plain, Both<DeviceSet, KeySet>>;
 
-type Kind = Either<PlainKind, Either<DeviceKind, KeyKind>>;
+impl Told for Plain {
+    fn kind(_name: &str) -> PlainKind {
+        PlainKind::Event
+    }
 
-type Face = Either<PlainFace, Either<DeviceFace, KeyFace>>;
+    fn is_new(_face: &PlainFace, _inner: &PlainInner, _field: &str) -> bool {
+        false
+    }
 
-type Inner = Either<PlainInner, Either<DeviceInner, KeyInner>>;
-
-const EVENT: Kind = Either::Left(PlainKind::Event);
-
-const DEVICE: Kind = Either::Right(Either::Left(DeviceKind::Device));
-
-const FILE: Kind = Either::Right(Either::Left(DeviceKind::File));
-
-const KEY: Kind = Either::Right(Either::Right(KeyKind::Key));
-
-// The kind and the arguments of a make, the name of the type, whether it parses, and the number that refuses.
-const MAKES: [(Kind, &'static [u8], &'static [u8], bool, Option<u16>); 8] = [
-    (EVENT, b"2", b"Event", false, None),
-    (EVENT, b"a", b"Event", false, Some(1)),
-    (DEVICE, b"a;b", b"Device", true, None),
-    (DEVICE, b"a;;b", b"Device", true, Some(1)),
-    (FILE, b"", b"File", false, Some(5)),
-    (KEY, b"a;b", b"Key", true, None),
-    (KEY, b"a>\\X", b"Key", true, None),
-    (KEY, b"a>", b"Key", true, Some(1)),
-];
-
-// What a make gives: an object, or the number that refuses it.
-fn made(alloc: Global, kind: Kind, args: &[u8]) -> Result<Result<(Face, Inner), u16>, AllocError> {
-    match Sum::make(alloc, kind, args) {
-        Ok(object) => Ok(Ok(object)),
-        Err(Refusal::Code(code)) => Ok(Err(code)),
-        Err(Refusal::Memory) => Err(AllocError),
+    fn handles(inner: &PlainInner) -> u32 {
+        inner.handles
     }
 }
 
-fn is_made_so(
-    alloc: Global,
-    kind: Kind,
-    args: &[u8],
-    wanted: Option<u16>,
-) -> Result<bool, AllocError> {
-    Ok(match made(alloc, kind, args)? {
-        Ok((face, _)) => wanted.is_none() && Sum::kind_of(&face) == kind,
-        Err(code) => wanted == Some(code),
-    })
+impl<A: Told, B: Told> Told for Both<A, B> {
+    fn kind(name: &str) -> Either<A::Kind, B::Kind> {
+        let kind = A::kind(name);
+        if A::type_name(kind) == name {
+            Either::Left(kind)
+        } else {
+            Either::Right(B::kind(name))
+        }
+    }
+
+    fn is_new(
+        face: &Either<A::Face, B::Face>,
+        inner: &Either<A::Inner, B::Inner>,
+        field: &str,
+    ) -> bool {
+        match (face, inner) {
+            (Either::Left(face), Either::Left(inner)) => A::is_new(face, inner, field),
+            (Either::Right(face), Either::Right(inner)) => B::is_new(face, inner, field),
+            _ => false,
+        }
+    }
+
+    fn handles(inner: &Either<A::Inner, B::Inner>) -> u32 {
+        match inner {
+            Either::Left(inner) => A::handles(inner),
+            Either::Right(inner) => B::handles(inner),
+        }
+    }
+}
+
+// The kind and the arguments of a make, what comes of it, and whether the kind parses.
+const MAKES: &'static str = r"
+Event  | 2    | made      | no
+Event  | a    | refused 1 | no
+Device | a;b  | made      | parses
+Device | a;;b | refused 1 | parses
+File   |      | refused 5 | no
+Key    | a;b  | made      | parses
+Key    | a>\X | made      | parses
+Key    | a>   | refused 1 | parses
+";
+
+// Whether a kind has this name, and parses or not.
+fn is_kind_so<T: TypeSet>(kind: T::Kind, name: &str, parses: bool) -> bool {
+    T::type_name(kind) == name && T::parses(kind) == parses
+}
+
+fn is_made_in_sum(alloc: Global, line: &str) -> Result<bool, Fail> {
+    let [name, _, _, parses, ..] = fields(line);
+    let is_kind_so = is_kind_so::<Sum>(Sum::kind(name), name, parses == "parses");
+    Ok(is_kind_so && is_made_so::<Sum>(alloc, line)?)
 }
 
 #[test]
 fn objects_are_made_by_the_part_of_their_kind(rt: HostRuntime) -> Result<(), Fail> {
-    for (kind, args, name, parses, code) in MAKES {
-        let is_made_so = is_made_so(rt.alloc(), kind, args, code)?;
-        let is_kind_so = Sum::type_name(kind).as_bytes() == name && Sum::parses(kind) == parses;
-        assert!(rt; is_made_so && is_kind_so, "at {name:?} and {args:?}");
-    }
-    Ok(())
+    assert_lines(&rt, rt.alloc(), MAKES, is_made_in_sum)
 }
 
-// How a run is to end; with the path of what is made.
-#[derive(Clone, Copy)]
-enum End {
-    Itself,
-    File(&'static [u8]),
-    Key(&'static [u8]),
-    Name(&'static [u8]),
-    Refused(u16),
+// Runs at a device of the paths `a` and `b\c`, and at one of none: the kind and the arguments of the object, a rest
+// there, and how the run ends.
+const RUNS_AT_DEVICES: &'static str = r"
+Device | a;b\c |      | file
+Device | a;b\c | a    | file a
+Device | a;b\c | \b\c | file b\c
+Device | a;b\c | \b   | refused 3
+Device | a;b\c | \a\  | refused 3
+Device |       |      | file
+Device |       | \    | refused 3
+";
+
+// The same at a key with keys three deep, a link to `\X` below one of them, and one to `\Y\`, and at one without any.
+const RUNS_AT_KEYS: &'static str = r"
+Key | a\b\c;a\b\l>\X;m>\Y\ |           | itself
+Key | a\b\c;a\b\l>\X;m>\Y\ | a         | key a
+Key | a\b\c;a\b\l>\X;m>\Y\ | \a\b      | key a\b
+Key | a\b\c;a\b\l>\X;m>\Y\ | a\b\c     | key a\b\c
+Key | a\b\c;a\b\l>\X;m>\Y\ | \m        | name \Y\
+Key | a\b\c;a\b\l>\X;m>\Y\ | \m\d      | name \Y\d
+Key | a\b\c;a\b\l>\X;m>\Y\ | \a\b\l    | name \X
+Key | a\b\c;a\b\l>\X;m>\Y\ | a\b\l\d\e | name \X\d\e
+Key | a\b\c;a\b\l>\X;m>\Y\ | \a\b\d    | refused 3
+Key | a\b\c;a\b\l>\X;m>\Y\ | \a\b\c\d  | refused 3
+Key | a\b\c;a\b\l>\X;m>\Y\ | \a\\b     | refused 3
+Key | a\b\c;a\b\l>\X;m>\Y\ | \a\       | refused 3
+Key |                      | \a        | refused 3
+";
+
+fn run_ends_so<T: Told>(alloc: Global, face: &T::Face, rest: &[u8], wanted: &str) -> bool {
+    if !T::parses(T::kind_of(face)) {
+        return false;
+    }
+    let outcome = run_parse::<T>(alloc, face, rest);
+    is_end::<T>(&outcome, wanted)
 }
 
-// The paths of a device.
-const PATHS: &[u8] = b"a;b\\c";
-
-// The entries of a key: keys three deep, a link to `\X` below one of them, and one to `\Y\`.
-const ENTRIES: &[u8] = b"a\\b\\c;a\\b\\l>\\X;m>\\Y\\";
-
-// The kind and the arguments of an object, a rest there, and how the run ends.
-const RUNS: [(Kind, &'static [u8], &'static [u8], End); 20] = [
-    (DEVICE, PATHS, b"", End::File(b"")),
-    (DEVICE, PATHS, b"a", End::File(b"a")),
-    (DEVICE, PATHS, b"\\b\\c", End::File(b"b\\c")),
-    (DEVICE, PATHS, b"\\b", End::Refused(3)),
-    (DEVICE, PATHS, b"\\a\\", End::Refused(3)),
-    (DEVICE, b"", b"", End::File(b"")),
-    (DEVICE, b"", b"\\", End::Refused(3)),
-    (KEY, ENTRIES, b"", End::Itself),
-    (KEY, ENTRIES, b"a", End::Key(b"a")),
-    (KEY, ENTRIES, b"\\a\\b", End::Key(b"a\\b")),
-    (KEY, ENTRIES, b"a\\b\\c", End::Key(b"a\\b\\c")),
-    (KEY, ENTRIES, b"\\m", End::Name(b"\\Y\\")),
-    (KEY, ENTRIES, b"\\m\\d", End::Name(b"\\Y\\d")),
-    (KEY, ENTRIES, b"\\a\\b\\l", End::Name(b"\\X")),
-    (KEY, ENTRIES, b"a\\b\\l\\d\\e", End::Name(b"\\X\\d\\e")),
-    (KEY, ENTRIES, b"\\a\\b\\d", End::Refused(3)),
-    (KEY, ENTRIES, b"\\a\\b\\c\\d", End::Refused(3)),
-    (KEY, ENTRIES, b"\\a\\\\b", End::Refused(3)),
-    (KEY, ENTRIES, b"\\a\\", End::Refused(3)),
-    (KEY, b"", b"\\a", End::Refused(3)),
-];
-
-// Whether a run made this.
-fn is_new(face: &Face, inner: &Inner, end: End) -> bool {
-    match (face, inner, end) {
-        (
-            Either::Right(Either::Left(DeviceFace::File(path))),
-            Either::Right(Either::Left(inner)),
-            End::File(wanted),
-        ) => { path.as_slice() == wanted && inner.handles == 0 }
-        (
-            Either::Right(Either::Right(face)),
-            Either::Right(Either::Right(inner)),
-            End::Key(wanted),
-        ) => { face.path().as_slice() == wanted && inner.handles == 0 }
-        _ => false,
-    }
+fn ends_so<T: Told>(alloc: Global, line: &str) -> Result<bool, Fail> {
+    let [name, args, rest, wanted, ..] = fields(line);
+    let face = face::<T>(alloc, T::kind(name), args.as_bytes())?;
+    Ok(run_ends_so::<T>(alloc, &face, rest.as_bytes(), wanted))
 }
 
-fn is_end(outcome: &Outcome<Face, Inner>, end: End) -> bool {
-    match (outcome, end) {
-        (Outcome::Itself, End::Itself) => true,
-        (Outcome::Made(face, inner), _) => is_new(face, inner, end),
-        (Outcome::Reparse(text), End::Name(name)) => text.as_slice() == name,
-        (Outcome::Refused(code), End::Refused(number)) => *code == number,
-        _ => false,
-    }
-}
-
-fn ends_so(
-    alloc: Global,
-    kind: Kind,
-    args: &[u8],
-    rest: &[u8],
-    end: End,
-) -> Result<bool, AllocError> {
-    let Ok((face, _)) = made(alloc, kind, args)? else {
-        return Ok(false);
-    };
-    if !Sum::parses(Sum::kind_of(&face)) {
-        return Ok(false);
-    }
-    let outcome = run_parse::<Sum>(alloc, &face, rest);
-    if let Outcome::NoMemory = outcome {
-        return Err(AllocError);
-    }
-    Ok(is_end(&outcome, end))
+fn ends_in_sum(alloc: Global, line: &str) -> Result<bool, Fail> {
+    ends_so::<Sum>(alloc, line)
 }
 
 #[test]
 fn runs_end_at_files_keys_and_names(rt: HostRuntime) -> Result<(), Fail> {
-    for (kind, args, rest, end) in RUNS {
-        let is_so = ends_so(rt.alloc(), kind, args, rest, end)?;
-        assert!(rt; is_so, "at {args:?} and {rest:?}");
-    }
-    Ok(())
+    assert_lines(&rt, rt.alloc(), RUNS_AT_DEVICES, ends_in_sum)?;
+    assert_lines(&rt, rt.alloc(), RUNS_AT_KEYS, ends_in_sum)
 }
 
 // Two kinds with their arguments, and whether the objects are the same.
-const FACES: [(Kind, &'static [u8], Kind, &'static [u8], bool); 7] = [
-    (EVENT, b"", EVENT, b"7", true),
-    (DEVICE, b"a", DEVICE, b"a", true),
-    (DEVICE, b"a", DEVICE, b"b", false),
-    (KEY, b"a", KEY, b"a", true),
-    (KEY, b"a", KEY, b"b", false),
-    (KEY, b"", DEVICE, b"", false),
-    (EVENT, b"", DEVICE, b"", false),
-];
+const FACES: &'static str = r"
+Event  |   | Event  | 7 | same
+Device | a | Device | a | same
+Device | a | Device | b | other
+Key    | a | Key    | a | same
+Key    | a | Key    | b | other
+Key    |   | Device |   | other
+Event  |   | Device |   | other
+";
 
-fn are_same(
+fn is_same_as<T: Told>(
     alloc: Global,
-    (kind_a, args_a): (Kind, &[u8]),
-    (kind_b, args_b): (Kind, &[u8]),
-) -> Result<Option<(bool, bool)>, AllocError> {
-    let (Ok((a, _)), Ok((b, _))) = (made(alloc, kind_a, args_a)?, made(alloc, kind_b, args_b)?)
-    else {
-        return Ok(None);
-    };
-    Ok(Some((Sum::same(&a, &b), Sum::same(&b, &a))))
+    a: &T::Face,
+    name: &str,
+    args: &str,
+    is_same: bool,
+) -> Result<bool, Fail> {
+    let b = face::<T>(alloc, T::kind(name), args.as_bytes())?;
+    Ok(are_same::<T>(a, &b, is_same))
+}
+
+fn compares_so<T: Told>(alloc: Global, line: &str) -> Result<bool, Fail> {
+    let [name_a, args_a, name_b, args_b, wanted, ..] = fields(line);
+    let a = face::<T>(alloc, T::kind(name_a), args_a.as_bytes())?;
+    is_same_as::<T>(alloc, &a, name_b, args_b, wanted == "same")
+}
+
+fn compares_in_sum(alloc: Global, line: &str) -> Result<bool, Fail> {
+    compares_so::<Sum>(alloc, line)
 }
 
 #[test]
 fn objects_of_different_parts_are_not_the_same(rt: HostRuntime) -> Result<(), Fail> {
-    for (kind_a, args_a, kind_b, args_b, is_same) in FACES {
-        let found = are_same(rt.alloc(), (kind_a, args_a), (kind_b, args_b))?;
-        assert!(rt;
-            found == Some((is_same, is_same)),
-            "at {args_a:?} and {args_b:?}"
-        );
-    }
-    Ok(())
+    assert_lines(&rt, rt.alloc(), FACES, compares_in_sum)
 }
 
 // The kind and the arguments of an object, and what a second open is answered.
-const LIVES: [(Kind, &'static [u8], Result<(), u16>); 4] = [
-    (EVENT, b"1", Err(2)),
-    (EVENT, b"2", Ok(())),
-    (DEVICE, b"a", Ok(())),
-    (KEY, b"a", Ok(())),
-];
+const LIVES: &'static str = r"
+Event  | 1 | refused 2
+Event  | 2 | opened
+Device | a | opened
+Key    | a | opened
+";
 
-fn handles(inner: &Inner) -> u32 {
-    match inner {
-        Either::Left(inner) => inner.handles,
-        Either::Right(Either::Left(inner)) => inner.handles,
-        Either::Right(Either::Right(inner)) => inner.handles,
-    }
+// The handles behind a first open, a second one, and a close that leaves three; `None` where the first open is refused.
+fn life<T: Told>(set: &mut T, mut inner: T::Inner) -> Option<([u32; 3], Result<(), u16>)> {
+    let first = set.on_open(&mut inner, Reason::Created);
+    let once = T::handles(&inner);
+    let second = set.on_open(&mut inner, Reason::Opened);
+    let twice = T::handles(&inner);
+    set.on_close(&mut inner, 1, 3);
+    let left = T::handles(&inner);
+    close_last(set, inner);
+    first.ok()?;
+    Some(([once, twice, left], second))
 }
 
-// The handles behind a first open, a second one, and a close that leaves three, where the second open is answered so.
-fn life(
-    alloc: Global,
-    kind: Kind,
-    args: &[u8],
-    second: Result<(), u16>,
-) -> Result<Option<[u32; 3]>, AllocError> {
+fn lives_so(alloc: Global, line: &str) -> Result<bool, Fail> {
+    let [name, args, wanted, ..] = fields(line);
     let mut set = Sum::new(Plain, Both::new(DeviceSet, KeySet));
-    let Ok((_, mut inner)) = made(alloc, kind, args)? else {
-        return Ok(None);
+    let Ok((_, inner)) = made::<Sum>(alloc, Sum::kind(name), args.as_bytes())? else {
+        return Ok(false);
     };
-    let first = set.on_open(&mut inner, Reason::Created);
-    let once = handles(&inner);
-    let opened = set.on_open(&mut inner, Reason::Opened);
-    let twice = handles(&inner);
-    set.on_close(&mut inner, 1, 3);
-    let left = handles(&inner);
-    close_last(&mut set, inner);
-    if first.is_err() || opened != second {
-        return Ok(None);
-    }
-    Ok(Some([once, twice, left]))
+    Ok(match refused(wanted) {
+        Some(code) => life(&mut set, inner) == Some(([1, 1, 3], Err(code))),
+        None => life(&mut set, inner) == Some(([1, 2, 3], Ok(()))),
+    })
 }
 
 #[test]
 fn handles_are_counted_by_the_part_of_an_object(rt: HostRuntime) -> Result<(), Fail> {
-    for (kind, args, second) in LIVES {
-        let found = life(rt.alloc(), kind, args, second)?;
-        let twice = if second.is_ok() { 2 } else { 1 };
-        assert!(rt; found == Some([1, twice, 3]), "at {args:?}");
-    }
-    Ok(())
+    assert_lines(&rt, rt.alloc(), LIVES, lives_so)
 }
 
 #[test]
