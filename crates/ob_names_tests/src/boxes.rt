@@ -4,12 +4,12 @@ ghost use Rattle.std.specs.Prelude.{◌≡◌, true, false, refl};
 ghost use Rattle.std.proofs.Common.{rules};
 ghost use Rattle.ob_names_tests.specs.Boxes.{box_procedures, box_front, box_itself, box_idle, box_same};
 
+use crate::objects::hand_over_laws_of_parses;
+use crate::tables::{assert_lines, fields, refused};
 use ob_names::{Name, NameBuf};
-use ob_types::{
-    Outcome, ParseAnswer, Reason, Refusal, TypeSet, a_parse_run_has_one_end, laws, run_parse,
-    same_faces_end_alike,
-};
+use ob_types::{Outcome, ParseAnswer, Reason, Refusal, TypeSet, run_parse};
 use std::alloc::{AllocError, Global};
+use std::test::Fail;
 
 /// Boxes within boxes. A face is the number of levels inside. A byte of a rest leads one level in, where
 /// there is one; `>` leads to the name `\Box`.
@@ -106,53 +106,50 @@ impl TypeSet for Boxes {
     ghost equal_kinds = { λ _ _. refl };
 }
 
-// How a run is to end; with the levels of the box that is made.
-#[derive(Clone, Copy)]
-enum End {
-    Itself,
-    Made(u8),
-    Reparse,
-    Refused(u16),
+// Boxes of so many levels, a rest there, and how the run ends; where a box is made, with its levels.
+const RUNS: &'static str = r"
+3 |       | itself
+0 |       | itself
+3 | a     | box 2
+3 | ab    | box 1
+3 | abc   | box 0
+3 | >     | name \Box
+3 | abc>d | name \Box
+0 | a     | refused 4
+1 | ab    | refused 4
+2 | abcd> | refused 4
+";
+
+fn is_end(outcome: &Outcome<u8, bool>, wanted: &str) -> bool {
+    match outcome {
+        Outcome::Itself => wanted == "itself",
+        Outcome::Made(face, inner) => is_box(**face, wanted) && !*inner,
+        Outcome::Reparse(text) => wanted == "name \\Box" && text.as_slice() == b"\\Box".as_slice(),
+        Outcome::Refused(code) => refused(wanted) == Some(*code),
+        Outcome::NoMemory => false,
+    }
 }
 
-fn ends_so(outcome: &Outcome<u8, bool>, end: End) -> bool {
-    match (outcome, end) {
-        (Outcome::Itself, End::Itself) => true,
-        (Outcome::Made(face, inner), End::Made(levels)) => **face == levels && !*inner,
-        (Outcome::Reparse(text), End::Reparse) => text.as_slice() == b"\\Box".as_slice(),
-        (Outcome::Refused(code), End::Refused(wanted)) => *code == wanted,
-        _ => false,
+// Whether a field says a box of these levels.
+fn is_box(levels: u8, wanted: &str) -> bool {
+    match wanted.strip_prefix("box ") {
+        Some(number) => number.parse().ok() == Some(levels),
+        None => false,
     }
+}
+
+fn ends_so(alloc: Global, line: &str) -> Result<bool, Fail> {
+    let [levels, rest, wanted, _] = fields(line);
+    let outcome = run_parse::<Boxes>(alloc, &levels.parse()?, rest.as_bytes());
+    Ok(is_end(&outcome, wanted))
 }
 
 #[test]
-fn runs_end(rt: HostRuntime) {
-    let table: [(u8, &[u8], End); 10] = [
-        (3, b"", End::Itself),
-        (0, b"", End::Itself),
-        (3, b"a", End::Made(2)),
-        (3, b"ab", End::Made(1)),
-        (3, b"abc", End::Made(0)),
-        (3, b">", End::Reparse),
-        (3, b"abc>d", End::Reparse),
-        (0, b"a", End::Refused(4)),
-        (1, b"ab", End::Refused(4)),
-        (2, b"abcd>", End::Refused(4)),
-    ];
-    for (levels, rest, end) in table {
-        let outcome = run_parse::<Boxes>(rt.alloc(), &levels, rest);
-        assert!(rt; ends_so(&outcome, end), "at {levels} and {rest:?}");
-    }
+fn runs_end(rt: HostRuntime) -> Result<(), Fail> {
+    assert_lines(&rt, rt.alloc(), RUNS, ends_so)
 }
 
 #[test]
 fn laws_at_a_set_that_parses(_rt: HostRuntime) {
-    laws::front_is_used::<Boxes>();
-    laws::itself_at_end::<Boxes>();
-    laws::parsed_idle::<Boxes>();
-    laws::own_face::<Boxes>();
-    laws::same_answers::<Boxes>();
-    laws::is_lawful::<Boxes>();
-    a_parse_run_has_one_end::<Boxes>();
-    same_faces_end_alike::<Boxes>();
+    hand_over_laws_of_parses::<Boxes>();
 }

@@ -14,8 +14,12 @@ mod model;
 #[cfg(test)]
 mod names;
 #[cfg(test)]
+mod objects;
+#[cfg(test)]
 mod plain;
 #[cfg(test)]
 mod recorder;
+#[cfg(test)]
+mod tables;
 #[cfg(test)]
 mod types;

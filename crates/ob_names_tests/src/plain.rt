@@ -1,71 +1,107 @@
 //! The edges of a limit, and a life of an object under the counted set.
 
+use crate::objects::{hand_over_laws, is_of_kind, refusal};
+use crate::tables::{assert_lines, fields, refused};
 use ob_plain::{
     Counting, Plain, PlainFace, PlainInner, PlainKind, Standard, accepted_opens_count, limit_of,
 };
-use ob_types::{Reason, Refusal, TypeSet, close_last, is_one_kind, laws, open_or_leave};
+use ob_types::{Reason, TypeSet, close_last, is_one_kind, open_or_leave};
+use std::alloc::Global;
+use std::test::Fail;
+
+// Arguments, and the limit that they say.
+const LIMITS: &'static str = "
+1      | 1
+10     | 10
+65535  | 65535
+       | none
+0      | none
+01     | none
+65536  | none
+655350 | none
++1     | none
+1:     | none
+1/     | none
+";
+
+fn says_so(_alloc: Global, line: &str) -> Result<bool, Fail> {
+    let [args, limit, ..] = fields(line);
+    Ok(match limit_of(args.as_bytes()) {
+        Some(found) => limit.parse().ok() == Some(found),
+        None => limit == "none",
+    })
+}
 
 #[test]
-fn limits(rt: HostRuntime) {
-    let table: [(&[u8], Option<u16>); 12] = [
-        (b"1", Some(1)),
-        (b"10", Some(10)),
-        (b"65535", Some(65535)),
-        (b"", None),
-        (b"0", None),
-        (b"01", None),
-        (b"65536", None),
-        (b"655350", None),
-        (b"+1", None),
-        (b"1 ", None),
-        (b"1:", None),
-        (b"1/", None),
-    ];
-    for (args, limit) in table {
-        assert!(rt; limit_of(args) == limit, "at {args:?}");
-    }
+fn limits(rt: HostRuntime) -> Result<(), Fail> {
+    assert!(rt; limit_of(b"1 ").is_none());
+    assert_lines(&rt, rt.alloc(), LIMITS, says_so)
+}
+
+const KINDS: [(PlainKind, &'static str); 3] = [
+    (PlainKind::Event, "Event"),
+    (PlainKind::Mutant, "Mutant"),
+    (PlainKind::Section, "Section"),
+];
+
+// Whether a face is of this kind, of this name, in a set, and is of another one where it should be.
+fn is_named<T: TypeSet>(face: &T::Face, kind: T::Kind, name: &str, event: T::Kind) -> bool {
+    let is_event = is_one_kind::<T>(kind, event);
+    let is_turned = is_one_kind::<T>(event, kind);
+    is_of_kind::<T>(face, kind, name, false)
+        && is_event == is_turned
+        && is_event == (name == "Event")
 }
 
 #[test]
 fn names_of_kinds(rt: HostRuntime) {
-    let table = [
-        (PlainKind::Event, "Event"),
-        (PlainKind::Mutant, "Mutant"),
-        (PlainKind::Section, "Section"),
-    ];
-    for (kind, name) in table {
-        let named = Plain::type_name(kind) == name && Standard::type_name(kind) == name;
-        assert!(rt; named, "at {name}");
+    for (kind, name) in KINDS {
         let face = PlainFace { kind };
-        assert!(rt; Plain::kind_of(&face) == kind && Standard::kind_of(&face) == kind);
-        let is_event = is_one_kind::<Plain>(kind, PlainKind::Event);
-        assert!(rt; is_event == is_one_kind::<Standard>(PlainKind::Event, kind));
-        assert!(rt; is_event == (name == "Event"));
+        let is_plain = is_named::<Plain>(&face, kind, name, PlainKind::Event);
+        let is_standard = is_named::<Standard>(&face, kind, name, PlainKind::Event);
+        assert!(rt; is_plain && is_standard, "at {name}");
     }
 }
 
+// Arguments of an event, and whether one is made of them or a number refuses it.
+const ARGUMENTS: &'static str = "
+      | made
+1     | made
+65535 | made
+0     | refused 1
+01    | refused 1
+65536 | refused 1
+\x1f  | refused 1
+";
+
+fn is_made_so(alloc: Global, line: &str) -> Result<bool, Fail> {
+    let [args, wanted, ..] = fields(line);
+    let plain = refusal::<Plain>(alloc, PlainKind::Event, args.as_bytes())?;
+    let standard = refusal::<Standard>(alloc, PlainKind::Event, args.as_bytes())?;
+    Ok(plain == refused(wanted) && standard == refused(wanted))
+}
+
 #[test]
-fn arguments(rt: HostRuntime) {
-    for args in [&b""[..], &b"1"[..], &b"65535"[..]] {
-        assert!(rt; Plain::make(rt.alloc(), PlainKind::Event, args).is_ok());
-    }
-    for args in [&b"0"[..], &b"01"[..], &b"65536"[..], &b"\x1f"[..]] {
-        let made = Standard::make(rt.alloc(), PlainKind::Event, args);
-        assert!(rt; matches!(made, Err(Refusal::Code(1))));
-    }
+fn arguments(rt: HostRuntime) -> Result<(), Fail> {
+    assert_lines(&rt, rt.alloc(), ARGUMENTS, is_made_so)
+}
+
+// Whether an object that takes one open refuses two more with 2.
+fn is_opened_once<T: TypeSet>(set: &mut T, inner: &mut T::Inner) -> bool {
+    let made = set.on_open(inner, Reason::Created);
+    let opened = set.on_open(inner, Reason::Opened);
+    let left = open_or_leave(set, inner, Reason::Duplicated);
+    made == Ok(()) && opened == Err(2) && left == Err(2)
 }
 
 #[test]
 fn a_life_is_counted(rt: HostRuntime) {
     let mut set = Counting::new(Plain);
-    let Ok((_face, mut inner)) = Standard::make(rt.alloc(), PlainKind::Event, b"1") else {
+    let Ok((_, mut inner)) = Standard::make(rt.alloc(), PlainKind::Event, b"1") else {
         assert!(rt; false);
         return;
     };
-    let made = set.on_open(&mut inner, Reason::Created);
-    let opened = set.on_open(&mut inner, Reason::Opened);
-    let left = open_or_leave(&mut set, &mut inner, Reason::Duplicated);
-    assert!(rt; made == Ok(()) && opened == Err(2) && left == Err(2) && inner.handles == 1);
+    assert!(rt; is_opened_once(&mut set, &mut inner) && inner.handles == 1);
     close_last(&mut set, inner);
     assert!(rt; set.opens() == 1 && set.closes() == 1 && set.deletes() == 1);
 }
@@ -84,12 +120,6 @@ fn handles_stop_at_the_greatest(rt: HostRuntime) {
 
 #[test]
 fn laws_at_the_standard_set(_rt: HostRuntime) {
-    laws::refused_open::<Standard>();
-    laws::made_idle::<Standard>();
-    laws::closed_idle::<Standard>();
-    laws::one_kind::<Standard>();
-    laws::own_kind::<Standard>();
-    laws::equal_kinds::<Standard>();
-    laws::is_lawful::<Standard>();
+    hand_over_laws::<Standard>();
     accepted_opens_count::<Plain>();
 }

@@ -5,9 +5,8 @@ ghost use Rattle.std.specs.Bool.{beq};
 ghost use Rattle.std.proofs.Common.{rules};
 ghost use Rattle.ob_model.specs.Procedures.{Refused};
 
-use ob_types::{
-    ParseAnswer, Reason, Refusal, TypeSet, close_last, is_one_kind, laws, open_or_leave,
-};
+use crate::objects::{hand_over_laws, is_of_kind};
+use ob_types::{ParseAnswer, Reason, Refusal, TypeSet, close_last, is_one_kind, open_or_leave};
 use std::alloc::{AllocError, Global};
 
 /// Doors that one can be through at a time.
@@ -109,33 +108,25 @@ impl TypeSet for Doors {
 
 #[test]
 fn doors_open_and_close(rt: HostRuntime) {
-    let mut doors = Doors;
     let Ok((face, mut inner)) = Doors::make(rt.alloc(), true, &[]) else {
         assert!(rt; false);
         return;
     };
-    let kind = Doors::kind_of(&face);
-    assert!(rt; is_one_kind::<Doors>(kind, true) && !is_one_kind::<Doors>(kind, false));
-    assert!(rt; Doors::type_name(face) == "Door");
-    let made = open_or_leave(&mut doors, &mut inner, Reason::Created);
-    let opened = open_or_leave(&mut doors, &mut inner, Reason::Opened);
+    assert!(rt; is_of_kind::<Doors>(&face, true, "Door", false));
+    assert!(rt; !is_one_kind::<Doors>(face, false));
+    let made = open_or_leave(&mut Doors, &mut inner, Reason::Created);
+    let opened = open_or_leave(&mut Doors, &mut inner, Reason::Opened);
     assert!(rt; made == Ok(()) && opened == Err(9) && inner);
-    close_last(&mut doors, inner);
+    close_last(&mut Doors, inner);
 }
 
 #[test]
 fn doors_are_refused(rt: HostRuntime) {
     assert!(rt; matches!(Doors::make(rt.alloc(), true, b"1"), Err(Refusal::Code(7))));
-    assert!(rt; Refusal::from(std::alloc::AllocError) == Refusal::Memory);
+    assert!(rt; Refusal::from(AllocError) == Refusal::Memory);
 }
 
 #[test]
 fn laws_at_a_set(_rt: HostRuntime) {
-    laws::refused_open::<Doors>();
-    laws::made_idle::<Doors>();
-    laws::closed_idle::<Doors>();
-    laws::one_kind::<Doors>();
-    laws::own_kind::<Doors>();
-    laws::equal_kinds::<Doors>();
-    laws::is_lawful::<Doors>();
+    hand_over_laws::<Doors>();
 }
