@@ -15,4 +15,6 @@ mod permanence;
 #[cfg(test)]
 mod processes;
 #[cfg(test)]
+mod tables;
+#[cfg(test)]
 mod words;

@@ -1,119 +1,92 @@
 //! Lines that list the entries of a directory, page by page.
 
-use ob_lines::{Change, Form, HandleForm, Offset, PageMode, Request, change_of, form_of};
+use crate::tables::{assert_none, first_other_request, first_with_form, request};
+use ob_lines::{Change, PageMode, Request, change_of, form_of};
 
-// The handle of a word and what is added to its value.
-fn handle<'a>(word: &'a [u8], offset: Offset) -> HandleForm<&'a [u8]> {
-    HandleForm { word, offset }
+const PAGES: &str = r#"p1 list h 0 first | QueryDirectory | h+0 | 0 | First
+p1 list h 16 next | QueryDirectory | h+0 | 16 | Next
+p1 list h 1048576 first1 | QueryDirectory | h+0 | 1048576 | FirstSingle
+p1 list h 4294967295 next1 | QueryDirectory | h+0 | 4294967295 | NextSingle
+p1 list h 9 first | QueryDirectory | h+0 | 9 | First
+p1 list h 1000000000 next | QueryDirectory | h+0 | 1000000000 | Next
+p1 list h 0 next1 | QueryDirectory | h+0 | 0 | NextSingle
+p1 list h+3 10 first | QueryDirectory | h+3 | 10 | First
+p1 list list 1 first1 | QueryDirectory | list+0 | 1 | FirstSingle
+p1 list next+1 65536 next | QueryDirectory | next+1 | 65536 | Next"#;
+
+// Whether the request of a row turns the page of the word that it lists.
+fn turns_a_page(row: &str) -> Option<bool> {
+    let (_, told) = row.split_once(" | ")?;
+    let request = request(told)?;
+    match request {
+        Request::QueryDirectory { handle, .. } => {
+            Some(change_of(request) == Change::TurnsPage(handle.word))
+        }
+        _ => None,
+    }
+}
+
+// The first row whose request turns no page, or that of another word.
+fn first_other_page(rows: &str) -> Option<&str> {
+    for row in rows.lines() {
+        if turns_a_page(row) != Some(true) {
+            return Some(row);
+        }
+    }
+    None
 }
 
 #[test]
 fn list_has_a_handle_a_room_and_a_mode(rt: HostRuntime) {
-    let h = handle(b"h", Offset::Zero);
-    let table: [(&[u8], HandleForm<&[u8]>, u32, PageMode); 10] = [
-        (b"p1 list h 0 first", h, 0, PageMode::First),
-        (b"p1 list h 16 next", h, 16, PageMode::Next),
-        (
-            b"p1 list h 1048576 first1",
-            h,
-            1_048_576,
-            PageMode::FirstSingle,
-        ),
-        (
-            b"p1 list h 4294967295 next1",
-            h,
-            4_294_967_295,
-            PageMode::NextSingle,
-        ),
-        (b"p1 list h 9 first", h, 9, PageMode::First),
-        (
-            b"p1 list h 1000000000 next",
-            h,
-            1_000_000_000,
-            PageMode::Next,
-        ),
-        (b"p1 list h 0 next1", h, 0, PageMode::NextSingle),
-        (
-            b"p1 list h+3 10 first",
-            handle(b"h", Offset::Three),
-            10,
-            PageMode::First,
-        ),
-        (
-            b"p1 list list 1 first1",
-            handle(b"list", Offset::Zero),
-            1,
-            PageMode::FirstSingle,
-        ),
-        (
-            b"p1 list next+1 65536 next",
-            handle(b"next", Offset::One),
-            65_536,
-            PageMode::Next,
-        ),
-    ];
-    for (line, handle, room, mode) in table {
-        let process = b"p1".as_slice();
-        let request = Request::QueryDirectory { handle, room, mode };
-        let asks = Some(Form::Asks { process, request });
-        assert!(rt;
-            form_of(line) == asks && change_of(request) == Change::TurnsPage(handle.word),
-            "{line:?}"
-        );
-    }
+    assert_none(&rt, first_other_request(PAGES));
+    assert_none(&rt, first_other_page(PAGES));
 }
+
+const OTHER_ROOMS: &str = r#"p1 list h 4294967296 first|
+p1 list h 4294967297 first|
+p1 list h 10000000000 first|
+p1 list h 18446744073709551616 first|
+p1 list h 00 first|
+p1 list h 01 first|
+p1 list h 016 first|
+p1 list h +1 first|
+p1 list h -1 first|
+p1 list h + first|
+p1 list h  first|
+p1 list h first|
+p1 list h 1x first|
+p1 list h x1 first|
+p1 list h 1a first|"#;
 
 #[test]
 fn a_room_is_a_number_below_2_to_the_32_without_needless_zeros(rt: HostRuntime) {
-    let lines: [&[u8]; 17] = [
-        b"p1 list h 4294967296 first",
-        b"p1 list h 4294967297 first",
-        b"p1 list h 10000000000 first",
-        b"p1 list h 18446744073709551616 first",
-        b"p1 list h 00 first",
-        b"p1 list h 01 first",
-        b"p1 list h 016 first",
-        b"p1 list h +1 first",
-        b"p1 list h -1 first",
-        b"p1 list h + first",
-        b"p1 list h  first",
-        b"p1 list h first",
-        b"p1 list h 1x first",
-        b"p1 list h x1 first",
-        b"p1 list h 1a first",
-        b"p1 list h \xFF first",
-        b"p1 list h 1\xFF first",
-    ];
-    for line in lines {
-        assert!(rt; form_of(line) == None, "{line:?}");
-    }
+    assert_none(&rt, first_with_form(OTHER_ROOMS));
+    assert!(rt; form_of(b"p1 list h \xFF first").is_none());
+    assert!(rt; form_of(b"p1 list h 1\xFF first").is_none());
 }
+
+const OTHER_LINES: &str = r#"p1 list|
+p1 list |
+p1 list h|
+p1 list h 1|
+p1 list h 1 |
+p1 list h 1 first2|
+p1 list h 1 first0|
+p1 list h 1 first11|
+p1 list h 1 next2|
+p1 list h 1 First|
+p1 list h 1 first |
+p1 list h 1 next1 |
+p1 list h 1  next|
+p1 list h 1 first =v|
+p1 list h+4 1 first|
+p1 list =h 1 first|
+p1 lists h 1 first|
+list h 1 first|"#;
 
 #[test]
 fn no_other_lines_list_a_directory(rt: HostRuntime) {
-    let lines: [&[u8]; 18] = [
-        b"p1 list",
-        b"p1 list ",
-        b"p1 list h",
-        b"p1 list h 1",
-        b"p1 list h 1 ",
-        b"p1 list h 1 first2",
-        b"p1 list h 1 first0",
-        b"p1 list h 1 first11",
-        b"p1 list h 1 next2",
-        b"p1 list h 1 First",
-        b"p1 list h 1 first ",
-        b"p1 list h 1 next1 ",
-        b"p1 list h 1  next",
-        b"p1 list h 1 first =v",
-        b"p1 list h+4 1 first",
-        b"p1 list =h 1 first",
-        b"p1 lists h 1 first",
-        b"list h 1 first",
-    ];
-    for line in lines {
-        assert!(rt; form_of(line) == None, "{line:?}");
-    }
+    assert_none(&rt, first_with_form(OTHER_LINES));
 }
 
 #[test]

@@ -1,7 +1,7 @@
 //! The words of a script, and the commands that requests spell with them.
 
 use ob_base::{Handle, Proc};
-use ob_lines::{HandleForm, Offset, PageMode, Request};
+use ob_lines::{Form, read_line};
 use ob_requests::{Asker, Words, command_of, keep};
 use std::alloc::{AllocError, Global};
 use std::test::Fail;
@@ -102,102 +102,62 @@ fn a_context_goes_with_its_value_and_a_ticket_stays(rt: HostRuntime) -> Result<(
     Ok(())
 }
 
-// The handle of the word `h` and what is added to its value.
-fn handle<'a>(offset: Offset) -> HandleForm<&'a [u8]> {
-    HandleForm { word: b"h", offset }
+// A process, a line in which it asks for something, and the command that this is.
+const COMMANDS: &str = "1 | p close h | Close { handle: Handle(4) }
+2 | p name h+3 | QueryName { handle: Handle(15) }
+3 | p target h+1 | QueryLink { handle: Handle(1) }
+1 | p dup h q inherit =w | Duplicate { handle: Handle(4), to: Proc(2), inherit: true }
+2 | p list h+1 512 first1 | QueryDirectory { handle: Handle(13), context: 30, room: 512, single: true, restart: true }
+1 | p list h 0 next | QueryDirectory { handle: Handle(4), context: 0, room: 0, single: false, restart: false }
+2 | p new inherit =c | NewProcess { inherit: true }
+2 | p exit | ExitProcess
+2 | p temp h+2 | MakeTemporary { handle: Handle(14) }
+1 | p perm h | MakePermanent { handle: Handle(4) }
+2 | p map h+1 | SetDeviceMap { handle: Handle(13) }";
+
+// The process of a row, its line, and the command.
+fn parts(row: &str) -> Option<(Proc, &str, &str)> {
+    let (process, rest) = row.split_once(" | ")?;
+    let (line, command) = rest.split_once(" | ")?;
+    Some((Proc(process.parse::<u32>().ok()?), line, command))
+}
+
+// Whether a line of a process spells a command with the words.
+fn spells(
+    alloc: Global,
+    words: &Words,
+    process: Proc,
+    line: &str,
+    spelled: &str,
+) -> Result<bool, AllocError> {
+    let Some((Some(Form::Asks { request, .. }), _)) = read_line(line.as_bytes()) else {
+        return Ok(false);
+    };
+    let command = command_of(&Asker { words, process }, request)?;
+    Ok(format!(in alloc; "{command:?}")?.as_str() == spelled)
+}
+
+// The first row whose line spells another command with the words.
+fn first_other_command<'a>(
+    alloc: Global,
+    words: &Words,
+    rows: &'a str,
+) -> Result<Option<&'a str>, AllocError> {
+    for row in rows.lines() {
+        let Some((process, line, spelled)) = parts(row) else {
+            return Ok(Some(row));
+        };
+        if !spells(alloc, words, process, line, spelled)? {
+            return Ok(Some(row));
+        }
+    }
+    Ok(None)
 }
 
 #[test]
 fn requests_spell_commands_by_the_words_of_their_process(rt: HostRuntime) -> Result<(), Fail> {
     let mut words = some_words(rt.alloc())?;
     keep_both(&mut words, 2, b"h", 30, 0)?;
-    let table: [(u32, Request<&[u8]>, &str); 11] = [
-        (
-            1,
-            Request::Close {
-                handle: handle(Offset::Zero),
-            },
-            "Close { handle: Handle(4) }",
-        ),
-        (
-            2,
-            Request::QueryName {
-                handle: handle(Offset::Three),
-            },
-            "QueryName { handle: Handle(15) }",
-        ),
-        (
-            3,
-            Request::QueryLink {
-                handle: handle(Offset::One),
-            },
-            "QueryLink { handle: Handle(1) }",
-        ),
-        (
-            1,
-            Request::Duplicate {
-                handle: handle(Offset::Zero),
-                to: b"q",
-                inherit: true,
-                word: b"w",
-            },
-            "Duplicate { handle: Handle(4), to: Proc(2), inherit: true }",
-        ),
-        (
-            2,
-            Request::QueryDirectory {
-                handle: handle(Offset::One),
-                room: 512,
-                mode: PageMode::FirstSingle,
-            },
-            "QueryDirectory { handle: Handle(13), context: 30, room: 512, single: true, restart: true }",
-        ),
-        (
-            1,
-            Request::QueryDirectory {
-                handle: handle(Offset::Zero),
-                room: 0,
-                mode: PageMode::Next,
-            },
-            "QueryDirectory { handle: Handle(4), context: 0, room: 0, single: false, restart: false }",
-        ),
-        (
-            2,
-            Request::NewProcess {
-                inherit: true,
-                child: b"c",
-            },
-            "NewProcess { inherit: true }",
-        ),
-        (2, Request::ExitProcess, "ExitProcess"),
-        (
-            2,
-            Request::MakeTemporary {
-                handle: handle(Offset::Two),
-            },
-            "MakeTemporary { handle: Handle(14) }",
-        ),
-        (
-            1,
-            Request::MakePermanent {
-                handle: handle(Offset::Zero),
-            },
-            "MakePermanent { handle: Handle(4) }",
-        ),
-        (
-            2,
-            Request::SetDeviceMap {
-                handle: handle(Offset::One),
-            },
-            "SetDeviceMap { handle: Handle(13) }",
-        ),
-    ];
-    for (process, request, spelled) in &table {
-        let process = Proc(*process);
-        let words = &words;
-        let command = command_of(&Asker { words, process }, *request)?;
-        let told = format!(in rt.alloc(); "{command:?}")?;
-        assert_eq!(rt; told.as_str(), *spelled);
-    }
+    assert_eq!(rt; first_other_command(rt.alloc(), &words, COMMANDS)?, None);
     Ok(())
 }

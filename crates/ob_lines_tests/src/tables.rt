@@ -1,0 +1,311 @@
+//! Tables of lines as texts: a row has a line and, behind it, what the line is, part by part.
+
+use ob_lines::{
+    Change, Form, HandleForm, KindForm, NameForm, Offset, PageMode, PendingForm, PlaceForm,
+    Request, change_of, form_of,
+};
+use std::process::Abort;
+
+/// Asserts that no row is other than it is to be.
+pub(crate) fn assert_none(rt: &impl Abort, other: Option<&str>) {
+    assert_eq!(rt; other, None);
+}
+
+/// The first line of a table that has a form, where none is to. Each line ends at a bar, so that a blank at its end is
+/// seen.
+pub(crate) fn first_with_form(lines: &str) -> Option<&str> {
+    for row in lines.lines() {
+        match row.strip_suffix("|") {
+            Some(line) if form_of(line.as_bytes()).is_none() => {}
+            _ => return Some(row),
+        }
+    }
+    None
+}
+
+/// The first row of a table whose line isn't what the row tells behind it: what process `p1` asks for.
+pub(crate) fn first_other_request(rows: &str) -> Option<&str> {
+    for row in rows.lines() {
+        if is_request(row) != Some(true) {
+            return Some(row);
+        }
+    }
+    None
+}
+
+fn is_request(row: &str) -> Option<bool> {
+    let (line, told) = row.split_once(" | ")?;
+    let request = request(told)?;
+    let process = b"p1".as_slice();
+    Some(form_of(line.as_bytes()) == Some(Form::Asks { process, request }))
+}
+
+/// The first row of a table whose line isn't what the row tells behind it: what a process asks of the opens that wait.
+pub(crate) fn first_other_pending(rows: &str) -> Option<&str> {
+    for row in rows.lines() {
+        if is_pending(row) != Some(true) {
+            return Some(row);
+        }
+    }
+    None
+}
+
+fn is_pending(row: &str) -> Option<bool> {
+    let (line, told) = row.split_once(" | ")?;
+    let (process, told) = told.split_once(" | ")?;
+    let pending = pending(told)?;
+    let process = process.as_bytes();
+    Some(form_of(line.as_bytes()) == Some(Form::Waits { process, pending }))
+}
+
+/// The first row of a table of requests whose reply changes a word, or turns a page.
+pub(crate) fn first_change(rows: &str) -> Option<&str> {
+    for row in rows.lines() {
+        if changes(row) != Some(false) {
+            return Some(row);
+        }
+    }
+    None
+}
+
+fn changes(row: &str) -> Option<bool> {
+    let (_, told) = row.split_once(" | ")?;
+    Some(change_of(request(told)?) != Change::Nothing)
+}
+
+/// The first row of a table that tells another change than the reply to its request makes.
+pub(crate) fn first_other_change(rows: &str) -> Option<&str> {
+    for row in rows.lines() {
+        if is_change(row) != Some(true) {
+            return Some(row);
+        }
+    }
+    None
+}
+
+fn is_change(row: &str) -> Option<bool> {
+    let (told, of) = row.split_once(" || ")?;
+    Some(change_of(request(of)?) == change(told)?)
+}
+
+// A change, told by its name and its parts.
+fn change(told: &str) -> Option<Change<&[u8]>> {
+    let parts = parts(told);
+    let word = parts[1].as_bytes();
+    match parts[0] {
+        "Nothing" => Some(Change::Nothing),
+        "Sets" => Some(Change::Sets(word)),
+        "GivesUp" => Some(Change::GivesUp(word)),
+        "GivesAllUp" => Some(Change::GivesAllUp),
+        _ => change_of_another(parts),
+    }
+}
+
+fn change_of_another(parts: Parts<'_>) -> Option<Change<&[u8]>> {
+    let process = parts[1].as_bytes();
+    match parts[0] {
+        "SetsFor" => Some(Change::SetsFor {
+            process,
+            word: parts[2].as_bytes(),
+        }),
+        "SetsProcess" => Some(Change::SetsProcess {
+            process,
+            inherit: parts[2] == "true",
+        }),
+        _ => None,
+    }
+}
+
+/// A request, told by its name and its parts, in their order, with bars between them.
+pub(crate) fn request(told: &str) -> Option<Request<&[u8]>> {
+    let parts = parts(told);
+    match parts[0] {
+        "CreateDirectory" => Some(directory(parts)),
+        "CreateLink" => Some(link(parts)),
+        "CreateObject" => object(parts),
+        "QueryDirectory" => page(parts),
+        "Duplicate" => Some(duplicate(parts)),
+        "NewProcess" => Some(child(parts)),
+        "ExitProcess" => Some(Request::ExitProcess),
+        _ => open(parts).or(of_a_handle(parts)),
+    }
+}
+
+fn directory(parts: Parts<'_>) -> Request<&[u8]> {
+    Request::CreateDirectory {
+        place: place_of(parts[1]),
+        attrs: number(parts[2]),
+        word: parts[3].as_bytes(),
+    }
+}
+
+fn link(parts: Parts<'_>) -> Request<&[u8]> {
+    Request::CreateLink {
+        place: place_of(parts[1]),
+        attrs: number(parts[2]),
+        target: parts[3].as_bytes(),
+        word: parts[4].as_bytes(),
+    }
+}
+
+fn object(parts: Parts<'_>) -> Option<Request<&[u8]>> {
+    Some(Request::CreateObject {
+        kind: kind_of(parts[1])?,
+        place: place_of(parts[2]),
+        attrs: number(parts[3]),
+        args: parts[4].as_bytes(),
+        word: parts[5].as_bytes(),
+    })
+}
+
+fn open(parts: Parts<'_>) -> Option<Request<&[u8]>> {
+    let (name, attrs, word) = (name_of(parts[1]), number(parts[2]), parts[3].as_bytes());
+    match parts[0] {
+        "OpenDirectory" => Some(Request::OpenDirectory { name, attrs, word }),
+        "OpenLink" => Some(Request::OpenLink { name, attrs, word }),
+        "OpenObject" => Some(open_object(parts)),
+        _ => None,
+    }
+}
+
+fn open_object(parts: Parts<'_>) -> Request<&[u8]> {
+    Request::OpenObject {
+        want: kind_of(parts[1]),
+        name: name_of(parts[2]),
+        attrs: number(parts[3]),
+        word: parts[4].as_bytes(),
+    }
+}
+
+fn page(parts: Parts<'_>) -> Option<Request<&[u8]>> {
+    Some(Request::QueryDirectory {
+        handle: handle(parts[1]),
+        room: number(parts[2]),
+        mode: mode_of(parts[3])?,
+    })
+}
+
+fn mode_of(told: &str) -> Option<PageMode> {
+    match told {
+        "First" => Some(PageMode::First),
+        "Next" => Some(PageMode::Next),
+        "FirstSingle" => Some(PageMode::FirstSingle),
+        "NextSingle" => Some(PageMode::NextSingle),
+        _ => None,
+    }
+}
+
+fn duplicate(parts: Parts<'_>) -> Request<&[u8]> {
+    Request::Duplicate {
+        handle: handle(parts[1]),
+        to: parts[2].as_bytes(),
+        inherit: parts[3] == "true",
+        word: parts[4].as_bytes(),
+    }
+}
+
+fn child(parts: Parts<'_>) -> Request<&[u8]> {
+    Request::NewProcess {
+        inherit: parts[1] == "true",
+        child: parts[2].as_bytes(),
+    }
+}
+
+fn of_a_handle(parts: Parts<'_>) -> Option<Request<&[u8]>> {
+    let handle = handle(parts[1]);
+    match parts[0] {
+        "Close" => Some(Request::Close { handle }),
+        "QueryLink" => Some(Request::QueryLink { handle }),
+        "QueryName" => Some(Request::QueryName { handle }),
+        "MakeTemporary" => Some(Request::MakeTemporary { handle }),
+        "MakePermanent" => Some(Request::MakePermanent { handle }),
+        "SetDeviceMap" => Some(Request::SetDeviceMap { handle }),
+        _ => None,
+    }
+}
+
+fn pending(told: &str) -> Option<PendingForm<&[u8]>> {
+    let parts = parts(told);
+    let word = parts[1].as_bytes();
+    match parts[0] {
+        "Begin" => Some(begin(parts)),
+        "End" => Some(PendingForm::End { word }),
+        "Drop" => Some(PendingForm::Drop { word }),
+        _ => None,
+    }
+}
+
+fn begin(parts: Parts<'_>) -> PendingForm<&[u8]> {
+    PendingForm::Begin {
+        want: kind_of(parts[1]),
+        name: name_of(parts[2]),
+        attrs: number(parts[3]),
+        word: parts[4].as_bytes(),
+    }
+}
+
+// A name and up to five parts behind it, which are empty where there are fewer.
+type Parts<'a> = [&'a str; 6];
+
+fn parts(told: &str) -> Parts<'_> {
+    let (name, rest) = cut(told);
+    let (first, rest) = cut(rest);
+    let (second, rest) = cut(rest);
+    let (third, rest) = cut(rest);
+    let (fourth, fifth) = cut(rest);
+    [name, first, second, third, fourth, fifth]
+}
+
+// What stands before a bar, and what behind it.
+fn cut(told: &str) -> (&str, &str) {
+    told.split_once(" | ").unwrap_or((told, ""))
+}
+
+// A number, or the greatest where none is told.
+fn number(told: &str) -> u32 {
+    told.parse::<u32>().unwrap_or(u32::MAX)
+}
+
+// A place, which is a name or none.
+fn place_of(told: &str) -> PlaceForm<&[u8]> {
+    match told {
+        "none" => PlaceForm::Unnamed,
+        _ => PlaceForm::Named(name_of(told)),
+    }
+}
+
+// A name, which is absolute, or relative to a handle that is told behind it: `B of a+1`.
+fn name_of(told: &str) -> NameForm<&[u8]> {
+    match told.split_once(" of ") {
+        Some((text, root)) => NameForm::Relative {
+            root: handle(root),
+            text: text.as_bytes(),
+        },
+        None => NameForm::Absolute(told.as_bytes()),
+    }
+}
+
+// A handle: its word, and what is added to its value, from 0 to 3.
+fn handle(told: &str) -> HandleForm<&[u8]> {
+    let (word, offset) = told.split_once("+").unwrap_or((told, ""));
+    let offset = match offset {
+        "1" => Offset::One,
+        "2" => Offset::Two,
+        "3" => Offset::Three,
+        _ => Offset::Zero,
+    };
+    let word = word.as_bytes();
+    HandleForm { word, offset }
+}
+
+fn kind_of(told: &str) -> Option<KindForm> {
+    match told {
+        "Event" => Some(KindForm::Event),
+        "Mutant" => Some(KindForm::Mutant),
+        "Section" => Some(KindForm::Section),
+        "Device" => Some(KindForm::Device),
+        "File" => Some(KindForm::File),
+        "Key" => Some(KindForm::Key),
+        _ => None,
+    }
+}
