@@ -6,3 +6,4 @@ pub mod Entered
 pub mod Steps
 pub mod Answers
 pub mod Asked
+pub mod Opened

@@ -97,6 +97,20 @@ impl<T: TypeSet, H: HandleTable, L: Ledger> Locked<T, H, L> {
         self.journal.len()
     }
 
+    /// The journal: the entries of all steps, in their order. Takes no memory. (this profile)
+    pub fn journal(&self) -> &[Entry<T::Kind>]
+        ensures { result.now ≡ self.now.journal }
+    {
+        self.journal.as_slice()
+    }
+
+    /// The namespace, as the steps of the journal have left it. Takes no memory. (this profile)
+    pub fn core(&self) -> &Core<T, H>
+        ensures { result.now ≡ self.now.state }
+    {
+        &self.core
+    }
+
     /// How many places of the journal opens that wait have reserved: each one for each reparse that is left to it, and one
     /// for its end. Takes no memory. (this profile)
     pub fn reserved(&self) -> usize

@@ -12,10 +12,8 @@ use std::marker::Model;
 use std::sync::ledger::{Book, Ledger, Share};
 
 /// A caller's pass: its seat, and a receipt for each of its steps, which is the step's entry in the journal. It is lent to
-/// each call, and handed in when the shared namespace is closed. `K` is the kind of an object of the set of types, and `L`
-/// the ledger by which the steps of all passes are counted. Contracts see the seat and the receipts.
-///
-/// A pass that is let go is missing when the namespace is closed. (this profile)
+/// each step. `K` is the kind of an object of the set of types, and `L` the ledger by which the steps of all passes are
+/// counted. Contracts see the seat and the receipts. (this profile)
 #[derive(Drop)]
 pub struct Pass<K: Copy, L: Ledger> {
     seat: u32,
