@@ -1,7 +1,7 @@
 -- What is asked for under the lock, as an event; and why no step is made for it.
 --
 -- Source: this profile.
-use Rattle.std.specs.Prelude.{◌≡◌, Option, None, Some}
+use Rattle.std.specs.Prelude.{◌≡◌, length, Option, None, Some}
 use Rattle.ob_base.specs.declared.fault.Fault.{Fault}
 use Rattle.ob_base.specs.declared.fault.Fault.TheVariants.{Refused}
 use Rattle.ob_base.specs.declared.status.Status.TheVariants.{InvalidParameter}
@@ -15,9 +15,9 @@ use Rattle.ob_shared.specs.declared.steps.Asked.{Asked}
 use Rattle.ob_shared.specs.declared.steps.Asked.TheVariants.{Start, Resume, Abandon}
 use Rattle.ob_shared.specs.Answers.{brought_in, run_in}
 use Rattle.ob_shared.specs.Locked.{History}
-use Rattle.ob_shared.specs.Passed.{Passed}
+use Rattle.ob_shared.specs.Passed.{Passed, IsKnown}
 use Rattle.ob_shared.specs.Places.{places_for}
-use Rattle.ob_shared.specs.Steps.{IsNotAdmitted, IsNotResumed}
+use Rattle.ob_shared.specs.Steps.{IsFull, IsNotAdmitted, IsNotResumed}
 
 module _ {K T F I : Type 0} where
   -- the event
@@ -31,6 +31,13 @@ module _ {K T F I : Type 0} where
   handed_back (Start process command) = None
   handed_back (Resume parsed) = Some parsed
   handed_back (Abandon pending) = None
+
+  -- What is asked may be made into a step: the pass is no stranger's, of which an abandon makes no test; and a start finds its
+  -- places.
+  abbrev pub IsAdmitted : History K T F I → Passed K → Asked T K F I → Type 0
+  IsAdmitted h p (Start process command) = IsKnown h.journal p.receipts × (IsFull (length h.journal) (places_for h.state.pending) → ⊥)
+  IsAdmitted h p (Resume parsed) = IsKnown h.journal p.receipts
+  IsAdmitted h p (Abandon pending) = Unit {0}
 
   -- Why no step is made: of a start and a resume as is said there; an abandon is a stranger's.
   abbrev pub IsUnmade : Procedures K T F I → History K T F I → Passed K → Asked T K F I → Fault → Type 0

@@ -3,7 +3,7 @@
 ghost use Rattle.std.specs.Prelude.{◌≡◌, ◌≤◌, ◌<◌, ◌+◌, ◌∷◌, ◌++◌, [], IfOk, IfErr, OnOk, length, vec_len, vec_capacity};
 ghost use Rattle.ob_shared.specs.Passed.{IsKnown};
 ghost use Rattle.ob_shared.specs.Places.{most_entries, places_of_start};
-ghost use Rattle.ob_shared.specs.Steps.{IsNotAdmitted};
+ghost use Rattle.ob_shared.specs.Steps.{IsFull, IsNotAdmitted};
 
 use crate::Pass;
 use crate::made::Writer;
@@ -47,6 +47,7 @@ pub(crate) fn admit<T: TypeSet, L: Ledger>(
     ensures number { IfOk result (λ room. room.writer.number ≡ vec_len journal.old + 1) }
     ensures seat { IfOk result (λ room. room.writer.seat ≡ pass.now.seat) }
     ensures known { OnOk result (IsKnown journal.old.items pass.now.receipts) }
+    ensures spare { OnOk result (IsFull (length journal.old.items) reserved → ⊥) }
     ensures fault { IfErr result (λ fault. IsNotAdmitted journal.old.items reserved pass.now.receipts fault) }
 {
     if !is_known::<T, L>(pass, journal.as_slice()) {

@@ -1,6 +1,6 @@
 //! What lies under the lock of a shared namespace, and its one mutator.
 
-ghost use Rattle.std.specs.Prelude.{◌≡◌, ◌↔◌, ◌≤◌, ◌+◌, ◌^◌, [], false, IsTrue, IfOk, IfErr, OnErr, length};
+ghost use Rattle.std.specs.Prelude.{◌≡◌, ◌↔◌, ◌≤◌, ◌+◌, ◌^◌, [], false, IsTrue, IfOk, IfErr, OnErr, OnOk, length};
 ghost use Rattle.ob_base.specs.declared.Fault.TheVariants.{Memory};
 ghost use Rattle.ob_model.specs.Opening.{opening};
 ghost use Rattle.ob_model.specs.Run.{Run};
@@ -11,8 +11,9 @@ ghost use Rattle.ob_parsing.specs.Brought.{run_of_end};
 ghost use Rattle.ob_parsing.specs.Parse.{asked_of};
 ghost use Rattle.ob_waiting.specs.Waiting.{IsAwaited, IsParseOf};
 ghost use Rattle.ob_shared.specs.Answers.{answer_in, brought_in, run_in, IfWaits};
+ghost use Rattle.ob_shared.specs.Passed.{IsKnown};
 ghost use Rattle.ob_shared.specs.Places.{most_entries, places_for, places_of};
-ghost use Rattle.ob_shared.specs.Steps.{IsMade, IsNotAdmitted, IsNotResumed};
+ghost use Rattle.ob_shared.specs.Steps.{IsFull, IsMade, IsNotAdmitted, IsNotResumed};
 
 use crate::entering::{StartRoom, admit, enter};
 use crate::made::{Made, Twice, Writer, abandon_core, resume_core, start_core};
@@ -133,6 +134,7 @@ impl<T: TypeSet, H: HandleTable, L: Ledger> Locked<T, H, L> {
         command: &Command<T::Kind>,
     ) -> Result<Started<T>, Fault>
         ensures made { IfOk result (λ started. IsMade T.procedures self.old pass.old (Start process command.now) (answer_in started) self.new pass.new) }
+        ensures admitted { OnOk result (IsKnown self.old.journal pass.old.receipts × (IsFull (length self.old.journal) (places_for self.old.state.pending) → ⊥)) }
         ensures waits { IfOk result (λ started. IfWaits started (IsParseOf self.new.state)) }
         ensures unmade { OnErr result ((self.new ≡ self.old) × (pass.new ≡ pass.old)) }
         ensures fault { IfErr result (λ fault. IsNotAdmitted self.old.journal (places_for self.old.state.pending) pass.old.receipts fault) }
@@ -179,6 +181,7 @@ impl<T: TypeSet, H: HandleTable, L: Ledger> Locked<T, H, L> {
     ) -> Result<Started<T>, (Fault, Parsed<T>)>
         ensures made { IfOk result (λ started.
             IsMade T.procedures self.old pass.old (Resume parsed.ticket (run_of_end parsed.outcome)) (answer_in started) self.new pass.new) }
+        ensures known { OnOk result (IsKnown self.old.journal pass.old.receipts) }
         ensures awaited { IfOk result (λ _. IsAwaited T.procedures self.old.state (asked_of parsed)) }
         ensures waits { IfOk result (λ started. IfWaits started (IsParseOf self.new.state)) }
         ensures unmade { OnErr result ((self.new ≡ self.old) × (pass.new ≡ pass.old)) }

@@ -1,9 +1,9 @@
 //! The one way in which what lies under the lock changes.
 
-ghost use Rattle.std.specs.Prelude.{◌≡◌, IfOk, IfErr, OnErr};
+ghost use Rattle.std.specs.Prelude.{◌≡◌, IfOk, IfErr, OnErr, OnOk};
 ghost use Rattle.ob_waiting.specs.Waiting.{IsParseOf};
 ghost use Rattle.ob_shared.specs.Answers.{answer_in, IfWaits};
-ghost use Rattle.ob_shared.specs.Asked.{event_of, handed_back, IsUnmade};
+ghost use Rattle.ob_shared.specs.Asked.{event_of, handed_back, IsAdmitted, IsUnmade};
 ghost use Rattle.ob_shared.specs.Steps.{IsMade};
 
 use crate::{Locked, Parsed, Pass, Pending, Started};
@@ -40,6 +40,7 @@ pub fn step<T: TypeSet, H: HandleTable, L: Ledger>(
     asked: Asked<'_, T>,
 ) -> Result<Started<T>, (Fault, Option<Parsed<T>>)>
     ensures made { IfOk result (λ started. IsMade T.procedures locked.old pass.old (event_of asked.entry) (answer_in started) locked.new pass.new) }
+    ensures admitted { OnOk result (IsAdmitted locked.old pass.old asked.entry) }
     ensures waits { IfOk result (λ started. IfWaits started (IsParseOf locked.new.state)) }
     ensures unmade { OnErr result ((locked.new ≡ locked.old) × (pass.new ≡ pass.old)) }
     ensures fault { IfErr result (λ back. IsUnmade T.procedures locked.old pass.old asked.entry (back.0)) }
