@@ -2,13 +2,12 @@
 
 ghost use Rattle.std.specs.Prelude.{◌<◌};
 
-use crate::flat_rows::{Kind, PlainRow, search};
-use crate::lookup::{CREATE, OPEN, OPEN_FOLDED, OPEN_LINK, ROOT, ends_within};
+use crate::flat_rows::{Kind, PlainRow, find, search};
+use crate::lookup::{ROOT, ends_within, mode_of};
 use crate::space::Space;
 use ob_base::ObjId;
 use ob_device::{DeviceKind, DeviceSet};
 use ob_devmap::View;
-use ob_lookup::Mode;
 use ob_types::TypeSet;
 use std::alloc::Global;
 use std::test::Fail;
@@ -20,20 +19,8 @@ const TARGETS: [&[u8]; 7] = [
     b"\\a", b"\\b\\", b"\\A\\a", b"b", b"\\", b"\\??", b"\\??\\a",
 ];
 
-const LOOKED_UP: [&[u8]; 12] = [
-    b"\\a",
-    b"\\b",
-    b"\\A\\a",
-    b"\\b\\b",
-    b"\\a\\b\\a",
-    b"\\b\\A\\",
-    b"\\a\\\\b",
-    b"\\b\\a\\b",
-    b"\\??",
-    b"\\??\\a",
-    b"\\??\\b\\a",
-    b"\\??\\A\\",
-];
+const LOOKED_UP: &'static str =
+    r"\a \b \A\a \b\b \a\b\a \b\A\ \a\\b \b\a\b \?? \??\a \??\b\a \??\A\";
 
 // The digit of a number at a place, in a base above 0.
 fn digit(number: u64, place: u32, base: u64) -> u64
@@ -45,25 +32,6 @@ fn digit(number: u64, place: u32, base: u64) -> u64
         left /= 7;
     }
     left % base
-}
-
-// The kind of an object by a digit in the base 7, with this target where it is a link.
-fn kind_of(digit: u64, target: &'static [u8]) -> Kind<'static> {
-    match digit {
-        0 | 1 | 2 => Kind::Directory,
-        3 => Kind::File,
-        _ => Kind::Link(target),
-    }
-}
-
-// Whether a directory has a row of this name.
-fn has_row(rows: &[PlainRow], directory: u64, name: u8) -> bool {
-    for row in rows {
-        if row.directory == directory && row.name == name {
-            return true;
-        }
-    }
-    false
 }
 
 // Fills the namespace of a number, and its rows: up to four objects, in directories that came before them.
@@ -78,11 +46,14 @@ fn fill<T: TypeSet>(
     for k in 0..4u32 {
         let directory = if digit(number, k, 2) == 0 { ROOT } else { last };
         let name = NAMES[(digit(number, k + 1, 3)) as usize];
-        if has_row(rows.as_slice(), directory.0, name) {
+        if find(rows.as_slice(), false, directory.0, name).is_some() {
             continue;
         }
-        let target = TARGETS[(digit(number, k + 2, 7)) as usize];
-        let kind = kind_of(digit(number, k, 7), target);
+        let kind = match digit(number, k, 7) {
+            0 | 1 | 2 => Kind::Directory,
+            3 => Kind::File,
+            _ => Kind::Link(TARGETS[(digit(number, k + 2, 7)) as usize]),
+        };
         let id = space.add(alloc, devices, directory, &[name], kind)?;
         rows.push(PlainRow {
             directory: directory.0,
@@ -116,28 +87,22 @@ fn view_of(rows: &[PlainRow]) -> View {
     }
 }
 
-// Whether a lookup and the plain search end alike, where at most three reparses are made.
-fn ends_alike<T: TypeSet>(
-    alloc: Global,
-    space: &Space<T>,
-    rows: &[PlainRow],
-    mode: Mode,
-    name: &[u8],
-) -> Result<bool, Fail> {
-    let view = view_of(rows);
-    let end = search(alloc, rows, &view, mode, name, 3)?;
-    ends_within(alloc, space, &view, mode, 3, name, end)
-}
-
-// The first name that a lookup and the plain search don't end alike for.
+// The first name that a lookup and the plain search don't end alike for, where at most three reparses are made, in the
+// namespace of a number.
 fn first_other<T: TypeSet>(
     alloc: Global,
-    space: &Space<T>,
-    rows: &[PlainRow],
-) -> Result<Option<&'static [u8]>, Fail> {
-    for name in LOOKED_UP {
-        for mode in [OPEN, OPEN_FOLDED, OPEN_LINK, CREATE] {
-            if !ends_alike(alloc, space, rows, mode, name)? {
+    space: &mut Space<T>,
+    devices: T::Kind,
+    number: u64,
+) -> Result<Option<&'static str>, Fail> {
+    let mut rows = Vec::new(alloc);
+    fill(alloc, space, &mut rows, devices, number)?;
+    let view = view_of(rows.as_slice());
+    for name in LOOKED_UP.split_whitespace() {
+        for mode in ["open", "folded", "link", "create"] {
+            let (mode, text) = (mode_of(mode), name.as_bytes());
+            let end = search(alloc, rows.as_slice(), &view, mode, text, 3)?;
+            if !ends_within(alloc, space, &view, (mode, 3), text, end)? {
                 return Ok(Some(name));
             }
         }
@@ -145,26 +110,14 @@ fn first_other<T: TypeSet>(
     Ok(None)
 }
 
-fn filled_differs<T: TypeSet>(
-    alloc: Global,
-    space: &mut Space<T>,
-    rows: &mut Vec<PlainRow>,
-    devices: T::Kind,
-    number: u64,
-) -> Result<Option<&'static [u8]>, Fail> {
-    fill(alloc, space, rows, devices, number)?;
-    first_other(alloc, space, rows.as_slice())
-}
-
-// The first such name in the namespace of a number.
+// The same in a new namespace.
 fn differs<T: TypeSet>(
     alloc: Global,
     devices: T::Kind,
     number: u64,
-) -> Result<Option<&'static [u8]>, Fail> {
-    let mut rows = Vec::new(alloc);
+) -> Result<Option<&'static str>, Fail> {
     let mut space: Space<T> = Space::new(alloc)?;
-    filled_differs(alloc, &mut space, &mut rows, devices, number)
+    first_other(alloc, &mut space, devices, number)
 }
 
 #[test]

@@ -1,19 +1,18 @@
 //! A plain search over flat rows, with which lookups are compared in tests. Each component is one
 //! byte long, so that nothing of the code under test is used.
 
-use ob_base::Status;
 use ob_devmap::View;
 use ob_lookup::Mode;
 use std::alloc::Global;
 use std::test::Fail;
 
-// What a lookup is wanted to end with.
+// What a lookup is wanted to end with; a refusal by the word of its status.
 #[derive(Clone, Copy)]
 pub(crate) enum End<'a> {
     At(u64),
     Vacant(u64, &'a [u8]),
     Parse(u64, &'a [u8], u32),
-    Refused(Status),
+    Refused(&'a str),
 }
 
 // What an object is.
@@ -109,10 +108,10 @@ pub(crate) fn search(
             }
             Turn::Follows(target) => {
                 if left == 0 {
-                    return Ok(End::Refused(Status::ReparseLimit));
+                    return Ok(End::Refused("REPARSE_LIMIT"));
                 }
                 if target.first() != Some(&b'\\') {
-                    return Ok(End::Refused(Status::ObjectPathSyntaxBad));
+                    return Ok(End::Refused("OBJECT_PATH_SYNTAX_BAD"));
                 }
                 let made = joined(alloc, target, rest.get(2..).unwrap_or(&[]))?;
                 left -= 1;
@@ -147,26 +146,27 @@ fn next_turn(
 ) -> Turn {
     let (name, more) = match rest {
         [] => return Turn::Ends(End::At(directory)),
-        [_] | [_, b'\\', ..] => return Turn::Ends(End::Refused(Status::ObjectNameInvalid)),
+        [_] | [_, b'\\', ..] => return Turn::Ends(End::Refused("OBJECT_NAME_INVALID")),
         [_, name, more @ ..] => (*name, !more.is_empty()),
     };
-    let local = find(rows, mode, directory, name);
+    let local = find(rows, mode.fold, directory, name);
     let named = match second {
-        Some(second) if local.is_none() => find(rows, mode, second, name),
+        Some(second) if local.is_none() => find(rows, mode.fold, second, name),
         _ => local,
     };
     match named {
         Some(row) => at_row(row, mode, more),
-        None if more => Turn::Ends(End::Refused(Status::ObjectPathNotFound)),
+        None if more => Turn::Ends(End::Refused("OBJECT_PATH_NOT_FOUND")),
         None if mode.create => Turn::Ends(End::Vacant(directory, spelled(name))),
-        None => Turn::Ends(End::Refused(Status::ObjectNameNotFound)),
+        None => Turn::Ends(End::Refused("OBJECT_NAME_NOT_FOUND")),
     }
 }
 
-// The first row of a name in a directory.
-fn find(rows: &[PlainRow], mode: Mode, directory: u64, name: u8) -> Option<PlainRow> {
+// The first row of a name in a directory, with case or without.
+pub(crate) fn find(rows: &[PlainRow], fold: bool, directory: u64, name: u8) -> Option<PlainRow> {
     for row in rows {
-        if row.directory == directory && is_same(row.name, name, mode.fold) {
+        let is_same = row.name == name || (fold && row.name.eq_ignore_ascii_case(&name));
+        if row.directory == directory && is_same {
             return Some(*row);
         }
     }
@@ -178,14 +178,9 @@ fn at_row(row: PlainRow, mode: Mode, more: bool) -> Turn {
     match row.kind {
         Kind::Directory => Turn::Enters(row.object),
         Kind::Link(target) if more || (mode.follow && !mode.create) => Turn::Follows(target),
-        Kind::File | Kind::Device if more => Turn::Ends(End::Refused(Status::ObjectTypeMismatch)),
+        Kind::File | Kind::Device if more => Turn::Ends(End::Refused("OBJECT_TYPE_MISMATCH")),
         _ => Turn::Ends(End::At(row.object)),
     }
-}
-
-// Whether two bytes are equal, with case or without.
-fn is_same(a: u8, b: u8, fold: bool) -> bool {
-    a == b || fold && a.to_ascii_lowercase() == b.to_ascii_lowercase()
 }
 
 // A name of one byte.

@@ -1,15 +1,26 @@
 //! Names looked up in small namespaces. All but the tests is over any set of types with a kind of devices.
+//!
+//! A namespace is a text, line by line:
+//!
+//! - `add`, the number of a directory, a name and a kind add an object, which gets the next number, from 2 on. The root is
+//!   1. Behind `link` stands its target.
+//! - `chain` adds links `\0` to `\P`, each to the one before it, the first of which leads to the target behind it.
+//! - `long` adds a link `\L` to a name of 32,760 bytes that leads nowhere.
+//! - `view`, a local directory, or `-`, and a global one say how names are looked up from there on, and at last whether
+//!   both are there.
+//! - `open`, `folded` (without case), `link` (a link at the end isn't followed) and `create` look a name up, which stands
+//!   between bars, and what it ends with stands behind. The number of an object says that the name is relative to it, and
+//!   a number behind `-` how many reparses are made at most, 32 if nothing is said.
 
 use crate::flat_rows::{End, Kind};
 use crate::space::{Space, has_view};
-use ob_base::{ObjId, Status};
+use ob_base::ObjId;
 use ob_device::{DeviceKind, DeviceSet};
 use ob_devmap::View;
 use ob_lookup::{Look, Mode, look};
 use ob_names::Name;
 use ob_types::TypeSet;
 use std::alloc::Global;
-use std::process::Abort;
 use std::test::Fail;
 
 pub(crate) const ROOT: ObjId = ObjId(1);
@@ -20,29 +31,39 @@ const PLAIN: View = View {
     global: ROOT,
 };
 
-pub(crate) const OPEN: Mode = Mode {
-    create: false,
-    fold: false,
-    follow: true,
-};
+/// The mode of a word.
+pub(crate) fn mode_of(word: &str) -> Mode {
+    Mode {
+        create: word == "create",
+        fold: word == "folded",
+        follow: word != "link",
+    }
+}
 
-pub(crate) const OPEN_FOLDED: Mode = Mode {
-    create: false,
-    fold: true,
-    follow: true,
-};
+// The first words of a text; those that it lacks are empty.
+fn words(text: &str) -> [&str; 5] {
+    let mut words = text.split_whitespace();
+    [
+        words.next().unwrap_or(""),
+        words.next().unwrap_or(""),
+        words.next().unwrap_or(""),
+        words.next().unwrap_or(""),
+        words.next().unwrap_or(""),
+    ]
+}
 
-pub(crate) const OPEN_LINK: Mode = Mode {
-    create: false,
-    fold: false,
-    follow: false,
-};
-
-pub(crate) const CREATE: Mode = Mode {
-    create: true,
-    fold: false,
-    follow: true,
-};
+// What a text says that a lookup ends with: `at` an object, `vacant` in a directory under a name, `parse` by an object with
+// so many reparses left and a rest, or a status.
+fn end_of(text: &str) -> End<'_> {
+    let [what, first, second, third, ..] = words(text);
+    let number = first.parse().unwrap_or(0);
+    match what {
+        "at" => End::At(number),
+        "vacant" => End::Vacant(number, second.as_bytes()),
+        "parse" => End::Parse(number, third.as_bytes(), second.parse().unwrap_or(0)),
+        _ => End::Refused(what),
+    }
+}
 
 fn is_end(look: &Look, end: End<'_>) -> bool {
     match (look, end) {
@@ -53,49 +74,21 @@ fn is_end(look: &Look, end: End<'_>) -> bool {
                 component,
             },
             End::Vacant(wanted, name),
-        ) => { directory.0 == wanted && component.as_slice() == name }
+        ) => directory.0 == wanted && component.as_slice() == name,
         (Look::Parse { object, rest, left }, End::Parse(wanted, text, number)) => {
             object.0 == wanted && rest.as_slice() == text && *left == number
         }
-        (Look::Refused(status), End::Refused(wanted)) => *status == wanted,
+        (Look::Refused(status), End::Refused(wanted)) => status.text() == wanted,
         _ => false,
     }
 }
 
-// Each table is named in one short function: one that is named in a longer function is gone through at each step of
-// its proof.
-
-// An object: the number of its directory, its name there and its kind.
-type Object = (u64, &'static [u8], Kind<'static>);
-
-// How a name is looked up, and what it ends with.
-type Lookup = (Mode, &'static [u8], End<'static>);
-
-// The same relative to the object of a number.
-type LookupFrom = (u64, Mode, &'static [u8], End<'static>);
-
-// The objects of the small namespace from 2 on: the directory and the name of each, and its kind. `\Device` is
-// 2, `\Device\Disk` the file 3, `\Device\Raw` the device 10, `\Link` leads to `\Device`, `\Self` to itself, the target of `\Bad` has no
-// origin, `\K` leads to `\Device\`, and `\Foo` stands before `\foo`.
-const SMALL: [Object; 9] = [
-    (1, b"Device", Kind::Directory),
-    (2, b"Disk", Kind::File),
-    (1, b"Link", Kind::Link(b"\\Device")),
-    (1, b"Self", Kind::Link(b"\\Self")),
-    (1, b"Bad", Kind::Link(b"Device")),
-    (1, b"K", Kind::Link(b"\\Device\\")),
-    (1, b"Foo", Kind::Directory),
-    (1, b"foo", Kind::Directory),
-    (2, b"Raw", Kind::Device),
-];
-
-// Whether a name ends so for a process of this view, where at most so many reparses are made.
+/// Whether a name ends so for a process of this view, where at most so many reparses are made.
 pub(crate) fn ends_within<T: TypeSet>(
     alloc: Global,
     space: &Space<T>,
     view: &View,
-    mode: Mode,
-    budget: u32,
+    (mode, budget): (Mode, u32),
     name: &[u8],
     end: End<'_>,
 ) -> Result<bool, Fail> {
@@ -124,202 +117,31 @@ fn ends_from<T: TypeSet>(
     Ok(is_end(&found, end))
 }
 
-// The number, from 0, of the first lookup by a process of this view that ends with something else.
-fn first_other<T: TypeSet>(
+// Whether a name is looked up to the end that a line says.
+fn ends_so<T: TypeSet>(
     alloc: Global,
     space: &Space<T>,
     view: &View,
-    lookups: &[Lookup],
-) -> Result<Option<usize>, Fail> {
-    for (number, &(mode, name, end)) in lookups.iter().enumerate() {
-        if !ends_within(alloc, space, view, mode, 32, name, end)? {
-            return Ok(Some(number));
-        }
+    line: &str,
+) -> Result<bool, Fail> {
+    let (asked, behind) = line.split_once('|').unwrap_or((line, ""));
+    let (name, end) = behind.split_once('|').unwrap_or((behind, ""));
+    let ([mode, root, budget, ..], name, end) = (words(asked), name.trim(), end_of(end));
+    let mode = mode_of(mode);
+    if let Some(root) = root.parse().ok() {
+        return ends_from(alloc, space, ObjId(root), mode, name.as_bytes(), end);
     }
-    Ok(None)
-}
-
-// The same of lookups relative to objects.
-fn first_other_from<T: TypeSet>(
-    alloc: Global,
-    space: &Space<T>,
-    lookups: &[LookupFrom],
-) -> Result<Option<usize>, Fail> {
-    for (number, &(root, mode, name, end)) in lookups.iter().enumerate() {
-        if !ends_from(alloc, space, ObjId(root), mode, name, end)? {
-            return Ok(Some(number));
-        }
-    }
-    Ok(None)
-}
-
-// Adds objects to a namespace, in this order.
-fn fill<T: TypeSet>(
-    alloc: Global,
-    space: &mut Space<T>,
-    devices: T::Kind,
-    objects: &[Object],
-) -> Result<(), Fail> {
-    for object in objects {
-        let (directory, name, kind) = *object;
-        space.add(alloc, devices, ObjId(directory), name, kind)?;
-    }
-    Ok(())
-}
-
-// The device of the small namespace.
-const RAW: u64 = 10;
-
-// How absolute names are looked up in the small namespace, and what they end with.
-const ABSOLUTE: [Lookup; 36] = [
-    (OPEN, b"\\", End::At(1)),
-    (OPEN, b"\\Device", End::At(2)),
-    (OPEN, b"\\Device\\Disk", End::At(3)),
-    (OPEN, b"", End::Refused(Status::ObjectPathSyntaxBad)),
-    (OPEN, b"Device", End::Refused(Status::ObjectPathSyntaxBad)),
-    (OPEN, b"\\Device\\", End::Refused(Status::ObjectNameInvalid)),
-    (OPEN, b"\\\\Disk", End::Refused(Status::ObjectNameInvalid)),
-    (
-        OPEN,
-        b"\\Gone\\Disk",
-        End::Refused(Status::ObjectPathNotFound),
-    ),
-    (OPEN, b"\\Gone\\", End::Refused(Status::ObjectPathNotFound)),
-    (
-        OPEN,
-        b"\\Device\\Gone",
-        End::Refused(Status::ObjectNameNotFound),
-    ),
-    (CREATE, b"\\Device\\Gone", End::Vacant(2, b"Gone")),
-    (CREATE, b"\\??C:", End::Vacant(1, b"??C:")),
-    (CREATE, b"\\Device\\??", End::Vacant(2, b"??")),
-    (
-        OPEN,
-        b"\\Device\\Disk\\",
-        End::Refused(Status::ObjectTypeMismatch),
-    ),
-    (CREATE, b"\\Device\\Disk", End::At(3)),
-    (OPEN_FOLDED, b"\\FOO", End::At(8)),
-    (OPEN, b"\\foo", End::At(9)),
-    (OPEN, b"\\FOO", End::Refused(Status::ObjectNameNotFound)),
-    // with links in them
-    (OPEN, b"\\Link", End::At(2)),
-    (OPEN, b"\\Link\\Disk", End::At(3)),
-    (OPEN_LINK, b"\\Link", End::At(4)),
-    (OPEN_LINK, b"\\Link\\Disk", End::At(3)),
-    (CREATE, b"\\Link", End::At(4)),
-    (CREATE, b"\\Link\\New", End::Vacant(2, b"New")),
-    (OPEN, b"\\Self", End::Refused(Status::ReparseLimit)),
-    (OPEN_LINK, b"\\Self", End::At(5)),
-    (OPEN, b"\\Bad", End::Refused(Status::ObjectPathSyntaxBad)),
-    (OPEN, b"\\K\\Disk", End::At(3)),
-    (OPEN, b"\\K", End::Refused(Status::ObjectNameInvalid)),
-    (CREATE, b"\\K\\New", End::Vacant(2, b"New")),
-    // to the device: an open asks it to parse what follows it, and a create doesn't
-    (OPEN, b"\\Device\\Raw", End::Parse(RAW, b"", 32)),
-    (
-        OPEN,
-        b"\\Device\\Raw\\a\\\\b\\",
-        End::Parse(RAW, b"\\a\\\\b\\", 32),
-    ),
-    (OPEN, b"\\Link\\Raw\\a", End::Parse(RAW, b"\\a", 31)),
-    (OPEN_LINK, b"\\Link\\Raw", End::Parse(RAW, b"", 31)),
-    (CREATE, b"\\Device\\Raw", End::At(RAW)),
-    (
-        CREATE,
-        b"\\Device\\Raw\\a",
-        End::Refused(Status::ObjectTypeMismatch),
-    ),
-];
-
-// The same of names relative to an object, at last to the device itself and to its directory.
-const RELATIVE: [LookupFrom; 15] = [
-    (2, OPEN, b"Disk", End::At(3)),
-    (2, OPEN, b"", End::At(2)),
-    (1, OPEN, b"Device\\Disk", End::At(3)),
-    (2, OPEN, b"Device", End::Refused(Status::ObjectNameNotFound)),
-    (
-        2,
-        OPEN,
-        b"\\Device",
-        End::Refused(Status::ObjectPathSyntaxBad),
-    ),
-    (3, OPEN, b"", End::Refused(Status::ObjectTypeMismatch)),
-    (4, OPEN, b"Disk", End::Refused(Status::ObjectTypeMismatch)),
-    (
-        1,
-        OPEN,
-        b"??\\Device",
-        End::Refused(Status::ObjectPathNotFound),
-    ),
-    (1, CREATE, b"??", End::Refused(Status::ObjectNameInvalid)),
-    (RAW, OPEN, b"a\\b", End::Parse(RAW, b"a\\b", 32)),
-    (RAW, OPEN, b"", End::Parse(RAW, b"", 32)),
-    (RAW, OPEN, b"\\a", End::Refused(Status::ObjectPathSyntaxBad)),
-    (RAW, CREATE, b"a", End::Refused(Status::ObjectTypeMismatch)),
-    (2, OPEN, b"Raw\\a", End::Parse(RAW, b"\\a", 32)),
-    (2, OPEN, b"", End::At(2)),
-];
-
-fn names_of_the_small<T: TypeSet>(
-    rt: &impl Abort,
-    alloc: Global,
-    devices: T::Kind,
-) -> Result<(), Fail> {
-    let mut space: Space<T> = Space::new(alloc)?;
-    look_in_the_small(rt, alloc, &mut space, devices)
-}
-
-fn fill_small<T: TypeSet>(
-    alloc: Global,
-    space: &mut Space<T>,
-    devices: T::Kind,
-) -> Result<(), Fail> {
-    fill(alloc, space, devices, &SMALL)
-}
-
-fn first_other_absolute<T: TypeSet>(
-    alloc: Global,
-    space: &Space<T>,
-) -> Result<Option<usize>, Fail> {
-    first_other(alloc, space, &PLAIN, &ABSOLUTE)
-}
-
-fn first_other_relative<T: TypeSet>(
-    alloc: Global,
-    space: &Space<T>,
-) -> Result<Option<usize>, Fail> {
-    first_other_from(alloc, space, &RELATIVE)
-}
-
-fn look_in_the_small<T: TypeSet>(
-    rt: &impl Abort,
-    alloc: Global,
-    space: &mut Space<T>,
-    devices: T::Kind,
-) -> Result<(), Fail> {
-    fill_small(alloc, space, devices)?;
-    assert_eq!(rt; first_other_absolute(alloc, space)?, None);
-    assert_eq!(rt; first_other_relative(alloc, space)?, None);
-    Ok(())
-}
-
-#[test]
-fn names_end_at_objects_at_vacant_places_in_parses_and_in_refusals(
-    rt: HostRuntime,
-) -> Result<(), Fail> {
-    names_of_the_small::<DeviceSet>(&rt, rt.alloc(), DeviceKind::Device)
+    let budget = budget.parse().unwrap_or(32);
+    ends_within(alloc, space, view, (mode, budget), name.as_bytes(), end)
 }
 
 // Adds a chain of links, `\0` to `\P`, each to the one before it, the first of which leads to this target.
-// `\Device` is 2.
-fn fill_chain<T: TypeSet>(
+fn add_chain<T: TypeSet>(
     alloc: Global,
     space: &mut Space<T>,
     devices: T::Kind,
     target: &[u8],
 ) -> Result<(), Fail> {
-    space.add(alloc, devices, ROOT, b"Device", Kind::Directory)?;
     space.add(alloc, devices, ROOT, b"0", Kind::Link(target))?;
     for k in 0..32u8 {
         let before = [b'\\', b'0' + k];
@@ -328,222 +150,8 @@ fn fill_chain<T: TypeSet>(
     Ok(())
 }
 
-// A view whose local directory is `\Device`.
-const OF_DEVICE: View = View {
-    local: Some(ObjId(2)),
-    global: ROOT,
-};
-
-// Names of chains, of which the first link leads to `\Device` or to `\??`, and what they end with. Behind 32 links
-// `\??` is the view as it is without one.
-const TO_DEVICE: [Lookup; 2] = [
-    (OPEN, b"\\O", End::At(2)),
-    (OPEN, b"\\P", End::Refused(Status::ReparseLimit)),
-];
-
-const TO_VIEW: [Lookup; 4] = [
-    (OPEN, b"\\O", End::At(2)),
-    (OPEN, b"\\P", End::Refused(Status::ReparseLimit)),
-    (OPEN, b"\\O\\Device", End::At(2)),
-    (CREATE, b"\\O\\Device", End::Vacant(2, b"Device")),
-];
-
-// The first lookup that ends with something else in a chain to `\Device`, or to `\??`.
-fn first_other_in_a_chain<T: TypeSet>(
-    alloc: Global,
-    devices: T::Kind,
-    to_view: bool,
-) -> Result<Option<usize>, Fail> {
-    let mut space: Space<T> = Space::new(alloc)?;
-    if to_view {
-        first_other_to_view(alloc, &mut space, devices)
-    } else {
-        first_other_to_device(alloc, &mut space, devices)
-    }
-}
-
-fn first_other_to_device<T: TypeSet>(
-    alloc: Global,
-    space: &mut Space<T>,
-    devices: T::Kind,
-) -> Result<Option<usize>, Fail> {
-    fill_chain(alloc, space, devices, b"\\Device")?;
-    first_other(alloc, space, &OF_DEVICE, &TO_DEVICE)
-}
-
-fn first_other_to_view<T: TypeSet>(
-    alloc: Global,
-    space: &mut Space<T>,
-    devices: T::Kind,
-) -> Result<Option<usize>, Fail> {
-    fill_chain(alloc, space, devices, b"\\??")?;
-    first_other(alloc, space, &OF_DEVICE, &TO_VIEW)
-}
-
-#[test]
-fn chains_of_32_links_are_followed_and_longer_ones_refused(rt: HostRuntime) -> Result<(), Fail> {
-    for to_view in [false, true] {
-        let other = first_other_in_a_chain::<DeviceSet>(rt.alloc(), DeviceKind::Device, to_view)?;
-        assert!(rt; other.is_none(), "at {other:?}, to the view: {to_view}");
-    }
-    Ok(())
-}
-
-// The objects of a namespace with device names, from 2 on: `\GLOBAL??` is 2, a process's local directory 3.
-// `C:` is 4 locally and 5 globally, and `D:` is 6 globally alone. `\DosDevices` leads to `\??`, and `\Drive`
-// behind that to `D:`. `e:` is local, `E:` and `f:` are global.
-const DEVICE_NAMES: [Object; 13] = [
-    (1, b"GLOBAL??", Kind::Directory),
-    (1, b"Local", Kind::Directory),
-    (3, b"C:", Kind::Directory),
-    (2, b"C:", Kind::Directory),
-    (2, b"D:", Kind::Directory),
-    (4, b"x", Kind::File),
-    (6, b"y", Kind::File),
-    (1, b"DosDevices", Kind::Link(b"\\??")),
-    (1, b"Drive", Kind::Link(b"\\DosDevices\\D:")),
-    (3, b"e:", Kind::File),
-    (2, b"E:", Kind::File),
-    (2, b"f:", Kind::File),
-    (5, b"z", Kind::File),
-];
-
-// The view of a process with a map, and of one without.
-const MAPPED: View = View {
-    local: Some(ObjId(3)),
-    global: ObjId(2),
-};
-
-const UNMAPPED: View = View {
-    local: None,
-    global: ObjId(2),
-};
-
-// Names as a process with a map looks them up, and what they end with.
-const MAPPED_NAMES: [Lookup; 31] = [
-    (OPEN, b"\\??", End::At(3)),
-    (OPEN, b"\\??\\C:", End::At(4)),
-    (OPEN, b"\\??\\D:", End::At(6)),
-    (OPEN, b"\\GLOBAL??\\C:", End::At(5)),
-    (OPEN, b"\\??\\C:\\x", End::At(7)),
-    (OPEN, b"\\??\\D:\\y", End::At(8)),
-    (
-        OPEN,
-        b"\\??\\C:\\z",
-        End::Refused(Status::ObjectNameNotFound),
-    ),
-    (
-        OPEN,
-        b"\\??\\C:\\D:",
-        End::Refused(Status::ObjectNameNotFound),
-    ),
-    (OPEN, b"\\??\\G:", End::Refused(Status::ObjectNameNotFound)),
-    (
-        OPEN,
-        b"\\??\\G:\\x",
-        End::Refused(Status::ObjectPathNotFound),
-    ),
-    (OPEN, b"\\??\\", End::Refused(Status::ObjectNameInvalid)),
-    (OPEN, b"\\??\\\\C:", End::Refused(Status::ObjectNameInvalid)),
-    (OPEN, b"\\??C:", End::Refused(Status::ObjectNameNotFound)),
-    (CREATE, b"\\??", End::At(3)),
-    (CREATE, b"\\??\\C:", End::At(4)),
-    (CREATE, b"\\??\\D:", End::Vacant(3, b"D:")),
-    (CREATE, b"\\??\\D:\\new", End::Vacant(6, b"new")),
-    (
-        CREATE,
-        b"\\??\\G:\\new",
-        End::Refused(Status::ObjectPathNotFound),
-    ),
-    (
-        CREATE,
-        b"\\??\\D:\\",
-        End::Refused(Status::ObjectNameInvalid),
-    ),
-    (OPEN, b"\\DosDevices", End::At(3)),
-    (OPEN_LINK, b"\\DosDevices", End::At(9)),
-    (OPEN, b"\\DosDevices\\C:\\x", End::At(7)),
-    (CREATE, b"\\DosDevices\\D:", End::Vacant(3, b"D:")),
-    (OPEN, b"\\Drive", End::At(6)),
-    (OPEN, b"\\Drive\\y", End::At(8)),
-    (CREATE, b"\\Drive", End::At(10)),
-    (CREATE, b"\\Drive\\new", End::Vacant(6, b"new")),
-    (OPEN, b"\\??\\E:", End::At(12)),
-    (OPEN_FOLDED, b"\\??\\E:", End::At(11)),
-    (OPEN_FOLDED, b"\\??\\F:", End::At(13)),
-    (OPEN_FOLDED, b"\\dosdevices\\c:", End::At(4)),
-];
-
-// Names as a process without a map looks them up, and what they end with.
-const UNMAPPED_NAMES: [Lookup; 8] = [
-    (OPEN, b"\\??", End::At(2)),
-    (OPEN, b"\\??\\C:", End::At(5)),
-    (OPEN, b"\\??\\C:\\z", End::At(14)),
-    (OPEN, b"\\DosDevices\\C:", End::At(5)),
-    (OPEN, b"\\??\\e:", End::Refused(Status::ObjectNameNotFound)),
-    (OPEN_FOLDED, b"\\??\\e:", End::At(12)),
-    (CREATE, b"\\??\\D:", End::At(6)),
-    (CREATE, b"\\??\\G:", End::Vacant(2, b"G:")),
-];
-
-fn names_of_views<T: TypeSet>(
-    rt: &impl Abort,
-    alloc: Global,
-    devices: T::Kind,
-) -> Result<(), Fail> {
-    let mut space: Space<T> = Space::new(alloc)?;
-    look_in_views(rt, alloc, &mut space, devices)
-}
-
-fn fill_device_names<T: TypeSet>(
-    alloc: Global,
-    space: &mut Space<T>,
-    devices: T::Kind,
-) -> Result<(), Fail> {
-    fill(alloc, space, devices, &DEVICE_NAMES)
-}
-
-fn first_other_mapped<T: TypeSet>(alloc: Global, space: &Space<T>) -> Result<Option<usize>, Fail> {
-    first_other(alloc, space, &MAPPED, &MAPPED_NAMES)
-}
-
-fn first_other_unmapped<T: TypeSet>(
-    alloc: Global,
-    space: &Space<T>,
-) -> Result<Option<usize>, Fail> {
-    first_other(alloc, space, &UNMAPPED, &UNMAPPED_NAMES)
-}
-
-fn look_in_views<T: TypeSet>(
-    rt: &impl Abort,
-    alloc: Global,
-    space: &mut Space<T>,
-    devices: T::Kind,
-) -> Result<(), Fail> {
-    fill_device_names(alloc, space, devices)?;
-    assert_eq!(rt; first_other_mapped(alloc, space)?, None);
-    assert_eq!(rt; first_other_unmapped(alloc, space)?, None);
-    let of_a_file = View {
-        local: Some(ObjId(7)),
-        global: ROOT,
-    };
-    assert!(rt; has_view(space.store(), &MAPPED) && !has_view(space.store(), &of_a_file));
-    Ok(())
-}
-
-#[test]
-fn a_process_looks_in_its_local_directory_before_the_global_one(
-    rt: HostRuntime,
-) -> Result<(), Fail> {
-    names_of_views::<DeviceSet>(&rt, rt.alloc(), DeviceKind::Device)
-}
-
 // Adds a link `\L` to a name of 32,760 bytes that leads nowhere.
-fn fill_long<T: TypeSet>(
-    alloc: Global,
-    space: &mut Space<T>,
-    devices: T::Kind,
-) -> Result<(), Fail> {
+fn add_long<T: TypeSet>(alloc: Global, space: &mut Space<T>, devices: T::Kind) -> Result<(), Fail> {
     let mut target = vec![in alloc; b'a'; 32_760]?;
     if let Some(byte) = target.first_mut() {
         *byte = b'\\';
@@ -552,37 +160,271 @@ fn fill_long<T: TypeSet>(
     Ok(())
 }
 
-// Names behind the long link, how many reparses are made at most, and what they end with.
-const LONG: [(&'static [u8], u32, End<'static>); 3] = [
-    (b"\\L\\234567", 32, End::Refused(Status::ObjectPathNotFound)),
-    (b"\\L\\2345678", 32, End::Refused(Status::NameTooLong)),
-    (b"\\L\\2345678", 0, End::Refused(Status::ReparseLimit)),
-];
-
-fn names_behind_the_long<T: TypeSet>(
-    rt: &impl Abort,
-    alloc: Global,
-    devices: T::Kind,
-) -> Result<(), Fail> {
-    let mut space: Space<T> = Space::new(alloc)?;
-    look_behind_the_long(rt, alloc, &mut space, devices)
+// The kind of an object by a word, with this target where it is a link.
+fn kind_of<'a>(word: &str, target: &'a str) -> Kind<'a> {
+    match word {
+        "directory" => Kind::Directory,
+        "link" => Kind::Link(target.as_bytes()),
+        "device" => Kind::Device,
+        _ => Kind::File,
+    }
 }
 
-fn look_behind_the_long<T: TypeSet>(
-    rt: &impl Abort,
+// Adds what the words of a line say.
+fn add<T: TypeSet>(
     alloc: Global,
     space: &mut Space<T>,
     devices: T::Kind,
+    words: [&str; 5],
 ) -> Result<(), Fail> {
-    fill_long(alloc, space, devices)?;
-    for (name, budget, end) in LONG {
-        let ends = ends_within(alloc, space, &PLAIN, OPEN, budget, name, end)?;
-        assert!(rt; ends, "at {name:?} within {budget}");
+    let [what, first, name, kind, target] = words;
+    match what {
+        "chain" => add_chain(alloc, space, devices, first.as_bytes()),
+        "long" => add_long(alloc, space, devices),
+        _ => {
+            let (directory, kind) = (ObjId(first.parse()?), kind_of(kind, target));
+            space.add(alloc, devices, directory, name.as_bytes(), kind)?;
+            Ok(())
+        }
+    }
+}
+
+// The first line of a namespace that isn't as it says.
+fn first_other_in<'a, T: TypeSet>(
+    alloc: Global,
+    space: &mut Space<T>,
+    devices: T::Kind,
+    lines: &'a str,
+) -> Result<Option<&'a str>, Fail> {
+    let mut view = PLAIN;
+    for line in lines.trim().lines() {
+        let [what, first, second, third, ..] = words(line);
+        let is_so = match what {
+            "add" | "chain" | "long" => {
+                add(alloc, space, devices, words(line))?;
+                true
+            }
+            "view" => {
+                view = view_of(first, second);
+                has_view(space.store(), &view) == (third == "there")
+            }
+            _ => ends_so(alloc, space, &view, line)?,
+        };
+        if !is_so {
+            return Ok(Some(line));
+        }
+    }
+    Ok(None)
+}
+
+fn view_of(local: &str, global: &str) -> View {
+    View {
+        local: match local.parse() {
+            Ok(local) => Some(ObjId(local)),
+            Err(_) => None,
+        },
+        global: ObjId(global.parse().unwrap_or(0)),
+    }
+}
+
+fn first_other<'a, T: TypeSet>(
+    alloc: Global,
+    devices: T::Kind,
+    lines: &'a str,
+) -> Result<Option<&'a str>, Fail> {
+    let mut space: Space<T> = Space::new(alloc)?;
+    first_other_in(alloc, &mut space, devices, lines)
+}
+
+// A small namespace: `\Device` is 2, `\Device\Disk` the file 3, `\Device\Raw` the device 10, `\Link` leads to `\Device`,
+// `\Self` to itself, the target of `\Bad` has no origin, `\K` leads to `\Device\`, and `\Foo` stands before `\foo`.
+//
+// Names are looked up in it, then with links in them, and to the device: an open asks it to parse what follows it, and a
+// create doesn't. At last names are looked up relative to an object.
+const SMALL: &'static str = r"
+add 1 Device directory
+add 2 Disk file
+add 1 Link link \Device
+add 1 Self link \Self
+add 1 Bad link Device
+add 1 K link \Device\
+add 1 Foo directory
+add 1 foo directory
+add 2 Raw device
+open   | \              | at 1
+open   | \Device        | at 2
+open   | \Device\Disk   | at 3
+open   |                | OBJECT_PATH_SYNTAX_BAD
+open   | Device         | OBJECT_PATH_SYNTAX_BAD
+open   | \Device\       | OBJECT_NAME_INVALID
+open   | \\Disk         | OBJECT_NAME_INVALID
+open   | \Gone\Disk     | OBJECT_PATH_NOT_FOUND
+open   | \Gone\         | OBJECT_PATH_NOT_FOUND
+open   | \Device\Gone   | OBJECT_NAME_NOT_FOUND
+create | \Device\Gone   | vacant 2 Gone
+create | \??C:          | vacant 1 ??C:
+create | \Device\??     | vacant 2 ??
+open   | \Device\Disk\  | OBJECT_TYPE_MISMATCH
+create | \Device\Disk   | at 3
+folded | \FOO           | at 8
+open   | \foo           | at 9
+open   | \FOO           | OBJECT_NAME_NOT_FOUND
+open   | \Link          | at 2
+open   | \Link\Disk     | at 3
+link   | \Link          | at 4
+link   | \Link\Disk     | at 3
+create | \Link          | at 4
+create | \Link\New      | vacant 2 New
+open   | \Self          | REPARSE_LIMIT
+link   | \Self          | at 5
+open   | \Bad           | OBJECT_PATH_SYNTAX_BAD
+open   | \K\Disk        | at 3
+open   | \K             | OBJECT_NAME_INVALID
+create | \K\New         | vacant 2 New
+open   | \Device\Raw         | parse 10 32
+open   | \Device\Raw\a\\b\   | parse 10 32 \a\\b\
+open   | \Link\Raw\a         | parse 10 31 \a
+link   | \Link\Raw           | parse 10 31
+create | \Device\Raw         | at 10
+create | \Device\Raw\a       | OBJECT_TYPE_MISMATCH
+open 2    | Disk        | at 3
+open 2    |             | at 2
+open 1    | Device\Disk | at 3
+open 2    | Device      | OBJECT_NAME_NOT_FOUND
+open 2    | \Device     | OBJECT_PATH_SYNTAX_BAD
+open 3    |             | OBJECT_TYPE_MISMATCH
+open 4    | Disk        | OBJECT_TYPE_MISMATCH
+open 1    | ??\Device   | OBJECT_PATH_NOT_FOUND
+create 1  | ??          | OBJECT_NAME_INVALID
+open 10   | a\b         | parse 10 32 a\b
+open 10   |             | parse 10 32
+open 10   | \a          | OBJECT_PATH_SYNTAX_BAD
+create 10 | a           | OBJECT_TYPE_MISMATCH
+open 2    | Raw\a       | parse 10 32 \a
+open 2    |             | at 2
+";
+
+#[test]
+fn names_end_at_objects_at_vacant_places_in_parses_and_in_refusals(
+    rt: HostRuntime,
+) -> Result<(), Fail> {
+    let other = first_other::<DeviceSet>(rt.alloc(), DeviceKind::Device, SMALL)?;
+    assert_eq!(rt; other, None);
+    Ok(())
+}
+
+// Chains of links to `\Device`, which is the local directory, and to `\??`, which behind 32 links is the view as it is
+// without one.
+const CHAINS: [&'static str; 2] = [
+    r"
+add 1 Device directory
+chain \Device
+view 2 1 there
+open   | \O        | at 2
+open   | \P        | REPARSE_LIMIT
+",
+    r"
+add 1 Device directory
+chain \??
+view 2 1 there
+open   | \O        | at 2
+open   | \P        | REPARSE_LIMIT
+open   | \O\Device | at 2
+create | \O\Device | vacant 2 Device
+",
+];
+
+#[test]
+fn chains_of_32_links_are_followed_and_longer_ones_refused(rt: HostRuntime) -> Result<(), Fail> {
+    for chain in CHAINS {
+        let other = first_other::<DeviceSet>(rt.alloc(), DeviceKind::Device, chain)?;
+        assert_eq!(rt; other, None, "{chain}");
     }
     Ok(())
 }
 
+// A namespace with device names: `\GLOBAL??` is 2, a process's local directory 3. `C:` is 4 locally and 5 globally, and
+// `D:` is 6 globally alone. `\DosDevices` leads to `\??`, and `\Drive` behind that to `D:`. `e:` is local, `E:` and `f:`
+// are global.
+//
+// Names are looked up by a process with a map, and then by one without.
+const DEVICE_NAMES: &'static str = r"
+add 1 GLOBAL?? directory
+add 1 Local directory
+add 3 C: directory
+add 2 C: directory
+add 2 D: directory
+add 4 x file
+add 6 y file
+add 1 DosDevices link \??
+add 1 Drive link \DosDevices\D:
+add 3 e: file
+add 2 E: file
+add 2 f: file
+add 5 z file
+view 7 1 missing
+view 3 2 there
+open   | \??              | at 3
+open   | \??\C:           | at 4
+open   | \??\D:           | at 6
+open   | \GLOBAL??\C:     | at 5
+open   | \??\C:\x         | at 7
+open   | \??\D:\y         | at 8
+open   | \??\C:\z         | OBJECT_NAME_NOT_FOUND
+open   | \??\C:\D:        | OBJECT_NAME_NOT_FOUND
+open   | \??\G:           | OBJECT_NAME_NOT_FOUND
+open   | \??\G:\x         | OBJECT_PATH_NOT_FOUND
+open   | \??\             | OBJECT_NAME_INVALID
+open   | \??\\C:          | OBJECT_NAME_INVALID
+open   | \??C:            | OBJECT_NAME_NOT_FOUND
+create | \??              | at 3
+create | \??\C:           | at 4
+create | \??\D:           | vacant 3 D:
+create | \??\D:\new       | vacant 6 new
+create | \??\G:\new       | OBJECT_PATH_NOT_FOUND
+create | \??\D:\          | OBJECT_NAME_INVALID
+open   | \DosDevices      | at 3
+link   | \DosDevices      | at 9
+open   | \DosDevices\C:\x | at 7
+create | \DosDevices\D:   | vacant 3 D:
+open   | \Drive           | at 6
+open   | \Drive\y         | at 8
+create | \Drive           | at 10
+create | \Drive\new       | vacant 6 new
+open   | \??\E:           | at 12
+folded | \??\E:           | at 11
+folded | \??\F:           | at 13
+folded | \dosdevices\c:   | at 4
+view - 2 there
+open   | \??              | at 2
+open   | \??\C:           | at 5
+open   | \??\C:\z         | at 14
+open   | \DosDevices\C:   | at 5
+open   | \??\e:           | OBJECT_NAME_NOT_FOUND
+folded | \??\e:           | at 12
+create | \??\D:           | at 6
+create | \??\G:           | vacant 2 G:
+";
+
+#[test]
+fn a_process_looks_in_its_local_directory_before_the_global_one(
+    rt: HostRuntime,
+) -> Result<(), Fail> {
+    let other = first_other::<DeviceSet>(rt.alloc(), DeviceKind::Device, DEVICE_NAMES)?;
+    assert_eq!(rt; other, None);
+    Ok(())
+}
+
+const LONG: &'static str = r"
+long
+open - 32 | \L\234567  | OBJECT_PATH_NOT_FOUND
+open - 32 | \L\2345678 | NAME_TOO_LONG
+open - 0  | \L\2345678 | REPARSE_LIMIT
+";
+
 #[test]
 fn the_limit_is_told_before_the_length(rt: HostRuntime) -> Result<(), Fail> {
-    names_behind_the_long::<DeviceSet>(&rt, rt.alloc(), DeviceKind::Device)
+    let other = first_other::<DeviceSet>(rt.alloc(), DeviceKind::Device, LONG)?;
+    assert_eq!(rt; other, None);
+    Ok(())
 }
