@@ -1,7 +1,6 @@
 //! What the processes of random commands ask for.
 
 use crate::names::{Name, Path};
-use ob_plain::PlainKind;
 
 pub(crate) const INHERIT: u32 = 0x2;
 
@@ -15,27 +14,22 @@ pub(crate) const OPENIF: u32 = 0x80;
 
 pub(crate) const OPENLINK: u32 = 0x100;
 
-// Every flag that there is.
-const FLAGS: u32 = 0x1f2;
+/// Every flag that there is.
+pub(crate) const FLAGS: u32 = 0x1f2;
 
 // The greatest room of a page, in bytes.
 pub(crate) const LARGEST_ROOM: u32 = 1_048_576;
 
-/// What an object is: a link leads to its target.
+/// The type of an object.
 #[derive(Clone, Copy)]
-pub(crate) enum What {
-    Plain(PlainKind),
-    Directory,
-    Link(Path),
-}
-
-/// What an open wants, and what a create makes.
-#[derive(Clone, Copy)]
-pub(crate) enum Want {
-    Any,
-    Plain(PlainKind),
+pub(crate) enum Kind {
     Directory,
     Link,
+    Event,
+    Mutant,
+    Section,
+    Device,
+    File,
 }
 
 /// Which page of a directory is asked for: how many bytes it may take, whether one entry is asked for and no more,
@@ -60,16 +54,18 @@ pub(crate) enum Deed {
     Duplicate { to: u32, inherit: bool },
 }
 
-/// What a process asks for: values are those of handles. What is made without a name has none.
+/// What a process asks for: values are those of handles. What is made without a name has none, and what an open wants no
+/// type of may be of any. The target is that of a link.
 #[derive(Clone, Copy)]
 pub(crate) enum Ask {
     Make {
-        what: What,
+        of: Kind,
+        target: Path,
         name: Option<Name>,
         attrs: u32,
     },
     Open {
-        want: Want,
+        want: Option<Kind>,
         name: Name,
         attrs: u32,
     },
@@ -83,36 +79,48 @@ pub(crate) enum Ask {
     Exit,
 }
 
-/// Whether flags are refused before anything else.
-pub(crate) fn is_unlawful(attrs: u32) -> bool {
-    (attrs & INHERIT != 0 && attrs & EXCLUSIVE != 0) || attrs & !FLAGS != 0
+/// An open that waits for a parse: its number, which is its ticket and that of the file that the parse makes, its
+/// process, what it asks for, and whether the device has the file.
+#[derive(Clone, Copy)]
+pub(crate) struct Waiting {
+    pub(crate) number: u32,
+    pub(crate) process: u32,
+    pub(crate) ask: Ask,
+    pub(crate) is_there: bool,
 }
 
-/// What a create of an object wants, where it opens one.
-pub(crate) fn want_of(what: What) -> Want {
-    match what {
-        What::Plain(kind) => Want::Plain(kind),
-        What::Directory => Want::Directory,
-        What::Link(_) => Want::Link,
+impl Waiting {
+    pub(crate) fn ticket(&self) -> u64 {
+        u64::from(self.number)
     }
 }
 
-/// Whether an object is what an open wants.
-pub(crate) fn is_wanted(what: What, want: Want) -> bool {
-    match (want, what) {
-        (Want::Any, _) | (Want::Directory, What::Directory) | (Want::Link, What::Link(_)) => true,
-        (Want::Plain(wanted), What::Plain(kind)) => wanted == kind,
-        _ => false,
+/// What comes next: a process asks for something, or an open that waits, at a place among those that do, is ended or given
+/// up.
+#[derive(Clone, Copy)]
+pub(crate) enum Turn {
+    Start(u32, Ask),
+    End(usize),
+    Drop(usize),
+}
+
+/// Whether an object of a type is what an open wants.
+pub(crate) fn is_wanted(of: Kind, want: Option<Kind>) -> bool {
+    match want {
+        Some(wanted) => of as u8 == wanted as u8,
+        None => true,
     }
 }
 
-/// The name of an object's type.
-pub(crate) fn type_name(what: What) -> &'static str {
-    match what {
-        What::Plain(PlainKind::Event) => "Event",
-        What::Plain(PlainKind::Mutant) => "Mutant",
-        What::Plain(PlainKind::Section) => "Section",
-        What::Directory => "Directory",
-        What::Link(_) => "SymbolicLink",
+/// The name of a type.
+pub(crate) fn type_name(of: Kind) -> &'static str {
+    match of {
+        Kind::Directory => "Directory",
+        Kind::Link => "SymbolicLink",
+        Kind::Event => "Event",
+        Kind::Mutant => "Mutant",
+        Kind::Section => "Section",
+        Kind::Device => "Device",
+        Kind::File => "File",
     }
 }

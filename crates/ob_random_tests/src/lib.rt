@@ -6,14 +6,16 @@
 #[cfg(test)]
 mod asks;
 #[cfg(test)]
+mod devices;
+#[cfg(test)]
 mod dice;
 #[cfg(test)]
 mod draw;
+#[cfg(test)]
+mod game;
 #[cfg(test)]
 mod model;
 #[cfg(test)]
 mod names;
 #[cfg(test)]
 mod random;
-#[cfg(test)]
-mod waiting;

@@ -1,20 +1,17 @@
 //! A plain model of the namespace over flat lists, which are searched from their beginning: what each command is
 //! answered, and what it leaves.
 
+mod answers;
+mod lookup;
 mod pages;
 
-use crate::asks::{
-    Ask, CASE_INSENSITIVE, Deed, EXCLUSIVE, INHERIT, LARGEST_ROOM, OPENIF, OPENLINK, PERMANENT,
-    Part, Want, What, is_unlawful, is_wanted, type_name, want_of,
-};
-use crate::names::{Name, Path, absolute, joined, letters, spelled};
+use crate::asks::{Ask, Deed, EXCLUSIVE, INHERIT, Kind, PERMANENT, Waiting, is_wanted};
+use crate::dice::Dice;
+use crate::names::{Name, Path, joined, text};
 use ob_base::{Handle, Status};
+use ob_begun::Begun;
 use ob_model::{Given, Reply};
-use pages::page_status;
 use std::alloc::{AllocError, Global};
-
-// A lookup looks once, and once more behind each of 32 reparses.
-const LOOKS: u32 = 33;
 
 // The number of the root directory.
 const ROOT: u32 = 1;
@@ -22,8 +19,11 @@ const ROOT: u32 = 1;
 // The number of `\GLOBAL??`, which is also the map of a process that has none.
 const GLOBAL: u32 = 2;
 
-// The opening state's letter of `??`, which is a process's own view at the beginning of an absolute text.
-const VIEW: u8 = b'?';
+// The path `\??`, to which `\DosDevices` leads.
+const VIEW_PATH: Path = Path {
+    way: b"?",
+    last: None,
+};
 
 // Where a name stands: a directory, by its number, and the letter there.
 #[derive(Clone, Copy)]
@@ -32,89 +32,62 @@ struct Spot {
     letter: u8,
 }
 
-// An object. Numbers and stamps rise in the order of making; what never had a name has stamp 0.
+/// An object. Numbers and stamps rise in the order of making; what never had a name has stamp 0. The target is that of a
+/// link.
 #[derive(Clone, Copy)]
-struct Object {
-    number: u32,
-    what: What,
-    spot: Spot,
+pub(crate) struct Object {
+    pub(crate) number: u32,
+    of: Kind,
+    target: Path,
+    spot: Option<Spot>,
     stamp: u64,
-    is_named: bool,
     is_permanent: bool,
     is_exclusive: bool,
 }
 
-// A handle: its process, its value, the number of its object, and whether children get it.
+// A handle: its process, its value, the number of its object, whether that is one of the set's, and whether children get
+// it.
 #[derive(Clone, Copy)]
 struct Open {
     process: u32,
-    value: Handle,
+    value: u32,
     object: u32,
+    is_of_set: bool,
     inherit: bool,
 }
 
-// A live process, the directory of its map, which is GLOBAL where it has no map, and the context that its last page
-// gave, 0 before the first.
+/// A live process, the directory of its map, which is GLOBAL where it has no map, and the context that its last page
+/// gave, 0 before the first.
 #[derive(Clone, Copy)]
-struct Live {
-    number: u32,
+pub(crate) struct Live {
+    pub(crate) number: u32,
     map: u32,
     context: u64,
 }
 
-// How a lookup looks: for a place where something can be made, through a link at the end, and without telling
-// capital letters from small ones.
-#[derive(Clone, Copy)]
-struct Look {
-    makes: bool,
-    follows: bool,
-    folds: bool,
-}
-
-// A component that a lookup comes to: how many are used up with it, whether it is the last, and whether what the
-// directory hasn't is looked for in GLOBAL.
-#[derive(Clone, Copy)]
-struct Component {
-    letter: u8,
-    used: usize,
-    is_last: bool,
-    is_shared: bool,
-}
-
-// What a command is answered: a refusal, an object that is made, one that is found, with the status that tells it, or
-// what needs no object.
+// What a command is answered: a refusal, an object that is made, one that is found, with the status that tells it, what
+// needs no object, or a wait for a parse, and whether the device has its file.
 #[derive(Clone, Copy)]
 enum Answer {
     Refused(Status),
     New(Option<Spot>),
     Found(Object, Status),
     Done,
+    Waits(bool),
 }
 
-// What a lookup finds at a component: a directory to go on in, a link to follow, or its end.
-#[derive(Clone, Copy)]
-enum Step {
-    In(u32),
-    Through(Path, usize),
-    End(Answer),
-}
-
-/// How many objects and handles there are, and how often the set opened, closed and deleted one.
-pub(crate) type Counts = (usize, usize, u64, u64, u64);
-
-/// The model.
+/// The model. Last are how often the set opened, closed and deleted an object.
 #[derive(Drop)]
 pub(crate) struct Model {
-    alloc: Global,
+    pub(crate) alloc: Global,
     objects: Vec<Object>,
     handles: Vec<Open>,
-    processes: Vec<Live>,
+    pub(crate) processes: Vec<Live>,
+    pub(crate) waiting: Vec<Waiting>,
     last_object: u32,
     last_stamp: u64,
     last_process: u32,
-    opens: u64,
-    closes: u64,
-    deletes: u64,
+    pub(crate) calls: (u64, u64, u64),
 }
 
 impl Model {
@@ -125,12 +98,11 @@ impl Model {
             objects: Vec::new(alloc),
             handles: Vec::new(alloc),
             processes: Vec::new(alloc),
+            waiting: Vec::new(alloc),
             last_object: 0,
             last_stamp: 0,
             last_process: 1,
-            opens: 0,
-            closes: 0,
-            deletes: 0,
+            calls: (0, 0, 0),
         };
         model.fill()?;
         Ok(model)
@@ -138,15 +110,20 @@ impl Model {
 
     // The first objects and the first process.
     fn fill(&mut self) -> Result<(), AllocError> {
-        let (way, last) = (b"?".as_slice(), None);
-        self.add(None, What::Directory, PERMANENT)?;
+        self.add(ROOT, Kind::Directory, VIEW_PATH, None, PERMANENT)?;
         for letter in [b'G', b'L', b'D', b'N', b'S'] {
-            let what = match letter {
-                b'L' => What::Link(Path { way, last }),
-                _ => What::Directory,
+            let of = match letter {
+                b'L' => Kind::Link,
+                _ => Kind::Directory,
             };
-            let directory = ROOT;
-            self.add(Some(Spot { directory, letter }), what, PERMANENT)?;
+            let (number, directory) = (self.last_object.wrapping_add(1), ROOT);
+            self.add(
+                number,
+                of,
+                VIEW_PATH,
+                Some(Spot { directory, letter }),
+                PERMANENT,
+            )?;
         }
         self.processes.push(Live {
             number: 1,
@@ -156,295 +133,157 @@ impl Model {
         Ok(())
     }
 
-    /// How much there is, and was done.
-    pub(crate) fn counts(&self) -> Counts {
-        (
-            self.objects.len(),
-            self.handles.len(),
-            self.opens,
-            self.closes,
-            self.deletes,
-        )
+    /// How many objects and handles there are, and how many handles a process has.
+    pub(crate) fn counts(&self, process: u32) -> (usize, usize, usize) {
+        let mut own: usize = 0;
+        for open in &self.handles {
+            if open.process == process {
+                own = own.wrapping_add(1);
+            }
+        }
+        (self.objects.len(), self.handles.len(), own)
     }
 
-    /// Whether a reply is what a command gets; then the model is what the command leaves.
-    pub(crate) fn agrees(
+    fn live(&self, process: u32) -> Option<Live> {
+        for live in &self.processes {
+            if live.number == process {
+                return Some(*live);
+            }
+        }
+        None
+    }
+
+    /// The context that the last page of a process gave.
+    pub(crate) fn context(&self, process: u32) -> u64 {
+        match self.live(process) {
+            Some(live) => live.context,
+            None => 0,
+        }
+    }
+
+    fn numbered(&self, number: u32) -> Option<Object> {
+        for object in &self.objects {
+            if object.number == number {
+                return Some(*object);
+            }
+        }
+        None
+    }
+
+    /// What a handle of a process leads to. The low two bits of its value don't count.
+    pub(crate) fn behind(&self, process: u32, value: u32) -> Option<Object> {
+        for open in &self.handles {
+            if open.process == process && open.value == value & !3 {
+                return self.numbered(open.object);
+            }
+        }
+        None
+    }
+
+    // Whether an object has a handle, but those of one process. There is no process 0.
+    fn is_held(&self, object: u32, but: u32) -> bool {
+        for open in &self.handles {
+            if open.object == object && open.process != but {
+                return true;
+            }
+        }
+        false
+    }
+
+    /// The value of the first handle from a place on of a process to what is wanted.
+    pub(crate) fn value_from(&self, place: usize, process: u32, want: Option<Kind>) -> Option<u32> {
+        for open in self.handles.get(place..)? {
+            if let Some(object) = self.numbered(open.object)
+                && open.process == process
+                && is_wanted(object.of, want)
+            {
+                return Some(open.value);
+            }
+        }
+        None
+    }
+
+    /// A place in the list of handles, or right behind them, and the value of the handle there, or 0.
+    pub(crate) fn any_handle(&self, dice: &mut Dice) -> (usize, u32) {
+        let many = self.handles.len() as u64;
+        let place = dice.below(many.saturating_add(1)) as usize;
+        match self.handles.get(place) {
+            Some(open) => (place, open.value),
+            None => (place, 0),
+        }
+    }
+
+    /// A live process, or now and then none.
+    pub(crate) fn any_live(&self, dice: &mut Dice) -> Option<u32> {
+        let many = self.processes.len() as u64;
+        let place = dice.below(many.saturating_add(1)) as usize;
+        Some(self.processes.get(place)?.number)
+    }
+
+    /// Takes the open out that waits at a place, so that nothing of it is left.
+    pub(crate) fn take(&mut self, place: usize) -> Option<Waiting> {
+        if place >= self.waiting.len() {
+            return None;
+        }
+        Some(self.waiting.remove(place))
+    }
+
+    /// Whether what a process asked for became of it what is to; then the model is what it leaves.
+    pub(crate) fn starts(
         &mut self,
         process: u32,
         ask: Ask,
+        begun: &Begun,
+    ) -> Result<bool, AllocError> {
+        match (self.answer(process, ask)?, begun) {
+            (Answer::Waits(is_there), Begun::Waits(ticket)) => {
+                self.last_object = self.last_object.wrapping_add(1);
+                let number = self.last_object;
+                self.waiting.push(Waiting {
+                    number,
+                    process,
+                    ask,
+                    is_there,
+                })?;
+                Ok(*ticket == u64::from(number))
+            }
+            (answer, Begun::Replied(reply)) => self.agrees(process, ask, answer, reply),
+            _ => Ok(false),
+        }
+    }
+
+    /// Whether an open that waited ends as it is to; then the model is what it leaves. A file that its parse made is
+    /// there, and goes where no handle to it is granted.
+    pub(crate) fn ends(&mut self, waiting: Waiting, begun: &Begun) -> Result<bool, AllocError> {
+        let Begun::Replied(reply) = begun else {
+            return Ok(false);
+        };
+        if waiting.is_there {
+            self.add(waiting.number, Kind::File, VIEW_PATH, None, 0)?;
+        }
+        let answer = self.end_of(waiting);
+        self.agrees(waiting.process, waiting.ask, answer, reply)
+    }
+
+    // Whether a reply is the answer to what a process asked for; then the model is what the command leaves.
+    fn agrees(
+        &mut self,
+        process: u32,
+        ask: Ask,
+        answer: Answer,
         reply: &Reply,
     ) -> Result<bool, AllocError> {
-        let answer = self.answer(process, ask)?;
-        if reply.status != status_of(answer) {
+        let status = match answer {
+            Answer::Refused(status) | Answer::Found(_, status) => status,
+            Answer::New(_) | Answer::Done => Status::Success,
+            Answer::Waits(_) => return Ok(false),
+        };
+        if reply.status != status {
             return Ok(false);
         }
         let is_given = self.change(process, ask, answer, &reply.given)?;
         self.settle()?;
         Ok(is_given)
-    }
-
-    fn is_live(&self, process: u32) -> bool {
-        self.processes.iter().any(|live| live.number == process)
-    }
-
-    // The directory of the map of a process, or GLOBAL.
-    fn map(&self, process: u32) -> u32 {
-        let mut processes = self.processes.iter();
-        let live = processes.find(|live| live.number == process);
-        live.map_or(GLOBAL, |live| live.map)
-    }
-
-    /// The context that the last page of a process gave.
-    pub(crate) fn context(&self, process: u32) -> u64 {
-        let mut processes = self.processes.iter();
-        let live = processes.find(|live| live.number == process);
-        live.map_or(0, |live| live.context)
-    }
-
-    fn numbered(&self, number: u32) -> Option<Object> {
-        let mut objects = self.objects.iter();
-        objects.find(|object| object.number == number).copied()
-    }
-
-    // What a handle of a process leads to. The low two bits of its value don't count.
-    fn behind(&self, process: u32, value: u32) -> Option<Object> {
-        let (mut handles, value) = (self.handles.iter(), without_low_bits(value));
-        let own = |open: &&Open| open.process == process && open.value.0 == value;
-        self.numbered(handles.find(own)?.object)
-    }
-
-    // What has its name in a directory under a letter: of several the first that was named.
-    fn entry(&self, directory: u32, letter: u8, folds: bool) -> Option<Object> {
-        let mut objects = self.objects.iter();
-        let is_same = |other: u8| other == letter || (folds && other.eq_ignore_ascii_case(&letter));
-        let here = |object: &&Object| {
-            object.is_named && object.spot.directory == directory && is_same(object.spot.letter)
-        };
-        objects.find(here).copied()
-    }
-
-    // The status that a command of a process gets, and the object with which it gets it.
-    fn answer(&self, process: u32, ask: Ask) -> Result<Answer, AllocError> {
-        if !self.is_live(process) {
-            return Ok(Answer::Refused(Status::ProcessGone));
-        }
-        match ask {
-            Ask::Make { what, name, attrs } => self.made(process, what, name, attrs),
-            Ask::Open { want, name, attrs } => self.opened(process, want, name, attrs),
-            Ask::Use { value, deed } => Ok(self.used(process, value, deed)),
-            Ask::Begin { .. } | Ask::Exit => Ok(Answer::Done),
-        }
-    }
-
-    fn made(
-        &self,
-        process: u32,
-        what: What,
-        name: Option<Name>,
-        attrs: u32,
-    ) -> Result<Answer, AllocError> {
-        if is_unlawful(attrs) {
-            return Ok(Answer::Refused(Status::InvalidParameter));
-        }
-        let Some(name) = name else {
-            return Ok(Answer::New(None));
-        };
-        let look = Look {
-            makes: true,
-            follows: false,
-            folds: attrs & CASE_INSENSITIVE != 0,
-        };
-        Ok(match self.found(process, name, look)? {
-            Answer::Found(object, _) => self.met(process, what, object, attrs),
-            answer => answer,
-        })
-    }
-
-    // A create finds an object.
-    fn met(&self, process: u32, what: What, object: Object, attrs: u32) -> Answer {
-        if attrs & OPENIF == 0 {
-            Answer::Refused(Status::ObjectNameCollision)
-        } else if !is_wanted(object.what, want_of(what)) {
-            Answer::Refused(Status::ObjectTypeMismatch)
-        } else {
-            self.granted(process, object, attrs, Status::ObjectNameExists)
-        }
-    }
-
-    fn opened(
-        &self,
-        process: u32,
-        want: Want,
-        name: Name,
-        attrs: u32,
-    ) -> Result<Answer, AllocError> {
-        if is_unlawful(attrs) {
-            return Ok(Answer::Refused(Status::InvalidParameter));
-        }
-        let look = Look {
-            makes: false,
-            follows: attrs & OPENLINK == 0 && !matches!(want, Want::Link),
-            folds: attrs & CASE_INSENSITIVE != 0,
-        };
-        Ok(match self.found(process, name, look)? {
-            Answer::Found(object, _) if !is_wanted(object.what, want) => {
-                Answer::Refused(Status::ObjectTypeMismatch)
-            }
-            Answer::Found(object, status) => self.granted(process, object, attrs, status),
-            answer => answer,
-        })
-    }
-
-    // An open of an object, which is told by a status.
-    fn granted(&self, process: u32, object: Object, attrs: u32, status: Status) -> Answer {
-        let (inherit, exclusive) = (attrs & INHERIT != 0, attrs & EXCLUSIVE != 0);
-        match self.refusal(process, object, inherit, exclusive) {
-            Some(refusal) => Answer::Refused(refusal),
-            None => Answer::Found(object, status),
-        }
-    }
-
-    // Why a process gets no handle to an object.
-    fn refusal(
-        &self,
-        process: u32,
-        object: Object,
-        inherit: bool,
-        exclusive: bool,
-    ) -> Option<Status> {
-        let others = |open: &Open| open.object == object.number && open.process != process;
-        if (exclusive && !object.is_exclusive) || (inherit && object.is_exclusive) {
-            Some(Status::InvalidParameter)
-        } else if object.is_exclusive && self.handles.iter().any(others) {
-            Some(Status::AccessDenied)
-        } else {
-            None
-        }
-    }
-
-    fn used(&self, process: u32, value: u32, deed: Deed) -> Answer {
-        match deed {
-            Deed::Duplicate { to, .. } if !self.is_live(to) => {
-                return Answer::Refused(Status::ProcessGone);
-            }
-            Deed::List(part) if part.room > LARGEST_ROOM => {
-                return Answer::Refused(Status::InvalidParameter);
-            }
-            _ => {}
-        }
-        match self.behind(process, value) {
-            None => Answer::Refused(Status::InvalidHandle),
-            Some(object) => self.done(process, object, deed),
-        }
-    }
-
-    // What is done with an object.
-    fn done(&self, process: u32, object: Object, deed: Deed) -> Answer {
-        match (deed, object.what) {
-            (Deed::List(part), What::Directory) => {
-                Answer::Found(object, page_status(self.page(process, object.number, part)))
-            }
-            (Deed::List(_), _) => Answer::Refused(Status::ObjectTypeMismatch),
-            (Deed::Map, What::Plain(_) | What::Link(_)) => {
-                Answer::Refused(Status::ObjectTypeMismatch)
-            }
-            (Deed::Target, What::Plain(_) | What::Directory) => {
-                Answer::Refused(Status::ObjectTypeMismatch)
-            }
-            (Deed::Duplicate { to, inherit: true }, _) => {
-                self.granted(to, object, INHERIT, Status::Success)
-            }
-            (Deed::Duplicate { to, .. }, _) => self.granted(to, object, 0, Status::Success),
-            _ => Answer::Found(object, Status::Success),
-        }
-    }
-
-    // What a process finds by a name.
-    fn found(&self, process: u32, name: Name, look: Look) -> Result<Answer, AllocError> {
-        let Some(value) = name.root else {
-            return self.found_from(process, None, name.path, look);
-        };
-        match self
-            .behind(process, value)
-            .map(|root| (root.number, root.what))
-        {
-            None => Ok(Answer::Refused(Status::InvalidHandle)),
-            Some((number, What::Directory)) => {
-                self.found_from(process, Some(number), name.path, look)
-            }
-            Some(_) => Ok(Answer::Refused(Status::ObjectTypeMismatch)),
-        }
-    }
-
-    // What a process finds by a path from a directory on; an absolute path begins at none.
-    fn found_from(
-        &self,
-        process: u32,
-        start: Option<u32>,
-        path: Path,
-        look: Look,
-    ) -> Result<Answer, AllocError> {
-        let (mut start, mut text) = (start, letters(self.alloc, path)?);
-        for _ in 0..LOOKS {
-            match self.end(process, start, text.as_slice(), look) {
-                Step::Through(target, used) => {
-                    let mut next = letters(self.alloc, target)?;
-                    next.extend_from_slice(text.get(used..).unwrap_or(&[]))?;
-                    (start, text) = (None, next);
-                }
-                Step::End(answer) => return Ok(answer),
-                Step::In(_) => {}
-            }
-        }
-        Ok(Answer::Refused(Status::ReparseLimit))
-    }
-
-    // What stands at the end of a text, or the first link in it that is followed.
-    fn end(&self, process: u32, start: Option<u32>, text: &[u8], look: Look) -> Step {
-        let is_view = start.is_none() && text.first() == Some(&VIEW);
-        let (mut at, used_up) = match is_view {
-            true => (self.map(process), 1),
-            false => (start.unwrap_or(ROOT), 0),
-        };
-        for (place, letter) in text.iter().enumerate().skip(used_up) {
-            let used = place.wrapping_add(1);
-            let is_last = used == text.len();
-            let component = Component {
-                letter: *letter,
-                used,
-                is_last,
-                is_shared: is_view && place == 1 && !(look.makes && is_last),
-            };
-            match self.step(at, component, look) {
-                Step::In(directory) => at = directory,
-                end => return end,
-            }
-        }
-        match self.numbered(at) {
-            Some(object) => Step::End(Answer::Found(object, Status::Success)),
-            None => Step::End(Answer::Refused(Status::ObjectPathNotFound)),
-        }
-    }
-
-    // What a lookup finds in a directory under a component.
-    fn step(&self, at: u32, component: Component, look: Look) -> Step {
-        let here = self.entry(at, component.letter, look.folds);
-        let there = self.entry(GLOBAL, component.letter, look.folds);
-        let entry = match here {
-            None if component.is_shared => there,
-            _ => here,
-        };
-        match entry.map(|object| (object, object.what)) {
-            None => Step::End(missing(at, component, look)),
-            Some((_, What::Link(target))) if !component.is_last || look.follows => {
-                Step::Through(target, component.used)
-            }
-            Some((object, _)) if component.is_last => {
-                Step::End(Answer::Found(object, Status::Success))
-            }
-            Some((object, What::Directory)) => Step::In(object.number),
-            Some(_) => Step::End(Answer::Refused(Status::ObjectTypeMismatch)),
-        }
     }
 
     // What an answer leaves, where a command is given this.
@@ -456,24 +295,30 @@ impl Model {
         given: &Given,
     ) -> Result<bool, AllocError> {
         match (ask, answer) {
-            (Ask::Make { what, attrs, .. }, Answer::New(spot)) => {
-                self.add(spot, what, attrs)?;
-                self.hold(process, self.last_object, attrs & INHERIT != 0, given)
+            (
+                Ask::Make {
+                    of,
+                    target,
+                    attrs,
+                    ..
+                },
+                Answer::New(spot),
+            ) => {
+                let number = self.last_object.wrapping_add(1);
+                let object = self.add(number, of, target, spot, attrs)?;
+                return self.hold(process, object, attrs & INHERIT != 0, given);
             }
             (Ask::Make { attrs, .. } | Ask::Open { attrs, .. }, Answer::Found(object, _)) => {
-                self.hold(process, object.number, attrs & INHERIT != 0, given)
+                return self.hold(process, object, attrs & INHERIT != 0, given);
             }
             (Ask::Use { value, deed }, Answer::Found(object, _)) => {
-                self.do_with(process, value, object, deed, given)
+                return self.do_with(process, value, object, deed, given);
             }
-            (Ask::Begin { inherit }, Answer::Done) => self.begin(process, inherit, given),
-            (Ask::Exit, Answer::Done) => {
-                self.close(process, None);
-                self.processes.retain(|live| live.number != process);
-                Ok(is_nothing(given))
-            }
-            _ => Ok(is_nothing(given)),
+            (Ask::Begin { inherit }, Answer::Done) => return self.begin(process, inherit, given),
+            (Ask::Exit, Answer::Done) => self.exit(process)?,
+            _ => {}
         }
+        Ok(matches!(given, Given::Nothing))
     }
 
     // A process does with an object of a handle what it asked for.
@@ -485,306 +330,222 @@ impl Model {
         deed: Deed,
         given: &Given,
     ) -> Result<bool, AllocError> {
-        match deed {
-            Deed::Close => self.close(process, Some(without_low_bits(value))),
-            Deed::Turn { permanent } => self.turn(object.number, permanent),
-            Deed::Map => self.set_map(process, object.number),
-            Deed::Target => return self.is_target(object.what, given),
-            Deed::Name => return self.is_name(object.number, given),
-            Deed::List(part) => {
-                let page = self.page(process, object.number, part);
-                return Ok(self.turn_to(process, page, given));
+        let (root, path) = (None, object.target);
+        let text = match deed {
+            Deed::List(part) => return Ok(self.turn_to(process, object.number, part, given)),
+            Deed::Duplicate { to, inherit } => return self.hold(to, object, inherit, given),
+            Deed::Target => text(self.alloc, Name { root, path })?,
+            Deed::Name => self.path(object)?,
+            Deed::Close | Deed::Turn { .. } | Deed::Map => {
+                match deed {
+                    Deed::Turn { permanent } => self.turn(object.number, permanent),
+                    Deed::Map => self.set(process, Some(object.number), None),
+                    _ => self.close(process, value & !3)?,
+                }
+                return Ok(matches!(given, Given::Nothing));
             }
-            Deed::Duplicate { to, inherit } => return self.hold(to, object.number, inherit, given),
+        };
+        match given {
+            Given::Text(bytes) => Ok(bytes.as_slice() == text.as_slice()),
+            _ => Ok(false),
         }
-        Ok(is_nothing(given))
     }
 
-    // A new object, named at a spot where there is one.
-    fn add(&mut self, spot: Option<Spot>, what: What, attrs: u32) -> Result<(), AllocError> {
-        let is_named = spot.is_some();
-        self.last_object = self.last_object.wrapping_add(1);
-        self.last_stamp = self.last_stamp.wrapping_add(u64::from(is_named));
-        let stamp = match is_named {
-            true => self.last_stamp,
-            false => 0,
-        };
-        let (directory, letter) = (0, b' ');
-        self.objects.push(Object {
-            number: self.last_object,
-            what,
-            spot: spot.unwrap_or(Spot { directory, letter }),
-            stamp,
-            is_named,
-            is_permanent: is_named && attrs & PERMANENT != 0,
+    // A new object of a number, named at a spot where there is one.
+    fn add(
+        &mut self,
+        number: u32,
+        of: Kind,
+        target: Path,
+        spot: Option<Spot>,
+        attrs: u32,
+    ) -> Result<Object, AllocError> {
+        self.last_object = self.last_object.max(number);
+        self.last_stamp = self.last_stamp.wrapping_add(u64::from(spot.is_some()));
+        let object = Object {
+            number,
+            of,
+            target,
+            spot,
+            stamp: match spot {
+                Some(_) => self.last_stamp,
+                None => 0,
+            },
+            is_permanent: spot.is_some() && attrs & PERMANENT != 0,
             is_exclusive: attrs & EXCLUSIVE != 0,
-        })?;
-        Ok(())
+        };
+        self.objects.push(object)?;
+        Ok(object)
     }
 
     // A process gets a handle to an object, by the value that is given.
     fn hold(
         &mut self,
         process: u32,
-        object: u32,
+        object: Object,
         inherit: bool,
         given: &Given,
     ) -> Result<bool, AllocError> {
         let Given::Handle(value) = given else {
             return Ok(false);
         };
-        let (mut handles, value) = (self.handles.iter(), *value);
-        let is_used = handles.any(|open| open.process == process && open.value == value);
-        let before = self.plain_handles();
-        self.handles.push(Open {
+        let is_used = self.behind(process, value.0).is_some();
+        self.grant(Open {
             process,
-            value,
-            object,
+            value: value.0,
+            object: object.number,
+            is_of_set: is_of_set(object.of),
             inherit,
         })?;
-        self.count_opens(before);
         Ok(!is_used && value.0 % 4 == 0 && value.0 != 0)
     }
 
-    // How many handles lead to plain objects.
-    fn plain_handles(&self) -> u64 {
-        let mut many: u64 = 0;
+    // There is a handle more.
+    fn grant(&mut self, handle: Open) -> Result<(), AllocError> {
+        self.calls.0 = self.calls.0.wrapping_add(u64::from(handle.is_of_set));
+        self.handles.push(handle)?;
+        Ok(())
+    }
+
+    // The handle of a process of a value goes, or each of its handles, where the value is 0.
+    fn close(&mut self, process: u32, value: u32) -> Result<(), AllocError> {
+        let (mut kept, mut closes) = (Vec::new(self.alloc), self.calls.1);
         for open in &self.handles {
-            if self.numbered(open.object).is_some_and(is_plain) {
-                many = many.wrapping_add(1);
+            if open.process == process && (value == 0 || open.value == value) {
+                closes = closes.wrapping_add(u64::from(open.is_of_set));
+            } else {
+                kept.push(*open)?;
             }
         }
-        many
+        self.calls.1 = closes;
+        self.handles = kept;
+        Ok(())
     }
 
-    // So many handles led to plain objects: those that came since were opened by the set.
-    fn count_opens(&mut self, before: u64) {
-        let came = self.plain_handles().wrapping_sub(before);
-        self.opens = self.opens.wrapping_add(came);
-    }
-
-    // The handle of a process of a value goes, or each of its handles.
-    fn close(&mut self, process: u32, value: Option<u32>) {
-        let before = self.plain_handles();
-        let goes = |open: &Open| value.is_none_or(|value| open.value.0 == value);
-        self.handles
-            .retain(|open| open.process != process || !goes(open));
-        let went = before.wrapping_sub(self.plain_handles());
-        self.closes = self.closes.wrapping_add(went);
-    }
-
-    // Whether the target of a link is given.
-    fn is_target(&self, what: What, given: &Given) -> Result<bool, AllocError> {
-        match what {
-            What::Link(target) => Ok(is_text(given, absolute(self.alloc, target)?.as_slice())),
-            What::Plain(_) | What::Directory => Ok(false),
-        }
-    }
-
-    // Whether the path of an object is given: the empty text, where it or a directory above it has no name.
-    fn is_name(&self, number: u32, given: &Given) -> Result<bool, AllocError> {
-        let (mut letters, mut at) = (Vec::new(self.alloc), self.numbered(number));
-        for _ in &self.objects {
-            if let Some(object) = at
-                && object.is_named
-            {
-                letters.push(object.spot.letter)?;
-                at = self.numbered(object.spot.directory);
+    // A process ends.
+    fn exit(&mut self, process: u32) -> Result<(), AllocError> {
+        self.close(process, 0)?;
+        let mut kept = Vec::new(self.alloc);
+        for live in &self.processes {
+            if live.number != process {
+                kept.push(*live)?;
             }
         }
-        letters.reverse();
-        match at {
-            Some(top) if top.number == ROOT => {
-                Ok(is_text(given, joined(self.alloc, letters.as_slice())?.as_slice()))
-            }
-            _ => Ok(is_text(given, &[])),
-        }
+        self.processes = kept;
+        Ok(())
     }
 
-    // A child of a process begins, with what it inherits.
+    // A child of a process begins, with what it inherits: the handles that are marked, in their order.
     fn begin(&mut self, process: u32, inherit: bool, given: &Given) -> Result<bool, AllocError> {
-        let Given::Process(child, values) = given else {
+        let (Given::Process(child, values), Some(live)) = (given, self.live(process)) else {
             return Ok(false);
         };
         self.last_process = self.last_process.wrapping_add(1);
-        let (number, map) = (child.0, self.map(process));
+        let (mut same, mut values) = (child.0 == self.last_process, values.as_slice().iter());
         self.processes.push(Live {
-            number,
-            map,
+            number: child.0,
             context: 0,
+            ..live
         })?;
-        let inherited = self.inherited(process, inherit, child.0)?;
-        let mut both = inherited.iter().zip(values.as_slice());
-        let same = both.all(|(open, value)| open.value == *value);
-        let as_many = inherited.len() == values.as_slice().len();
-        let before = self.plain_handles();
-        self.handles.extend_from_slice(&inherited)?;
-        self.count_opens(before);
-        Ok(same && as_many && child.0 == self.last_process)
-    }
-
-    // The handles that a child of a process inherits, as its own.
-    fn inherited(&self, process: u32, inherit: bool, child: u32) -> Result<Vec<Open>, AllocError> {
-        let mut inherited = Vec::new(self.alloc);
-        for open in &self.handles {
-            if inherit && open.process == process && open.inherit {
-                inherited.push(Open {
-                    process: child,
-                    value: open.value,
-                    object: open.object,
-                    inherit: true,
+        for place in 0..self.handles.len() {
+            if let Some(open) = self.handles.get(place).copied()
+                && inherit
+                && open.inherit
+                && open.process == process
+            {
+                same = same && values.next() == Some(&Handle(open.value));
+                self.grant(Open {
+                    process: child.0,
+                    ..open
                 })?;
             }
         }
-        Ok(inherited)
+        Ok(same && values.next().is_none())
     }
 
     // The object of a number is permanent, where it has a name, or temporary.
     fn turn(&mut self, number: u32, permanent: bool) {
         for object in self.objects.iter_mut() {
             if object.number == number {
-                object.is_permanent = permanent && object.is_named;
+                object.is_permanent = permanent && object.spot.is_some();
             }
         }
     }
 
-    // The directory of a number is the map of a process.
-    fn set_map(&mut self, process: u32, map: u32) {
+    // The directory of a number becomes the map of a process, or this the context that its last page gave.
+    fn set(&mut self, process: u32, map: Option<u32>, context: Option<u64>) {
         for live in self.processes.iter_mut() {
             if live.number == process {
-                live.map = map;
+                live.map = map.unwrap_or(live.map);
+                live.context = context.unwrap_or(live.context);
             }
+        }
+    }
+
+    // The path of an object: the empty text, where it or a directory above it has no name.
+    fn path(&self, object: Object) -> Result<Vec<u8>, AllocError> {
+        let (mut letters, mut at) = (Vec::new(self.alloc), Some(object));
+        for _ in &self.objects {
+            if let Some(object) = at
+                && let Some(spot) = object.spot
+            {
+                letters.push(spot.letter)?;
+                at = self.numbered(spot.directory);
+            }
+        }
+        letters.reverse();
+        match at {
+            Some(top) if top.number == ROOT => joined(self.alloc, letters.as_slice()),
+            _ => Ok(Vec::new(self.alloc)),
         }
     }
 
     // The end of a step: names and objects that don't stay go, judged in the state before.
     fn settle(&mut self) -> Result<(), AllocError> {
-        let kept = self.kept()?;
-        let gone = plain_objects(&self.objects).wrapping_sub(plain_objects(&kept));
-        self.deletes = self.deletes.wrapping_add(gone);
+        let (mut kept, mut deletes) = (Vec::new(self.alloc), self.calls.2);
+        for object in &self.objects {
+            let mut object = *object;
+            if !self.keeps(object) {
+                deletes = deletes.wrapping_add(u64::from(is_of_set(object.of)));
+                continue;
+            }
+            if !self.keeps_name(object) {
+                object.spot = None;
+            }
+            kept.push(object)?;
+        }
+        self.calls.2 = deletes;
         self.objects = kept;
         Ok(())
     }
 
-    // The objects that stay, with the names that stay.
-    fn kept(&self) -> Result<Vec<Object>, AllocError> {
-        let mut objects = Vec::new(self.alloc);
-        for object in &self.objects {
-            let mut kept = *object;
-            kept.is_named = self.keeps_name(kept);
-            if self.keeps(*object) {
-                objects.push(kept)?;
-            }
-        }
-        Ok(objects)
-    }
-
-    fn has_handle(&self, object: Object) -> bool {
-        let mut handles = self.handles.iter();
-        handles.any(|open| open.object == object.number)
-    }
-
     // Whether the name of an object stays.
     fn keeps_name(&self, object: Object) -> bool {
-        object.is_named && (object.is_permanent || self.has_handle(object))
+        object.spot.is_some() && (object.is_permanent || self.is_held(object.number, 0))
     }
 
     // Whether an object stays.
     fn keeps(&self, object: Object) -> bool {
         let number = object.number;
-        let is_map = |live: &Live| live.map == number;
-        let (mut others, mut processes) = (self.objects.iter(), self.processes.iter());
-        number == ROOT
+        let mut keeps = number == ROOT
             || number == GLOBAL
-            || (object.is_named && object.is_permanent)
-            || self.has_handle(object)
-            || processes.any(is_map)
-            || others.any(|other| other.spot.directory == number && self.keeps_name(*other))
-    }
-
-    /// How many handles there are.
-    pub(crate) fn handle_count(&self) -> u64 {
-        self.handles.len() as u64
-    }
-
-    /// How many live processes there are.
-    pub(crate) fn process_count(&self) -> u64 {
-        self.processes.len() as u64
-    }
-
-    /// The number of the live process at a place.
-    pub(crate) fn process_at(&self, place: u64) -> Option<u32> {
-        let place = usize::try_from(place).ok()?;
-        self.processes.get(place).map(|live| live.number)
-    }
-
-    /// The value of the first handle from a place on of a process to what is wanted.
-    pub(crate) fn value_from(&self, place: u64, process: u32, want: Want) -> Option<u32> {
-        let place = usize::try_from(place).ok()?;
-        for open in self.handles.get(place..)? {
-            let is_own = open.process == process;
-            if is_own
-                && self
-                    .numbered(open.object)
-                    .is_some_and(|object| is_wanted(object.what, want))
+            || (object.spot.is_some() && object.is_permanent)
+            || self.is_held(number, 0);
+        for live in &self.processes {
+            keeps = keeps || live.map == number;
+        }
+        for other in &self.objects {
+            if let Some(spot) = other.spot
+                && spot.directory == number
             {
-                return Some(open.value.0);
+                keeps = keeps || self.keeps_name(*other);
             }
         }
-        None
-    }
-
-    /// The value of the handle at a place.
-    pub(crate) fn value_at(&self, place: u64) -> Option<u32> {
-        let place = usize::try_from(place).ok()?;
-        self.handles.get(place).map(|open| open.value.0)
-    }
-
-    /// The number of what a handle of a process leads to.
-    pub(crate) fn object_behind(&self, process: u32, value: u32) -> Option<u32> {
-        self.behind(process, value).map(|object| object.number)
+        keeps
     }
 }
 
-fn without_low_bits(value: u32) -> u32 {
-    value & !3
-}
-
-fn is_plain(object: Object) -> bool {
-    matches!(object.what, What::Plain(_))
-}
-
-fn plain_objects(objects: &Vec<Object>) -> u64 {
-    objects.iter().filter(|object| is_plain(**object)).count() as u64
-}
-
-fn status_of(answer: Answer) -> Status {
-    match answer {
-        Answer::Refused(status) | Answer::Found(_, status) => status,
-        Answer::New(_) | Answer::Done => Status::Success,
-    }
-}
-
-// A lookup finds nothing under a component in a directory.
-fn missing(at: u32, component: Component, look: Look) -> Answer {
-    let (directory, letter) = (at, component.letter);
-    match (component.is_last, look.makes) {
-        (false, _) => Answer::Refused(Status::ObjectPathNotFound),
-        (true, false) => Answer::Refused(Status::ObjectNameNotFound),
-        (true, true) if directory == ROOT && letter == VIEW => {
-            Answer::Refused(Status::ObjectNameInvalid)
-        }
-        (true, true) => Answer::New(Some(Spot { directory, letter })),
-    }
-}
-
-fn is_nothing(given: &Given) -> bool {
-    matches!(given, Given::Nothing)
-}
-
-fn is_text(given: &Given, text: &[u8]) -> bool {
-    match given {
-        Given::Text(bytes) => bytes.as_slice() == text,
-        _ => false,
-    }
+// Whether objects of a kind are the set's.
+fn is_of_set(of: Kind) -> bool {
+    !matches!(of, Kind::Directory | Kind::Link)
 }

@@ -1,4 +1,4 @@
-//! The names of random commands. A component is told by one letter; those of the opening state are longer.
+//! The names of random commands. A component is told by one letter; those of the opening state and of devices are longer.
 
 use std::alloc::{AllocError, Global};
 
@@ -40,6 +40,10 @@ pub(crate) fn spelled(letter: u8) -> &'static [u8] {
         b'D' => b"Device",
         b'N' => b"BaseNamedObjects",
         b'S' => b"Sessions",
+        b's' => b"Serial0",
+        b't' => b"Serial1",
+        b'p' => b"com1",
+        b'q' => b"com2",
         _ => b"??",
     }
 }
@@ -57,15 +61,10 @@ pub(crate) fn joined(alloc: Global, letters: &[u8]) -> Result<Vec<u8>, AllocErro
     Ok(text)
 }
 
-/// The absolute text of a path.
-pub(crate) fn absolute(alloc: Global, path: Path) -> Result<Vec<u8>, AllocError> {
-    let letters = letters(alloc, path)?;
-    joined(alloc, letters.as_slice())
-}
-
 /// The text of a name: no backslash stands before a relative one.
 pub(crate) fn text(alloc: Global, name: Name) -> Result<Vec<u8>, AllocError> {
-    let text = absolute(alloc, name.path)?;
+    let letters = letters(alloc, name.path)?;
+    let text = joined(alloc, letters.as_slice())?;
     match name.root {
         Some(_) => text.get(1..).unwrap_or(&[]).to_vec(alloc),
         None => Ok(text),

@@ -1,0 +1,325 @@
+//! A game: random turns of a namespace over a set of types, each beside the model.
+
+ghost use Rattle.std.specs.Prelude.{◌≡◌, [], OnOk};
+ghost use Rattle.ob_begun.specs.Begun.{AreAwaited, tickets_of, with_begun, without};
+
+use crate::asks::{Ask, Deed, Kind, Turn};
+use crate::dice::Dice;
+use crate::model::Model;
+use crate::names::{Name, text};
+use ob_base::{Fault, Handle, Proc};
+use ob_begun::{Begun, Waits, begin_open, drop_open, end_open, give_all_up};
+use ob_core::{Bytes, Command, Core, OpenTable, Place};
+use ob_types::TypeSet;
+use std::alloc::{AllocError, Global};
+
+/// A set of types over which games are played, and whose calls are counted.
+pub(crate) trait Played: TypeSet {
+    /// The set's kind of objects of a kind; any, where it hasn't that.
+    fn kind(of: Kind) -> Self::Kind;
+
+    /// What comes next, where so many turns are done.
+    fn turn(dice: &mut Dice, model: &Model, done: u32) -> Turn;
+
+    /// How often the set opened, closed and deleted an object.
+    fn calls(&self) -> (u64, u64, u64);
+}
+
+// A create at a place. A device has one file.
+fn make<S: Played>(
+    alloc: Global,
+    of: Kind,
+    target: Vec<u8>,
+    place: Place,
+    attrs: u32,
+) -> Result<Command<S::Kind>, AllocError> {
+    let args = match of {
+        Kind::Directory => return Ok(Command::CreateDirectory { place, attrs }),
+        Kind::Link => {
+            let target = Bytes::new(target);
+            return Ok(Command::CreateLink {
+                place,
+                attrs,
+                target,
+            });
+        }
+        Kind::Device => b"com1".as_slice(),
+        _ => b"",
+    };
+    Ok(Command::CreateObject {
+        place,
+        attrs,
+        kind: S::kind(of),
+        args: Bytes::from_slice(alloc, args)?,
+    })
+}
+
+fn open<S: Played>(
+    want: Option<Kind>,
+    root: Option<Handle>,
+    name: Bytes,
+    attrs: u32,
+) -> Command<S::Kind> {
+    let want = match want {
+        Some(Kind::Directory) => return Command::OpenDirectory { root, name, attrs },
+        Some(Kind::Link) => return Command::OpenLink { root, name, attrs },
+        Some(of) => Some(S::kind(of)),
+        None => None,
+    };
+    Command::OpenObject {
+        root,
+        name,
+        attrs,
+        want,
+    }
+}
+
+// A context that a process gives is that of its last page.
+fn on_handle<K>(handle: Handle, deed: Deed, context: u64) -> Command<K> {
+    match deed {
+        Deed::Close => Command::Close { handle },
+        Deed::Turn { permanent: true } => Command::MakePermanent { handle },
+        Deed::Turn { permanent: false } => Command::MakeTemporary { handle },
+        Deed::Map => Command::SetDeviceMap { handle },
+        Deed::Target => Command::QueryLink { handle },
+        Deed::Name => Command::QueryName { handle },
+        Deed::List(part) => Command::QueryDirectory {
+            handle,
+            context,
+            room: part.room,
+            single: part.single,
+            restart: part.restart,
+        },
+        Deed::Duplicate { to, inherit } => Command::Duplicate {
+            handle,
+            to: Proc(to),
+            inherit,
+        },
+    }
+}
+
+// The handle that a name is relative to.
+fn handle_of(name: Name) -> Option<Handle> {
+    Some(Handle(name.root?))
+}
+
+fn command<S: Played>(
+    alloc: Global,
+    ask: Ask,
+    context: u64,
+) -> Result<Command<S::Kind>, AllocError> {
+    match ask {
+        Ask::Make {
+            of,
+            target,
+            name,
+            attrs,
+        } => {
+            let place = match name {
+                Some(name) => Place::At {
+                    root: handle_of(name),
+                    name: Bytes::new(text(alloc, name)?),
+                },
+                None => Place::Unnamed,
+            };
+            let (root, path) = (None, target);
+            let target = text(alloc, Name { root, path })?;
+            make::<S>(alloc, of, target, place, attrs)
+        }
+        Ask::Open { want, name, attrs } => {
+            let text = Bytes::new(text(alloc, name)?);
+            Ok(open::<S>(want, handle_of(name), text, attrs))
+        }
+        Ask::Use { value, deed } => Ok(on_handle(Handle(value), deed, context)),
+        Ask::Begin { inherit } => Ok(Command::NewProcess { inherit }),
+        Ask::Exit => Ok(Command::ExitProcess),
+    }
+}
+
+// Keeps the ticket of an open that begins to wait.
+fn note(tickets: &mut Vec<u64>, begun: &Begun) -> Result<(), AllocError>
+    ensures { OnOk result (tickets.new.items ≡ with_begun begun.now tickets.old.items) }
+{
+    match begun {
+        Begun::Waits(ticket) => tickets.push(*ticket)?,
+        Begun::Replied(_) => {}
+    }
+    Ok(())
+}
+
+// Forgets a ticket.
+fn forget(tickets: &mut Vec<u64>, ticket: u64)
+    ensures { tickets.new.items ≡ without ticket tickets.old.items }
+{
+    tickets.retain(|kept| *kept != ticket);
+}
+
+// Whether a command that a process asks for becomes what it is to.
+fn starts<S: TypeSet>(
+    core: &mut Core<S, OpenTable>,
+    waits: &mut Waits<S>,
+    tickets: &mut Vec<u64>,
+    model: &mut Model,
+    command: &Command<S::Kind>,
+    process: u32,
+    ask: Ask,
+) -> Result<bool, AllocError>
+    requires awaited { AreAwaited core.old waits.old }
+    requires tickets { tickets.old.items ≡ tickets_of waits.old }
+    ensures awaited { AreAwaited core.new waits.new }
+    ensures tickets { OnOk result (tickets.new.items ≡ tickets_of waits.new) }
+{
+    let begun = begin_open(core, waits, Proc(process), command)?;
+    note(tickets, &begun)?;
+    model.starts(process, ask, &begun)
+}
+
+// Whether the open that waits at a place ends as it is to.
+fn ends<S: TypeSet>(
+    core: &mut Core<S, OpenTable>,
+    waits: &mut Waits<S>,
+    tickets: &mut Vec<u64>,
+    model: &mut Model,
+    place: usize,
+) -> Result<bool, AllocError>
+    requires awaited { AreAwaited core.old waits.old }
+    requires tickets { tickets.old.items ≡ tickets_of waits.old }
+    ensures awaited { AreAwaited core.new waits.new }
+    ensures tickets { OnOk result (tickets.new.items ≡ tickets_of waits.new) }
+{
+    let Some(waiting) = model.take(place) else {
+        return Ok(false);
+    };
+    let ticket = waiting.ticket();
+    if !tickets.contains(&ticket) {
+        return Ok(false);
+    }
+    let begun = end_open(core, waits, model.alloc, ticket)?;
+    forget(tickets, ticket);
+    note(tickets, &begun)?;
+    model.ends(waiting, &begun)
+}
+
+// Gives up the open that waits at a place: whether one waits under its ticket.
+fn give_up<S: TypeSet>(
+    core: &mut Core<S, OpenTable>,
+    waits: &mut Waits<S>,
+    tickets: &mut Vec<u64>,
+    model: &mut Model,
+    place: usize,
+) -> bool
+    requires awaited { AreAwaited core.old waits.old }
+    requires tickets { tickets.old.items ≡ tickets_of waits.old }
+    ensures awaited { AreAwaited core.new waits.new }
+    ensures tickets { tickets.new.items ≡ tickets_of waits.new }
+{
+    let Some(waiting) = model.take(place) else {
+        return false;
+    };
+    let ticket = waiting.ticket();
+    if !tickets.contains(&ticket) {
+        return false;
+    }
+    drop_open(core, waits, ticket);
+    forget(tickets, ticket);
+    true
+}
+
+// Whether what comes next ends as the model says.
+fn is_agreed<S: Played>(
+    core: &mut Core<S, OpenTable>,
+    waits: &mut Waits<S>,
+    tickets: &mut Vec<u64>,
+    model: &mut Model,
+    turn: Turn,
+) -> Result<bool, AllocError>
+    requires awaited { AreAwaited core.old waits.old }
+    requires tickets { tickets.old.items ≡ tickets_of waits.old }
+    ensures awaited { AreAwaited core.new waits.new }
+    ensures tickets { OnOk result (tickets.new.items ≡ tickets_of waits.new) }
+{
+    match turn {
+        Turn::Start(process, ask) => {
+            let command = command::<S>(model.alloc, ask, model.context(process))?;
+            starts(core, waits, tickets, model, &command, process, ask)
+        }
+        Turn::End(place) => ends(core, waits, tickets, model, place),
+        Turn::Drop(place) => Ok(give_up(core, waits, tickets, model, place)),
+    }
+}
+
+// Whether there is as much as in the model, and as much was done, and a process has as many handles.
+fn is_counted<S: Played>(core: &Core<S, OpenTable>, model: &Model, process: u32) -> bool {
+    let own = core.handles_of(Proc(process));
+    let counts = (core.objects(), core.handles(), own);
+    counts == model.counts(process) && core.set().calls() == model.calls
+}
+
+// How many of so many turns end as the model says, up to the first that doesn't.
+fn play<S: Played>(
+    core: &mut Core<S, OpenTable>,
+    waits: &mut Waits<S>,
+    tickets: &mut Vec<u64>,
+    model: &mut Model,
+    dice: &mut Dice,
+    count: u32,
+) -> Result<u32, AllocError>
+    requires awaited { AreAwaited core.old waits.old }
+    requires tickets { tickets.old.items ≡ tickets_of waits.old }
+    ensures awaited { AreAwaited core.new waits.new }
+{
+    for done in 0..count {
+        let turn = S::turn(dice, model, done);
+        let is_agreed = is_agreed(core, waits, tickets, model, turn)?;
+        if !is_agreed || !is_counted(core, model, done % 12) {
+            return Ok(done);
+        }
+    }
+    Ok(count)
+}
+
+// The same from a state of the dice.
+fn play_from<S: Played>(
+    core: &mut Core<S, OpenTable>,
+    waits: &mut Waits<S>,
+    model: &mut Model,
+    state: u64,
+    count: u32,
+) -> Result<u32, AllocError>
+    requires awaited { AreAwaited core.old waits.old }
+    requires none { tickets_of waits.old ≡ [] }
+    ensures awaited { AreAwaited core.new waits.new }
+{
+    let (mut tickets, mut dice) = (Vec::new(model.alloc), Dice { state });
+    play(core, waits, &mut tickets, model, &mut dice, count)
+}
+
+// How many turns end as the model says in a new namespace; none where giving all up that waits then changes what is
+// counted.
+fn agreed_in<S: Played>(
+    core: &mut Core<S, OpenTable>,
+    model: &mut Model,
+    state: u64,
+    count: u32,
+) -> Result<u32, AllocError> {
+    let mut waits = Waits::new(model.alloc);
+    let done = play_from(core, &mut waits, model, state, count);
+    give_all_up(core, waits);
+    match is_counted(core, model, 1) {
+        true => done,
+        false => Ok(0),
+    }
+}
+
+/// How many of so many turns from a state of the dice end as the model says.
+pub(crate) fn agreed<S: Played>(
+    alloc: Global,
+    set: S,
+    state: u64,
+    count: u32,
+) -> Result<u32, Fault> {
+    let mut model = Model::new(alloc)?;
+    let mut core: Core<S, OpenTable> = Core::new(alloc, set)?;
+    let done = agreed_in(&mut core, &mut model, state, count)?;
+    Ok(done)
+}

@@ -1,0 +1,120 @@
+//! What the plain model answers to commands.
+
+use super::{Answer, Live, Model, Object};
+use crate::asks::{
+    Ask, CASE_INSENSITIVE, Deed, EXCLUSIVE, FLAGS, INHERIT, Kind, LARGEST_ROOM, OPENIF, OPENLINK,
+    Waiting, is_wanted,
+};
+use crate::model::lookup::Look;
+use crate::names::Name;
+use ob_base::Status;
+use std::alloc::AllocError;
+
+impl Model {
+    // The status that a command of a process gets, and the object with which it gets it.
+    pub(super) fn answer(&self, process: u32, ask: Ask) -> Result<Answer, AllocError> {
+        let Some(live) = self.live(process) else {
+            return Ok(Answer::Refused(Status::ProcessGone));
+        };
+        match ask {
+            Ask::Make {
+                of,
+                name,
+                attrs,
+                ..
+            } => self.named(live, name, Some(of), attrs, true),
+            Ask::Open { want, name, attrs } => self.named(live, Some(name), want, attrs, false),
+            Ask::Use { value, deed } => Ok(self.used(live, value, deed)),
+            Ask::Begin { .. } | Ask::Exit => Ok(Answer::Done),
+        }
+    }
+
+    // What a create or an open of a kind is answered to a name.
+    fn named(
+        &self,
+        live: Live,
+        name: Option<Name>,
+        want: Option<Kind>,
+        attrs: u32,
+        makes: bool,
+    ) -> Result<Answer, AllocError> {
+        if attrs & !FLAGS != 0 || (attrs & INHERIT != 0 && attrs & EXCLUSIVE != 0) {
+            return Ok(Answer::Refused(Status::InvalidParameter));
+        }
+        let Some(name) = name else {
+            return Ok(Answer::New(None));
+        };
+        let look = Look {
+            makes,
+            follows: !makes && attrs & OPENLINK == 0 && !matches!(want, Some(Kind::Link)),
+            folds: attrs & CASE_INSENSITIVE != 0,
+        };
+        let answer = self.found(live, name, look)?;
+        let Answer::Found(object, status) = answer else {
+            return Ok(answer);
+        };
+        Ok(match makes {
+            true if attrs & OPENIF == 0 => Answer::Refused(Status::ObjectNameCollision),
+            _ if !is_wanted(object.of, want) => Answer::Refused(Status::ObjectTypeMismatch),
+            true => self.granted(live.number, object, attrs, Status::ObjectNameExists),
+            false => self.granted(live.number, object, attrs, status),
+        })
+    }
+
+    // An open of an object, which is told by a status.
+    fn granted(&self, process: u32, object: Object, attrs: u32, status: Status) -> Answer {
+        let (inherit, exclusive) = (attrs & INHERIT != 0, attrs & EXCLUSIVE != 0);
+        if (exclusive && !object.is_exclusive) || (inherit && object.is_exclusive) {
+            Answer::Refused(Status::InvalidParameter)
+        } else if object.is_exclusive && self.is_held(object.number, process) {
+            Answer::Refused(Status::AccessDenied)
+        } else {
+            Answer::Found(object, status)
+        }
+    }
+
+    // What is done with a handle.
+    fn used(&self, live: Live, value: u32, deed: Deed) -> Answer {
+        let refusal = match deed {
+            Deed::Duplicate { to, .. } if self.live(to).is_none() => Status::ProcessGone,
+            Deed::List(part) if part.room > LARGEST_ROOM => Status::InvalidParameter,
+            _ => Status::InvalidHandle,
+        };
+        let object = match self.behind(live.number, value) {
+            Some(object) if matches!(refusal, Status::InvalidHandle) => object,
+            _ => return Answer::Refused(refusal),
+        };
+        match (deed, object.of) {
+            (Deed::List(part), Kind::Directory) => {
+                let page = self.page(live, object.number, part);
+                Answer::Found(object, page.status)
+            }
+            (Deed::Map, Kind::Directory) | (Deed::Target, Kind::Link) => {
+                Answer::Found(object, Status::Success)
+            }
+            (Deed::List(_) | Deed::Map | Deed::Target, _) => {
+                Answer::Refused(Status::ObjectTypeMismatch)
+            }
+            (Deed::Duplicate { to, inherit }, _) => {
+                let attrs = if inherit { INHERIT } else { 0 };
+                self.granted(to, object, attrs, Status::Success)
+            }
+            _ => Answer::Found(object, Status::Success),
+        }
+    }
+
+    // What an open is answered behind its parse.
+    pub(super) fn end_of(&self, waiting: Waiting) -> Answer {
+        let Ask::Open { want, attrs, .. } = waiting.ask else {
+            return Answer::Done;
+        };
+        match (self.live(waiting.process), self.numbered(waiting.number)) {
+            (None, _) => Answer::Refused(Status::ProcessGone),
+            (_, None) => Answer::Refused(Status::TypeRefused(3)),
+            (_, Some(file)) if !is_wanted(file.of, want) => {
+                Answer::Refused(Status::ObjectTypeMismatch)
+            }
+            (_, Some(file)) => self.granted(waiting.process, file, attrs, Status::Success),
+        }
+    }
+}
