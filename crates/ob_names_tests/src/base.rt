@@ -1,21 +1,38 @@
 //! The words that every crate shares, against the public tables.
 
-use crate::tables::{assert_lines, fields};
+use crate::tables::fields;
 use ob_base::{Attrs, Fault, Handle, Status};
+use ob_model::Bytes;
 use std::alloc::{AllocError, Global};
-use std::test::Fail;
 
-// Lawful sets, in hexadecimal, and their flags.
-const SETS: &'static str = "
-0   |
-2   | inherit
-10  | permanent
-20  | exclusive
-40  | without case
-80  | open-if
-100 | open-link
-1D2 | inherit, permanent, without case, open-if, open-link
-1F0 | permanent, exclusive, without case, open-if, open-link
+// Sets, in hexadecimal, and the flags of each, or that it is refused; then the values of handles, and what is left of
+// each without its low bits, where that isn't 0.
+const NUMBERS: &'static str = "
+set | 0        |
+set | 2        | inherit
+set | 10       | permanent
+set | 20       | exclusive
+set | 40       | without case
+set | 80       | open-if
+set | 100      | open-link
+set | 1D2      | inherit, permanent, without case, open-if, open-link
+set | 1F0      | permanent, exclusive, without case, open-if, open-link
+set | 1        | refused
+set | 4        | refused
+set | 8        | refused
+set | 22       | refused
+set | 1F2      | refused
+set | 200      | refused
+set | 212      | refused
+set | 80000000 | refused
+set | FFFFFFFF | refused
+key | 0          | none
+key | 3          | none
+key | 4          | 4
+key | 7          | 4
+key | 262140     | 262140
+key | 262143     | 262140
+key | 4294967295 | 4294967292
 ";
 
 // Whether a set says of each flag what a field says.
@@ -28,43 +45,23 @@ fn says(attrs: Attrs, flags: &str) -> bool {
         && attrs.is_open_link() == flags.contains("open-link")
 }
 
-fn is_accepted(_alloc: Global, line: &str) -> Result<bool, Fail> {
-    let [bits, flags, ..] = fields(line);
-    let bits = u32::from_str_radix(bits, 16)?;
-    Ok(match Attrs::check(bits) {
-        Ok(attrs) => attrs.bits() == bits && says(attrs, flags),
-        Err(_) => false,
+// Whether a line of the table is so.
+fn is_so(line: &str) -> Option<bool> {
+    let [what, number, wanted, ..] = fields(line);
+    if what == "key" {
+        return Some(Handle(number.parse().ok()?).key() == wanted.parse().ok());
+    }
+    let bits = u32::from_str_radix(number, 16).ok()?;
+    Some(match Attrs::check(bits) {
+        Ok(attrs) => wanted != "refused" && attrs.bits() == bits && says(attrs, wanted),
+        Err(status) => wanted == "refused" && status == Status::InvalidParameter,
     })
 }
 
 #[test]
-fn lawful_sets_are_accepted(rt: HostRuntime) -> Result<(), Fail> {
-    assert_lines(&rt, rt.alloc(), SETS, is_accepted)
-}
-
-const OTHER_SETS: [u32; 9] = [
-    0x1,
-    0x4,
-    0x8,
-    0x22,
-    0x1F2,
-    0x200,
-    0x212,
-    0x8000_0000,
-    0xFFFF_FFFF,
-];
-
-fn is_refused(bits: u32) -> bool {
-    match Attrs::check(bits) {
-        Ok(_) => false,
-        Err(status) => status == Status::InvalidParameter,
-    }
-}
-
-#[test]
-fn other_sets_are_refused(rt: HostRuntime) {
-    for bits in OTHER_SETS {
-        assert!(rt; is_refused(bits), "at {bits}");
+fn sets_are_lawful_and_handles_have_keys(rt: HostRuntime) {
+    for line in NUMBERS.trim().lines() {
+        assert!(rt; is_so(line) == Some(true), "{line}");
     }
 }
 
@@ -78,29 +75,10 @@ fn stored(alloc: Global, refusal: Result<(), Status>) -> Result<usize, Fault> {
 
 #[test]
 fn faults_pass_up(rt: HostRuntime) {
-    let accepted = stored(rt.alloc(), Ok(()));
-    assert!(rt; accepted == Ok(1));
+    assert!(rt; stored(rt.alloc(), Ok(())) == Ok(1));
     let refused = stored(rt.alloc(), Err(Status::AccessDenied));
     assert!(rt; refused == Err(Fault::Refused(Status::AccessDenied)));
     assert!(rt; Fault::from(AllocError) == Fault::Memory);
-}
-
-// The values of handles, and what is left of each without its low bits, where that isn't 0.
-const KEYS: [(u32, Option<u32>); 7] = [
-    (0, None),
-    (3, None),
-    (4, Some(4)),
-    (7, Some(4)),
-    (262_140, Some(262_140)),
-    (262_143, Some(262_140)),
-    (0xFFFF_FFFF, Some(0xFFFF_FFFC)),
-];
-
-#[test]
-fn key_clears_the_low_bits(rt: HostRuntime) {
-    for (value, key) in KEYS {
-        assert!(rt; Handle(value).key() == key, "at {value}");
-    }
 }
 
 // Each status, in the order of the table below.
@@ -157,24 +135,30 @@ TYPE_REFUSED           | E0010007
 TYPE_REFUSED           | E001FFFF
 ";
 
-fn has_both(status: Status, line: &str) -> Result<bool, Fail> {
-    let [text, code, ..] = fields(line);
-    Ok(status.text() == text && status.code() == u32::from_str_radix(code, 16)?)
-}
-
 // How many of these statuses have, in their order, the words and numbers of the lines of a table.
-fn count(statuses: &[Status], table: &str) -> Result<usize, Fail> {
+fn count(statuses: &[Status], table: &str) -> usize {
     let mut count: usize = 0;
     for (status, line) in statuses.iter().zip(table.trim().lines()) {
-        if has_both(*status, line)? {
+        let [text, code, ..] = fields(line);
+        if status.text() == text && u32::from_str_radix(code, 16).ok() == Some(status.code()) {
             count = count.saturating_add(1);
         }
     }
-    Ok(count)
+    count
 }
 
 #[test]
-fn statuses_have_their_words_and_numbers(rt: HostRuntime) -> Result<(), Fail> {
-    assert!(rt; count(&STATUSES, WORDS)? == 23);
+fn statuses_have_their_words_and_numbers(rt: HostRuntime) {
+    assert_eq!(rt; count(&STATUSES, WORDS), 23);
+}
+
+#[test]
+fn bytes_are_those_handed_in(rt: HostRuntime) -> Result<(), AllocError> {
+    for bytes in [b"".as_slice(), b"\\A", b"\x00\xFF"] {
+        let copied = Bytes::from_slice(rt.alloc(), bytes)?;
+        assert_eq!(rt; copied.as_slice(), bytes);
+        let taken = Bytes::new(copied.into_vec());
+        assert_eq!(rt; taken.as_slice(), bytes);
+    }
     Ok(())
 }

@@ -4,12 +4,14 @@ ghost use Rattle.std.specs.Prelude.{◌≡◌, true, false, refl};
 ghost use Rattle.std.proofs.Common.{rules};
 ghost use Rattle.ob_names_tests.specs.Boxes.{box_procedures, box_front, box_itself, box_idle, box_same};
 
-use crate::objects::hand_over_laws_of_parses;
-use crate::tables::{assert_lines, fields, refused};
+use crate::objects::is_of_kind;
+use crate::tables::fields;
 use ob_names::{Name, NameBuf};
-use ob_types::{Outcome, ParseAnswer, Reason, Refusal, TypeSet, run_parse};
+use ob_types::{
+    Outcome, ParseAnswer, Reason, Refusal, TypeSet, close_last, is_one_kind, open_or_leave,
+    run_parse,
+};
 use std::alloc::{AllocError, Global};
-use std::test::Fail;
 
 /// Boxes within boxes. A face is the number of levels inside. A byte of a rest leads one level in, where
 /// there is one; `>` leads to the name `\Box`.
@@ -106,50 +108,58 @@ impl TypeSet for Boxes {
     ghost equal_kinds = { λ _ _. refl };
 }
 
-// Boxes of so many levels, a rest there, and how the run ends; where a box is made, with its levels.
+#[test]
+fn boxes_open_and_close(rt: HostRuntime) {
+    let Ok((face, mut inner)) = Boxes::make(rt.alloc(), true, &[]) else {
+        assert!(rt; false);
+        return;
+    };
+    assert!(rt; is_of_kind::<Boxes>(&face, true, "Box", true));
+    assert!(rt; !is_one_kind::<Boxes>(true, false));
+    let made = open_or_leave(&mut Boxes, &mut inner, Reason::Created);
+    let opened = open_or_leave(&mut Boxes, &mut inner, Reason::Opened);
+    assert!(rt; made == Ok(()) && opened == Err(9) && inner);
+    close_last(&mut Boxes, inner);
+    assert!(rt; matches!(Boxes::make(rt.alloc(), true, b"1"), Err(Refusal::Code(7))));
+    assert!(rt; Refusal::from(AllocError) == Refusal::Memory);
+}
+
+// Boxes of so many levels, a rest there, and how the run ends: with a box of so many levels, with a name, or with a
+// number that refuses.
 const RUNS: &'static str = r"
 3 |       | itself
 0 |       | itself
-3 | a     | box 2
-3 | ab    | box 1
-3 | abc   | box 0
-3 | >     | name \Box
-3 | abc>d | name \Box
-0 | a     | refused 4
-1 | ab    | refused 4
-2 | abcd> | refused 4
+3 | a     | box     | 2
+3 | ab    | box     | 1
+3 | abc   | box     | 0
+3 | >     | name    | \Box
+3 | abc>d | name    | \Box
+0 | a     | refused | 4
+1 | ab    | refused | 4
+2 | abcd> | refused | 4
 ";
 
-fn is_end(outcome: &Outcome<u8, bool>, wanted: &str) -> bool {
+fn ends(outcome: &Outcome<u8, bool>, word: &str, text: &str) -> bool {
     match outcome {
-        Outcome::Itself => wanted == "itself",
-        Outcome::Made(face, inner) => is_box(**face, wanted) && !*inner,
-        Outcome::Reparse(text) => wanted == "name \\Box" && text.as_slice() == b"\\Box".as_slice(),
-        Outcome::Refused(code) => refused(wanted) == Some(*code),
+        Outcome::Itself => word == "itself",
+        Outcome::Made(face, inner) => {
+            word == "box" && text.parse().ok() == Some(**face) && !*inner
+        }
+        Outcome::Reparse(name) => word == "name" && name.as_slice() == text.as_bytes(),
+        Outcome::Refused(code) => word == "refused" && text.parse().ok() == Some(*code),
         Outcome::NoMemory => false,
     }
 }
 
-// Whether a field says a box of these levels.
-fn is_box(levels: u8, wanted: &str) -> bool {
-    match wanted.strip_prefix("box ") {
-        Some(number) => number.parse().ok() == Some(levels),
-        None => false,
+fn ends_so(alloc: Global, line: &str) -> Option<bool> {
+    let [levels, rest, word, text, _] = fields(line);
+    let outcome = run_parse::<Boxes>(alloc, &levels.parse().ok()?, rest.as_bytes());
+    Some(ends(&outcome, word, text))
+}
+
+#[test]
+fn runs_end(rt: HostRuntime) {
+    for line in RUNS.trim().lines() {
+        assert!(rt; ends_so(rt.alloc(), line) == Some(true), "{line}");
     }
-}
-
-fn ends_so(alloc: Global, line: &str) -> Result<bool, Fail> {
-    let [levels, rest, wanted, _] = fields(line);
-    let outcome = run_parse::<Boxes>(alloc, &levels.parse()?, rest.as_bytes());
-    Ok(is_end(&outcome, wanted))
-}
-
-#[test]
-fn runs_end(rt: HostRuntime) -> Result<(), Fail> {
-    assert_lines(&rt, rt.alloc(), RUNS, ends_so)
-}
-
-#[test]
-fn laws_at_a_set_that_parses(_rt: HostRuntime) {
-    hand_over_laws_of_parses::<Boxes>();
 }

@@ -10,8 +10,6 @@ mod both;
 #[cfg(test)]
 mod boxes;
 #[cfg(test)]
-mod model;
-#[cfg(test)]
 mod names;
 #[cfg(test)]
 mod objects;
@@ -21,5 +19,3 @@ mod plain;
 mod recorder;
 #[cfg(test)]
 mod tables;
-#[cfg(test)]
-mod types;

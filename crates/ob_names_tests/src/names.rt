@@ -1,227 +1,169 @@
 //! Names read, compared, split and put behind a target.
 
-use crate::tables::{assert_lines, fields};
+use crate::tables::fields;
 use ob_base::{Fault, Status};
-use ob_names::{Component, Name, NameBuf, first, same, splitting_joins_back, substitute};
-use std::alloc::{AllocError, Global};
-use std::test::Fail;
+use ob_names::{Component, Name, NameBuf, first, same, substitute};
+use std::alloc::Global;
 
-// A text of so many bytes.
-fn filled(alloc: Global, len: usize) -> Result<Vec<u8>, AllocError> {
-    vec![in alloc; b'a'; len]
-}
-
-// Whether a text is read as a name, and keeps its bytes.
-fn reads(text: &[u8]) -> bool {
-    match Name::read(text) {
-        Ok(name) => name.as_slice() == text,
-        Err(_) => false,
-    }
-}
-
-// Whether a text is refused as a name with this status.
-fn refuses(text: &[u8], status: Status) -> bool {
-    match Name::read(text) {
-        Ok(_) => false,
-        Err(found) => found == status,
-    }
-}
-
-// Whether a name of so many letters is read.
-fn reads_letters(alloc: Global, count: usize) -> Result<bool, AllocError> {
-    let text = filled(alloc, count)?;
-    Ok(reads(text.as_slice()))
+// What reading a text as a name gives: whether the name has its bytes, or the status that refuses it.
+fn read(text: &[u8]) -> Result<bool, Status> {
+    let name = Name::read(text)?;
+    Ok(name.as_slice() == text)
 }
 
 #[test]
-fn reads_names(rt: HostRuntime) -> Result<(), Fail> {
+fn names_are_read_and_bytes_outside_of_the_profile_refused(rt: HostRuntime) {
     let texts: [&[u8]; 4] = [b"", b" ~", b"\\", b"\\A\\b 7"];
     for text in texts {
-        assert!(rt; reads(text), "at {text:?}");
+        assert!(rt; read(text) == Ok(true), "at {text:?}");
     }
-    assert!(rt; reads_letters(rt.alloc(), 32_767)?);
-    Ok(())
-}
-
-#[test]
-fn refuses_bytes_outside_of_the_profile(rt: HostRuntime) {
     for byte in [0x00, 0x1F, 0x7F, 0xFF] {
         assert!(rt;
-            refuses(&[b'a', byte], Status::ObjectNameInvalid),
+            read(&[b'a', byte]) == Err(Status::ObjectNameInvalid),
             "at {byte}"
         );
     }
 }
 
-// Whether a text of so many letters, and what stands behind them, is refused with this status.
-fn refuses_letters(
-    alloc: Global,
-    count: usize,
-    behind: &[u8],
-    status: Status,
-) -> Result<bool, AllocError> {
-    let mut text = filled(alloc, count)?;
-    text.extend_from_slice(behind)?;
-    Ok(refuses(text.as_slice(), status))
+// A text of so many letters, and what stands behind them.
+fn letters(alloc: Global, count: usize, behind: &[u8]) -> Option<Vec<u8>> {
+    let mut text = vec![in alloc; b'a'; count].ok()?;
+    text.extend_from_slice(behind).ok()?;
+    Some(text)
+}
+
+// What reading such a text gives.
+fn read_letters(alloc: Global, count: usize, behind: &[u8]) -> Option<Result<bool, Status>> {
+    let text = letters(alloc, count, behind)?;
+    Some(read(text.as_slice()))
 }
 
 #[test]
-fn refuses_names_above_32767_bytes(rt: HostRuntime) -> Result<(), Fail> {
-    assert!(rt; refuses_letters(rt.alloc(), 32_768, b"", Status::NameTooLong)?);
-    assert!(rt; refuses_letters(rt.alloc(), 32_768, b"\x7f", Status::ObjectNameInvalid)?);
-    Ok(())
+fn names_above_32767_bytes_are_refused(rt: HostRuntime) {
+    let longest = read_letters(rt.alloc(), 32_767, b"");
+    assert!(rt; longest == Some(Ok(true)));
+    let too_long = read_letters(rt.alloc(), 32_768, b"");
+    assert!(rt; too_long == Some(Err(Status::NameTooLong)));
+    let invalid = read_letters(rt.alloc(), 32_768, b"\x7f");
+    assert!(rt; invalid == Some(Err(Status::ObjectNameInvalid)));
 }
 
-// Whether a name with a copy of some bytes keeps them.
-fn keeps_copied(alloc: Global, text: &[u8]) -> Result<bool, Fail> {
-    let copied = NameBuf::from_name(alloc, Name::read(text)?)?;
-    Ok(copied.as_slice() == text && copied.as_name().as_slice() == text)
-}
+// What is done with names, a line each:
+// - A name is kept: one of 16 bytes, which lie in the value, and one of 17.
+// - A text is split: its first component, none where that is empty, and what stands behind it.
+// - Two names are compared: whether they are the same exactly, and whether without case.
+// - A target is put before a rest: the name that they make.
+// - So is one of so many letters, with what stands behind them: how long the name is. At last the separator that is
+//   dropped makes room for one byte more.
+// - A name that begins with `Link` is followed to a target: the name that they make.
+const NAMES: &'static str = r"
+keeps    | \Device\Mailslot
+keeps    | \Device\NamedPipe
+splits   |
+splits   | \
+splits   | \B
+splits   | A           | A      |
+splits   | A\B         | A      | \B
+splits   | A\          | A      | \
+splits   | Global\\x\y | Global | \\x\y
+compares |      |      | same  | same
+compares | Foo  | Foo  | same  | same
+compares | Foo  | foo  | other | same
+compares | FOO  | foo  | other | same
+compares | aZ09 | Az09 | other | same
+compares | [    | {    | other | other
+compares | @    | `    | other | other
+compares | Foo  | Fo   | other | other
+compares | Foo  | Fop  | other | other
+joins    | \A\  | \B   | \A\B
+joins    | \A   | \B   | \A\B
+joins    | \A\  |      | \A\
+joins    | A    |      | A
+joins    |      | \B   | \B
+joins    | \    | \    | \
+joins    | \\   | \\B  | \\\B
+grows    | 32766 |     | \   | 32767
+grows    | 32766 |     | B   | 32767
+grows    | 32766 |     | \B  | too long
+grows    | 32766 | \   | \   | 32767
+follows  | Link\Mailslot | \Device\ | \Device\Mailslot
+";
 
-// Whether a name that takes some bytes keeps them.
-fn keeps_taken(alloc: Global, text: &[u8]) -> Result<bool, Fail> {
-    let bytes = text.to_vec(alloc)?;
+// Whether names with these bytes keep them: one with a copy, and one that takes them.
+fn keeps(alloc: Global, text: &[u8]) -> Option<bool> {
+    let copied = NameBuf::from_name(alloc, Name::read(text).ok()?).ok()?;
+    let bytes = text.to_vec(alloc).ok()?;
     if Name::read(bytes.as_slice()).is_err() {
-        return Ok(false);
+        return None;
     }
     let taken = NameBuf::new(bytes);
-    Ok(taken.as_slice() == text)
+    let is_copied = copied.as_slice() == text && copied.as_name().as_slice() == text;
+    Some(is_copied && taken.as_slice() == text)
 }
 
-// Both.
-fn keeps(alloc: Global, text: &[u8]) -> Result<bool, Fail> {
-    Ok(keeps_copied(alloc, text)? && keeps_taken(alloc, text)?)
+// Whether a text has this first component, or an empty one, and this behind it.
+fn splits(text: &[u8], component: &[u8], behind: &[u8]) -> bool {
+    match first(text) {
+        Component::Empty => component.is_empty(),
+        Component::One { name, rest } => !name.is_empty() && name == component && rest == behind,
+    }
 }
 
-#[test]
-fn keeps_names(rt: HostRuntime) -> Result<(), Fail> {
-    // Of 16 bytes, which lie in the value, and of 17.
-    assert!(rt; keeps(rt.alloc(), b"\\Device\\Mailslot")?);
-    assert!(rt; keeps(rt.alloc(), b"\\Device\\NamedPipe")?);
-    Ok(())
+// Whether two names are the same, exactly and without case, where fields say so.
+fn compares(a: &[u8], b: &[u8], exactly: &str, folded: &str) -> bool {
+    let is_exactly = same(a, b, false) == (exactly == "same");
+    let is_folded = same(b, a, true) == (folded == "same");
+    is_exactly && is_folded
 }
 
-// Whether the first component of a name is followed to this target.
-fn is_followed(alloc: Global, text: &[u8], target: &[u8], made: &[u8]) -> Result<bool, Fail> {
-    let Component::One { name, rest } = first(Name::read(text)?.as_slice()) else {
-        return Err(Fail::from("no component"));
-    };
-    let followed = substitute(alloc, Name::read(target)?.as_slice(), rest)?;
-    Ok(Name::new(name).as_slice() == b"Link".as_slice() && followed.as_slice() == made)
-}
-
-#[test]
-fn follows_a_name(rt: HostRuntime) -> Result<(), Fail> {
-    let text = b"Link\\Mailslot";
-    assert!(rt; is_followed(rt.alloc(), text, b"\\Device\\", b"\\Device\\Mailslot")?);
-    Ok(())
-}
-
-// A text, its first component and what stands behind that, where there is one.
-const SPLITS: &'static str = r"
-            | none
-\           | none
-\B          | none
-A           | one  | A      |
-A\B         | one  | A      | \B
-A\          | one  | A      | \
-Global\\x\y | one  | Global | \\x\y
-";
-
-fn splits_so(_alloc: Global, line: &str) -> Result<bool, Fail> {
-    let [text, found, component, behind] = fields(line);
-    Ok(match first(text.as_bytes()) {
-        Component::Empty => found == "none",
-        Component::One { name, rest } => {
-            found == "one" && name == component.as_bytes() && rest == behind.as_bytes()
-        }
-    })
-}
-
-#[test]
-fn splits_off_components(rt: HostRuntime) -> Result<(), Fail> {
-    splitting_joins_back();
-    assert_lines(&rt, rt.alloc(), SPLITS, splits_so)
-}
-
-// Two names, whether they are the same exactly, and whether without case.
-const PAIRS: &'static str = r"
-     |      | same  | same
-Foo  | Foo  | same  | same
-Foo  | foo  | other | same
-FOO  | foo  | other | same
-aZ09 | Az09 | other | same
-[    | {    | other | other
-@    | `    | other | other
-Foo  | Fo   | other | other
-Foo  | Fop  | other | other
-";
-
-fn compares_so(_alloc: Global, line: &str) -> Result<bool, Fail> {
-    let [a, b, exactly, folded] = fields(line);
-    let is_exactly = same(a.as_bytes(), b.as_bytes(), false) == (exactly == "same");
-    let is_folded = same(b.as_bytes(), a.as_bytes(), true) == (folded == "same");
-    Ok(is_exactly && is_folded)
-}
-
-#[test]
-fn compares_names(rt: HostRuntime) -> Result<(), Fail> {
-    assert_lines(&rt, rt.alloc(), PAIRS, compares_so)
-}
-
-// A target, a rest, and the name that they make.
-const JOINS: &'static str = r"
-\A\ | \B   | \A\B
-\A  | \B   | \A\B
-\A\ |      | \A\
-A   |      | A
-    | \B   | \B
-\   | \    | \
-\\  | \\B  | \\\B
-";
-
-fn joins_so(alloc: Global, line: &str) -> Result<bool, Fail> {
-    let [target, rest, wanted, _] = fields(line);
-    let target = Name::read(target.as_bytes())?;
-    let rest = Name::read(rest.as_bytes())?;
-    let made = substitute(alloc, target.as_slice(), rest.as_slice())?;
-    Ok(made.as_slice() == wanted.as_bytes())
-}
-
-#[test]
-fn substitutes_targets(rt: HostRuntime) -> Result<(), Fail> {
-    assert_lines(&rt, rt.alloc(), JOINS, joins_so)
-}
-
-// How many letters a target has, what stands behind them, a rest, and the bytes of what they make. At last the separator
-// that is dropped makes room for one byte more.
-const LENGTHS: &'static str = r"
-32766 |   | \  | 32767
-32766 |   | B  | 32767
-32766 |   | \B | too long
-32766 | \ | \  | 32767
-";
-
-// Whether a target and a rest make a name of so many bytes, or one that is too long.
-fn has_length(alloc: Global, target: &[u8], rest: &str, wanted: &str) -> Result<bool, Fail> {
-    let target = Name::read(target)?;
-    let rest = Name::read(rest.as_bytes())?;
-    Ok(
+// Whether a target and a rest make the name that a field says, or one of as many bytes, or one that is too long.
+fn joins(alloc: Global, target: &[u8], rest: &[u8], wanted: &str) -> Option<bool> {
+    let target = Name::read(target).ok()?;
+    let rest = Name::read(rest).ok()?;
+    Some(
         match substitute(alloc, target.as_slice(), rest.as_slice()) {
-            Ok(made) => wanted.parse().ok() == Some(made.as_slice().len()),
+            Ok(made) => {
+                let made = made.as_slice();
+                made == wanted.as_bytes() || wanted.parse().ok() == Some(made.len())
+            }
             Err(fault) => wanted == "too long" && fault == Fault::Refused(Status::NameTooLong),
         },
     )
 }
 
-fn is_judged_so(alloc: Global, line: &str) -> Result<bool, Fail> {
-    let [letters, behind, rest, wanted] = fields(line);
-    let mut target = filled(alloc, letters.parse()?)?;
-    target.extend_from_slice(behind.as_bytes())?;
-    has_length(alloc, target.as_slice(), rest, wanted)
+// Whether the first component of a name is `Link`, and what stands behind it makes this with a target.
+fn follows(alloc: Global, text: &[u8], target: &[u8], wanted: &[u8]) -> Option<bool> {
+    let Component::One { name, rest } = first(Name::read(text).ok()?.as_slice()) else {
+        return None;
+    };
+    let followed = substitute(alloc, Name::read(target).ok()?.as_slice(), rest).ok()?;
+    let is_link = Name::new(name).as_slice() == b"Link".as_slice();
+    Some(is_link && followed.as_slice() == wanted)
+}
+
+// Whether a line of the table is so.
+fn is_so(alloc: Global, line: &str) -> Option<bool> {
+    let [what, a, b, c, d] = fields(line);
+    let (text, behind, third) = (a.as_bytes(), b.as_bytes(), c.as_bytes());
+    match what {
+        "keeps" => keeps(alloc, text),
+        "splits" => Some(splits(text, behind, third)),
+        "compares" => Some(compares(text, behind, c, d)),
+        "joins" => joins(alloc, text, behind, c),
+        "grows" => joins(
+            alloc,
+            letters(alloc, a.parse().ok()?, behind)?.as_slice(),
+            third,
+            d,
+        ),
+        "follows" => follows(alloc, text, behind, third),
+        _ => None,
+    }
 }
 
 #[test]
-fn judges_the_result(rt: HostRuntime) -> Result<(), Fail> {
-    assert_lines(&rt, rt.alloc(), LENGTHS, is_judged_so)
+fn names_are_kept_split_compared_and_joined(rt: HostRuntime) {
+    for line in NAMES.trim().lines() {
+        assert!(rt; is_so(rt.alloc(), line) == Some(true), "{line}");
+    }
 }

@@ -1,89 +1,79 @@
 //! The edges of a limit, and a life of an object under the counted set.
 
-use crate::objects::{hand_over_laws, is_of_kind, refusal};
-use crate::tables::{assert_lines, fields, refused};
-use ob_plain::{
-    Counting, Plain, PlainFace, PlainInner, PlainKind, Standard, accepted_opens_count, limit_of,
-};
+use crate::objects::{is_of_kind, refusal};
+use crate::tables::fields;
+use ob_plain::{Counting, Plain, PlainFace, PlainInner, PlainKind, Standard, limit_of};
 use ob_types::{Reason, TypeSet, close_last, is_one_kind, open_or_leave};
 use std::alloc::Global;
-use std::test::Fail;
 
-// Arguments, and the limit that they say.
-const LIMITS: &'static str = "
-1      | 1
-10     | 10
-65535  | 65535
-       | none
-0      | none
-01     | none
-65536  | none
-655350 | none
-+1     | none
-1:     | none
-1/     | none
+// Arguments and the limit that they say; kinds; and arguments of an event, and that one is made of them, or the number
+// that refuses it.
+const PLAIN: &'static str = "
+limit | 1      | 1
+limit | 10     | 10
+limit | 65535  | 65535
+limit |        | none
+limit | 0      | none
+limit | 01     | none
+limit | 65536  | none
+limit | 655350 | none
+limit | +1     | none
+limit | 1:     | none
+limit | 1/     | none
+kind  | Event
+kind  | Mutant
+kind  | Section
+event |        | made
+event | 1      | made
+event | 65535  | made
+event | 0      | 1
+event | 01     | 1
+event | 65536  | 1
+event | \x1f   | 1
 ";
 
-fn says_so(_alloc: Global, line: &str) -> Result<bool, Fail> {
-    let [args, limit, ..] = fields(line);
-    Ok(match limit_of(args.as_bytes()) {
-        Some(found) => limit.parse().ok() == Some(found),
-        None => limit == "none",
-    })
+fn kind(name: &str) -> Option<PlainKind> {
+    match name {
+        "Event" => Some(PlainKind::Event),
+        "Mutant" => Some(PlainKind::Mutant),
+        "Section" => Some(PlainKind::Section),
+        _ => None,
+    }
 }
 
-#[test]
-fn limits(rt: HostRuntime) -> Result<(), Fail> {
-    assert!(rt; limit_of(b"1 ").is_none());
-    assert_lines(&rt, rt.alloc(), LIMITS, says_so)
-}
-
-const KINDS: [(PlainKind, &'static str); 3] = [
-    (PlainKind::Event, "Event"),
-    (PlainKind::Mutant, "Mutant"),
-    (PlainKind::Section, "Section"),
-];
-
-// Whether a face is of this kind, of this name, in a set, and is of another one where it should be.
-fn is_named<T: TypeSet>(face: &T::Face, kind: T::Kind, name: &str, event: T::Kind) -> bool {
-    let is_event = is_one_kind::<T>(kind, event);
-    let is_turned = is_one_kind::<T>(event, kind);
-    is_of_kind::<T>(face, kind, name, false)
+// Whether a kind has this name in a set, and is another one than an event where it should be.
+fn is_named<T: TypeSet<Kind = PlainKind, Face = PlainFace>>(kind: PlainKind, name: &str) -> bool {
+    let is_event = is_one_kind::<T>(kind, PlainKind::Event);
+    let is_turned = is_one_kind::<T>(PlainKind::Event, kind);
+    is_of_kind::<T>(&PlainFace { kind }, kind, name, false)
         && is_event == is_turned
         && is_event == (name == "Event")
 }
 
-#[test]
-fn names_of_kinds(rt: HostRuntime) {
-    for (kind, name) in KINDS {
-        let face = PlainFace { kind };
-        let is_plain = is_named::<Plain>(&face, kind, name, PlainKind::Event);
-        let is_standard = is_named::<Standard>(&face, kind, name, PlainKind::Event);
-        assert!(rt; is_plain && is_standard, "at {name}");
+// Whether a line of the table is so in a set.
+fn is_so<T: TypeSet<Kind = PlainKind, Face = PlainFace>>(
+    alloc: Global,
+    line: &str,
+) -> Option<bool> {
+    let [what, text, wanted, ..] = fields(line);
+    match what {
+        "limit" => Some(limit_of(text.as_bytes()) == wanted.parse().ok()),
+        "kind" => Some(is_named::<T>(kind(text)?, text)),
+        "event" => {
+            let refused = refusal::<T>(alloc, PlainKind::Event, text.as_bytes())?;
+            Some(refused == wanted.parse().ok())
+        }
+        _ => None,
     }
 }
 
-// Arguments of an event, and whether one is made of them or a number refuses it.
-const ARGUMENTS: &'static str = "
-      | made
-1     | made
-65535 | made
-0     | refused 1
-01    | refused 1
-65536 | refused 1
-\x1f  | refused 1
-";
-
-fn is_made_so(alloc: Global, line: &str) -> Result<bool, Fail> {
-    let [args, wanted, ..] = fields(line);
-    let plain = refusal::<Plain>(alloc, PlainKind::Event, args.as_bytes())?;
-    let standard = refusal::<Standard>(alloc, PlainKind::Event, args.as_bytes())?;
-    Ok(plain == refused(wanted) && standard == refused(wanted))
-}
-
 #[test]
-fn arguments(rt: HostRuntime) -> Result<(), Fail> {
-    assert_lines(&rt, rt.alloc(), ARGUMENTS, is_made_so)
+fn limits_and_kinds_are_those_of_the_table(rt: HostRuntime) {
+    assert!(rt; limit_of(b"1 ").is_none());
+    for line in PLAIN.trim().lines() {
+        assert!(rt; is_so::<Plain>(rt.alloc(), line) == Some(true), "{line}");
+        assert!(rt; is_so::<Standard>(rt.alloc(), line) == Some(true), "{line}");
+    }
 }
 
 // Whether an object that takes one open refuses two more with 2.
@@ -116,10 +106,4 @@ fn handles_stop_at_the_greatest(rt: HostRuntime) {
     assert!(rt; opened == Ok(()) && inner.handles == u32::MAX);
     Plain.on_close(&mut inner, 0, 3);
     assert!(rt; inner.handles == 3);
-}
-
-#[test]
-fn laws_at_the_standard_set(_rt: HostRuntime) {
-    hand_over_laws::<Standard>();
-    accepted_opens_count::<Plain>();
 }
