@@ -1,14 +1,12 @@
 //! What a recorder keeps of the calls of a namespace is as the law of lifetimes says: closes are counted, and a delete
 //! is last, behind the last close.
 
-use ob_base::{Fault, Handle, Proc, Status};
-use ob_core::{Brought, Bytes, Command, Core, OpenTable, Place, Started};
-use ob_laws::lifetime_law;
-use ob_plain::{Call, CallKind, Plain, PlainFace, PlainInner, PlainKind, Recorder};
+use crate::asking::status;
+use ob_base::{Fault, Handle, Proc};
+use ob_core::{Bytes, Command, Core, OpenTable, Place};
+use ob_plain::{Call, CallKind, Plain, PlainKind, Recorder};
+use ob_types::{Reason, TypeSet};
 use std::alloc::{AllocError, Global};
-use std::test::Fail;
-
-type Namespace = Core<Recorder<Plain>, OpenTable>;
 
 // How many commands are asked, and how many calls may be kept.
 const COMMANDS: u32 = 3_000;
@@ -32,41 +30,42 @@ impl Draw {
 }
 
 // The name of an event: a letter in the root.
-fn name(draw: &mut Draw) -> [u8; 2] {
-    [
-        b'\\',
-        b'A'.wrapping_add(u8::try_from(draw.next(26)).unwrap_or(0)),
-    ]
+fn name(alloc: Global, draw: &mut Draw) -> Result<Bytes, AllocError> {
+    let letter = b'A'.wrapping_add(u8::try_from(draw.next(26)).unwrap_or(0));
+    Bytes::from_slice(alloc, &[b'\\', letter])
 }
 
-fn create(alloc: Global, name: &[u8], attrs: u32) -> Result<Command<PlainKind>, AllocError> {
-    Ok(Command::CreateObject {
-        place: Place::At {
-            root: None,
-            name: Bytes::from_slice(alloc, name)?,
-        },
+fn create<K: Copy>(alloc: Global, name: Bytes, attrs: u32, kind: K) -> Command<K> {
+    let root = None;
+    Command::CreateObject {
+        place: Place::At { root, name },
         attrs,
-        kind: PlainKind::Event,
+        kind,
         args: Bytes::new(Vec::new(alloc)),
-    })
+    }
 }
 
-fn open(alloc: Global, name: &[u8]) -> Result<Command<PlainKind>, AllocError> {
-    Ok(Command::OpenObject {
+fn open<K: Copy>(name: Bytes) -> Command<K> {
+    Command::OpenObject {
         root: None,
-        name: Bytes::from_slice(alloc, name)?,
+        name,
         attrs: 0,
         want: None,
-    })
+    }
 }
 
 // A command that is drawn: handles are the first few of a table, and are duplicated into the newest process.
-fn command(alloc: Global, draw: &mut Draw, newest: u32) -> Result<Command<PlainKind>, AllocError> {
+fn command<K: Copy>(
+    alloc: Global,
+    draw: &mut Draw,
+    newest: u32,
+    kind: K,
+) -> Result<Command<K>, AllocError> {
     let handle = Handle(draw.next(3).wrapping_mul(4).wrapping_add(4));
     match draw.next(10) {
-        0 => create(alloc, &name(draw), 0x82),
-        1 | 2 => create(alloc, &name(draw), 0x80),
-        3 => open(alloc, &name(draw)),
+        0 => Ok(create(alloc, name(alloc, draw)?, 0x82, kind)),
+        1 | 2 => Ok(create(alloc, name(alloc, draw)?, 0x80, kind)),
+        3 => Ok(open(name(alloc, draw)?)),
         4 => Ok(Command::Duplicate {
             handle,
             to: Proc(newest),
@@ -78,32 +77,26 @@ fn command(alloc: Global, draw: &mut Draw, newest: u32) -> Result<Command<PlainK
     }
 }
 
-fn start(core: &mut Namespace, process: Proc, command: &Command<PlainKind>) -> Result<(), Fault> {
-    match core.start(process, command)? {
-        Started::Done(_) => Ok(()),
-        Started::Parsing(parsing) => {
-            core.abandon(Brought::Unrun(parsing));
-            Err(Fault::Refused(Status::InvalidParameter))
-        }
-    }
-}
-
 // Process 1 begins others, and the newest few of these ask for the rest; those before them exit.
-fn play(alloc: Global, core: &mut Namespace) -> Result<(), Fault> {
+fn play<T: TypeSet>(
+    alloc: Global,
+    core: &mut Core<T, OpenTable>,
+    kind: T::Kind,
+) -> Result<(), Fault> {
     let mut draw = Draw { state: 7 };
     for _ in 0..COMMANDS {
         let newest = core.next_process().0.saturating_sub(1);
         let process = newest.saturating_sub(draw.next(3)).max(1);
         if process == 1 || draw.next(16) == 0 {
             let inherit = false;
-            start(core, Proc(1), &Command::NewProcess { inherit })?;
+            status(core, Proc(1), Command::NewProcess { inherit })?;
             let oldest = newest.saturating_sub(2);
             if oldest > 1 {
-                start(core, Proc(oldest), &Command::ExitProcess)?;
+                status(core, Proc(oldest), Command::ExitProcess)?;
             }
         } else {
-            let command = command(alloc, &mut draw, newest)?;
-            start(core, Proc(process), &command)?;
+            let command = command(alloc, &mut draw, newest, kind)?;
+            status(core, Proc(process), command)?;
         }
     }
     Ok(())
@@ -175,33 +168,27 @@ fn counted(calls: &[Call], objects: u64) -> (u32, u32) {
     (deleted, unlawful)
 }
 
-fn lives_in(alloc: Global, core: &mut Namespace) -> Result<(bool, u32, u64), Fault> {
-    play(alloc, core)?;
+// Whether more than 20 objects were deleted, how many lives are unlawful, and how many calls were lost.
+fn lives<T: TypeSet>(alloc: Global, set: T, kind: T::Kind) -> Result<(bool, u32, u64), Fault> {
+    let mut core = Core::new(alloc, Recorder::new(alloc, set, ROOM)?)?;
+    play(alloc, &mut core, kind)?;
     let set = core.set();
     let (deleted, unlawful) = counted(set.calls(), 600);
     Ok((deleted > 20, unlawful, set.lost()))
 }
 
-fn lives(alloc: Global) -> Result<(bool, u32, u64), Fault> {
-    let set = Recorder::new(alloc, Plain, ROOM)?;
-    let mut core = Core::new(alloc, set)?;
-    lives_in(alloc, &mut core)
-}
-
 #[test]
-fn recorded_calls_are_lives_that_the_law_allows(rt: HostRuntime) -> Result<(), Fail> {
-    lifetime_law::<PlainKind, Plain, PlainFace, PlainInner>();
-    assert_eq!(rt; lives(rt.alloc())?, (true, 0, 0));
-    Ok(())
+fn recorded_calls_are_lives_that_the_law_allows(rt: HostRuntime) {
+    assert!(rt; lives(rt.alloc(), Plain, PlainKind::Event) == Ok((true, 0, 0)));
 }
 
 #[test]
 fn a_close_that_is_counted_wrong_is_no_life(rt: HostRuntime) {
-    let opened = CallKind::Opened(ob_types::Reason::Created);
     let closed = CallKind::Closed {
         process_left: 0,
         system_left: 1,
     };
+    let opened = CallKind::Opened(Reason::Created);
     let calls = [
         Call {
             serial: 1,

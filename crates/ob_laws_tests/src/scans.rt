@@ -1,14 +1,12 @@
 //! A directory of 20,000 names, listed in pages of every size from one entry to all, is shown whole each time, in the
 //! order in which the names were made.
 
+use crate::asking::{reply, status};
 use ob_base::{Fault, Handle, Proc, Status};
-use ob_core::{Brought, Bytes, Command, Core, Entries, Given, OpenTable, Place, Reply, Started};
-use ob_laws::scan_law;
-use ob_plain::{Plain, PlainFace, PlainInner, PlainKind};
+use ob_core::{Bytes, Command, Core, Entries, Given, OpenTable, Place};
+use ob_plain::{Plain, PlainKind};
+use ob_types::TypeSet;
 use std::alloc::{AllocError, Global};
-use std::test::Fail;
-
-type Namespace = Core<Plain, OpenTable>;
 
 // How many names the directory has.
 const NAMES: u32 = 20_000;
@@ -37,7 +35,7 @@ fn name(number: u32) -> [u8; 5] {
     ]
 }
 
-fn directory(alloc: Global) -> Result<Command<PlainKind>, AllocError> {
+fn directory<K: Copy>(alloc: Global) -> Result<Command<K>, AllocError> {
     Ok(Command::CreateDirectory {
         place: Place::At {
             root: None,
@@ -47,38 +45,28 @@ fn directory(alloc: Global) -> Result<Command<PlainKind>, AllocError> {
     })
 }
 
-fn event(alloc: Global, number: u32) -> Result<Command<PlainKind>, AllocError> {
+fn event<K: Copy>(alloc: Global, kind: K, number: u32) -> Result<Command<K>, AllocError> {
     Ok(Command::CreateObject {
         place: Place::At {
             root: Some(DIRECTORY),
             name: Bytes::from_slice(alloc, &name(number))?,
         },
         attrs: 0,
-        kind: PlainKind::Event,
+        kind,
         args: Bytes::new(Vec::new(alloc)),
     })
 }
 
-fn reply(core: &mut Namespace, command: &Command<PlainKind>) -> Result<Reply, Fault> {
-    match core.start(Proc(1), command)? {
-        Started::Done(reply) => Ok(reply),
-        Started::Parsing(parsing) => {
-            core.abandon(Brought::Unrun(parsing));
-            Err(Fault::Refused(Status::InvalidParameter))
-        }
-    }
-}
-
-fn status(core: &mut Namespace, command: &Command<PlainKind>) -> Result<Status, Fault> {
-    let reply = reply(core, command)?;
-    Ok(reply.status)
-}
-
 // Makes the directory and its names, and tells whether all were made.
-fn fill(alloc: Global, core: &mut Namespace) -> Result<bool, Fault> {
-    let mut all = status(core, &directory(alloc)?)? == Status::Success;
+fn fill<T: TypeSet>(
+    alloc: Global,
+    core: &mut Core<T, OpenTable>,
+    kind: T::Kind,
+) -> Result<bool, Fault> {
+    let mut all = status(core, Proc(1), directory(alloc)?)? == Status::Success;
     for number in 0..NAMES {
-        all = status(core, &event(alloc, number)?)? == Status::Success && all;
+        let event = event(alloc, kind, number)?;
+        all = status(core, Proc(1), event)? == Status::Success && all;
     }
     Ok(all)
 }
@@ -94,10 +82,13 @@ fn in_order(entries: &Entries, first: u32) -> u32 {
     number.saturating_sub(first)
 }
 
+// What is asked of a page: its room, and whether one entry alone.
+type Asked = (u32, bool);
+
 // A page behind a context: whether more may be asked for, how many entries are the next ones, and its context.
-fn page(
-    core: &mut Namespace,
-    asked: (u32, bool),
+fn page<T: TypeSet>(
+    core: &mut Core<T, OpenTable>,
+    asked: Asked,
     context: u64,
     first: u32,
 ) -> Result<(bool, u32, u64), Fault> {
@@ -109,7 +100,7 @@ fn page(
         single,
         restart: false,
     };
-    let reply = reply(core, &command)?;
+    let reply = reply(core, Proc(1), &command)?;
     match &reply.given {
         Given::Page { entries, context } => {
             let more = reply.status != Status::NoMoreEntries;
@@ -121,7 +112,7 @@ fn page(
 
 // A scan in pages of this room, one entry each or all that fit: how many pages it takes, and how many names it shows in
 // their order.
-fn scan(core: &mut Namespace, asked: (u32, bool)) -> Result<(u32, u32), Fault> {
+fn scan<T: TypeSet>(core: &mut Core<T, OpenTable>, asked: Asked) -> Result<(u32, u32), Fault> {
     let mut context = 0;
     let mut shown: u32 = 0;
     for pages in 0..NAMES {
@@ -140,7 +131,11 @@ fn scan(core: &mut Namespace, asked: (u32, bool)) -> Result<(u32, u32), Fault> {
 const ENTRY: u32 = 14;
 
 // The first size from one on to another of whose pages a scan isn't as it should be: all names, in as few pages as can be.
-fn wrong_size(core: &mut Namespace, from: u32, to: u32) -> Result<Option<u32>, Fault> {
+fn wrong_size<T: TypeSet>(
+    core: &mut Core<T, OpenTable>,
+    from: u32,
+    to: u32,
+) -> Result<Option<u32>, Fault> {
     for size in from..=to {
         let wanted = (NAMES.div_ceil(size.max(1)), NAMES);
         if scan(core, (ENTRY.saturating_mul(size), false))? != wanted {
@@ -150,111 +145,58 @@ fn wrong_size(core: &mut Namespace, from: u32, to: u32) -> Result<Option<u32>, F
     Ok(None)
 }
 
-fn wrong_size_in_a_new_one(
-    alloc: Global,
-    core: &mut Namespace,
-    from: u32,
-    to: u32,
-) -> Result<Option<u32>, Fault> {
-    if !fill(alloc, core)? {
-        return Ok(Some(0));
-    }
-    wrong_size(core, from, to)
-}
-
-fn wrong_size_of(alloc: Global, from: u32, to: u32) -> Result<Option<u32>, Fault> {
-    let mut core = Core::new(alloc, Plain)?;
-    wrong_size_in_a_new_one(alloc, &mut core, from, to)
-}
-
-// Pages of one entry, whether one alone is asked for or a second lacks a byte, and pages of all with room to spare.
-const SCANS: [((u32, bool), (u32, u32)); 3] = [
-    ((14, true), (NAMES, NAMES)),
-    ((27, false), (NAMES, NAMES)),
-    ((1_048_576, false), (1, NAMES)),
+// Pages of one entry, whether one alone is asked for or a second lacks a byte, and pages of all with room to spare; and
+// how many of them a scan takes.
+const SCANS: [(Asked, u32); 3] = [
+    ((14, true), NAMES),
+    ((27, false), NAMES),
+    ((1_048_576, false), 1),
 ];
 
 // The room of the first scan that isn't as it should be.
-fn wrong_scan(alloc: Global, core: &mut Namespace) -> Result<Option<u32>, Fault> {
-    if !fill(alloc, core)? {
-        return Ok(Some(0));
-    }
-    for (asked, wanted) in SCANS {
-        if scan(core, asked)? != wanted {
+fn wrong_scan<T: TypeSet>(core: &mut Core<T, OpenTable>) -> Result<Option<u32>, Fault> {
+    for (asked, pages) in SCANS {
+        if scan(core, asked)? != (pages, NAMES) {
             return Ok(Some(asked.0));
         }
     }
     Ok(None)
 }
 
-fn wrong_scan_of_a_new_one(alloc: Global) -> Result<Option<u32>, Fault> {
-    let mut core = Core::new(alloc, Plain)?;
-    wrong_scan(alloc, &mut core)
+// The same of a new namespace: a room, or else a size from one on to another; 0 where a name isn't made.
+fn wrong<T: TypeSet>(
+    alloc: Global,
+    set: T,
+    kind: T::Kind,
+    from: u32,
+    to: u32,
+) -> Result<Option<u32>, Fault> {
+    let mut core = Core::new(alloc, set)?;
+    if !fill(alloc, &mut core, kind)? {
+        return Ok(Some(0));
+    }
+    match wrong_scan(&mut core)? {
+        Some(room) => Ok(Some(room)),
+        None => wrong_size(&mut core, from, to),
+    }
 }
 
 #[test]
-fn pages_of_one_and_of_all_show_each_name_once(rt: HostRuntime) -> Result<(), Fail> {
-    scan_law::<PlainKind, Plain, PlainFace, PlainInner>();
-    assert_eq!(rt; wrong_scan_of_a_new_one(rt.alloc())?, None);
-    Ok(())
+fn pages_of_one_of_all_and_of_1_to_5000_entries_show_each_name_once(rt: HostRuntime) {
+    assert!(rt; wrong(rt.alloc(), Plain, PlainKind::Event, 1, 5_000) == Ok(None));
 }
 
 #[test]
-fn pages_of_1_to_2000_entries_show_each_name_once(rt: HostRuntime) -> Result<(), Fail> {
-    assert_eq!(rt; wrong_size_of(rt.alloc(), 1, 2_000)?, None);
-    Ok(())
+fn pages_of_5001_to_10000_entries_show_each_name_once(rt: HostRuntime) {
+    assert!(rt; wrong(rt.alloc(), Plain, PlainKind::Event, 5_001, 10_000) == Ok(None));
 }
 
 #[test]
-fn pages_of_2001_to_4000_entries_show_each_name_once(rt: HostRuntime) -> Result<(), Fail> {
-    assert_eq!(rt; wrong_size_of(rt.alloc(), 2_001, 4_000)?, None);
-    Ok(())
+fn pages_of_10001_to_15000_entries_show_each_name_once(rt: HostRuntime) {
+    assert!(rt; wrong(rt.alloc(), Plain, PlainKind::Event, 10_001, 15_000) == Ok(None));
 }
 
 #[test]
-fn pages_of_4001_to_6000_entries_show_each_name_once(rt: HostRuntime) -> Result<(), Fail> {
-    assert_eq!(rt; wrong_size_of(rt.alloc(), 4_001, 6_000)?, None);
-    Ok(())
-}
-
-#[test]
-fn pages_of_6001_to_8000_entries_show_each_name_once(rt: HostRuntime) -> Result<(), Fail> {
-    assert_eq!(rt; wrong_size_of(rt.alloc(), 6_001, 8_000)?, None);
-    Ok(())
-}
-
-#[test]
-fn pages_of_8001_to_10000_entries_show_each_name_once(rt: HostRuntime) -> Result<(), Fail> {
-    assert_eq!(rt; wrong_size_of(rt.alloc(), 8_001, 10_000)?, None);
-    Ok(())
-}
-
-#[test]
-fn pages_of_10001_to_12000_entries_show_each_name_once(rt: HostRuntime) -> Result<(), Fail> {
-    assert_eq!(rt; wrong_size_of(rt.alloc(), 10_001, 12_000)?, None);
-    Ok(())
-}
-
-#[test]
-fn pages_of_12001_to_14000_entries_show_each_name_once(rt: HostRuntime) -> Result<(), Fail> {
-    assert_eq!(rt; wrong_size_of(rt.alloc(), 12_001, 14_000)?, None);
-    Ok(())
-}
-
-#[test]
-fn pages_of_14001_to_16000_entries_show_each_name_once(rt: HostRuntime) -> Result<(), Fail> {
-    assert_eq!(rt; wrong_size_of(rt.alloc(), 14_001, 16_000)?, None);
-    Ok(())
-}
-
-#[test]
-fn pages_of_16001_to_18000_entries_show_each_name_once(rt: HostRuntime) -> Result<(), Fail> {
-    assert_eq!(rt; wrong_size_of(rt.alloc(), 16_001, 18_000)?, None);
-    Ok(())
-}
-
-#[test]
-fn pages_of_18001_to_20000_entries_show_each_name_once(rt: HostRuntime) -> Result<(), Fail> {
-    assert_eq!(rt; wrong_size_of(rt.alloc(), 18_001, 20_000)?, None);
-    Ok(())
+fn pages_of_15001_to_20000_entries_show_each_name_once(rt: HostRuntime) {
+    assert!(rt; wrong(rt.alloc(), Plain, PlainKind::Event, 15_001, 20_000) == Ok(None));
 }
