@@ -14,3 +14,5 @@ mod objects;
 mod pending;
 #[cfg(test)]
 mod processes;
+#[cfg(test)]
+mod tables;

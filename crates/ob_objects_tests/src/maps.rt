@@ -1,53 +1,42 @@
 //! What no clause says: that processes get device maps where memory is ample.
 
+use crate::tables::{object, words};
 use ob_base::{ObjId, Proc};
 use ob_devmap::{Maps, View};
-use std::test::Fail;
 
-const SEVEN: Option<ObjId> = Some(ObjId(7));
+// A process, and the directory of the map that it gets, or none where its map goes. Then what is told: the directories
+// of the maps of processes 1 and 2, and whether the directories 7 and 8 are those of maps.
+const MAPS: &'static str = "
+1 7 7 - true  false
+2 7 7 7 true  false
+1 8 8 7 true  true
+2 - 8 - false true
+2 - 8 - false true
+1 - - - false false
+";
 
-const EIGHT: Option<ObjId> = Some(ObjId(8));
-
-// What is told: the directories of the maps of processes 1 and 2, and whether the directories 7 and 8
-// are those of maps.
-fn told(maps: &Maps) -> (Option<ObjId>, Option<ObjId>, bool, bool) {
-    (
-        maps.view(Proc(1)).local,
-        maps.view(Proc(2)).local,
-        maps.is_mapped(ObjId(7)),
-        maps.is_mapped(ObjId(8)),
+// Whether a step is made, and what a line says is told behind it; of each view the global directory too.
+fn is_so(maps: &mut Maps, line: &str) -> Option<bool> {
+    let [process, directory, first, second, seven, eight, ..] = words(line);
+    let process = Proc(process.parse().ok()?);
+    match object(directory) {
+        Some(directory) => maps.set(process, directory).ok()?,
+        None => maps.clear(process),
+    }
+    let global = ObjId(2);
+    let (one, two) = (object(first), object(second));
+    let are_mapped = (maps.is_mapped(ObjId(7)), maps.is_mapped(ObjId(8)));
+    Some(
+        maps.view(Proc(1)) == View { local: one, global }
+            && maps.view(Proc(2)) == View { local: two, global }
+            && are_mapped == (seven == "true", eight == "true"),
     )
 }
 
 #[test]
-fn processes_get_maps_and_lose_them(rt: HostRuntime) -> Result<(), Fail> {
+fn processes_get_maps_and_lose_them(rt: HostRuntime) {
     let mut maps = Maps::new(rt.alloc());
-    let steps = [
-        (1, SEVEN, (SEVEN, None, true, false)),
-        (2, SEVEN, (SEVEN, SEVEN, true, false)),
-        (1, EIGHT, (EIGHT, SEVEN, true, true)),
-        (2, None, (EIGHT, None, false, true)),
-        (2, None, (EIGHT, None, false, true)),
-        (1, None, (None, None, false, false)),
-    ];
-    for (process, directory, wanted) in steps {
-        match directory {
-            Some(directory) => maps.set(Proc(process), directory)?,
-            None => maps.clear(Proc(process)),
-        }
-        assert!(rt; told(&maps) == wanted);
+    for line in MAPS.trim().lines() {
+        assert!(rt; is_so(&mut maps, line) == Some(true), "{line}");
     }
-    Ok(())
-}
-
-#[test]
-fn a_view_is_a_map_and_the_global_directory(rt: HostRuntime) -> Result<(), Fail> {
-    let mut maps = Maps::new(rt.alloc());
-    maps.set(Proc(1), ObjId(7))?;
-    let global = ObjId(2);
-    let views = [(1, Some(ObjId(7))), (2, None)];
-    for (process, local) in views {
-        assert!(rt; maps.view(Proc(process)) == View { local, global });
-    }
-    Ok(())
 }

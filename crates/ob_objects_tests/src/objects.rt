@@ -1,19 +1,304 @@
 //! A small store: objects and names that come and go, and what it tells of them. All but the tests is over any set
 //! of types, so that one proof of it serves.
 
-ghost use Rattle.std.specs.Prelude.{◌≡◌, [], None, IfOk};
-ghost use Rattle.ob_objects.specs.Store.{stored_at, entries_in};
+ghost use Rattle.std.specs.Prelude.{◌≡◌, [], IfSome};
+ghost use Rattle.ob_objects.specs.Store.{entries_in};
 
-use ob_base::ObjId;
+use crate::tables::{object, words};
+use ob_base::{Fault, ObjId};
 use ob_dirs::Dir;
 use ob_names::{Name, NameBuf};
 use ob_objects::{Place, Store, StoredBody, StoredObject};
-use ob_plain::{Counting, Plain, PlainKind, Standard};
+use ob_plain::{Counting, Plain, PlainKind};
 use ob_types::{Reason, TypeSet};
 use std::alloc::Global;
 use std::process::Abort;
 use std::sync::Arc;
-use std::test::Fail;
+
+// Objects that come and go, a step or what is told a line:
+// - A directory, a link, an object that takes one handle, or an exclusive one, comes under an id.
+// - An object is made permanent, or is removed: whether one goes.
+// - There are so many objects.
+// - Names lie in an object, or don't.
+// - Under an id stands a directory, a link, an object or nothing, permanent or not, exclusive or not; and the greatest
+//   id below.
+const OBJECTS: &'static str = "
+counts    0
+stands    1 nothing   false false -
+comes     1 directory
+comes     2 link
+comes     5 object
+comes     6 exclusive
+counts    4
+holds     1 false
+stands    0 nothing   false false -
+stands    1 directory false false -
+stands    2 link      false false 1
+stands    3 nothing   false false 2
+stands    4 nothing   false false 2
+stands    5 object    false false 2
+stands    6 object    false true  5
+stands    9 nothing   false false 6
+comes     3 directory
+permanent 2
+permanent 4
+counts    5
+holds     3 false
+stands    1 directory false false -
+stands    2 link      true  false 1
+stands    3 directory false false 2
+stands    4 nothing   false false 3
+stands    5 object    false false 3
+stands    9 nothing   false false 6
+removes   3 true
+removes   2 true
+removes   2 false
+counts    3
+stands    1 directory false false -
+stands    2 nothing   false false 1
+stands    3 nothing   false false 1
+stands    5 object    false false 1
+stands    6 object    false true  5
+";
+
+// The body of a new object: a directory, a link, or an object of a kind that takes one handle.
+fn body<T: TypeSet>(
+    alloc: Global,
+    kind: T::Kind,
+    what: &str,
+) -> Option<StoredBody<T::Face, T::Inner>>
+    ensures { IfSome result (λ body. entries_in body ≡ []) }
+{
+    match what {
+        "directory" => Some(StoredBody::directory(alloc)),
+        "link" => Some(StoredBody::Link(named(alloc, b"\\A").ok()?)),
+        "object" | "exclusive" => {
+            let (face, inner) = T::make(alloc, kind, b"1").ok()?;
+            let face = Arc::new(alloc, face).ok()?;
+            Some(StoredBody::Other { face, inner })
+        }
+        _ => None,
+    }
+}
+
+fn named(alloc: Global, bytes: &[u8]) -> Result<NameBuf, Fault> {
+    Ok(NameBuf::from_name(alloc, Name::read(bytes)?)?)
+}
+
+// Whether an object comes under an id that is free.
+fn comes<T: TypeSet>(
+    alloc: Global,
+    store: &mut Store<T>,
+    kind: T::Kind,
+    id: ObjId,
+    what: &str,
+) -> Option<bool> {
+    let None = store.get(id) else {
+        return Some(false);
+    };
+    let object = StoredObject {
+        permanent: false,
+        exclusive: what == "exclusive",
+        body: body::<T>(alloc, kind, what)?,
+    };
+    store.insert(id, object).ok()?;
+    Some(true)
+}
+
+// What stands under an id, and whether that is permanent.
+fn standing<T: TypeSet>(store: &Store<T>, id: ObjId) -> (&'static str, bool) {
+    let Some(object) = store.get(id) else {
+        return ("nothing", false);
+    };
+    let what = match object.body {
+        StoredBody::Directory(_) => "directory",
+        StoredBody::Link(_) => "link",
+        StoredBody::Other { .. } => "object",
+    };
+    (what, object.permanent)
+}
+
+// Whether this is told of an id: what stands there, whether it is permanent, whether it is exclusive, and the greatest
+// id below.
+fn stands<T: TypeSet>(store: &Store<T>, id: ObjId, told: [&str; 4]) -> bool {
+    let [what, permanent, exclusive, before] = told;
+    let (found, is_permanent) = standing(store, id);
+    found == what
+        && is_permanent == (permanent == "true")
+        && store.is_directory(id) == (what == "directory")
+        && store.is_permanent(id) == is_permanent
+        && store.is_exclusive(id) == (exclusive == "true")
+        && store.last_before(id) == object(before)
+}
+
+// Whether the name of an object is told: the directory, the stamp and the spelling, or that it has none.
+fn is_named<T: TypeSet>(store: &Store<T>, id: ObjId, told: [&str; 3]) -> Option<bool> {
+    let [directory, stamp, spelling] = told;
+    let place = store.place_of(id);
+    if directory == "-" {
+        return Some(place.is_none() && !store.has_name(id) && store.name_of(id).is_none());
+    }
+    let (directory, stamp) = (object(directory)?, stamp.parse().ok()?);
+    let is_spelled = match store.name_of(id) {
+        Some(named) => named.directory == directory && named.name() == spelling.as_bytes(),
+        None => false,
+    };
+    Some(is_spelled && store.has_name(id) && place == Some(Place { directory, stamp }))
+}
+
+// The entry that a directory has under a component.
+fn found<T: TypeSet>(store: &Store<T>, directory: ObjId, component: &[u8]) -> Option<(u64, ObjId)> {
+    match &store.get(directory)?.body {
+        StoredBody::Directory(dir) => dir.find(component, false),
+        _ => None,
+    }
+}
+
+// Whether there are so many objects.
+fn counts<T: TypeSet>(store: &Store<T>, count: &str) -> bool {
+    count.parse().ok() == Some(store.len()) && store.is_empty() == (count == "0")
+}
+
+// Whether this entry stands under a component, or none where no stamp is said.
+fn enters<T: TypeSet>(store: &Store<T>, directory: ObjId, told: [&str; 3]) -> Option<bool> {
+    let [component, stamp, id] = told;
+    let entry = found(store, directory, component.as_bytes());
+    if stamp == "-" {
+        return Some(entry.is_none());
+    }
+    Some(entry == Some((stamp.parse().ok()?, object(id)?)))
+}
+
+// Whether a line is told.
+fn is_told<T: TypeSet>(store: &Store<T>, line: &str) -> Option<bool> {
+    let [what, number, a, b, c, d, ..] = words(line);
+    let id = object(number)?;
+    match what {
+        "counts" => Some(counts(store, number)),
+        "holds" => Some(store.holds_names(id) == (a == "true")),
+        "stands" => Some(stands(store, id, [a, b, c, d])),
+        "named" => is_named(store, id, [a, b, c]),
+        "enters" => enters(store, id, [a, b, c]),
+        _ => None,
+    }
+}
+
+// Why an object is opened.
+fn reason(word: &str) -> Option<Reason> {
+    match word {
+        "created" => Some(Reason::Created),
+        "opened" => Some(Reason::Opened),
+        _ => None,
+    }
+}
+
+// Whether an object is opened for a reason, or refused with a number; where no reason is said it is closed.
+fn is_opened<T: TypeSet>(
+    set: &mut T,
+    store: &mut Store<T>,
+    id: ObjId,
+    why: &str,
+    code: &str,
+) -> Option<bool> {
+    if why.is_empty() {
+        store.close(id, set, 0, 0);
+        return Some(true);
+    }
+    Some(store.open(id, set, reason(why)?).err() == code.parse().ok())
+}
+
+// Whether the name of a stamp goes where it is to go.
+fn unnames<T: TypeSet>(store: &mut Store<T>, id: ObjId, stamp: &str, goes: &str) -> Option<bool> {
+    Some(store.remove_name(id, stamp.parse().ok()?) == (goes == "true"))
+}
+
+// Whether a step is made, or a line is told.
+fn is_so<T: TypeSet>(
+    alloc: Global,
+    set: &mut T,
+    store: &mut Store<T>,
+    kind: T::Kind,
+    line: &str,
+) -> Option<bool> {
+    let [what, id, a, b, ..] = words(line);
+    let id = object(id)?;
+    match what {
+        "opens" | "closes" => is_opened(set, store, id, a, b),
+        "removes" => Some(store.remove(id).is_some() == (a == "true")),
+        "unnames" => unnames(store, id, a, b),
+        "permanent" => {
+            store.set_permanent(id, true);
+            Some(true)
+        }
+        "comes" => comes(alloc, store, kind, id, a),
+        _ => is_told(store, line),
+    }
+}
+
+// Whether each line of a text is told.
+fn are_told<T: TypeSet>(store: &Store<T>, text: &str) -> bool {
+    for line in text.trim().lines() {
+        if is_told(store, line) != Some(true) {
+            return false;
+        }
+    }
+    true
+}
+
+// Asserts that each step of a text is made, and that behind each these lines are told.
+fn assert_made<T: TypeSet>(
+    rt: &impl Abort,
+    alloc: Global,
+    set: &mut T,
+    store: &mut Store<T>,
+    kind: T::Kind,
+    steps: &str,
+    told: &str,
+) {
+    for step in steps.trim().lines() {
+        let is_made = is_so(alloc, set, store, kind, step) == Some(true);
+        assert!(rt; is_made && are_told(store, told), "{step}");
+    }
+}
+
+fn assert_objects<T: TypeSet>(
+    rt: &impl Abort,
+    alloc: Global,
+    set: &mut T,
+    kind: T::Kind,
+    steps: &str,
+) {
+    let mut store: Store<T> = Store::new(alloc);
+    assert_made(rt, alloc, set, &mut store, kind, steps, "");
+}
+
+#[test]
+fn objects_come_and_go_in_the_order_of_their_ids(rt: HostRuntime) {
+    let mut set = Counting::new(Plain);
+    assert_objects(&rt, rt.alloc(), &mut set, PlainKind::Event, OBJECTS);
+}
+
+// Objects that are opened and closed, where one of them takes one handle: why, and the number that refuses.
+const OPENS: &'static str = "
+comes     1 directory
+comes     2 link
+comes     5 object
+comes     6 exclusive
+opens     5 created accepted
+opens     5 opened  2
+opens     1 opened  accepted
+opens     9 opened  accepted
+closes    5
+closes    2
+opens     5 opened  accepted
+";
+
+#[test]
+fn an_object_is_opened_and_closed(rt: HostRuntime) {
+    let mut set = Counting::new(Plain);
+    assert_objects(&rt, rt.alloc(), &mut set, PlainKind::Event, OPENS);
+    assert!(rt; set.opens() == 2 && set.closes() == 1);
+}
 
 // A temporary object, not exclusive.
 fn temporary<F, I>(body: StoredBody<F, I>) -> StoredObject<F, I>
@@ -26,373 +311,91 @@ fn temporary<F, I>(body: StoredBody<F, I>) -> StoredObject<F, I>
     }
 }
 
-// An object that one handle may be open to.
-fn limited<T: TypeSet>(
-    alloc: Global,
-    kind: T::Kind,
-    exclusive: bool,
-) -> Result<StoredObject<T::Face, T::Inner>, Fail>
-    ensures { IfOk result (λ stored. entries_in stored.body ≡ []) }
-{
-    let Ok((face, inner)) = T::make(alloc, kind, b"1") else {
-        return Err(Fail::from("no object"));
-    };
-    let face = Arc::new(alloc, face)?;
-    Ok(StoredObject {
-        permanent: false,
-        exclusive,
-        body: StoredBody::Other { face, inner },
-    })
-}
-
-fn link<T: TypeSet>(alloc: Global) -> Result<StoredObject<T::Face, T::Inner>, Fail>
-    ensures { IfOk result (λ stored. entries_in stored.body ≡ []) }
-{
-    let target = NameBuf::from_name(alloc, Name::read(b"\\A")?)?;
-    Ok(temporary(StoredBody::Link(target)))
-}
-
-// Stores a directory, 1, a link, 2, an object of a kind, 5, and an exclusive one, 6.
-fn fill<T: TypeSet>(alloc: Global, store: &mut Store<T>, kind: T::Kind) -> Result<(), Fail>
-    requires { store.old ≡ [] }
-    ensures between { IfOk result (λ _. stored_at store.new 3 ≡ None) }
-{
-    store.insert(ObjId(1), temporary(StoredBody::Directory(Dir::new(alloc))))?;
-    store.insert(ObjId(2), link::<T>(alloc)?)?;
-    store.insert(ObjId(5), limited::<T>(alloc, kind, false)?)?;
-    store.insert(ObjId(6), limited::<T>(alloc, kind, true)?)?;
-    Ok(())
-}
-
-// What is stored under an id.
-#[derive(Clone, Copy)]
-enum What {
-    Nothing,
-    Directory,
-    Link,
-    Object,
-}
-
-// An id, what is stored under it, whether that is permanent, whether it is exclusive, and the greatest id below.
-type Told = (u64, What, bool, bool, Option<u64>);
-
-// What a store tells of four objects, with a directory that came under a lower id, and where two of them are gone
-// again.
-const OF_FOUR: [Told; 8] = [
-    (0, What::Nothing, false, false, None),
-    (1, What::Directory, false, false, None),
-    (2, What::Link, false, false, Some(1)),
-    (3, What::Nothing, false, false, Some(2)),
-    (4, What::Nothing, false, false, Some(2)),
-    (5, What::Object, false, false, Some(2)),
-    (6, What::Object, false, true, Some(5)),
-    (9, What::Nothing, false, false, Some(6)),
-];
-
-const OF_FIVE: [Told; 6] = [
-    (1, What::Directory, false, false, None),
-    (2, What::Link, true, false, Some(1)),
-    (3, What::Directory, false, false, Some(2)),
-    (4, What::Nothing, false, false, Some(3)),
-    (5, What::Object, false, false, Some(3)),
-    (9, What::Nothing, false, false, Some(6)),
-];
-
-const OF_THREE: [Told; 5] = [
-    (1, What::Directory, false, false, None),
-    (2, What::Nothing, false, false, Some(1)),
-    (3, What::Nothing, false, false, Some(1)),
-    (5, What::Object, false, false, Some(1)),
-    (6, What::Object, false, true, Some(5)),
-];
-
-// Whether this is stored under an id, and is permanent or not.
-fn is_stored<T: TypeSet>(store: &Store<T>, id: ObjId, what: What, permanent: bool) -> bool {
-    let Some(object) = store.get(id) else {
-        return matches!(what, What::Nothing) && !permanent;
-    };
-    let is_it = match what {
-        What::Nothing => false,
-        What::Directory => matches!(object.body, StoredBody::Directory(_)),
-        What::Link => matches!(object.body, StoredBody::Link(_)),
-        What::Object => matches!(object.body, StoredBody::Other { .. }),
-    };
-    is_it && object.permanent == permanent
-}
-
-fn tells<T: TypeSet>(store: &Store<T>, told: Told) -> bool {
-    let (id, what, permanent, exclusive, before) = told;
-    let id = ObjId(id);
-    let last = match store.last_before(id) {
-        Some(last) => Some(last.0),
-        None => None,
-    };
-    is_stored(store, id, what, permanent)
-        && store.is_directory(id) == matches!(what, What::Directory)
-        && store.is_permanent(id) == permanent
-        && store.is_exclusive(id) == exclusive
-        && last == before
-}
-
-// The first id of which a store tells something else.
-fn first_other<T: TypeSet>(store: &Store<T>, table: &[Told]) -> Option<u64> {
-    for told in table {
-        if !tells(store, *told) {
-            return Some(told.0);
-        }
-    }
-    None
-}
-
-// Each table is named in one short function: one that is named in a longer function is gone through at each step of
-// its proof.
-fn first_other_of_four<T: TypeSet>(store: &Store<T>) -> Option<u64> {
-    first_other(store, &OF_FOUR)
-}
-
-fn first_other_of_five<T: TypeSet>(store: &Store<T>) -> Option<u64> {
-    first_other(store, &OF_FIVE)
-}
-
-fn first_other_of_three<T: TypeSet>(store: &Store<T>) -> Option<u64> {
-    first_other(store, &OF_THREE)
-}
-
-// Whether objects go that are removed: the one under a lower id, another one, and that again.
-fn remove_three<T: TypeSet>(store: &mut Store<T>) -> [bool; 3] {
-    [
-        store.remove(ObjId(3)).is_some(),
-        store.remove(ObjId(2)).is_some(),
-        store.remove(ObjId(2)).is_some(),
-    ]
-}
-
-// Objects come and go in a store.
-fn come_and_go<T: TypeSet>(
-    rt: &impl Abort,
-    alloc: Global,
-    store: &mut Store<T>,
-    kind: T::Kind,
-) -> Result<(), Fail>
-    requires { store.old ≡ [] }
-{
-    assert!(rt; store.is_empty() && store.len() == 0 && store.get(ObjId(1)).is_none());
-    fill(alloc, store, kind)?;
-    assert!(rt; !store.is_empty() && store.len() == 4 && !store.holds_names(ObjId(1)));
-    assert_eq!(rt; first_other_of_four(store), None);
-    store.insert(ObjId(3), temporary(StoredBody::directory(alloc)))?;
-    store.set_permanent(ObjId(2), true);
-    store.set_permanent(ObjId(4), true);
-    assert!(rt; store.len() == 5 && !store.holds_names(ObjId(3)));
-    assert_eq!(rt; first_other_of_five(store), None);
-    let went = remove_three(store);
-    assert!(rt; went == [true, true, false] && store.len() == 3);
-    assert_eq!(rt; first_other_of_three(store), None);
-    Ok(())
-}
-
-fn objects_of_a_set<T: TypeSet>(rt: &impl Abort, alloc: Global, kind: T::Kind) -> Result<(), Fail> {
-    let mut store: Store<T> = Store::new(alloc);
-    come_and_go(rt, alloc, &mut store, kind)
-}
-
-#[test]
-fn objects_come_and_go_in_the_order_of_their_ids(rt: HostRuntime) -> Result<(), Fail> {
-    objects_of_a_set::<Standard>(&rt, rt.alloc(), PlainKind::Event)
-}
-
 // Stores two directories, 1 and 4, in the first a name of stamp 7 for the object 5, in the second one of stamp 3
 // for the object 6, and then a link, 2.
-fn fill_named<T: TypeSet>(alloc: Global, store: &mut Store<T>) -> Result<(), Fail>
+fn fill_named<T: TypeSet>(alloc: Global, store: &mut Store<T>) -> Result<(), Fault>
     requires { store.old ≡ [] }
 {
     store.insert(ObjId(1), temporary(StoredBody::Directory(Dir::new(alloc))))?;
     store.insert_name(ObjId(1), 7, named(alloc, b"Event")?, ObjId(5))?;
     store.insert(ObjId(4), temporary(StoredBody::Directory(Dir::new(alloc))))?;
     store.insert_name(ObjId(4), 3, named(alloc, b"Old")?, ObjId(6))?;
-    store.insert(ObjId(2), link::<T>(alloc)?)?;
+    store.insert(ObjId(2), temporary(StoredBody::Link(named(alloc, b"\\A")?)))?;
     Ok(())
 }
 
-fn named(alloc: Global, bytes: &[u8]) -> Result<NameBuf, Fail> {
-    Ok(NameBuf::from_name(alloc, Name::read(bytes)?)?)
-}
+// No name goes for another stamp, or where there is no directory: a directory, a stamp, and whether a name goes.
+const NONE_GOES: &'static str = "
+unnames 1 8 false
+unnames 1 3 false
+unnames 2 7 false
+unnames 9 7 false
+";
 
-// An object and its name: the directory, the stamp and the spelling.
-type NameTold = (u64, Option<(u64, u64, &'static [u8])>);
+// What is told of both names then: of an object the directory, the stamp and the spelling of its name; whether names
+// lie in a directory, and which entry stands under a spelling.
+const BOTH: &'static str = "
+named  5 1 7 Event
+named  6 4 3 Old
+named  1 -
+named  2 -
+named  4 -
+named  9 -
+holds  1 true
+holds  4 true
+enters 1 Event 7 5
+";
 
-// What a store tells with both names, with the second alone, and with the first alone.
-const BOTH: [NameTold; 6] = [
-    (5, Some((1, 7, b"Event"))),
-    (6, Some((4, 3, b"Old"))),
-    (1, None),
-    (2, None),
-    (4, None),
-    (9, None),
-];
+// The first name goes, and then not again; the second is told.
+const FIRST_GOES: &'static str = "
+unnames 1 7 true
+unnames 1 7 false
+";
 
-const SECOND: [NameTold; 2] = [(5, None), (6, Some((4, 3, b"Old")))];
+const SECOND: &'static str = "
+named 5 -
+named 6 4 3 Old
+holds 1 false
+holds 4 true
+enters 1 Event -
+";
 
-const FIRST: [NameTold; 2] = [(5, Some((1, 7, b"Event"))), (6, None)];
+// The second name goes with its directory, and the first is told.
+const DIRECTORY_GOES: &'static str = "
+removes 4 true
+unnames 4 3 false
+";
 
-fn tells_name<T: TypeSet>(store: &Store<T>, told: NameTold) -> bool {
-    let (id, wanted) = told;
-    let (id, place) = (ObjId(id), store.place_of(ObjId(id)));
-    let Some((directory, stamp, spelling)) = wanted else {
-        return place.is_none() && !store.has_name(id) && store.name_of(id).is_none();
-    };
-    let directory = ObjId(directory);
-    let is_named = match store.name_of(id) {
-        Some(named) => named.directory == directory && named.name() == spelling,
-        None => false,
-    };
-    is_named && store.has_name(id) && place == Some(Place { directory, stamp })
-}
+const FIRST: &'static str = "
+named  5 1 7 Event
+named  6 -
+holds  1 true
+holds  4 false
+enters 1 Event 7 5
+";
 
-// The first object of whose name a store tells something else.
-fn first_misnamed<T: TypeSet>(store: &Store<T>, table: &[NameTold]) -> Option<u64> {
-    for told in table {
-        if !tells_name(store, *told) {
-            return Some(told.0);
-        }
-    }
-    None
-}
-
-// The entry that a directory has under a component.
-fn found<T: TypeSet>(store: &Store<T>, directory: ObjId, component: &[u8]) -> Option<(u64, ObjId)> {
-    match &store.get(directory)?.body {
-        StoredBody::Directory(dir) => dir.find(component, false),
-        _ => None,
-    }
-}
-
-// What tries to go: the name of a stamp in a directory, or an object.
-#[derive(Clone, Copy)]
-enum Going {
-    Name(u64, u64),
-    Object(u64),
-}
-
-fn goes<T: TypeSet>(store: &mut Store<T>, going: Going) -> bool {
-    match going {
-        Going::Name(directory, stamp) => store.remove_name(ObjId(directory), stamp),
-        Going::Object(id) => store.remove(ObjId(id)).is_some(),
-    }
-}
-
-// A step: what tries to go, whether it does, and what a store tells then: of its names, whether names lie in the
-// directories 1 and 4, and the entry of `Event` in the first.
-type Step = (
-    Going,
-    bool,
-    &'static [NameTold],
-    (bool, bool),
-    Option<(u64, ObjId)>,
-);
-
-const EVENT: Option<(u64, ObjId)> = Some((7, ObjId(5)));
-
-// The first name goes, and no other does for the same stamp; then not again.
-const NAME_GOES: [Step; 6] = [
-    (Going::Name(1, 8), false, &BOTH, (true, true), EVENT),
-    (Going::Name(1, 3), false, &BOTH, (true, true), EVENT),
-    (Going::Name(2, 7), false, &BOTH, (true, true), EVENT),
-    (Going::Name(9, 7), false, &BOTH, (true, true), EVENT),
-    (Going::Name(1, 7), true, &SECOND, (false, true), None),
-    (Going::Name(1, 7), false, &SECOND, (false, true), None),
-];
-
-// The second name goes with its directory.
-const DIRECTORY_GOES: [Step; 2] = [
-    (Going::Object(4), true, &FIRST, (true, false), EVENT),
-    (Going::Name(4, 3), false, &FIRST, (true, false), EVENT),
-];
-
-// The number, from 0, of the first step behind which a store of two names tells something else.
-fn first_other_step<T: TypeSet>(
-    alloc: Global,
-    store: &mut Store<T>,
-    steps: &[Step],
-) -> Result<Option<usize>, Fail>
-    requires { store.old ≡ [] }
-{
-    fill_named(alloc, store)?;
-    for (number, &(going, wanted, names, (first, second), event)) in steps.iter().enumerate() {
-        let went = goes(store, going);
-        let holds = (store.holds_names(ObjId(1)), store.holds_names(ObjId(4)));
-        if went != wanted || holds != (first, second) || found(store, ObjId(1), b"Event") != event {
-            return Ok(Some(number));
-        }
-        if first_misnamed(store, names).is_some() {
-            return Ok(Some(number));
-        }
-    }
-    Ok(None)
-}
-
-fn played<T: TypeSet>(alloc: Global, steps: &[Step]) -> Result<Option<usize>, Fail> {
-    let mut store: Store<T> = Store::new(alloc);
-    first_other_step(alloc, &mut store, steps)
-}
-
-fn name_goes<T: TypeSet>(alloc: Global) -> Result<Option<usize>, Fail> {
-    played::<T>(alloc, &NAME_GOES)
-}
-
-fn directory_goes<T: TypeSet>(alloc: Global) -> Result<Option<usize>, Fail> {
-    played::<T>(alloc, &DIRECTORY_GOES)
-}
-
-#[test]
-fn names_go_alone_or_with_their_directory(rt: HostRuntime) -> Result<(), Fail> {
-    assert_eq!(rt; name_goes::<Standard>(rt.alloc())?, None);
-    assert_eq!(rt; directory_goes::<Standard>(rt.alloc())?, None);
-    Ok(())
-}
-
-// Objects are opened, in a store of one object that one handle may be open to, 5, and a directory, 1.
-fn open_and_close<T: TypeSet>(
-    rt: &impl Abort,
-    alloc: Global,
-    store: &mut Store<T>,
-    set: &mut T,
-    kind: T::Kind,
-) -> Result<(), Fail>
-    requires { store.old ≡ [] }
-{
-    fill(alloc, store, kind)?;
-    let opens = [
-        (5, Reason::Created, Ok(())),
-        (5, Reason::Opened, Err(2)),
-        (1, Reason::Opened, Ok(())),
-        (9, Reason::Opened, Ok(())),
-    ];
-    for (id, reason, wanted) in opens {
-        let opened = store.open(ObjId(id), set, reason);
-        assert!(rt; opened == wanted, "at {id}");
-    }
-    for id in [5, 2] {
-        store.close(ObjId(id), set, 0, 0);
-    }
-    assert!(rt; store.open(ObjId(5), set, Reason::Opened) == Ok(()));
-    Ok(())
-}
-
-fn opens_of_a_set<T: TypeSet>(
+// Asserts that each step of these texts is made in a store of two names, and that behind each what stands beside its text
+// is told.
+fn assert_names<T: TypeSet>(
     rt: &impl Abort,
     alloc: Global,
     set: &mut T,
     kind: T::Kind,
-) -> Result<(), Fail> {
+    texts: &[(&str, &str)],
+) -> Result<(), Fault> {
     let mut store: Store<T> = Store::new(alloc);
-    open_and_close(rt, alloc, &mut store, set, kind)
+    fill_named(alloc, &mut store)?;
+    for &(steps, told) in texts {
+        assert_made(rt, alloc, set, &mut store, kind, steps, told);
+    }
+    Ok(())
 }
 
 #[test]
-fn an_object_is_opened_and_closed(rt: HostRuntime) -> Result<(), Fail> {
+fn names_go_alone_or_with_their_directory(rt: HostRuntime) -> Result<(), Fault> {
     let mut set = Counting::new(Plain);
-    opens_of_a_set(&rt, rt.alloc(), &mut set, PlainKind::Event)?;
-    assert!(rt; set.opens() == 2 && set.closes() == 1);
-    Ok(())
+    let alone = [(NONE_GOES, BOTH), (FIRST_GOES, SECOND)];
+    assert_names(&rt, rt.alloc(), &mut set, PlainKind::Event, &alone)?;
+    let with_directory = [(DIRECTORY_GOES, FIRST)];
+    assert_names(&rt, rt.alloc(), &mut set, PlainKind::Event, &with_directory)
 }

@@ -2,15 +2,11 @@
 
 ghost use Rattle.std.specs.Prelude.{◌≡◌, []};
 
+use crate::tables::{object, words};
 use ob_base::{ObjId, Proc};
 use ob_model::{Bytes, Pending, Wanted};
 use ob_pending::PendingOpens;
 use std::alloc::{AllocError, Global};
-use std::process::Abort;
-
-const SEVEN: Option<ObjId> = Some(ObjId(7));
-
-const EIGHT: Option<ObjId> = Some(ObjId(8));
 
 // An open that is pending at an object, with nothing behind it in the name.
 fn open_at(alloc: Global, ticket: u64, object: u64) -> Pending<bool>
@@ -43,45 +39,40 @@ fn object_of(open: Option<&Pending<bool>>) -> Option<ObjId> {
     }
 }
 
-// What is told: how many opens are pending, whether none is, the object of the ticket 5, and whether the
-// objects 7 and 8 are pinned.
-fn told(opens: &PendingOpens<bool>) -> (usize, bool, Option<ObjId>, bool, bool) {
-    (
-        opens.len(),
-        opens.is_empty(),
-        object_of(opens.get(5)),
-        opens.is_pinned(ObjId(7)),
-        opens.is_pinned(ObjId(8)),
-    )
-}
+// The ticket of an open that is taken, where one is, and its object. Then what is told: how many opens are pending,
+// whether none is, the object of the ticket 5, and whether the objects 7 and 8 are pinned.
+const OPENS: &'static str = "
+- - 3 false 8 true  true
+4 7 2 false 8 true  true
+4 - 2 false 8 true  true
+5 8 1 false - true  false
+9 7 0 true  - false false
+";
 
-fn pin_until_taken(
-    rt: &impl Abort,
-    alloc: Global,
-    opens: &mut PendingOpens<bool>,
-) -> Result<(), AllocError>
-    requires { opens.old ≡ [] }
-{
-    three_come(alloc, opens)?;
-    assert!(rt; told(opens) == (3, false, EIGHT, true, true));
-    let steps = [
-        (4, SEVEN, (2, false, EIGHT, true, true)),
-        (4, None, (2, false, EIGHT, true, true)),
-        (5, EIGHT, (1, false, None, true, false)),
-        (9, SEVEN, (0, true, None, false, false)),
-    ];
-    for (ticket, object, wanted) in steps {
-        let taken = opens.take(ticket);
-        assert!(rt;
-            object_of(taken.as_ref()) == object && told(opens) == wanted,
-            "at {ticket}"
-        );
+// Whether a step is made, and what a line says is told behind it.
+fn is_so(opens: &mut PendingOpens<bool>, line: &str) -> Option<bool> {
+    let [ticket, taken, count, empty, five, seven, eight, ..] = words(line);
+    if ticket != "-" {
+        let open = opens.take(ticket.parse().ok()?);
+        if object_of(open.as_ref()) != object(taken) {
+            return Some(false);
+        }
     }
-    Ok(())
+    let are_pinned = (opens.is_pinned(ObjId(7)), opens.is_pinned(ObjId(8)));
+    Some(
+        count.parse().ok() == Some(opens.len())
+            && opens.is_empty() == (empty == "true")
+            && object_of(opens.get(5)) == object(five)
+            && are_pinned == (seven == "true", eight == "true"),
+    )
 }
 
 #[test]
 fn opens_pin_their_objects_until_they_are_taken(rt: HostRuntime) -> Result<(), AllocError> {
     let mut opens = PendingOpens::new(rt.alloc());
-    pin_until_taken(&rt, rt.alloc(), &mut opens)
+    three_come(rt.alloc(), &mut opens)?;
+    for line in OPENS.trim().lines() {
+        assert!(rt; is_so(&mut opens, line) == Some(true), "{line}");
+    }
+    Ok(())
 }
