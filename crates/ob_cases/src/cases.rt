@@ -1,6 +1,7 @@
 //! Worked cases of names, objects and handles.
 
-use crate::runs::{assert_cases, plays};
+use crate::runs::{Input, assert_cases, performs};
+use ob_words::Task;
 
 const CASES: &'static str = r#"== an empty script prints nothing
 -- ends with 0
@@ -515,5 +516,6 @@ fn worked_cases_print_what_they_show(rt: HostRuntime) {
 #[test]
 fn comments_and_empty_lines_are_counted_and_the_last_line_may_lack_its_end(rt: HostRuntime) {
     let script = b"# a comment\n\np1 opendir \"\\\" - =a";
-    assert!(rt; plays(rt.alloc(), script, 0, b"3: SUCCESS\n", b""));
+    let input = Input::Bytes(script);
+    assert!(rt; performs(rt.alloc(), Task::Script, input, 0, b"3: SUCCESS\n", b""));
 }

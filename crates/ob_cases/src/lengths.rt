@@ -1,184 +1,120 @@
-//! Long names, lines and scripts, and many processes: where the rules say that they end.
+//! Long names, lines and scripts, many handles and many processes: where the rules say that they end.
 
-use crate::runs::plays;
-use std::alloc::{AllocError, Global};
+use crate::runs::assert_cases;
 
-// A text that stands so many times between two others.
-#[derive(Clone, Copy)]
-pub struct Repeated {
-    front: &'static [u8],
-    text: &'static [u8],
-    times: usize,
-    back: &'static [u8],
-}
-
-// The bytes of a repeated text.
-fn bytes_of(alloc: Global, repeated: Repeated) -> Result<Vec<u8>, AllocError> {
-    let mut bytes = Vec::new(alloc);
-    bytes.extend_from_slice(repeated.front)?;
-    for _ in 0..repeated.times {
-        bytes.extend_from_slice(repeated.text)?;
-    }
-    bytes.extend_from_slice(repeated.back)?;
-    Ok(bytes)
-}
-
-// Whether a script ends with this status and prints this.
-fn prints(
-    alloc: Global,
-    script: Repeated,
-    status: u8,
-    output: &[u8],
-    errors: &[u8],
-) -> Result<bool, AllocError> {
-    let script = bytes_of(alloc, script)?;
-    Ok(plays(alloc, script.as_slice(), status, output, errors))
-}
-
-// The letter `a` so many times between two texts.
-fn letters(front: &'static [u8], times: usize, back: &'static [u8]) -> Repeated {
-    Repeated {
-        front,
-        text: b"a",
-        times,
-        back,
-    }
-}
+const LONG: &'static str = r#"== a name of 32,767 bytes is sought
+p1 opendir "\<<a*32766>>" - =x
+-- ends with 0
+1: OBJECT_NAME_NOT_FOUND
+== a name of a byte more is too long
+p1 opendir "\<<a*32767>>" - =x
+-- ends with 0
+1: NAME_TOO_LONG
+== a name of a byte more, which no name has, is invalid
+p1 opendir "\<<a*32766>>%07" - =x
+-- ends with 0
+1: OBJECT_NAME_INVALID
+== a target and a rest of 32,767 bytes are sought
+p1 link "\N" - "\<<a*32764>>" =n
+p1 opendir "\N\B" - =x
+-- ends with 0
+1: SUCCESS
+2: OBJECT_PATH_NOT_FOUND
+== a target and a rest of a byte more are too long
+p1 link "\N" - "\<<a*32765>>" =n
+p1 opendir "\N\B" - =x
+-- ends with 0
+1: SUCCESS
+2: NAME_TOO_LONG
+== a target of 32,767 bytes is sought
+p1 link "\N" - "\<<a*32766>>" =n
+p1 opendir "\N" - =x
+-- ends with 0
+1: SUCCESS
+2: OBJECT_NAME_NOT_FOUND
+== a target of a byte more is refused
+p1 link "\N" - "\<<a*32767>>" =n
+p1 openlink "\N" - =x
+-- ends with 0
+1: INVALID_PARAMETER
+2: OBJECT_NAME_NOT_FOUND
+== a relative name of 32,767 bytes is sought
+p1 opendir "\" - =r
+p1 opendir r:"<<a*32767>>" - =x
+-- ends with 0
+1: SUCCESS
+2: OBJECT_NAME_NOT_FOUND
+== a relative name of a byte more is too long
+p1 opendir "\" - =r
+p1 opendir r:"<<a*32768>>" - =x
+-- ends with 0
+1: SUCCESS
+2: NAME_TOO_LONG
+== a line of 262,144 bytes is read
+#<<a*262143>>
+p1 close z
+-- ends with 0
+2: INVALID_HANDLE
+== a line of a byte more is none
+#<<a*262144>>
+p1 close z
+-- ends with 1
+1: not a script line
+== a path of 32,767 bytes is told
+p1 make Event "\<<a*32766>>" - "" =e
+p1 name e
+-- ends with 0
+1: SUCCESS
+2: SUCCESS "\<<a*32766>>"
+"#;
 
 #[test]
 fn long_names_and_lines_end_where_the_rules_say(rt: HostRuntime) {
-    let opens: &[u8] = b"p1 opendir \"\\";
-    let links: &[u8] = b"p1 link \"\\N\" - \"\\";
-    let opens_behind: &[u8] = b"p1 opendir \"\\\" - =r\np1 opendir r:\"";
-    let table: [(&[u8], usize, &[u8], &[u8], u8); 11] = [
-        (
-            opens,
-            32_766,
-            b"\" - =x\n",
-            b"1: OBJECT_NAME_NOT_FOUND\n",
-            0,
-        ),
-        (opens, 32_767, b"\" - =x\n", b"1: NAME_TOO_LONG\n", 0),
-        (
-            opens,
-            32_766,
-            b"%07\" - =x\n",
-            b"1: OBJECT_NAME_INVALID\n",
-            0,
-        ),
-        (
-            links,
-            32_764,
-            b"\" =n\np1 opendir \"\\N\\B\" - =x\n",
-            b"1: SUCCESS\n2: OBJECT_PATH_NOT_FOUND\n",
-            0,
-        ),
-        (
-            links,
-            32_765,
-            b"\" =n\np1 opendir \"\\N\\B\" - =x\n",
-            b"1: SUCCESS\n2: NAME_TOO_LONG\n",
-            0,
-        ),
-        (
-            links,
-            32_766,
-            b"\" =n\np1 opendir \"\\N\" - =x\n",
-            b"1: SUCCESS\n2: OBJECT_NAME_NOT_FOUND\n",
-            0,
-        ),
-        (
-            links,
-            32_767,
-            b"\" =n\np1 openlink \"\\N\" - =x\n",
-            b"1: INVALID_PARAMETER\n2: OBJECT_NAME_NOT_FOUND\n",
-            0,
-        ),
-        (
-            opens_behind,
-            32_767,
-            b"\" - =x\n",
-            b"1: SUCCESS\n2: OBJECT_NAME_NOT_FOUND\n",
-            0,
-        ),
-        (
-            opens_behind,
-            32_768,
-            b"\" - =x\n",
-            b"1: SUCCESS\n2: NAME_TOO_LONG\n",
-            0,
-        ),
-        (b"#", 262_143, b"\np1 close z\n", b"2: INVALID_HANDLE\n", 0),
-        (
-            b"#",
-            262_144,
-            b"\np1 close z\n",
-            b"1: not a script line\n",
-            1,
-        ),
-    ];
-    for (front, times, back, output, status) in table {
-        let script = letters(front, times, back);
-        assert!(rt;
-            prints(rt.alloc(), script, status, output, b"") == Ok(true),
-            "at {times}"
-        );
-    }
+    assert_cases(&rt, rt.alloc(), LONG);
 }
 
-// Whether a path of 32,767 bytes is told as it was made.
-fn tells_a_long_path(alloc: Global) -> Result<bool, AllocError> {
-    let told = letters(b"1: SUCCESS\n2: SUCCESS \"\\", 32_766, b"\"\n");
-    let told = bytes_of(alloc, told)?;
-    let script = letters(b"p1 make Event \"\\", 32_766, b"\" - \"\" =e\np1 name e\n");
-    prints(alloc, script, 0, told.as_slice(), b"")
-}
-
-#[test]
-fn a_path_of_32_767_bytes_is_told(rt: HostRuntime) {
-    assert!(rt; tells_a_long_path(rt.alloc()) == Ok(true));
-}
+const TOO_LONG: &'static str = r#"== a script that is too long runs no line
+p1 close z
+<<
+*16777206>>-- ends with 1
+ntns: input too long
+"#;
 
 #[test]
 fn a_script_that_is_too_long_runs_no_line(rt: HostRuntime) {
-    let script = Repeated {
-        front: b"p1 close z\n",
-        text: b"\n",
-        times: 16_777_206,
-        back: b"",
-    };
-    let told = b"ntns: input too long\n";
-    assert!(rt; prints(rt.alloc(), script, 1, b"", told) == Ok(true));
+    assert_cases(&rt, rt.alloc(), TOO_LONG);
 }
 
-// A success of each line up to this one, and what stands behind.
-fn successes(alloc: Global, last: u32, back: &[u8]) -> Result<Vec<u8>, AllocError> {
-    let mut lines = Vec::new(alloc);
-    for number in 1..=last {
-        let line = format!(in alloc; "{number}: SUCCESS\n")?;
-        lines.extend_from_slice(line.as_bytes())?;
-    }
-    lines.extend_from_slice(back)?;
-    Ok(lines)
-}
-
-// Whether a process that began 1,023 children begins no further one, and one again when a child has ended.
-fn lives_end_at_1_024(alloc: Global) -> Result<bool, AllocError> {
-    let script = Repeated {
-        front: b"",
-        text: b"p1 new inherit =q\n",
-        times: 1_023,
-        back: b"p1 new plain =r\nr exit\nq exit\np1 new plain =r\nr exit\n",
-    };
-    let told = successes(
-        alloc,
-        1_023,
-        b"1024: INSUFFICIENT_RESOURCES\n1025: PROCESS_GONE\n1026: SUCCESS\n1027: SUCCESS\n1028: SUCCESS\n",
-    )?;
-    prints(alloc, script, 0, told.as_slice(), b"")
-}
+const FULL: &'static str =
+    r#"== at most 1,024 processes live: no further child begins, and one again when a child has ended
+<<p1 new inherit =q
+*1023>>p1 new plain =r
+r exit
+q exit
+p1 new plain =r
+r exit
+-- ends with 0
+<<successes*1023>>1024: INSUFFICIENT_RESOURCES
+1025: PROCESS_GONE
+1026: SUCCESS
+1027: SUCCESS
+1028: SUCCESS
+== a process has at most 65,535 handles: no further one is opened, and one again when one is closed
+<<p1 opendir "\" - =q
+*65535>>p1 opendir "\" - =r
+p1 close q
+p1 opendir "\" - =r
+p1 opendir "\" - =s
+stat
+-- ends with 0
+<<successes*65535>>65536: INSUFFICIENT_RESOURCES
+65537: SUCCESS
+65538: SUCCESS
+65539: INSUFFICIENT_RESOURCES
+65540: objects 6 handles 65535 opens 0 closes 0 deletes 0
+"#;
 
 #[test]
-fn at_most_1_024_processes_live(rt: HostRuntime) {
-    assert!(rt; lives_end_at_1_024(rt.alloc()) == Ok(true));
+fn processes_and_handles_end_where_the_rules_say(rt: HostRuntime) {
+    assert_cases(&rt, rt.alloc(), FULL);
 }

@@ -1,117 +1,216 @@
 //! The program's answers, with streams over memory.
 
-use crate::runs::{Input, Output, Streams, assert_serves};
+use crate::runs::{Input, Output, Streams, assert_cases, performs};
 use clap::error::ErrorKind;
 use ob_tasks::{End, Ending, ShellFault, complain, perform_opened, serve, starve};
 use ob_words::{Task, plan, unreadable};
 use std::alloc::{AllocError, Global};
 use std::fs;
 
-const HELP: &'static [u8] =
-    b"Runs a script of namespace commands, by default from standard input, and prints one reply a line\n\nUsage: ntns [COMMAND]\n\nCommands:\n  run   Runs the script in FILE\n  help  Print this message or the help of the given subcommand(s)\n\nOptions:\n  -h, --help  Print help\n";
+// Words, with bars between them, and the task that they name, or their mistake, of a kind where that is said.
+const PLANS: &'static str = r"ntns => script
+ntns|run|a.ntns => run a.ntns
+ntns|run|--|-a b%20 => run -a b%20
+ntns|run|run|-- => run run
+ntns|run| => run 
+ntns|run|- => run -
+ntns|run|./a => run ./a
+ntns|run|/ => run /
+ntns|run|help => run help
+ntns|run|c:\a => run c:\a
+ntns|other => unknown subcommand
+ntns|ntns => unknown subcommand
+ntns|-x => unknown argument
+ntns|--other => unknown argument
+ntns|--run => unknown argument
+ntns|- => mistake
+ntns| => mistake
+ntns|RUN => mistake
+ntns|runs => mistake
+ntns|--|run|a => mistake
+ntns|run|-x => mistake";
 
-const HELP_OF_RUN: &'static [u8] =
-    b"Runs the script in FILE\n\nUsage: ntns run <FILE>\n\nArguments:\n  <FILE>  The path of the file, taken as it is\n\nOptions:\n  -h, --help  Print help\n";
+// Whether words name the task, or have the mistake, of a line.
+fn plans(alloc: Global, line: &str) -> Option<bool> {
+    let (words, wanted) = line.split_once(" => ")?;
+    let words: Vec<&str> = words.split('|').collect(alloc).ok()?;
+    Some(match plan(alloc, words.as_slice()) {
+        Ok(Task::Script) => wanted == "script",
+        Ok(Task::Run(path)) => wanted.strip_prefix("run ") == Some(path),
+        Err(fault) => is_mistake(fault.kind(), wanted),
+    })
+}
 
-const OTHER_IS_UNKNOWN: &'static [u8] =
-    b"error: unrecognized subcommand 'other'\n\nUsage: ntns [COMMAND]\n\nFor more information, try '--help'.\n";
-
-const FILE_IS_WANTED: &'static [u8] =
-    b"error: the following required arguments were not provided:\n  <FILE>\n\nUsage: ntns run <FILE>\n\nFor more information, try '--help'.\n";
-
-const ONE_FILE_IS_ENOUGH: &'static [u8] =
-    b"error: unexpected argument 'b' found\n\nUsage: ntns run <FILE>\n\nFor more information, try '--help'.\n";
-
-const NO_TEXT: &'static [u8] =
-    b"error: invalid UTF-8 was detected in one or more arguments\n\nUsage: ntns [COMMAND]\n\nFor more information, try '--help'.\n";
-
-// Whether the words name the task, or have a fault: of this kind, where there is one.
-fn plans(alloc: Global, words: &[&str], wanted: Result<Task<'_>, Option<ErrorKind>>) -> bool {
-    match (plan(alloc, words), wanted) {
-        (Ok(task), Ok(wanted)) => task == wanted,
-        (Err(fault), Err(Some(kind))) => fault.kind() == kind,
-        (Err(_), Err(None)) => true,
-        _ => false,
+fn is_mistake(kind: ErrorKind, wanted: &str) -> bool {
+    match wanted {
+        "unknown subcommand" => kind == ErrorKind::InvalidSubcommand,
+        "unknown argument" => kind == ErrorKind::UnknownArgument,
+        _ => wanted == "mistake",
     }
 }
 
 #[test]
-fn words_name_their_task(rt: HostRuntime) {
-    let table: [(&[&str], Task<'_>); 11] = [
-        (&[], Task::Script),
-        (&["ntns"], Task::Script),
-        (&["ntns", "run", "a.ntns"], Task::Run("a.ntns")),
-        (&["ntns", "run", "--", "-a b%20"], Task::Run("-a b%20")),
-        (&["ntns", "run", "run", "--"], Task::Run("run")),
-        (&["ntns", "run", ""], Task::Run("")),
-        (&["ntns", "run", "-"], Task::Run("-")),
-        (&["ntns", "run", "./a"], Task::Run("./a")),
-        (&["ntns", "run", "/"], Task::Run("/")),
-        (&["ntns", "run", "help"], Task::Run("help")),
-        (&["ntns", "run", "c:\\a"], Task::Run("c:\\a")),
-    ];
-    for (words, task) in table {
-        assert!(rt; plans(rt.alloc(), words, Ok(task)), "at {words:?}");
+fn words_name_their_task_or_are_mistakes(rt: HostRuntime) {
+    let none: &[&str] = &[];
+    assert!(rt; plan(rt.alloc(), none).ok() == Some(Task::Script));
+    for line in PLANS.lines() {
+        assert!(rt; plans(rt.alloc(), line) == Some(true), "{line}");
     }
 }
 
-#[test]
-fn other_words_are_mistakes(rt: HostRuntime) {
-    let table: [(&[&str], Option<ErrorKind>); 11] = [
-        (&["ntns", "other"], Some(ErrorKind::InvalidSubcommand)),
-        (&["ntns", "ntns"], Some(ErrorKind::InvalidSubcommand)),
-        (&["ntns", "-x"], Some(ErrorKind::UnknownArgument)),
-        (&["ntns", "--other"], Some(ErrorKind::UnknownArgument)),
-        (&["ntns", "--run"], Some(ErrorKind::UnknownArgument)),
-        (&["ntns", "-"], None),
-        (&["ntns", ""], None),
-        (&["ntns", "RUN"], None),
-        (&["ntns", "runs"], None),
-        (&["ntns", "--", "run", "a"], None),
-        (&["ntns", "run", "-x"], None),
-    ];
-    for (words, kind) in table {
-        assert!(rt; plans(rt.alloc(), words, Err(kind)), "at {words:?}");
-    }
-}
+const SERVED: &'static str = r#"== another word is a mistake
+$ ntns|other
+-- ends with 2
+error: unrecognized subcommand 'other'
+
+Usage: ntns [COMMAND]
+
+For more information, try '--help'.
+== a file is wanted
+$ ntns|run
+-- ends with 2
+error: the following required arguments were not provided:
+  <FILE>
+
+Usage: ntns run <FILE>
+
+For more information, try '--help'.
+== a file is wanted before two dashes or behind them
+$ ntns|run|--
+-- ends with 2
+error: the following required arguments were not provided:
+  <FILE>
+
+Usage: ntns run <FILE>
+
+For more information, try '--help'.
+== one file is enough
+$ ntns|run|one|b
+-- ends with 2
+error: unexpected argument 'b' found
+
+Usage: ntns run <FILE>
+
+For more information, try '--help'.
+== the script of a file is run
+$ ntns|run|one
+-- ends with 0
+1: INVALID_HANDLE
+2: PROCESS_GONE
+== so it is behind two dashes
+$ ntns|run|--|one
+-- ends with 0
+1: INVALID_HANDLE
+2: PROCESS_GONE
+== and before them
+$ ntns|run|one|--
+-- ends with 0
+1: INVALID_HANDLE
+2: PROCESS_GONE
+== a file that cannot be opened is told
+$ ntns|run|two
+-- ends with 1
+ntns: cannot read
+== so is one without a name
+$ ntns|run|
+-- ends with 1
+ntns: cannot read
+== and one that wants memory
+$ ntns|run|big
+-- ends with 1
+ntns: want of memory
+== help that is asked for is written
+$ ntns|-h
+-- ends with 0
+Runs a script of namespace commands, by default from standard input, and prints one reply a line
+
+Usage: ntns [COMMAND]
+
+Commands:
+  run   Runs the script in FILE
+  help  Print this message or the help of the given subcommand(s)
+
+Options:
+  -h, --help  Print help
+== by its longer name
+$ ntns|--help
+-- ends with 0
+Runs a script of namespace commands, by default from standard input, and prints one reply a line
+
+Usage: ntns [COMMAND]
+
+Commands:
+  run   Runs the script in FILE
+  help  Print this message or the help of the given subcommand(s)
+
+Options:
+  -h, --help  Print help
+== and as a command
+$ ntns|help
+-- ends with 0
+Runs a script of namespace commands, by default from standard input, and prints one reply a line
+
+Usage: ntns [COMMAND]
+
+Commands:
+  run   Runs the script in FILE
+  help  Print this message or the help of the given subcommand(s)
+
+Options:
+  -h, --help  Print help
+== the help of a command is written
+$ ntns|run|-h
+-- ends with 0
+Runs the script in FILE
+
+Usage: ntns run <FILE>
+
+Arguments:
+  <FILE>  The path of the file, taken as it is
+
+Options:
+  -h, --help  Print help
+== by its longer name
+$ ntns|run|--help
+-- ends with 0
+Runs the script in FILE
+
+Usage: ntns run <FILE>
+
+Arguments:
+  <FILE>  The path of the file, taken as it is
+
+Options:
+  -h, --help  Print help
+== behind a file
+$ ntns|run|one|--help
+-- ends with 0
+Runs the script in FILE
+
+Usage: ntns run <FILE>
+
+Arguments:
+  <FILE>  The path of the file, taken as it is
+
+Options:
+  -h, --help  Print help
+== and as a command
+$ ntns|help|run
+-- ends with 0
+Runs the script in FILE
+
+Usage: ntns run <FILE>
+
+Arguments:
+  <FILE>  The path of the file, taken as it is
+
+Options:
+  -h, --help  Print help
+"#;
 
 #[test]
-fn mistakes_end_with_2(rt: HostRuntime) {
-    let table: [(&[&str], &[u8]); 4] = [
-        (&["ntns", "other"], OTHER_IS_UNKNOWN),
-        (&["ntns", "run"], FILE_IS_WANTED),
-        (&["ntns", "run", "--"], FILE_IS_WANTED),
-        (&["ntns", "run", "one", "b"], ONE_FILE_IS_ENOUGH),
-    ];
-    for (words, told) in table {
-        assert_serves(&rt, rt.alloc(), words, 2, b"", told);
-    }
-}
-
-#[test]
-fn the_script_of_a_file_is_run(rt: HostRuntime) {
-    let table: [&[&str]; 3] = [
-        &["ntns", "run", "one"],
-        &["ntns", "run", "--", "one"],
-        &["ntns", "run", "one", "--"],
-    ];
-    let prints = b"1: INVALID_HANDLE\n2: PROCESS_GONE\n";
-    for words in table {
-        assert_serves(&rt, rt.alloc(), words, 0, prints, b"");
-    }
-}
-
-#[test]
-fn a_file_that_cannot_be_opened_is_told(rt: HostRuntime) {
-    let table: [(&str, &[u8]); 3] = [
-        ("two", b"ntns: cannot read\n"),
-        ("", b"ntns: cannot read\n"),
-        ("big", b"ntns: want of memory\n"),
-    ];
-    for (file, told) in table {
-        let words = ["ntns", "run", file];
-        assert_serves(&rt, rt.alloc(), &words, 1, b"", told);
-    }
+fn words_end_with_0_where_they_are_followed_and_else_are_told(rt: HostRuntime) {
+    assert_cases(&rt, rt.alloc(), SERVED);
 }
 
 #[test]
@@ -143,32 +242,14 @@ fn what_the_system_does_not_open_or_read_is_told(rt: HostRuntime) {
 }
 
 #[test]
-fn help_that_is_asked_for_ends_with_0(rt: HostRuntime) {
-    let table: [(&[&str], &[u8]); 7] = [
-        (&["ntns", "-h"], HELP),
-        (&["ntns", "--help"], HELP),
-        (&["ntns", "help"], HELP),
-        (&["ntns", "run", "-h"], HELP_OF_RUN),
-        (&["ntns", "run", "--help"], HELP_OF_RUN),
-        (&["ntns", "run", "one", "--help"], HELP_OF_RUN),
-        (&["ntns", "help", "run"], HELP_OF_RUN),
-    ];
-    for (words, told) in table {
-        assert_serves(&rt, rt.alloc(), words, 0, told, b"");
-    }
-}
-
-#[test]
-fn mistakes_that_cannot_be_told_end_with_2(rt: HostRuntime) {
+fn a_mistake_that_cannot_be_told_ends_with_2_and_help_that_cannot_be_written_with_1(
+    rt: HostRuntime,
+) {
     let mut streams = Streams::new(rt.alloc(), Input::Bytes(b""));
     streams.errors.is_broken = true;
     let end = streams.serve(rt.alloc(), &["ntns", "run"]);
     assert!(rt; end.status() == 2 && streams.hold(b"", b""));
-}
-
-#[test]
-fn help_that_cannot_be_written_ends_with_1(rt: HostRuntime) {
-    let mut streams = Streams::new(rt.alloc(), Input::Bytes(b""));
+    streams.errors.is_broken = false;
     streams.output.is_broken = true;
     let end = streams.serve(rt.alloc(), &["ntns", "--help"]);
     assert!(rt; end.status() == 1 && streams.hold(b"", b"ntns: cannot write\n"));
@@ -176,28 +257,23 @@ fn help_that_cannot_be_written_ends_with_1(rt: HostRuntime) {
 
 #[test]
 fn words_that_are_no_text_end_with_2_and_want_of_memory_with_1(rt: HostRuntime) {
+    let told: &[u8] =
+        b"error: invalid UTF-8 was detected in one or more arguments\n\nUsage: ntns [COMMAND]\n\nFor more information, try '--help'.\n";
     let mut streams = Streams::new(rt.alloc(), Input::Bytes(b""));
     let end = streams.refuse(rt.alloc(), &unreadable(rt.alloc()));
-    assert!(rt; end.status() == 2 && streams.hold(b"", NO_TEXT));
-    let mut streams = Streams::new(rt.alloc(), Input::Bytes(b""));
+    assert!(rt; end.status() == 2 && streams.hold(b"", told));
+    streams.errors.bytes.clear();
     let end = streams.refuse(rt.alloc(), &clap::Error::from(AllocError));
     assert!(rt; end.status() == 1 && streams.hold(b"", b"ntns: want of memory\n"));
 }
 
 #[test]
-fn the_input_of_a_run_is_its_script(rt: HostRuntime) {
-    let script = b"p1 dir \"\\A\" - =a\np1 name a\nno line\nstat\n";
-    let mut streams = Streams::new(rt.alloc(), Input::Bytes(script));
-    let end = streams.perform(rt.alloc(), Task::Run("one"));
+fn the_input_of_a_run_is_its_script_and_faults_end_with_1(rt: HostRuntime) {
+    let script = Input::Bytes(b"p1 dir \"\\A\" - =a\np1 name a\nno line\nstat\n");
     let prints = b"1: SUCCESS\n2: SUCCESS \"\\A\"\n3: not a script line\n";
-    assert!(rt; end.status() == 1 && streams.hold(prints, b""));
-}
-
-#[test]
-fn faults_end_with_1_and_a_line(rt: HostRuntime) {
-    let mut streams = Streams::new(rt.alloc(), Input::Broken);
-    let end = streams.perform(rt.alloc(), Task::Script);
-    assert!(rt; end.status() == 1 && streams.hold(b"", b"ntns: cannot read\n"));
+    assert!(rt; performs(rt.alloc(), Task::Run("one"), script, 1, prints, b""));
+    let told = b"ntns: cannot read\n";
+    assert!(rt; performs(rt.alloc(), Task::Script, Input::Broken, 1, b"", told));
     let mut streams = Streams::new(rt.alloc(), Input::Endless);
     streams.errors.is_broken = true;
     let end = streams.perform(rt.alloc(), Task::Script);

@@ -2,7 +2,7 @@
 
 use ob_tasks::{End, perform, refuse, serve};
 use ob_words::Task;
-use std::alloc::Global;
+use std::alloc::{AllocError, Global};
 use std::io;
 use std::io::{Error, ErrorKind, Read, Write};
 use std::process::Abort;
@@ -121,44 +121,77 @@ fn open_one(path: &str) -> io::Result<Input<'static>> {
     }
 }
 
-/// Whether a script ends with this status and leaves this.
-pub(crate) fn plays(
+/// Whether a task over an input ends with this status and leaves this.
+pub(crate) fn performs(
     alloc: Global,
-    script: &[u8],
+    task: Task<'_>,
+    input: Input<'_>,
     status: u8,
     output: &[u8],
     errors: &[u8],
 ) -> bool {
-    let mut streams = Streams::new(alloc, Input::Bytes(script));
-    let end = streams.perform(alloc, Task::Script);
+    let mut streams = Streams::new(alloc, input);
+    let end = streams.perform(alloc, task);
     end.status() == status && streams.hold(output, errors)
 }
 
-/// Asserts that the words, over an empty input, end with this status and leave this.
-pub(crate) fn assert_serves(
-    rt: &impl Abort,
-    alloc: Global,
-    words: &[&str],
-    status: u8,
-    output: &[u8],
-    errors: &[u8],
-) {
+// Whether words, with bars between them, over an empty input, end with this status and leave this.
+fn serves(alloc: Global, words: &str, status: u8, output: &[u8], errors: &[u8]) -> Option<bool> {
+    let words: Vec<&str> = words.split('|').collect(alloc).ok()?;
     let mut streams = Streams::new(alloc, Input::Bytes(b""));
-    let end = streams.serve(alloc, words);
-    assert!(rt;
-        end.status() == status && streams.hold(output, errors),
-        "at {words:?}"
-    );
+    let end = streams.serve(alloc, words.as_slice());
+    Some(end.status() == status && streams.hold(output, errors))
 }
 
-// Whether a case leaves what it tells: behind the line of what it shows stand its script, the line of the
-// program's status, and what it prints.
+// Puts a text behind bytes so many times, or for `successes` a success of each line up to this one.
+fn repeat(alloc: Global, bytes: &mut Vec<u8>, text: &str, times: u32) -> Result<(), AllocError> {
+    for number in 1..=times {
+        if text == "successes" {
+            let line = format!(in alloc; "{number}: SUCCESS\n")?;
+            bytes.extend_from_slice(line.as_bytes())?;
+        } else {
+            bytes.extend_from_slice(text.as_bytes())?;
+        }
+    }
+    Ok(())
+}
+
+// The bytes of a text, in which `<<a*3>>` may stand once, for `aaa`.
+fn spelled(alloc: Global, text: &str) -> Option<Vec<u8>> {
+    let (front, rest) = text.split_once("<<").unwrap_or((text, "*0>>"));
+    let (repeated, back) = rest.split_once(">>")?;
+    let (repeated, times) = repeated.split_once('*')?;
+    let mut bytes = front.as_bytes().to_vec(alloc).ok()?;
+    repeat(alloc, &mut bytes, repeated, times.parse().ok()?).ok()?;
+    bytes.extend_from_slice(back.as_bytes()).ok()?;
+    Some(bytes)
+}
+
+// Whether a case leaves what it tells: behind the line of what it shows stand its script, or a line of the program's
+// words, then the line of the program's status, and what it prints or complains of.
 fn passes(alloc: Global, case: &str) -> Option<bool> {
     let (_shows, case) = case.split_once("\n")?;
     let (script, case) = case.split_once("-- ends with ")?;
-    let (status, prints) = case.split_once("\n")?;
-    let status = if status == "0" { 0 } else { 1 };
-    Some(plays(alloc, script.as_bytes(), status, prints.as_bytes(), b""))
+    let (status, told) = case.split_once("\n")?;
+    let status = status.parse().ok()?;
+    let told = spelled(alloc, told)?;
+    let told = told.as_slice();
+    let (output, errors): (&[u8], &[u8]) = if is_complaint(told) {
+        (b"", told)
+    } else {
+        (told, b"")
+    };
+    if let Some(words) = script.strip_prefix("$ ") {
+        return serves(alloc, words.trim_end(), status, output, errors);
+    }
+    let script = spelled(alloc, script)?;
+    let input = Input::Bytes(script.as_slice());
+    Some(performs(alloc, Task::Script, input, status, output, errors))
+}
+
+// Whether what is told is a complaint: of the program, or of its words.
+fn is_complaint(told: &[u8]) -> bool {
+    told.starts_with(b"ntns: ") || told.starts_with(b"error: ")
 }
 
 /// Asserts that each case of a text leaves what it tells. A case begins with `== ` and what it shows.
