@@ -1,7 +1,7 @@
 //! The sum of the plain types and of boxes, both counted.
 
 use crate::boxes::Boxes;
-use crate::objects::{is_of_kind, refusal};
+use crate::objects::{inner, is_of_kind, refusal};
 use either::Either;
 use ob_plain::{Counting, Plain, PlainFace, PlainInner, PlainKind};
 use ob_types::{Both, Outcome, Reason, TypeSet, close_last, is_one_kind, run_parse};
@@ -25,46 +25,43 @@ fn counted<A, B>(set: &Counted<A, B>) -> [u64; 6] {
     ]
 }
 
-// Whether the lives of an object of the first part and one of the second are counted by their parts, where the first
-// refuses a second open with 2, and the second with 9.
-fn lives_are_counted<A: TypeSet, B: TypeSet>(
-    set: &mut Counted<A, B>,
-    mut a: Either<A::Inner, B::Inner>,
-    mut b: Either<A::Inner, B::Inner>,
-) -> bool {
+// Whether objects of both parts are opened twice each, where the first refuses the second open with 2, and the second
+// with 9; and whether a close makes room for one more open.
+fn are_opened<T: TypeSet>(set: &mut T, a: &mut T::Inner, b: &mut T::Inner) -> bool {
     let opened = [
-        set.on_open(&mut a, Reason::Created),
-        set.on_open(&mut a, Reason::Opened),
-        set.on_open(&mut b, Reason::Created),
-        set.on_open(&mut b, Reason::Opened),
+        set.on_open(a, Reason::Created),
+        set.on_open(a, Reason::Opened),
+        set.on_open(b, Reason::Created),
+        set.on_open(b, Reason::Opened),
     ];
-    set.on_close(&mut b, 0, 0);
-    let has_room = set.on_open(&mut b, Reason::Duplicated) == Ok(());
-    let is_open = counted(set) == [1, 0, 0, 2, 1, 0];
-    close_last(set, a);
-    let is_first_closed = counted(set) == [1, 1, 1, 2, 1, 0];
-    close_last(set, b);
-    let is_closed = counted(set) == [1, 1, 1, 2, 2, 1];
-    let are_opened = opened == [Ok(()), Err(2), Ok(()), Err(9)];
-    are_opened && has_room && is_open && is_first_closed && is_closed
+    set.on_close(b, 0, 0);
+    let again = set.on_open(b, Reason::Duplicated);
+    again == Ok(()) && opened == [Ok(()), Err(2), Ok(()), Err(9)]
 }
 
-// The same of new objects: one of the first part that takes the argument `1`, and one of the second that takes none.
-fn calls_are_counted<A: TypeSet, B: TypeSet>(
+// Whether the lives of a new object of the first part, which takes the argument `1`, and of one of the second, which
+// takes none, are counted by their parts.
+fn lives_are_counted<A: TypeSet, B: TypeSet>(
     alloc: Global,
     set: &mut Counted<A, B>,
     first: A::Kind,
     second: B::Kind,
 ) -> Option<bool> {
-    let (_, a) = Counted::<A, B>::make(alloc, Either::Left(first), b"1").ok()?;
-    let (_, b) = Counted::<A, B>::make(alloc, Either::Right(second), b"").ok()?;
-    Some(lives_are_counted(set, a, b))
+    let mut a = inner::<Counted<A, B>>(alloc, Either::Left(first), b"1")?;
+    let mut b = inner::<Counted<A, B>>(alloc, Either::Right(second), b"")?;
+    let are_opened = are_opened(set, &mut a, &mut b);
+    let open = counted(set);
+    close_last(set, a);
+    let first_closed = counted(set);
+    close_last(set, b);
+    let are_counted = open == [1, 0, 0, 2, 1, 0] && first_closed == [1, 1, 1, 2, 1, 0];
+    Some(are_opened && are_counted && counted(set) == [1, 1, 1, 2, 2, 1])
 }
 
 #[test]
 fn calls_go_to_the_part_of_an_object(rt: HostRuntime) {
     let mut set = Both::new(Counting::new(Plain), Counting::new(Boxes));
-    let are_counted = calls_are_counted(rt.alloc(), &mut set, PlainKind::Event, true);
+    let are_counted = lives_are_counted(rt.alloc(), &mut set, PlainKind::Event, true);
     assert!(rt; are_counted == Some(true));
 }
 

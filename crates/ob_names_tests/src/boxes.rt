@@ -120,6 +120,10 @@ fn boxes_open_and_close(rt: HostRuntime) {
     let opened = open_or_leave(&mut Boxes, &mut inner, Reason::Opened);
     assert!(rt; made == Ok(()) && opened == Err(9) && inner);
     close_last(&mut Boxes, inner);
+}
+
+#[test]
+fn boxes_are_refused(rt: HostRuntime) {
     assert!(rt; matches!(Boxes::make(rt.alloc(), true, b"1"), Err(Refusal::Code(7))));
     assert!(rt; Refusal::from(AllocError) == Refusal::Memory);
 }

@@ -49,7 +49,7 @@ fn names_above_32767_bytes_are_refused(rt: HostRuntime) {
 }
 
 // What is done with names, a line each:
-// - A name is kept: one of 16 bytes, which lie in the value, and one of 17.
+// - A name is copied, and the bytes of one are taken: one of 16 bytes, which lie in the value, and one of 17.
 // - A text is split: its first component, none where that is empty, and what stands behind it.
 // - Two names are compared: whether they are the same exactly, and whether without case.
 // - A target is put before a rest: the name that they make.
@@ -57,8 +57,10 @@ fn names_above_32767_bytes_are_refused(rt: HostRuntime) {
 //   dropped makes room for one byte more.
 // - A name that begins with `Link` is followed to a target: the name that they make.
 const NAMES: &'static str = r"
-keeps    | \Device\Mailslot
-keeps    | \Device\NamedPipe
+copies   | \Device\Mailslot
+copies   | \Device\NamedPipe
+takes    | \Device\Mailslot
+takes    | \Device\NamedPipe
 splits   |
 splits   | \
 splits   | \B
@@ -89,16 +91,19 @@ grows    | 32766 | \   | \   | 32767
 follows  | Link\Mailslot | \Device\ | \Device\Mailslot
 ";
 
-// Whether names with these bytes keep them: one with a copy, and one that takes them.
-fn keeps(alloc: Global, text: &[u8]) -> Option<bool> {
+// Whether a name with a copy of some bytes keeps them.
+fn keeps_copied(alloc: Global, text: &[u8]) -> Option<bool> {
     let copied = NameBuf::from_name(alloc, Name::read(text).ok()?).ok()?;
+    Some(copied.as_slice() == text && copied.as_name().as_slice() == text)
+}
+
+// Whether a name that takes some bytes keeps them.
+fn keeps_taken(alloc: Global, text: &[u8]) -> Option<bool> {
     let bytes = text.to_vec(alloc).ok()?;
     if Name::read(bytes.as_slice()).is_err() {
         return None;
     }
-    let taken = NameBuf::new(bytes);
-    let is_copied = copied.as_slice() == text && copied.as_name().as_slice() == text;
-    Some(is_copied && taken.as_slice() == text)
+    Some(NameBuf::new(bytes).as_slice() == text)
 }
 
 // Whether a text has this first component, or an empty one, and this behind it.
@@ -146,7 +151,8 @@ fn is_so(alloc: Global, line: &str) -> Option<bool> {
     let [what, a, b, c, d] = fields(line);
     let (text, behind, third) = (a.as_bytes(), b.as_bytes(), c.as_bytes());
     match what {
-        "keeps" => keeps(alloc, text),
+        "copies" => keeps_copied(alloc, text),
+        "takes" => keeps_taken(alloc, text),
         "splits" => Some(splits(text, behind, third)),
         "compares" => Some(compares(text, behind, c, d)),
         "joins" => joins(alloc, text, behind, c),

@@ -21,6 +21,12 @@ pub(crate) fn refusal<T: TypeSet>(
     }
 }
 
+/// The inner value of a new object.
+pub(crate) fn inner<T: TypeSet>(alloc: Global, kind: T::Kind, args: &[u8]) -> Option<T::Inner> {
+    let (_, inner) = T::make(alloc, kind, args).ok()?;
+    Some(inner)
+}
+
 /// Whether a face is of this kind, whose type has this name and parses or not.
 pub(crate) fn is_of_kind<T: TypeSet>(
     face: &T::Face,

@@ -1,8 +1,8 @@
 //! Lives of objects, recorded.
 
-use crate::objects::is_of_kind;
+use crate::objects::{inner, is_of_kind};
 use ob_base::Fault;
-use ob_plain::{Call, CallKind, Counting, Plain, PlainKind, Recorder};
+use ob_plain::{Call, CallKind, Counting, Plain, PlainKind, Recorded, Recorder};
 use ob_types::{Reason, TypeSet, close_last, open_or_leave};
 use std::alloc::Global;
 
@@ -20,64 +20,84 @@ fn closed(process_left: u32, system_left: u32) -> CallKind {
     }
 }
 
-// Whether an open, a close and a delete of a new object that takes one open are recorded; it is given a serial by the
-// open, and keeps that behind an open that is refused with 2.
-fn life_is_recorded<T: TypeSet>(
-    alloc: Global,
-    set: &mut Recorder<T>,
-    kind: T::Kind,
-) -> Option<bool> {
-    let (_, mut inner) = Recorder::<T>::make(alloc, kind, b"1").ok()?;
+// Whether an object that takes one open is given a serial by it, and keeps that behind an open that is refused with 2.
+fn draws_one<T: TypeSet>(set: &mut Recorder<T>, inner: &mut Recorded<T::Inner>) -> bool {
     let before = inner.serial;
-    let made = set.on_open(&mut inner, Reason::Created);
-    let refused = open_or_leave(set, &mut inner, Reason::Opened);
-    let has_drawn = before == 0 && inner.serial == 1;
+    let made = set.on_open(inner, Reason::Created);
+    let refused = open_or_leave(set, inner, Reason::Opened);
+    before == 0 && made == Ok(()) && refused == Err(2) && inner.serial == 1
+}
+
+// The same of a new object, which is then closed and deleted.
+fn lives<T: TypeSet>(alloc: Global, set: &mut Recorder<T>, kind: T::Kind) -> Option<bool> {
+    let mut inner = inner::<Recorder<T>>(alloc, kind, b"1")?;
+    let has_drawn = draws_one(set, &mut inner);
     close_last(set, inner);
-    let calls = [
-        call(1, CallKind::Opened(Reason::Created)),
-        call(1, closed(0, 0)),
-        call(1, CallKind::Deleted),
-    ];
-    let is_kept = set.calls() == calls.as_slice() && set.lost() == 0;
-    Some(made == Ok(()) && refused == Err(2) && has_drawn && is_kept)
+    Some(has_drawn)
 }
 
 #[test]
 fn a_life_is_recorded(rt: HostRuntime) -> Result<(), Fault> {
     let mut set = Recorder::new(rt.alloc(), Plain, 8)?;
-    assert!(rt; life_is_recorded(rt.alloc(), &mut set, PlainKind::Event) == Some(true));
+    assert!(rt; lives(rt.alloc(), &mut set, PlainKind::Event) == Some(true));
+    let calls = [
+        call(1, CallKind::Opened(Reason::Created)),
+        call(1, closed(0, 0)),
+        call(1, CallKind::Deleted),
+    ];
+    assert!(rt; set.calls() == calls.as_slice() && set.lost() == 0);
     Ok(())
 }
 
 // Whether two objects draw their serials by their first opens, of which the second's comes first, and the first takes
-// one open alone; a third is closed and deleted.
+// one open alone.
 fn draw_serials<T: TypeSet>(
+    set: &mut Recorder<T>,
+    first: &mut Recorded<T::Inner>,
+    second: &mut Recorded<T::Inner>,
+) -> bool {
+    let opened = [
+        set.on_open(second, Reason::Created),
+        set.on_open(first, Reason::Created),
+        set.on_open(first, Reason::Duplicated),
+        set.on_open(second, Reason::Inherited),
+    ];
+    let are_opened = opened == [Ok(()), Ok(()), Err(2), Ok(())];
+    are_opened && first.serial == 2 && second.serial == 1
+}
+
+// The same of new objects; the second is then closed, and so is a third, which is deleted too.
+fn new_ones_draw_serials<T: TypeSet>(
     alloc: Global,
     set: &mut Recorder<T>,
     limited: T::Kind,
     other: T::Kind,
 ) -> Option<bool> {
-    let (face, mut first) = Recorder::<T>::make(alloc, limited, b"1").ok()?;
-    let (_, mut second) = Recorder::<T>::make(alloc, other, b"").ok()?;
-    let (_, third) = Recorder::<T>::make(alloc, other, b"").ok()?;
-    let opened = [
-        set.on_open(&mut second, Reason::Created),
-        set.on_open(&mut first, Reason::Created),
-        set.on_open(&mut first, Reason::Duplicated),
-        set.on_open(&mut second, Reason::Inherited),
-    ];
+    let mut first = inner::<Recorder<T>>(alloc, limited, b"1")?;
+    let mut second = inner::<Recorder<T>>(alloc, other, b"")?;
+    let have_drawn = draw_serials(set, &mut first, &mut second);
     set.on_close(&mut second, 3, 7);
-    close_last(set, third);
-    let is_event = is_of_kind::<Recorder<T>>(&face, limited, "Event", false);
-    let are_opened = opened == [Ok(()), Ok(()), Err(2), Ok(())];
-    Some(is_event && are_opened && first.serial == 2 && second.serial == 1)
+    close_new_one(alloc, set, other)?;
+    Some(have_drawn)
+}
+
+// Closes and deletes a new object.
+fn close_new_one<T: TypeSet>(alloc: Global, set: &mut T, kind: T::Kind) -> Option<()> {
+    close_last(set, inner::<T>(alloc, kind, b"")?);
+    Some(())
+}
+
+// Whether a new object of a kind is of it, which has this name.
+fn new_one_is_named<T: TypeSet>(alloc: Global, kind: T::Kind, name: &str) -> Option<bool> {
+    let (face, _) = T::make(alloc, kind, b"1").ok()?;
+    Some(is_of_kind::<T>(&face, kind, name, false))
 }
 
 #[test]
 fn serials_are_drawn_by_first_opens(rt: HostRuntime) -> Result<(), Fault> {
     let mut set: Recording = Recorder::new(rt.alloc(), Counting::new(Plain), 4)?;
     let (limited, other) = (PlainKind::Event, PlainKind::Mutant);
-    assert!(rt; draw_serials(rt.alloc(), &mut set, limited, other) == Some(true));
+    assert!(rt; new_ones_draw_serials(rt.alloc(), &mut set, limited, other) == Some(true));
     // There was room for four calls, and the other two are counted.
     let calls = [
         call(1, CallKind::Opened(Reason::Created)),
@@ -86,15 +106,14 @@ fn serials_are_drawn_by_first_opens(rt: HostRuntime) -> Result<(), Fault> {
         call(1, closed(3, 7)),
     ];
     assert!(rt; set.calls() == calls.as_slice() && set.lost() == 2);
-    assert!(rt; Recording::type_name(PlainKind::Section) == "Section");
     Ok(())
 }
 
-// Closes and deletes a new object.
-fn close_new_one<T: TypeSet>(alloc: Global, set: &mut T, kind: T::Kind) -> Option<()> {
-    let (_, inner) = T::make(alloc, kind, b"").ok()?;
-    close_last(set, inner);
-    Some(())
+#[test]
+fn recorded_objects_are_of_their_kinds(rt: HostRuntime) {
+    let is_named = new_one_is_named::<Recording>(rt.alloc(), PlainKind::Event, "Event");
+    assert!(rt; is_named == Some(true));
+    assert!(rt; Recording::type_name(PlainKind::Section) == "Section");
 }
 
 #[test]
