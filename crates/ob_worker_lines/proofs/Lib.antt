@@ -1,0 +1,6 @@
+pub mod Apart
+pub mod Alike
+pub mod Bad
+pub mod Whole
+pub mod Forms
+pub mod SoFar

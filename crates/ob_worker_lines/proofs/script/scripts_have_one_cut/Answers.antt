@@ -1,0 +1,5 @@
+use Rattle.ob_worker_lines.proofs.Alike.{cuts_alike}
+use Rattle.ob_worker_lines.proofs.script.scripts_have_one_cut.Goals as goal
+
+pub returns : goal.returns
+returns c = cuts_alike

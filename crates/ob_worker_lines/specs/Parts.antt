@@ -1,0 +1,63 @@
+-- Parts: the lines of a seat, and their numbers.
+--
+-- Source: this profile.
+use Rattle.std.specs.Prelude.{◌≡◌, ◌≢◌, ◌⊎◌, ℕ, ◌+◌, Bool, true, false, List, [], ◌∷◌, ◌++◌, length, map, Some}
+use Rattle.ob_parts.specs.Text.{Lacks}
+use Rattle.ob_lines.specs.declared.form.Form.{Form}
+use Rattle.ob_lines.specs.Lines.{line_end, lines_of}
+use Rattle.ob_lines.specs.Script.{BeginsWithForms}
+use Rattle.ob_worker_lines.specs.declared.part.Part.{Part}
+use Rattle.ob_worker_lines.specs.declared.script.CutFault.{CutFault}
+use Rattle.ob_worker_lines.specs.declared.script.CutFault.TheVariants.{BadLine, Memory}
+use Rattle.ob_worker_lines.specs.declared.script.WorkerScript.{WorkerScript}
+use Rattle.ob_worker_lines.specs.Cuts.{Lines, join_line, IsScriptLine, AreScriptLines, IsBadLine}
+
+-- the lines of a part
+abbrev pub lines_in : Part → Lines
+lines_in part = lines_of part.text.now
+
+-- the lines of each worker have their numbers, where the first `thread` is the line of this number
+abbrev pub WorkersAreNumbered : ℕ → List Part → Type 0
+WorkersAreNumbered number [] = Unit {0}
+WorkersAreNumbered number (worker ∷ workers) =
+    (worker.first ≡ number + 1) × WorkersAreNumbered (number + 1 + length (lines_in worker)) workers
+
+-- the lines of each part have the numbers that they have in the script
+pub record AreNumbered (lines : Lines) (cut : WorkerScript) : Type 0 where
+  pub before : cut.before.first ≡ 1
+  pub workers : WorkersAreNumbered (1 + length (lines_in cut.before)) cut.workers.items
+  pub behind : cut.behind.first + length (lines_in cut.behind) ≡ length lines + 1
+
+-- what is told of the lines where they are not cut; want of memory says nothing of them
+abbrev pub IsFault : Lines → CutFault → Type 0
+IsFault lines (BadLine number) = IsBadLine lines number
+IsFault lines Memory = Unit {0}
+
+-- a text of lines of a script without workers has a reading, with a form for each line
+abbrev pub LinesAreRead : Type 0
+LinesAreRead =
+    (text : List ℕ) → AreScriptLines (lines_of text) → (forms : List (Form (List ℕ))) × BeginsWithForms text (map Some forms) []
+
+-- the first line ends at its LF, or at the end of the bytes; then it has a byte
+pub record IsFirstLine (bytes line rest : List ℕ) : Type 0 where
+  pub lacks : Lacks line_end line
+  pub ends : (bytes ≡ line ++ line_end ∷ rest) ⊎ ((bytes ≡ line) × (rest ≡ []) × (line ≢ []))
+
+-- the first line is a line of a script without workers, and the rest stands behind it
+abbrev pub IsScriptLineBefore : List ℕ → List ℕ → Type 0
+IsScriptLineBefore bytes rest = (line : List ℕ) × IsFirstLine bytes line rest × IsScriptLine line
+
+-- what follows the lines of the workers is this part: at the end an empty one, else one behind `join`. What follows
+-- begins with the line of this number.
+abbrev pub IsBehind : Bool → Lines → ℕ → Part → Type 0
+IsBehind has_workers lines number part =
+    ((lines ≡ []) × (lines_in part ≡ []) × (part.first ≡ number))
+    ⊎ ((has_workers ≡ true) × (lines ≡ join_line ∷ lines_in part) × AreScriptLines (lines_in part) × (part.first ≡ number + 1))
+
+-- the line stands in a wrong place behind the lines of the workers: it is the first there, and no `join` that may stand
+-- there; or it stands behind `join` and is no line of a script without workers
+abbrev pub IsMisplaced : Bool → Lines → ℕ → ℕ → Type 0
+IsMisplaced has_workers lines number bad =
+    ((line : List ℕ) × (rest : Lines) × (lines ≡ line ∷ rest) × (line ≡ join_line → has_workers ≡ false) × (bad ≡ number))
+    ⊎ ((good : Lines) × (line : List ℕ) × (rest : Lines) × (has_workers ≡ true) × (lines ≡ join_line ∷ good ++ line ∷ rest)
+    × AreScriptLines good × (¬ IsScriptLine line) × (bad ≡ number + 1 + length good))
