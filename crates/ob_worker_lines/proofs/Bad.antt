@@ -1,7 +1,7 @@
 -- Lines that stand in a wrong place: behind the lines of workers, and behind `join`.
-use Rattle.std.proofs.Common.{◌≡◌, ◌≢◌, ℕ, ◌+◌, ◌≤◌, inl, inr, List, [], ◌∷◌, ◌++◌, length, drop, refl, sym, ap, subst, ◌∙◌, append_assoc, append-nil, length-append, arith}
+use Rattle.std.proofs.Common.{◌≡◌, ◌≢◌, ℕ, ◌+◌, ◌<◌, ◌≤◌, inl, inr, List, [], ◌∷◌, ◌++◌, length, drop, refl, sym, ap, subst, ◌∙◌, append_assoc, append-nil, length-append, arith}
 use Rattle.std.specs.List.{AllByRecursion}
-use Rattle.ob_worker_lines.specs.Cuts.{Lines, thread_line, join_line, most_workers, IsScriptLine, AreScriptLines, worker_lines, IsEnd, IsCut, CanBeCut, IsBadLine}
+use Rattle.ob_worker_lines.specs.Cuts.{Lines, thread_line, join_line, most_workers, IsScriptLine, AreScriptLines, worker_lines, IsEnd, IsCut, CanBeCut, IsBadLine, ScriptsHaveOneBadLine}
 use Rattle.ob_worker_lines.proofs.Apart.{thread_no_script_line, join_no_script_line, join_no_thread}
 use Rattle.ob_worker_lines.proofs.Alike.{GoesOn, cut_goes_on, none_more}
 
@@ -121,3 +121,26 @@ bad_behind_join before workers good line rest lines number f some e l no_script 
         let joined = follows_join before workers join_line (good ++ line ∷ more) before' workers' behind' join_no_thread on in
         let behind : good ++ line ∷ more ≡ behind' = ap (drop 1) joined.2 in
         no_script (script_line_among good line more (subst AreScriptLines (sym behind) cut.behind_lines))
+
+-- of two places in a list the later one stands behind the earlier one and its element
+placed_behind : (a b : Lines) (x y : List ℕ) (s t : Lines) → a ++ x ∷ s ≡ b ++ y ∷ t → length a < length b → (more : Lines) × (b ≡ a ++ x ∷ more)
+placed_behind [] [] x y s t e l = absurd (omega (arith, l))
+placed_behind [] (z ∷ b) x y s t e l = let here : z ≡ x = cc in (b, ap (λ (h : List ℕ). h ∷ b) here)
+placed_behind (z ∷ a) [] x y s t e l = absurd (omega (arith, l))
+placed_behind (z ∷ a) (w ∷ b) x y s t e l =
+    let here : w ≡ z = cc in
+    let more = placed_behind a b x y s t (ap (drop 1) e) (omega (arith, l)) in
+    let later : b ≡ a ++ x ∷ more.0 = more.1 in
+    (more.0, cc)
+
+-- no bad line stands behind another
+none_later : (lines : Lines) (number number' : ℕ) (bad : IsBadLine lines number) (other : IsBadLine lines number') → length bad.good < length other.good → ⊥
+none_later lines number number' bad other l =
+    let more = placed_behind bad.good other.good bad.line other.line bad.rest other.rest (sym bad.whole ∙ other.whole) l in
+    bad.wrong more.0 (subst CanBeCut more.1 other.cut)
+
+pub bad_alike : ScriptsHaveOneBadLine
+bad_alike lines number number' bad other =
+    let not_before : length bad.good < length other.good → ⊥ = none_later lines number number' bad other in
+    let not_behind : length other.good < length bad.good → ⊥ = none_later lines number' number other bad in
+    omega (arith, not_before, not_behind, bad.number_is, other.number_is)

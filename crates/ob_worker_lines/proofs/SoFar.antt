@@ -2,13 +2,14 @@
 use Rattle.std.proofs.Common.{◌≡◌, ◌≢◌, ℕ, ◌+◌, ◌<◌, ◌≤◌, inl, inr, Bool, true, false, List, [], ◌∷◌, ◌++◌, length, map, not, eqb, eqb-true, eq-eqb, refl, sym, ap, subst, ◌∙◌, append_assoc, append-nil, length-append, arith}
 use Rattle.std.proofs.lemmas.Bool.{both_ways}
 use Rattle.std.proofs.lemmas.List.{map-append, length-map, nil_from_length}
-use Rattle.std.specs.List.{AllByRecursion}
+use Rattle.std.proofs.lemmas.List.Elements.{All-from_recursion}
+use Rattle.std.specs.List.{AllByRecursion, All}
 use Rattle.ob_lines.specs.Lines.{lines_of}
 use Rattle.ob_worker_lines.specs.declared.part.Part.{Part}
 use Rattle.ob_worker_lines.specs.declared.part.Taken.{Taken}
 use Rattle.ob_worker_lines.specs.Cuts.{Lines, thread_line, join_line, most_workers, AreScriptLines, IsStopped, worker_lines, IsCut, IsBadLine}
-use Rattle.ob_worker_lines.specs.Parts.{lines_in, WorkersAreNumbered, IsBehind, IsMisplaced}
-use Rattle.ob_worker_lines.proofs.Whole.{some_line}
+use Rattle.ob_worker_lines.specs.Parts.{lines_in, WorkersAreNumbered, IsBehind, IsMisplaced, IsRunnable}
+use Rattle.ob_worker_lines.proofs.Whole.{some_line, length-lines_of}
 use Rattle.ob_worker_lines.proofs.Bad.{IsFront, front_cut, joined_cut, bad_behind_workers, bad_thread, bad_behind_join}
 
 -- a part that was read of a script, where its first line has a number
@@ -150,23 +151,36 @@ later_misplaced bytes behind number taken e t some =
       t.ends,
     )
 
--- where what follows the workers is a part, the script is cut
-pub behind_cut : (script : List ℕ) (before : Part) (workers : List Part) (rest : List ℕ) (number : ℕ) (has_workers : Bool) (part : Part)
-    → IsReadTo script before workers rest number → Tells has_workers workers → IsBehind has_workers (lines_of rest) number part
-    → IsCut (lines_of script) (lines_in before) (map lines_in workers) (lines_in part)
-behind_cut script before workers rest number has_workers part read tells (inl (e, none, is)) =
-    let front : lines_of script ≡ front_lines before workers = read.whole ∙ (ap (λ ls. front_lines before workers ++ ls) e ∙ append-nil (front_lines before workers)) in
-    let P : Lines → Type 0 = λ ls. IsCut ls (lines_in before) (map lines_in workers) (lines_in part) in
-    let Q : Lines → Type 0 = λ ls. IsCut (front_lines before workers) (lines_in before) (map lines_in workers) ls in
-    subst P (sym front) (subst Q (sym none) (front_cut (lines_in before) (map lines_in workers) read.front))
-behind_cut script before workers rest number has_workers part read tells (inr (has, e, l, is)) =
-    let P : Lines → Type 0 = λ ls. IsCut ls (lines_in before) (map lines_in workers) (lines_in part) in
-    subst P (sym (read.whole ∙ ap (λ ls. front_lines before workers ++ ls) e))
-    (joined_cut (lines_in before) (map lines_in workers) (lines_in part) read.front (mapped_some workers (tells.some has)) l)
-
-pub behind_numbered : (script : List ℕ) (before : Part) (workers : List Part) (rest : List ℕ) (number : ℕ) (has_workers : Bool) (part : Part)
+-- where what follows the workers is a part, its lines end with the script
+behind_numbered : (script : List ℕ) (before : Part) (workers : List Part) (rest : List ℕ) (number : ℕ) (has_workers : Bool) (part : Part)
     → IsReadTo script before workers rest number → IsBehind has_workers (lines_of rest) number part → part.first + length (lines_in part) ≡ length (lines_of script) + 1
 behind_numbered script before workers rest number has_workers part read (inl (e, none, is)) =
     omega (arith, is, read.number_is, ap length none, ap length e, ap length read.whole, length-append (front_lines before workers) (lines_of rest))
 behind_numbered script before workers rest number has_workers part read (inr (has, e, l, is)) =
     omega (arith, is, read.number_is, ap length e, ap length read.whole, length-append (front_lines before workers) (lines_of rest))
+
+behind_own : (has_workers : Bool) (lines : Lines) (number : ℕ) (part : Part) → IsBehind has_workers lines number part → AreScriptLines (lines_in part)
+behind_own has_workers lines number part (inl (e, none, is)) = subst AreScriptLines (sym none) tt
+behind_own has_workers lines number part (inr (has, e, l, is)) = l
+
+-- each part can be run
+workers_runnable : (size number : ℕ) (workers : List Part) → AllByRecursion AreScriptLines (map lines_in workers) → WorkersAreNumbered number workers
+    → number + length (worker_lines (map lines_in workers)) ≤ size + 1 → AllByRecursion (IsRunnable size) workers
+workers_runnable size number [] l n bound = tt
+workers_runnable size number (first ∷ workers) l n bound =
+    let long = length-append (lines_in first) (worker_lines (map lines_in workers)) in
+    ((l.0, omega (arith, n.0, bound, long)), workers_runnable size (number + 1 + length (lines_in first)) workers l.1 n.1 (omega (arith, bound, long)))
+
+pub behind_runnable : (script : List ℕ) (before : Part) (workers : List Part) (rest : List ℕ) (number : ℕ) (has_workers : Bool) (part : Part)
+    → IsReadTo script before workers rest number → IsBehind has_workers (lines_of rest) number part
+    → IsRunnable (length script) before × All (IsRunnable (length script)) workers × IsRunnable (length script) part
+behind_runnable script before workers rest number has_workers part read is =
+    let few = length-lines_of script in
+    let long = ap length read.whole in
+    let parts = length-append (front_lines before workers) (lines_of rest) in
+    let front = length-append (lines_in before) (worker_lines (map lines_in workers)) in (
+      (read.front.before_lines, omega (arith, read.begins, few, long, parts, front)),
+      All-from_recursion (IsRunnable (length script)) workers
+          (workers_runnable (length script) (1 + length (lines_in before)) workers read.front.workers_lines read.numbered (omega (arith, few, long, parts, front))),
+      (behind_own has_workers (lines_of rest) number part is, omega (arith, few, behind_numbered script before workers rest number has_workers part read is)),
+    )

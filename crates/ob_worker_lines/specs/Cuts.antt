@@ -71,6 +71,10 @@ pub record IsBadLine (lines : Lines) (number : ℕ) : Type 0 where
   pub cut : CanBeCut good
   pub wrong : (more : Lines) → ¬ CanBeCut (good ++ line ∷ more)
 
+-- two bad lines of the same lines are the same
+abbrev pub ScriptsHaveOneBadLine : Type 0
+ScriptsHaveOneBadLine = (lines : Lines) (number number' : ℕ) → IsBadLine lines number → IsBadLine lines number' → number ≡ number'
+
 -- two cuts of the same lines are the same
 abbrev pub ScriptsHaveOneCut : Type 0
 ScriptsHaveOneCut =

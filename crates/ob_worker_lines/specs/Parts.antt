@@ -1,7 +1,7 @@
 -- Parts: the lines of a seat, and their numbers.
 --
 -- Source: this profile.
-use Rattle.std.specs.Prelude.{◌≡◌, ◌≢◌, ◌⊎◌, ℕ, ◌+◌, Bool, true, false, List, [], ◌∷◌, ◌++◌, length, map, Some}
+use Rattle.std.specs.Prelude.{◌≡◌, ◌≢◌, ◌⊎◌, ℕ, ◌+◌, ◌≤◌, Bool, true, false, List, [], ◌∷◌, ◌++◌, length, map, Some, All}
 use Rattle.ob_parts.specs.Text.{Lacks}
 use Rattle.ob_lines.specs.declared.form.Form.{Form}
 use Rattle.ob_lines.specs.Lines.{line_end, lines_of}
@@ -27,6 +27,14 @@ pub record AreNumbered (lines : Lines) (cut : WorkerScript) : Type 0 where
   pub before : cut.before.first ≡ 1
   pub workers : WorkersAreNumbered (1 + length (lines_in cut.before)) cut.workers.items
   pub behind : cut.behind.first + length (lines_in cut.behind) ≡ length lines + 1
+
+-- what each part of a script of so many bytes has for who runs it: it has lines of a script without workers alone, and no
+-- line's number is above that of the bytes
+abbrev pub IsRunnable : ℕ → Part → Type 0
+IsRunnable size part = AreScriptLines (lines_in part) × (part.first + length (lines_in part) ≤ size + 1)
+
+abbrev pub AreRunnable : ℕ → WorkerScript → Type 0
+AreRunnable size cut = IsRunnable size cut.before × All (IsRunnable size) cut.workers.items × IsRunnable size cut.behind
 
 -- what is told of the lines where they are not cut; want of memory says nothing of them
 abbrev pub IsFault : Lines → CutFault → Type 0

@@ -2,9 +2,10 @@
 
 ghost use Rattle.std.specs.Prelude.{◌≡◌, ◌+◌, ◌<◌, ◌^◌, length, map, Bool, IfOk, IfErr};
 ghost use Rattle.ob_lines.specs.Lines.{lines_of};
-ghost use Rattle.ob_worker_lines.specs.Cuts.{IsCut, ScriptsHaveOneCut};
+ghost use Rattle.ob_worker_lines.specs.Cuts.{IsCut, ScriptsHaveOneBadLine, ScriptsHaveOneCut};
 ghost use Rattle.ob_worker_lines.specs.Parts.{
   AreNumbered,
+  AreRunnable,
   IsBehind,
   IsFault,
   IsMisplaced,
@@ -44,15 +45,19 @@ pub enum CutFault {
 
 /// Cuts a script with workers into the lines of its seats. No line of it is run.
 ///
-/// A script without `thread` is all seat 0's, before. The faults are `BadLine`, for each script that can't be
-/// cut, and `Memory`. Where there is memory, each script that can be cut is. Source: this profile.
+/// Without `thread` all lines are those before the workers, of which there are none. The faults are `BadLine`, for
+/// each script that can't be cut and no other, and `Memory`. Source: this profile.
 pub fn cut(alloc: Global, script: &[u8]) -> Result<WorkerScript<'_>, CutFault>
     // The lines of the script are those of the parts, with the lines `thread` and `join` between them.
     ensures lines { IfOk result (λ cut. IsCut (lines_of script.now) (lines_in cut.before)
         (map lines_in cut.workers.items) (lines_in cut.behind)) }
     ensures numbers { IfOk result (λ cut. AreNumbered (lines_of script.now) cut) }
 
-    // No script that begins with the lines up to this one can be cut, and one of the lines before it can.
+    // The same of each part alone, in the words of who runs it.
+    ensures parts { IfOk result (λ cut. AreRunnable (length script.now) cut) }
+
+    // The lines before the bad one are those of a script that can be cut, and no script that begins with them and
+    // the bad one can be.
     ensures fault { IfErr result (λ fault. IsFault (lines_of script.now) fault) }
 {
     let start = take_part(script, 1);
@@ -107,9 +112,11 @@ fn take_behind(rest: &[u8], number: u64, has_workers: bool) -> Result<Part<'_>, 
     }
 }
 
-/// The law that a script is cut in one way. The call does nothing; a caller makes it to have the fact.
+/// The law that a script is cut in one way, and that no two of its lines are the first that is bad. The call does
+/// nothing; a caller makes it to have the fact.
 pub fn scripts_have_one_cut()
-    ensures { ScriptsHaveOneCut }
+    ensures cut { ScriptsHaveOneCut }
+    ensures bad { ScriptsHaveOneBadLine }
 {}
 
 /// The law that a text of lines of a script without workers, as that of each part, has a reading: forms of

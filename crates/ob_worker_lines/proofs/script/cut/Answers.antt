@@ -3,7 +3,7 @@ use Rattle.std.proofs.Common.{◌≡◌, ◌+◌, ◌≢◌, List, [], ◌∷◌
 use Rattle.std.proofs.lemmas.Grind.{common_steps}
 use Rattle.ob_worker_lines.specs.declared.part.Part.{Part}
 use Rattle.ob_worker_lines.specs.Cuts.{most_workers}
-use Rattle.ob_worker_lines.proofs.SoFar.{IsTaken, IsReadTo, read_worker, full_bad, misplaced_bad, tells_from}
+use Rattle.ob_worker_lines.proofs.SoFar.{IsTaken, IsReadTo, read_worker, full_bad, misplaced_bad, tells_from, behind_runnable}
 use Rattle.ob_worker_lines.proofs.script.cut.Goals as goal
 
 pub returns-then-len-eq-MOST_WORKERS-clause-fault : goal.returns-then-len-eq-MOST_WORKERS-clause-fault
@@ -24,3 +24,6 @@ pub returns-clause-fault : goal.returns-clause-fault
 returns-clause-fault c =
     misplaced_bad _ _ _ _ _ _ _ c.loop-lines.invariant c.in_default.ensures.none
     (tells_from c.is_empty.result c.loop-lines.workers.items c.loop-lines.workers.len c.is_empty.ensures (omega (arith, c.loop-lines.workers.ok.0))) c.in-Err.ensures.misplaced
+
+pub returns-in-Ok-clause-parts : goal.returns-in-Ok-clause-parts
+returns-in-Ok-clause-parts c = behind_runnable _ _ _ _ _ _ c.in-Ok.behind c.loop-lines.invariant c.in-Ok.ensures.behind
