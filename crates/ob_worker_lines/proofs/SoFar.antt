@@ -7,10 +7,10 @@ use Rattle.std.specs.List.{AllByRecursion, All}
 use Rattle.ob_lines.specs.Lines.{lines_of}
 use Rattle.ob_worker_lines.specs.declared.part.Part.{Part}
 use Rattle.ob_worker_lines.specs.declared.part.Taken.{Taken}
-use Rattle.ob_worker_lines.specs.Cuts.{Lines, thread_line, join_line, most_workers, AreScriptLines, IsStopped, worker_lines, IsCut, IsBadLine}
+use Rattle.ob_worker_lines.specs.Cuts.{Lines, thread_line, join_line, most_workers, AreScriptLines, IsStopped, worker_lines, IsBadLine}
 use Rattle.ob_worker_lines.specs.Parts.{lines_in, WorkersAreNumbered, IsBehind, IsMisplaced, IsRunnable}
 use Rattle.ob_worker_lines.proofs.Whole.{some_line, length-lines_of}
-use Rattle.ob_worker_lines.proofs.Bad.{IsFront, front_cut, joined_cut, bad_behind_workers, bad_thread, bad_behind_join}
+use Rattle.ob_worker_lines.proofs.Bad.{IsFront, bad_behind_workers, bad_thread, bad_behind_join}
 
 -- a part that was read of a script, where its first line has a number
 pub record IsTaken (script : List ℕ) (number : ℕ) (taken : Taken) : Type 0 where

@@ -30,7 +30,7 @@ IsScriptLine line = (form : Form (List ℕ)) × IsLine line form
 abbrev pub AreScriptLines : Lines → Type 0
 AreScriptLines lines = AllByRecursion IsScriptLine lines
 
--- the first of these lines, where there is one, is none
+-- the first of these lines, where there is one, is no line of a script without workers
 abbrev pub IsStopped : Lines → Type 0
 IsStopped [] = Unit {0}
 IsStopped (line ∷ lines) = ¬ IsScriptLine line
