@@ -1,5 +1,1 @@
-pub mod Answered
-pub mod Placed
-pub mod Pendings
-pub mod Starts
-pub mod Keeps
+pub mod Chained

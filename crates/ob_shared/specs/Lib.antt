@@ -1,9 +1,2 @@
-pub mod Places
-pub mod Rooms
-pub mod Passed
-pub mod Locked
-pub mod Entered
-pub mod Steps
-pub mod Answers
-pub mod Asked
-pub mod Opened
+pub mod Told
+pub mod Chains

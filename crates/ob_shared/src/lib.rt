@@ -1,26 +1,20 @@
-//! A namespace that callers share, as it is to lie under a lock: the journal of its steps is a run of the abstract machine, and
-//! each caller has a receipt of each of its steps.
+//! A namespace that threads share: a lock round it, and a pass for each caller.
 //!
-//! [`open_locked`] gives a [`Locked`] in the opening state, and a [`Pass`] for each seat. [`step`] is lent both, and makes the
-//! step that is [`Asked`] for: it changes the namespace, adds the step's entry to the journal, and its receipt to the pass. A
-//! parse is run between two steps: a [`Parsing`] is run into a [`Parsed`], or a [`Pending`] open is given up. One ledger counts
-//! the steps: its book lies beside the journal, and each pass has a share of it that counts its receipts.
+//! [`open_shared`] gives a [`Shared`] and its passes. A caller hands its [`Pass`] to each call and gets it back, with a receipt
+//! of the step that was made: [`Shared::start`] begins a command, [`Shared::resume`] brings the parse that an open waits for,
+//! [`Shared::abandon`] gives such an open up, and [`Shared::open_with`] runs a command to its reply. Each of these takes the lock for
+//! one step alone; a parse is run between two steps, with nothing held. Once all callers have ended, [`Shared::close`] gives back
+//! the namespace and the journal, of which each pass has its own steps as receipts.
 //!
-//! Here is no lock and no thread yet: whoever has the `Locked` makes the steps.
+//! What lies under the lock, and the steps that are made there, are those of `ob_locked`, handed on here.
 #![tactic(auto)]
 
-mod entering;
-mod locked;
-mod made;
-mod opened;
-mod pass;
-mod place;
-mod rooms;
-mod started;
-mod steps;
+mod shared;
+mod to_reply;
+mod under;
 
-pub use locked::Locked;
-pub use opened::open_locked;
-pub use pass::Pass;
-pub use started::{Parsed, Parsing, Pending, Started};
-pub use steps::{Asked, step};
+pub use ob_locked::{
+    Asked, Locked, Mismatch, Parsed, Parsing, Pass, Pending, Started, open_locked, settle, step,
+};
+pub use shared::{Ended, Shared, open_shared};
+pub use to_reply::Gate;

@@ -4,7 +4,7 @@
 use ob_base::{Fault, Proc, Status};
 use ob_core::{Bytes, Command, OpenTable, Place, Reply};
 use ob_device::DeviceKind;
-use ob_journal::write_line;
+use ob_journal::{Entry, write_line};
 use ob_shared::{Asked, Locked, Parsing, Pass, Pending, Started, step};
 use ob_types::TypeSet;
 use std::alloc::{AllocError, Global};
@@ -104,13 +104,13 @@ fn is_given_up<T: TypeSet<Kind = DeviceKind>, L: Ledger>(
     }
 }
 
-/// The lines of the journal.
-pub(crate) fn lines<T: TypeSet<Kind = DeviceKind>, L: Ledger>(
+/// The lines of a journal's entries.
+pub(crate) fn lines_of<T: TypeSet<Kind = DeviceKind>>(
     alloc: Global,
-    locked: &Shared<T, L>,
+    journal: &[Entry<DeviceKind>],
 ) -> Result<Vec<u8>, AllocError> {
     let mut lines = Vec::new(alloc);
-    for entry in locked.journal() {
+    for entry in journal {
         lines.extend_from_slice(write_line::<T>(alloc, entry)?.as_slice())?;
     }
     Ok(lines)

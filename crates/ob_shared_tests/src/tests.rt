@@ -2,7 +2,7 @@
 
 ghost use Rattle.std.specs.Prelude.{◌≡◌};
 
-use crate::scene::{Shared, begin, end, give_up, lines, make_device};
+use crate::scene::{Shared, begin, end, give_up, lines_of, make_device};
 use ob_base::{Fault, Status};
 use ob_device::{DeviceKind, DeviceSet};
 use ob_shared::{Pass, open_locked};
@@ -67,7 +67,7 @@ fn played<T: TypeSet<Kind = DeviceKind>, L: Ledger>(
         reserved: (reserved, locked.reserved()),
         counts: (one.count(), other.count()),
         last: (one.last(), other.last()),
-        journal: lines(alloc, &locked)?,
+        journal: lines_of::<T>(alloc, locked.journal())?,
     }))
 }
 

@@ -1,0 +1,6 @@
+pub mod Answered
+pub mod Placed
+pub mod Pendings
+pub mod Starts
+pub mod Keeps
+pub mod Seats

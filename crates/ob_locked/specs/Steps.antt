@@ -1,0 +1,44 @@
+-- Steps under the lock, and why a start or a pass makes none.
+--
+-- Source: this profile.
+use Rattle.std.specs.Prelude.{◌≡◌, ◌⊎◌, ℕ, ◌+◌, ◌<◌, ◌++◌, List, [], ◌∷◌, length}
+use Rattle.ob_base.specs.declared.fault.Fault.{Fault}
+use Rattle.ob_base.specs.declared.fault.Fault.TheVariants.{Memory, Refused}
+use Rattle.ob_base.specs.declared.status.Status.TheVariants.{InvalidParameter, JournalFull}
+use Rattle.ob_model.specs.declared.reply.Answer.{Answer}
+use Rattle.ob_model.specs.declared.reply.Event.{Event}
+use Rattle.ob_model.specs.Procedures.{Procedures}
+use Rattle.ob_model.specs.Run.{Entry}
+use Rattle.ob_model.specs.Step.{Step}
+use Rattle.ob_parsing.specs.Parse.{ToRun}
+use Rattle.ob_waiting.specs.Waiting.{IsAwaited}
+use Rattle.ob_locked.specs.Entered.{entered}
+use Rattle.ob_locked.specs.Locked.{History}
+use Rattle.ob_locked.specs.Passed.{Passed, IsKnown}
+use Rattle.ob_locked.specs.Places.{most_entries, places_of_start}
+
+-- A step that was made: the machine's, from the state to the next one; its entry, with the event that was asked and the answer
+-- that is given, ends the journal, and is the pass's last receipt.
+pub record IsMade {K T F I : Type 0} (g : Procedures K T F I) (h : History K T F I) (p : Passed K) (event : Event K) (answer : Answer) (h' : History K T F I) (p' : Passed K) : Type 0 where
+  pub step : Step g h.state event answer h'.state
+  pub first : h'.first ≡ h.first
+  pub journal : h'.journal ≡ h.journal ++ entered (length h.journal + 1) p.seat event answer ∷ []
+  pub receipts : p'.receipts ≡ p.receipts ++ entered (length h.journal + 1) p.seat event answer ∷ []
+  pub seat : p'.seat ≡ p.seat
+
+-- of these places, used and reserved, fewer are left than a start may come to take
+abbrev pub IsFull : ℕ → ℕ → Type 0
+IsFull used reserved = most_entries < used + reserved + places_of_start
+
+-- Why a start makes no step, beside this journal and so many reserved places, with a pass of these receipts: memory was wanted;
+-- the pass is a stranger's; or the journal is full.
+abbrev pub IsNotAdmitted : {K : Type 0} → List (Entry K) → ℕ → List (Entry K) → Fault → Type 0
+IsNotAdmitted journal reserved receipts Memory = IsKnown journal receipts × (IsFull (length journal) reserved → ⊥)
+IsNotAdmitted journal reserved receipts (Refused status) =
+    ((status ≡ InvalidParameter) × (IsKnown journal receipts → ⊥)) ⊎ ((status ≡ JournalFull) × IsKnown journal receipts × IsFull (length journal) reserved)
+
+-- Why a resume makes no step: memory was wanted; or the pass is a stranger's, or the parse that it brings is.
+abbrev pub IsNotResumed : {K T F I : Type 0} → Procedures K T F I → History K T F I → Passed K → ToRun F → Fault → Type 0
+IsNotResumed g h p asked Memory = IsKnown h.journal p.receipts
+IsNotResumed g h p asked (Refused status) =
+    (status ≡ InvalidParameter) × ((IsKnown h.journal p.receipts → ⊥) ⊎ (IsKnown h.journal p.receipts × (IsAwaited g h.state asked → ⊥)))

@@ -1,0 +1,221 @@
+//! Steps of the core, with copies of what was asked and answered.
+
+ghost use Rattle.std.specs.Prelude.{◌≡◌, ◌↔◌, true, IfOk, IfErr, OnErr, IfSome, OnSome, IsSome, IfNone};
+ghost use Rattle.ob_base.specs.declared.status.Status.TheVariants.{Success};
+ghost use Rattle.ob_model.specs.Refusals.{answers};
+ghost use Rattle.ob_base.specs.declared.fault.Fault.TheVariants.{Memory};
+ghost use Rattle.ob_model.specs.declared.reply.Event.TheVariants.{Start, Resume, Abandon};
+ghost use Rattle.ob_model.specs.Step.{Step};
+ghost use Rattle.ob_parsing.specs.Brought.{run_of_end, brought as end_of, run_of as brought_run};
+ghost use Rattle.ob_parsing.specs.Parse.{asked_of};
+ghost use Rattle.ob_waiting.specs.Waiting.{answer_of, IfParsing, IsAwaited, IsNotTaken, IsParseOf};
+ghost use Rattle.ob_locked.specs.Entered.{entered, EndedAfter, HasFew, PendingAfter};
+ghost use Rattle.ob_locked.specs.Rooms.{is_plain};
+
+use crate::rooms::{copy_in, values_of};
+use ob_base::{Fault, Proc, Status};
+use ob_core::{Brought, Core, HandleTable, Parsed, Started};
+use ob_journal::{Entry, copy_command};
+use ob_model::{Answer, Command, Event, Given, ParseRun, Reply};
+use ob_types::TypeSet;
+use std::alloc::Global;
+
+/// Who makes a step, and the number of its entry.
+#[derive(Clone, Copy)]
+pub(crate) struct Writer {
+    pub number: u64,
+    pub seat: u32,
+}
+
+/// A step of the core: how it ended, and its entry, once for the journal and once as the receipt.
+pub(crate) struct Made<T: TypeSet> {
+    pub started: Started<T>,
+    pub entry: Entry<T::Kind>,
+    pub receipt: Entry<T::Kind>,
+}
+
+/// The entry of a step.
+fn entry_of<K>(writer: Writer, step: Event<K>, reply: Answer) -> Entry<K>
+    ensures { result ≡ entered writer.number writer.seat step reply }
+{
+    Entry {
+        number: writer.number,
+        seat: writer.seat,
+        step,
+        reply,
+    }
+}
+
+/// Starts a command, with copies of it and of its reply. The only fault is want of memory, and then the core is as it was.
+pub(crate) fn start_core<T: TypeSet, H: HandleTable>(
+    core: &mut Core<T, H>,
+    alloc: Global,
+    writer: Writer,
+    process: Proc,
+    command: &Command<T::Kind>,
+) -> Result<Made<T>, Fault>
+    ensures step { IfOk result (λ made.
+        Step T.procedures core.old (Start process command.now) (answer_of made.started) core.new) }
+    ensures parse { IfOk result (λ made. IfParsing made.started (IsParseOf core.new)) }
+    ensures pending { IfOk result (λ made. PendingAfter HasFew core.old.pending (answer_of made.started) core.new.pending) }
+    ensures entry { IfOk result (λ made. made.entry ≡ entered writer.number writer.seat (Start process command.now) (answer_of made.started)) }
+    ensures receipt { IfOk result (λ made. made.receipt ≡ made.entry) }
+    ensures err { OnErr result (core.new ≡ core.old) }
+    ensures memory { IfErr result (λ fault. fault ≡ Memory) }
+{
+    let asked = copy_command(alloc, command)?;
+    let again = copy_command(alloc, command)?;
+    let values = values_of(core, process, command);
+    let room = Vec::with_capacity(alloc, values)?;
+    let other_room = Vec::with_capacity(alloc, values)?;
+    core.state_is_sound();
+    match core.start(process, command)? {
+        Started::Done(reply) => {
+            let told = copy_in(alloc, &reply, room)?;
+            let told_again = copy_in(alloc, &reply, other_room)?;
+            let entry = entry_of(writer, started_by(process, asked), Answer::Done(told));
+            let receipt = entry_of(writer, started_by(process, again), Answer::Done(told_again));
+            Ok(Made {
+                started: Started::Done(reply),
+                entry,
+                receipt,
+            })
+        }
+        Started::Parsing(parsing) => {
+            let ticket = parsing.ticket();
+            let entry = entry_of(writer, started_by(process, asked), Answer::Ticket(ticket));
+            let receipt = entry_of(writer, started_by(process, again), Answer::Ticket(ticket));
+            Ok(Made {
+                started: Started::Parsing(parsing),
+                entry,
+                receipt,
+            })
+        }
+    }
+}
+
+/// The event of a start.
+fn started_by<K>(process: Proc, command: Command<K>) -> Event<K>
+    ensures { result ≡ Start process command }
+{
+    Event::Start { process, command }
+}
+
+/// A copy of a reply that gives nothing, or a handle. Takes no memory.
+fn copy_plain(reply: &Reply) -> Reply
+    requires { is_plain reply.now.given ≡ true }
+    ensures { result ≡ reply.now }
+{
+    let given = match &reply.given {
+        Given::Handle(handle) => Given::Handle(*handle),
+        _ => Given::Nothing,
+    };
+    Reply {
+        status: reply.status,
+        given,
+    }
+}
+
+/// Resumes an open with its parse, with the entry of the step. The faults are the core's, and then it is as it was.
+pub(crate) fn resume_core<T: TypeSet, H: HandleTable>(
+    core: &mut Core<T, H>,
+    writer: Writer,
+    parsed: Parsed<T>,
+) -> Result<Made<T>, (Fault, Parsed<T>)>
+    ensures step { IfOk result (λ made.
+        Step T.procedures core.old (Resume parsed.ticket (run_of_end parsed.outcome)) (answer_of made.started) core.new) }
+    ensures awaited { IfOk result (λ _. IsAwaited T.procedures core.old (asked_of parsed)) }
+    ensures parse { IfOk result (λ made. IfParsing made.started (IsParseOf core.new)) }
+    ensures pending { IfOk result (λ made. EndedAfter core.old.pending parsed.ticket (answer_of made.started) core.new.pending) }
+    ensures entry { IfOk result (λ made. made.entry ≡ entered writer.number writer.seat (Resume parsed.ticket (run_of_end parsed.outcome)) (answer_of made.started)) }
+    ensures receipt { IfOk result (λ made. made.receipt ≡ made.entry) }
+    ensures err { OnErr result (core.new ≡ core.old) }
+    ensures fault { IfErr result (λ back. IsNotTaken T.procedures core.old (asked_of parsed) (back.0)) }
+    ensures back { IfErr result (λ back. back.1 ≡ parsed) }
+{
+    let ticket = parsed.ticket();
+    let parse = run_of(&parsed);
+    core.state_is_sound();
+    match core.resume(parsed) {
+        Ok(Started::Done(reply)) => {
+            let told = Answer::Done(copy_plain(&reply));
+            let told_again = Answer::Done(copy_plain(&reply));
+            Ok(Made {
+                started: Started::Done(reply),
+                entry: entry_of(writer, Event::Resume { ticket, parse }, told),
+                receipt: entry_of(writer, Event::Resume { ticket, parse }, told_again),
+            })
+        }
+        Ok(Started::Parsing(parsing)) => {
+            let next = parsing.ticket();
+            Ok(Made {
+                started: Started::Parsing(parsing),
+                entry: entry_of(
+                    writer,
+                    Event::Resume { ticket, parse },
+                    Answer::Ticket(next),
+                ),
+                receipt: entry_of(
+                    writer,
+                    Event::Resume { ticket, parse },
+                    Answer::Ticket(next),
+                ),
+            })
+        }
+        Err(back) => Err(back),
+    }
+}
+
+/// What became of a parse that was run.
+fn run_of<T: TypeSet>(parsed: &Parsed<T>) -> ParseRun
+    ensures { result ≡ run_of_end parsed.now.outcome }
+{
+    if parsed.ran() {
+        ParseRun::Ran
+    } else {
+        ParseRun::NoMemory
+    }
+}
+
+/// The entry of a step, once for the journal and once as the receipt.
+#[derive(Drop)]
+pub(crate) struct Twice<K> {
+    pub entry: Entry<K>,
+    pub receipt: Entry<K>,
+}
+
+/// Gives an open up, with the entry of the step; none where no open waits for this parse, and then the core is as it was. Takes
+/// no memory.
+pub(crate) fn abandon_core<T: TypeSet, H: HandleTable>(
+    core: &mut Core<T, H>,
+    writer: Writer,
+    brought: Brought<T>,
+) -> Option<Twice<T::Kind>>
+    ensures exact { IsSome result ↔ IsAwaited T.procedures core.old (asked_of (end_of brought)) }
+    ensures step { OnSome result (Step T.procedures core.old (Abandon (end_of brought).ticket (brought_run brought)) (answers Success) core.new) }
+    ensures pending { OnSome result (EndedAfter core.old.pending (end_of brought).ticket (answers Success) core.new.pending) }
+    ensures entry { IfSome result (λ twice. twice.entry ≡ entered writer.number writer.seat (Abandon (end_of brought).ticket (brought_run brought)) (answers Success)) }
+    ensures receipt { IfSome result (λ twice. twice.receipt ≡ twice.entry) }
+    ensures none { IfNone result (core.new ≡ core.old) }
+{
+    let ticket = brought.ticket();
+    let parse = brought.run();
+    core.state_is_sound();
+    if !core.abandon(brought) {
+        return None;
+    }
+    Some(Twice {
+        entry: entry_of(writer, Event::Abandon { ticket, parse }, success()),
+        receipt: entry_of(writer, Event::Abandon { ticket, parse }, success()),
+    })
+}
+
+/// The answer `Success`, which gives nothing.
+fn success() -> Answer
+    ensures { result ≡ answers Success }
+{
+    Answer::Done(Reply {
+        status: Status::Success,
+        given: Given::Nothing,
+    })
+}

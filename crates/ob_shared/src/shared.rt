@@ -1,0 +1,181 @@
+//! The lock, and what is handed back when it is closed.
+
+ghost use Rattle.std.specs.Prelude.{◌≡◌, ◌≤◌, ◌<◌, ◌⊎◌, Err, IfOk, IfErr, OnErr};
+ghost use Rattle.ob_base.specs.declared.Fault.TheVariants.{Memory, Refused};
+ghost use Rattle.ob_base.specs.declared.status.Status.TheVariants.{InvalidParameter};
+ghost use Rattle.ob_model.specs.declared.reply.Event.TheVariants.{Start, Resume};
+ghost use Rattle.ob_model.specs.Run.{Run};
+ghost use Rattle.ob_parsing.specs.Brought.{run_of_end};
+ghost use Rattle.ob_parsing.specs.Parse.{asked_of};
+ghost use Rattle.ob_locked.specs.Opened.{fresh_passes, most_seats};
+ghost use Rattle.ob_locked.specs.Settled.{IsSettled};
+ghost use Rattle.ob_shared.specs.Told.{IsGivenUp, IsMismatchOfRun, IsNotBrought, IsNotStarted, IsTold};
+
+use crate::under::{abandon_under, resume_under, start_under};
+use ob_base::{Fault, Proc};
+use ob_core::{Core, HandleTable};
+use ob_journal::Entry;
+use ob_locked::{Locked, Mismatch, Parsed, Pass, Pending, Started, open_locked, settle};
+use ob_model::Command;
+use ob_types::TypeSet;
+use std::alloc::Global;
+use std::marker::Model;
+use std::sync::ledger::{Blank, Ledger};
+use std::sync::{Mutex, Wait};
+
+/// A namespace that threads share. `T` is the set of types, `H` the handle table of each process, and `L` the ledger by which the
+/// steps of all passes are counted. It is lent to as many threads as there are; a call waits for the lock, which is held for one
+/// step alone. Contracts see how many seats it has. (this profile)
+#[derive(Drop)]
+pub struct Shared<T: TypeSet, H: HandleTable, L: Ledger> {
+    lock: Mutex<Locked<T, H, L>>,
+    seats: u32,
+    alloc: Global,
+}
+
+impl<T: TypeSet, H: HandleTable, L: Ledger> Model for Shared<T, H, L> {
+    ghost use Rattle.std.specs.Prelude.{ℕ, ◌≤◌};
+    ghost use Rattle.ob_locked.specs.Opened.{most_seats};
+
+    ghost Value = { ℕ };
+
+    ghost view = { λ a. a.seats };
+
+    ghost invariant = { λ a. a.seats ≤ most_seats };
+}
+
+/// What is left of a shared namespace that was closed: the namespace, and the journal of all its steps. (this profile)
+#[derive(Drop)]
+pub struct Ended<T: TypeSet, H: HandleTable> {
+    /// The namespace, as the steps of the journal have left it.
+    pub core: Core<T, H>,
+    /// The entries of all steps, in their order.
+    pub journal: Vec<Entry<T::Kind>>,
+}
+
+/// Opens a namespace in the opening state for so many seats, 1 to 1,024, with a pass for each seat, at the place of its number.
+///
+/// The faults, at which the set is let go: `InvalidParameter` exactly where no seat or more than 1,024 are asked for; and
+/// `Memory`, where memory was wanted. (this profile)
+pub fn open_shared<T: TypeSet, H: HandleTable, L: Ledger>(
+    alloc: Global,
+    blank: Blank,
+    types: T,
+    seats: u32,
+) -> Result<(Shared<T, H, L>, Vec<Pass<T::Kind, L>>), Fault>
+    requires name { blank.name ≡ L.name }
+    requires parts { blank.parts ≡ L.parts }
+    requires whole { L.parts ≡ most_seats }
+    ensures opened { IfOk result (λ opened. opened.0 ≡ seats) }
+    ensures passes { IfOk result (λ opened. opened.1.items ≡ fresh_passes seats) }
+    ensures seats { (seats ≡ 0) ⊎ (most_seats < seats) → result ≡ Err (Refused InvalidParameter) }
+    ensures memory { (0 < seats) → seats ≤ most_seats → IfErr result (λ fault. fault ≡ Memory) }
+{
+    let (locked, passes) = open_locked(alloc, blank, types, seats)?;
+    let shared = Shared {
+        lock: Mutex::new(locked),
+        seats,
+        alloc,
+    };
+    Ok((shared, passes))
+}
+
+impl<T: TypeSet, H: HandleTable, L: Ledger> Shared<T, H, L> {
+    /// How many seats it has: 1 to 1,024. Takes no memory. (this profile)
+    pub fn seats(&self) -> u32
+        ensures { result ≡ self.now }
+    {
+        self.seats
+    }
+
+    /// The allocator of the parses that are run here.
+    pub(crate) fn alloc(&self) -> Global {
+        self.alloc
+    }
+
+    /// Starts a command of a process, by a pass, which comes back with the receipt of the step. What is answered is the last step
+    /// of a run, in which the receipt that was the pass's last stands at its number.
+    ///
+    /// The faults, of which each leaves the namespace and the pass as they were: `InvalidParameter` where the pass is a
+    /// stranger's, whose last receipt doesn't stand in the journal at its number; `JournalFull` where fewer than 34 places of the
+    /// journal are neither used nor reserved; and `Memory`, where memory was wanted. (this profile)
+    pub fn start<R: Wait>(
+        &self,
+        rt: &R,
+        pass: Pass<T::Kind, L>,
+        process: Proc,
+        command: &Command<T::Kind>,
+    ) -> (Pass<T::Kind, L>, Result<Started<T>, Fault>)
+        ensures told { IfOk (result.1) (λ started. IsTold T.procedures pass (Start process command.now) started (result.0)) }
+        ensures unmade { OnErr (result.1) (result.0 ≡ pass) }
+        ensures fault { IfErr (result.1) (λ fault. IsNotStarted T.procedures pass fault) }
+    {
+        let mut pass = pass;
+        let mut locked = self.lock.lock(rt);
+        let started = start_under(self.alloc, &mut locked, &mut pass, process, command);
+        (pass, started)
+    }
+
+    /// Brings a parse to the open that waits for it, by a pass, which comes back with the receipt of the step. The place of its
+    /// entry was reserved when the open began to wait, so the journal is never full.
+    ///
+    /// The faults hand the parse back, and each leaves the namespace and the pass as they were: `InvalidParameter` where the
+    /// pass is a stranger's, or the parse is; and `Memory`, where memory was wanted. (this profile)
+    pub fn resume<R: Wait>(
+        &self,
+        rt: &R,
+        pass: Pass<T::Kind, L>,
+        parsed: Parsed<T>,
+    ) -> (Pass<T::Kind, L>, Result<Started<T>, (Fault, Parsed<T>)>)
+        ensures told { IfOk (result.1) (λ started. IsTold T.procedures pass (Resume parsed.ticket (run_of_end parsed.outcome)) started (result.0)) }
+        ensures unmade { OnErr (result.1) (result.0 ≡ pass) }
+        ensures fault { IfErr (result.1) (λ back. IsNotBrought T.procedures pass (asked_of parsed) (back.0)) }
+        ensures back { IfErr (result.1) (λ back. back.1 ≡ parsed) }
+    {
+        let mut pass = pass;
+        let mut locked = self.lock.lock(rt);
+        let resumed = resume_under(self.alloc, &mut locked, &mut pass, parsed);
+        (pass, resumed)
+    }
+
+    /// Gives up an open that waits, by a pass, which comes back with the receipt of the step; where the parse is a stranger's,
+    /// it is let go, and the pass comes back as it was. Takes no memory, and makes no test of the pass. (this profile)
+    pub fn abandon<R: Wait>(
+        &self,
+        rt: &R,
+        pass: Pass<T::Kind, L>,
+        pending: Pending<T>,
+    ) -> Pass<T::Kind, L>
+        ensures { IsGivenUp T.procedures pass pending result }
+    {
+        let mut pass = pass;
+        let mut locked = self.lock.lock(rt);
+        abandon_under(self.alloc, &mut locked, &mut pass, pending);
+        pass
+    }
+
+    /// Closes the namespace, with the passes of all seats. Ok gives it back with its journal, which is a run to the namespace's state,
+    /// and has the receipts of each pass, each once and in their order, and no other entries. Else it tells where passes
+    /// and journal differ, and hands nothing back: a pass is missing, or isn't the only one of its seat, or has other receipts than
+    /// the journal has entries of its seat. Takes no memory and no lock. (this profile)
+    pub fn close(self, passes: Vec<Pass<T::Kind, L>>) -> Result<Ended<T, H>, Mismatch>
+        ensures run { IfOk result (λ ended. (first : T) × Run T.procedures first ended.journal.items ended.core) }
+        ensures settled { IfOk result (λ ended. IsSettled ended.journal.items passes.items self) }
+        ensures mismatch { IfErr result (λ mismatch. IsMismatchOfRun T.procedures passes.items self mismatch) }
+    {
+        let Shared {
+            lock,
+            seats,
+            alloc: _,
+        } = self;
+        let locked = lock.into_inner();
+        locked.is_kept();
+        match settle(&locked, seats, passes.as_slice()) {
+            Ok(()) => {
+                let (core, journal) = locked.into_parts();
+                Ok(Ended { core, journal })
+            }
+            Err(mismatch) => Err(mismatch),
+        }
+    }
+}
