@@ -6,21 +6,18 @@ use Rattle.clap.specs.Faults.{entered_fault, flag_word_fault, level_fault, other
 use Rattle.clap.specs.Kinds.{Kinds, or_else}
 use Rattle.clap.specs.Lexer.{long_of}
 use Rattle.clap.specs.Simple.{Shape, built_leaf, entered, inherited, marked_built, names_of, with_leaf_noted}
-use Rattle.clap.specs.Words.{App, Row, Text, built, fault_of, first_of, is_simple, is_simple_and_free, subcommand_of}
+use Rattle.clap.specs.Words.{App, Row, Text, built, fault_of, first_of, is_simple, is_simple_and_free, new_app, subcommand_of, with_rule}
 use Rattle.clap.proofs.OnLiterals.{clap_on_literals}
 use Rattle.clap.proofs.WalkLemmas.{walk_stopped}
-use Rattle.ob_words.specs.Plan.{IsFileIn, Named, Spells, ntns, run, run_app, script, task_of}
+use Rattle.ob_words.specs.Plan.{IsFileIn, Named, Spells, file_rule, ntns, run, script, task_of, threads}
 use Rattle.ob_words.proofs.Flags.{HasOnlyHelp, help, long_is_plain, or_else_next, or_else_none}
 
--- the program and its subcommand `run`, as the parser builds them
+-- the program, as the parser builds it
 abbrev top : Shape
 top = (built ntns).top
 
 abbrev names : Names
 names = names_of (built ntns)
-
-abbrev inner : Shape
-inner = built_leaf (inherited (with_leaf_noted (marked_built ntns.top)) run_app.top)
 
 abbrev dashes : Text
 dashes = 45 ∷ 45 ∷ []
@@ -28,17 +25,14 @@ dashes = 45 ∷ 45 ∷ []
 abbrev run_word : Text
 run_word = codes "run"
 
+abbrev threads_word : Text
+threads_word = codes "threads"
+
 abbrev help_word : Text
 help_word = codes "help"
 
 top_has_only_help : HasOnlyHelp top.rules
 top_has_only_help = record {
-  by_long = λ name. (has_long help name, refl);
-  by_short = λ letter. (has_short help letter, refl);
-}
-
-inner_has_only_help : HasOnlyHelp inner.rules
-inner_has_only_help = record {
   by_long = λ name. (has_long help name, refl);
   by_short = λ letter. (has_short help letter, refl);
 }
@@ -58,139 +52,164 @@ dashes_first true word none = refl
 dashes_first false word none =
     absurd (stray_top _ (long_is_plain top.rules top_has_only_help None word (long_of word) (or_else_none _ _ none)) (or_else_next _ _ none))
 
--- the names of the two subcommands, which have no others
+-- the names of the subcommands, which have no others
 abbrev run_name : Text × List Text
 run_name = (run_word, [])
+
+abbrev threads_name : Text × List Text
+threads_name = (threads_word, [])
 
 abbrev help_name : Text × List Text
 help_name = (help_word, [])
 
--- the subcommand that a word names, by the two names
-abbrev met_by : Bool → Bool → Option Text
-met_by is_run is_help = option_map (λ s. s.0) (if is_run || false then Some run_name else (if is_help || false then Some help_name else None))
+-- the subcommand that a word names, by the names
+abbrev met_by : Bool → Bool → Bool → Option Text
+met_by is_run is_threads is_help = option_map (λ s. s.0)
+    (if is_run || false then Some run_name else (if is_threads || false then Some threads_name else (if is_help || false then Some help_name else None)))
 
-first_turn : (is_run is_help : Bool) (word : Text)
-    → or_else (other_fault top (met_by is_run is_help) word nothing_held)
+-- a first word is `run`, `threads` or `--`
+abbrev IsFirst : Bool → Bool → Text → Type 0
+IsFirst is_run is_threads word = (is_run ≡ true) ⊎ ((is_threads ≡ true) ⊎ (bytes_eq word dashes ≡ true))
+
+first_turn : (is_run is_threads is_help : Bool) (word : Text)
+    → or_else (other_fault top (met_by is_run is_threads is_help) word nothing_held)
     (step_fault top 1
-    (subcommand_or_other top.rules (met_by is_run is_help) idle 1 word nothing_held).0
-    (subcommand_or_other top.rules (met_by is_run is_help) idle 1 word nothing_held).1) ≡ []
-    → (is_run ≡ true) ⊎ (bytes_eq word dashes ≡ true)
-first_turn true is_help word none = inl refl
-first_turn false true word none = cc
-first_turn false false word none = inr (dashes_first (bytes_eq word dashes) word none)
+    (subcommand_or_other top.rules (met_by is_run is_threads is_help) idle 1 word nothing_held).0
+    (subcommand_or_other top.rules (met_by is_run is_threads is_help) idle 1 word nothing_held).1) ≡ []
+    → IsFirst is_run is_threads word
+first_turn true is_threads is_help word none = inl refl
+first_turn false true is_help word none = inr (inl refl)
+first_turn false false true word none = cc
+first_turn false false false word none = inr (inr (dashes_first (bytes_eq word dashes) word none))
 
--- a first word without a fault is `run` or `--`
-first_word : (word : Text) → turn_fault top names (walk_from nothing_held) word ≡ [] → (word ≡ run_word) ⊎ (word ≡ dashes)
-first_word word none = elim (first_turn (bytes_eq run_word word) (bytes_eq help_word word) word none) [
+-- a first word without a fault is `run`, `threads` or `--`
+first_word : (word : Text) → turn_fault top names (walk_from nothing_held) word ≡ [] → (word ≡ run_word) ⊎ ((word ≡ threads_word) ⊎ (word ≡ dashes))
+first_word word none = elim (first_turn (bytes_eq run_word word) (bytes_eq threads_word word) (bytes_eq help_word word) word none) [
   | inl is_run ↦ inl (sym ((bytes_eq-Decides run_word word).0 is_run))
-  | inr is_dashes ↦ inr ((bytes_eq-Decides word dashes).0 is_dashes)
+  | inr (inl is_threads) ↦ inr (inl (sym ((bytes_eq-Decides threads_word word).0 is_threads)))
+  | inr (inr is_dashes) ↦ inr (inr ((bytes_eq-Decides word dashes).0 is_dashes))
 ]
 
--- ---- the words behind `run`
+-- ---- the words behind a subcommand
 
--- where the walk over them stands after a word that is the path
-abbrev after_file : Text → Walk
-after_file file = to_positional inner.rules (arg_by_index inner.rules 1) file (walk_from nothing_held) nothing_held
+module _ (command : Text) where
+  -- the subcommand, as the parser builds it
+  abbrev inner : Shape
+  inner = built_leaf (inherited (with_leaf_noted (marked_built ntns.top)) (with_rule (new_app command) file_rule).top)
 
-dashes_or_plain : (is_dashes : Bool) (word : Text) (more : Kinds)
-    → or_else (if is_dashes then [] else flag_word_fault inner.rules false (long_of word) word nothing_held) more ≡ []
-    → (is_dashes ≡ true) ⊎ ((if is_dashes then (nothing_held, trailing 1) else long_or_other inner.rules idle word (long_of word) nothing_held) ≡ (nothing_held, value))
-dashes_or_plain true word more none = inl refl
-dashes_or_plain false word more none = inr (long_is_plain inner.rules inner_has_only_help None word (long_of word) (or_else_none _ _ none))
+  inner_has_only_help : HasOnlyHelp inner.rules
+  inner_has_only_help = record {
+    by_long = λ name. (has_long help name, refl);
+    by_short = λ letter. (has_short help letter, refl);
+  }
 
--- the first of them is `--` or the path
-inner_word : (word : Text) → turn_fault inner [] (walk_from nothing_held) word ≡ []
-    → (word ≡ dashes) ⊎ (walked inner.rules [] (walk_from nothing_held) word ≡ after_file word)
-unfolding walked
-inner_word word none = elim (dashes_or_plain (bytes_eq word dashes) word _ none) [
-  | inl is_dashes ↦ inl ((bytes_eq-Decides word dashes).0 is_dashes)
-  | inr same ↦ inr (ap (λ (met : Held × Step). after_step inner.rules word (walk_from nothing_held) met.0 met.1) same)
-]
+  -- where the walk over them stands after a word that is the path
+  abbrev after_file : Text → Walk
+  after_file file = to_positional inner.rules (arg_by_index inner.rules 1) file (walk_from nothing_held) nothing_held
 
-stray_inner : (h : Held) (met : Held × Step) → met ≡ (h, value) → step_fault inner 2 met.0 met.1 ≡ [] → ⊥
-stray_inner h met same none = cc
+  dashes_or_plain : (is_dashes : Bool) (word : Text) (more : Kinds)
+      → or_else (if is_dashes then [] else flag_word_fault inner.rules false (long_of word) word nothing_held) more ≡ []
+      → (is_dashes ≡ true) ⊎ ((if is_dashes then (nothing_held, trailing 1) else long_or_other inner.rules idle word (long_of word) nothing_held) ≡ (nothing_held, value))
+  dashes_or_plain true word more none = inl refl
+  dashes_or_plain false word more none = inr (long_is_plain inner.rules inner_has_only_help None word (long_of word) (or_else_none _ _ none))
 
-dashes_next : (is_dashes : Bool) (file word : Text)
-    → or_else (if is_dashes then [] else flag_word_fault inner.rules false (long_of word) word (after_file file).held)
-    (step_fault inner 2
-    (if is_dashes then ((after_file file).held, trailing 2) else long_or_other inner.rules idle word (long_of word) (after_file file).held).0
-    (if is_dashes then ((after_file file).held, trailing 2) else long_or_other inner.rules idle word (long_of word) (after_file file).held).1) ≡ []
-    → is_dashes ≡ true
-dashes_next true file word none = refl
-dashes_next false file word none =
-    absurd (stray_inner _ _ (long_is_plain inner.rules inner_has_only_help (Some (codes "FILE", file ∷ [])) word (long_of word) (or_else_none _ _ none)) (or_else_next _ _ none))
+  -- the first of them is `--` or the path
+  inner_word : (word : Text) → turn_fault inner [] (walk_from nothing_held) word ≡ []
+      → (word ≡ dashes) ⊎ (walked inner.rules [] (walk_from nothing_held) word ≡ after_file word)
+  unfolding walked
+  inner_word word none = elim (dashes_or_plain (bytes_eq word dashes) word _ none) [
+    | inl is_dashes ↦ inl ((bytes_eq-Decides word dashes).0 is_dashes)
+    | inr same ↦ inr (ap (λ (met : Held × Step). after_step inner.rules word (walk_from nothing_held) met.0 met.1) same)
+  ]
 
--- a word behind the path is `--`
-next_word : (file word : Text) → turn_fault inner [] (after_file file) word ≡ [] → word ≡ dashes
-next_word file word none = (bytes_eq-Decides word dashes).0 (dashes_next (bytes_eq word dashes) file word none)
+  stray_inner : (h : Held) (met : Held × Step) → met ≡ (h, value) → step_fault inner 2 met.0 met.1 ≡ [] → ⊥
+  stray_inner h met same none = cc
 
--- and a word behind that is a fault
-last_is_fault : (file last : Text) (rest : List Text) → walk_fault inner [] (walked inner.rules [] (after_file file) dashes) (last ∷ rest) ≡ [] → ⊥
-unfolding walk_fault walked
-last_is_fault file last rest none = cc
+  dashes_next : (is_dashes : Bool) (file word : Text)
+      → or_else (if is_dashes then [] else flag_word_fault inner.rules false (long_of word) word (after_file file).held)
+      (step_fault inner 2
+      (if is_dashes then ((after_file file).held, trailing 2) else long_or_other inner.rules idle word (long_of word) (after_file file).held).0
+      (if is_dashes then ((after_file file).held, trailing 2) else long_or_other inner.rules idle word (long_of word) (after_file file).held).1) ≡ []
+      → is_dashes ≡ true
+  dashes_next true file word none = refl
+  dashes_next false file word none =
+      absurd (stray_inner _ _ (long_is_plain inner.rules inner_has_only_help (Some (codes "FILE", file ∷ [])) word (long_of word) (or_else_none _ _ none)) (or_else_next _ _ none))
 
-behind_file : (file : Text) (rest : List Text) → walk_fault inner [] (after_file file) rest ≡ [] → (rest ≡ []) ⊎ (rest ≡ dashes ∷ [])
-unfolding walk_fault
-behind_file file [] none = inl refl
-behind_file file (word ∷ []) none = inr (ap (λ (w : Text). w ∷ []) (next_word file word (or_else_none _ _ none)))
-behind_file file (word ∷ last ∷ rest) none =
-    let same : word ≡ dashes = next_word file word (or_else_none _ _ none) in
-    let later : walk_fault inner [] (walked inner.rules [] (after_file file) word) (last ∷ rest) ≡ [] = or_else_next _ _ none in
-    absurd (last_is_fault file last rest (subst (λ w. walk_fault inner [] (walked inner.rules [] (after_file file) w) (last ∷ rest) ≡ []) same later))
+  -- a word behind the path is `--`
+  next_word : (file word : Text) → turn_fault inner [] (after_file file) word ≡ [] → word ≡ dashes
+  next_word file word none = (bytes_eq-Decides word dashes).0 (dashes_next (bytes_eq word dashes) file word none)
 
-abbrev rows_after_walk : Walk → List Row
-rows_after_walk w = finished inner.rules w.held
+  -- and a word behind that is a fault
+  last_is_fault : (file last : Text) (rest : List Text) → walk_fault inner [] (walked inner.rules [] (after_file file) dashes) (last ∷ rest) ≡ [] → ⊥
+  unfolding walk_fault walked
+  last_is_fault file last rest none = cc
 
--- the words name a file, which the rows hold
-abbrev NamesFile : List Text → Type 0
-NamesFile words = (file : Text) × ((first_of (codes "FILE") (rows_after inner.rules [] words) ≡ Some file) × IsFileIn file words)
+  behind_file : (file : Text) (rest : List Text) → walk_fault inner [] (after_file file) rest ≡ [] → (rest ≡ []) ⊎ (rest ≡ dashes ∷ [])
+  unfolding walk_fault
+  behind_file file [] none = inl refl
+  behind_file file (word ∷ []) none = inr (ap (λ (w : Text). w ∷ []) (next_word file word (or_else_none _ _ none)))
+  behind_file file (word ∷ last ∷ rest) none =
+      let same : word ≡ dashes = next_word file word (or_else_none _ _ none) in
+      let later : walk_fault inner [] (walked inner.rules [] (after_file file) word) (last ∷ rest) ≡ [] = or_else_next _ _ none in
+      absurd (last_is_fault file last rest (subst (λ w. walk_fault inner [] (walked inner.rules [] (after_file file) w) (last ∷ rest) ≡ []) same later))
 
-abbrev no_fault : List Text → Type 0
-no_fault words = level_fault inner [] nothing_held words false [] ≡ []
+  abbrev rows_after_walk : Walk → List Row
+  rows_after_walk w = finished inner.rules w.held
 
-none_is_fault : no_fault [] → ⊥
-unfolding clap_on_literals
-none_is_fault none = cc
+  -- the words name a file, which the rows hold
+  abbrev NamesFile : List Text → Type 0
+  NamesFile words = (file : Text) × ((first_of (codes "FILE") (rows_after inner.rules [] words) ≡ Some file) × IsFileIn file words)
 
-behind_dashes : (rest : List Text) → no_fault (dashes ∷ rest) → NamesFile (dashes ∷ rest)
-unfolding clap_on_literals
-behind_dashes [] none = cc
-behind_dashes (file ∷ []) none = (file, (refl, inl (refl, refl)))
-behind_dashes (file ∷ word ∷ rest) none = cc
+  abbrev no_fault : List Text → Type 0
+  no_fault words = level_fault inner [] nothing_held words false [] ≡ []
 
-rows_before_dashes : (file : Text) → first_of (codes "FILE") (rows_after_walk (walked inner.rules [] (after_file file) dashes)) ≡ Some file
-unfolding walked
-rows_before_dashes file = refl
+  none_is_fault : no_fault [] → ⊥
+  unfolding clap_on_literals
+  none_is_fault none = cc
 
-names_plain : (file : Text) (rest : List Text) → walked inner.rules [] (walk_from nothing_held) file ≡ after_file file
-    → (rest ≡ []) ⊎ (rest ≡ dashes ∷ []) → NamesFile (file ∷ rest)
-names_plain file rest same (inl end) = subst (λ words. NamesFile (file ∷ words)) (sym end)
-    (file, (ap (λ (w : Walk). first_of (codes "FILE") (rows_after_walk w)) same, refl))
-names_plain file rest same (inr end) = subst (λ words. NamesFile (file ∷ words)) (sym end)
-    (file, (ap (λ (w : Walk). first_of (codes "FILE") (rows_after_walk (walked inner.rules [] w dashes))) same ∙ rows_before_dashes file, inr (refl, refl)))
+  behind_dashes : (rest : List Text) → no_fault (dashes ∷ rest) → NamesFile (dashes ∷ rest)
+  unfolding clap_on_literals
+  behind_dashes [] none = cc
+  behind_dashes (file ∷ []) none = (file, (refl, inl (refl, refl)))
+  behind_dashes (file ∷ word ∷ rest) none = cc
 
-turns : (word : Text) (rest : List Text) → no_fault (word ∷ rest)
-    → (turn_fault inner [] (walk_from nothing_held) word ≡ []) × (walk_fault inner [] (walked inner.rules [] (walk_from nothing_held) word) rest ≡ [])
-unfolding walk_fault
-turns word rest none = (or_else_none _ _ (or_else_none _ _ none), or_else_next _ _ (or_else_none _ _ none))
+  rows_before_dashes : (file : Text) → first_of (codes "FILE") (rows_after_walk (walked inner.rules [] (after_file file) dashes)) ≡ Some file
+  unfolding walked
+  rows_before_dashes file = refl
 
-names_by_first : (word : Text) (rest : List Text) → no_fault (word ∷ rest)
-    → (word ≡ dashes) ⊎ (walked inner.rules [] (walk_from nothing_held) word ≡ after_file word) → NamesFile (word ∷ rest)
-names_by_first word rest none (inl same) =
-    subst (λ w. NamesFile (w ∷ rest)) (sym same) (behind_dashes rest (subst (λ w. no_fault (w ∷ rest)) same none))
-names_by_first word rest none (inr same) =
-    names_plain word rest same (behind_file word rest (subst (λ w. walk_fault inner [] w rest ≡ []) same (turns word rest none).1))
+  names_plain : (file : Text) (rest : List Text) → walked inner.rules [] (walk_from nothing_held) file ≡ after_file file
+      → (rest ≡ []) ⊎ (rest ≡ dashes ∷ []) → NamesFile (file ∷ rest)
+  names_plain file rest same (inl end) = subst (λ words. NamesFile (file ∷ words)) (sym end)
+      (file, (ap (λ (w : Walk). first_of (codes "FILE") (rows_after_walk w)) same, refl))
+  names_plain file rest same (inr end) = subst (λ words. NamesFile (file ∷ words)) (sym end)
+      (file, (ap (λ (w : Walk). first_of (codes "FILE") (rows_after_walk (walked inner.rules [] w dashes))) same ∙ rows_before_dashes file, inr (refl, refl)))
 
-names_file : (words : List Text) → no_fault words → NamesFile words
-names_file [] none = absurd (none_is_fault none)
-names_file (word ∷ rest) none = names_by_first word rest none (inner_word word (turns word rest none).0)
+  turns : (word : Text) (rest : List Text) → no_fault (word ∷ rest)
+      → (turn_fault inner [] (walk_from nothing_held) word ≡ []) × (walk_fault inner [] (walked inner.rules [] (walk_from nothing_held) word) rest ≡ [])
+  unfolding walk_fault
+  turns word rest none = (or_else_none _ _ (or_else_none _ _ none), or_else_next _ _ (or_else_none _ _ none))
+
+  names_by_first : (word : Text) (rest : List Text) → no_fault (word ∷ rest)
+      → (word ≡ dashes) ⊎ (walked inner.rules [] (walk_from nothing_held) word ≡ after_file word) → NamesFile (word ∷ rest)
+  names_by_first word rest none (inl same) =
+      subst (λ w. NamesFile (w ∷ rest)) (sym same) (behind_dashes rest (subst (λ w. no_fault (w ∷ rest)) same none))
+  names_by_first word rest none (inr same) =
+      names_plain word rest same (behind_file word rest (subst (λ w. walk_fault inner [] w rest ≡ []) same (turns word rest none).1))
+
+  names_file : (words : List Text) → no_fault words → NamesFile words
+  names_file [] none = absurd (none_is_fault none)
+  names_file (word ∷ rest) none = names_by_first word rest none (inner_word word (turns word rest none).0)
 
 -- ---- the words behind the program's name
 
--- what follows `run` is left to it
+-- what follows a subcommand is left to it
 left_to_run : (rest : List Text) → stop_after top.rules names (run_word ∷ rest) ≡ Some (run_word, rest)
 unfolding walked
 left_to_run rest = sym (ap (λ (w : Walk). w.stopped) (walk_stopped top.rules names (walk_from nothing_held) run_word [] rest))
+
+left_to_threads : (rest : List Text) → stop_after top.rules names (threads_word ∷ rest) ≡ Some (threads_word, rest)
+unfolding walked
+left_to_threads rest = sym (ap (λ (w : Walk). w.stopped) (walk_stopped top.rules names (walk_from nothing_held) threads_word [] rest))
 
 no_fault_below : (name : Text) (words : List Text) → fault_of ntns (name ∷ words) ≡ [] → entered_fault (built ntns) (stop_after top.rules names words) ≡ []
 no_fault_below name words none = or_else_none _ _ (or_else_next _ _ none)
@@ -201,20 +220,30 @@ NamesTask words = (task : Named) × ((task_of (subcommand_of ntns words) ≡ Som
 
 names_run : (name : Text) (rest : List Text) → fault_of ntns (name ∷ run_word ∷ rest) ≡ [] → NamesTask (name ∷ run_word ∷ rest)
 names_run name rest none =
-    let below : no_fault rest = subst (λ stop. entered_fault (built ntns) stop ≡ []) (left_to_run rest) (no_fault_below name (run_word ∷ rest) none) in
-    let found : NamesFile rest = names_file rest below in
-    let rows : subcommand_of ntns (name ∷ run_word ∷ rest) ≡ Some (run_word, rows_after inner.rules [] rest) = ap (entered (built ntns)) (left_to_run rest) in
+    let below : no_fault run_word rest = subst (λ stop. entered_fault (built ntns) stop ≡ []) (left_to_run rest) (no_fault_below name (run_word ∷ rest) none) in
+    let found : NamesFile run_word rest = names_file run_word rest below in
+    let rows : subcommand_of ntns (name ∷ run_word ∷ rest) ≡ Some (run_word, rows_after (inner run_word).rules [] rest) = ap (entered (built ntns)) (left_to_run rest) in
     (run found.0, (ap task_of rows ∙ ap (option_map run) found.1.0, (refl, found.1.1)))
+
+names_threads : (name : Text) (rest : List Text) → fault_of ntns (name ∷ threads_word ∷ rest) ≡ [] → NamesTask (name ∷ threads_word ∷ rest)
+names_threads name rest none =
+    let below : no_fault threads_word rest = subst (λ stop. entered_fault (built ntns) stop ≡ []) (left_to_threads rest) (no_fault_below name (threads_word ∷ rest) none) in
+    let found : NamesFile threads_word rest = names_file threads_word rest below in
+    let rows : subcommand_of ntns (name ∷ threads_word ∷ rest) ≡ Some (threads_word, rows_after (inner threads_word).rules [] rest) = ap (entered (built ntns)) (left_to_threads rest) in
+    (threads found.0, (ap task_of rows ∙ ap (option_map threads) found.1.0, (refl, found.1.1)))
 
 names_dashes : (name : Text) (rest : List Text) → fault_of ntns (name ∷ dashes ∷ rest) ≡ [] → NamesTask (name ∷ dashes ∷ rest)
 unfolding clap_on_literals
 names_dashes name [] none = (script, (refl, refl))
 names_dashes name (word ∷ rest) none = cc
 
-names_by : (name word : Text) (rest : List Text) → fault_of ntns (name ∷ word ∷ rest) ≡ [] → (word ≡ run_word) ⊎ (word ≡ dashes) → NamesTask (name ∷ word ∷ rest)
+names_by : (name word : Text) (rest : List Text) → fault_of ntns (name ∷ word ∷ rest) ≡ [] → (word ≡ run_word) ⊎ ((word ≡ threads_word) ⊎ (word ≡ dashes))
+    → NamesTask (name ∷ word ∷ rest)
 names_by name word rest none (inl same) =
     subst (λ w. NamesTask (name ∷ w ∷ rest)) (sym same) (names_run name rest (subst (λ w. fault_of ntns (name ∷ w ∷ rest) ≡ []) same none))
-names_by name word rest none (inr same) =
+names_by name word rest none (inr (inl same)) =
+    subst (λ w. NamesTask (name ∷ w ∷ rest)) (sym same) (names_threads name rest (subst (λ w. fault_of ntns (name ∷ w ∷ rest) ≡ []) same none))
+names_by name word rest none (inr (inr same)) =
     subst (λ w. NamesTask (name ∷ w ∷ rest)) (sym same) (names_dashes name rest (subst (λ w. fault_of ntns (name ∷ w ∷ rest) ≡ []) same none))
 
 first_turn_passes : (name word : Text) (rest : List Text) → fault_of ntns (name ∷ word ∷ rest) ≡ [] → turn_fault top names (walk_from nothing_held) word ≡ []

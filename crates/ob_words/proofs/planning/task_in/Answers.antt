@@ -1,6 +1,6 @@
 use Rattle.std.proofs.Common.{Some, None, rules}
 use Rattle.clap.specs.Words.{found_of}
-use Rattle.ob_words.proofs.Tasks.{task_of_run}
+use Rattle.ob_words.proofs.Tasks.{task_of_run, task_of_threads}
 use Rattle.ob_words.proofs.planning.task_in.Goals as goal
 
 pub returns-in-Some-get_str : goal.returns-in-Some-get_str
@@ -10,3 +10,11 @@ returns-in-Some-get_str c =
 pub returns-in-None-get_str : goal.returns-in-None-get_str
 returns-in-None-get_str c =
     task_of_run c.args.matches.now c.in-Some.name.now (found_of c.in-Some.inside.now) None c.in-Some.ensures.name c.in-Some.ensures.rows (search rules) c.in-None-get_str.ensures
+
+pub returns-in-Some-get_str-2 : goal.returns-in-Some-get_str-2
+returns-in-Some-get_str-2 c =
+    task_of_threads c.args.matches.now c.in-Some.name.now (found_of c.in-Some.inside.now) (Some c.in-Some-get_str-2.file.now) c.in-Some.ensures.name c.in-Some.ensures.rows (search rules) c.in-Some-get_str-2.ensures
+
+pub returns-in-None-get_str-2 : goal.returns-in-None-get_str-2
+returns-in-None-get_str-2 c =
+    task_of_threads c.args.matches.now c.in-Some.name.now (found_of c.in-Some.inside.now) None c.in-Some.ensures.name c.in-Some.ensures.rows (search rules) c.in-None-get_str-2.ensures

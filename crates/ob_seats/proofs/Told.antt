@@ -1,0 +1,39 @@
+-- What holds where all went well.
+use Rattle.std.proofs.Common.{◌≡◌, ◌≢◌, ℕ, not, true, false, Result, Ok, Err, OnOk, IfOk, List, [], ◌∷◌, ◌++◌, ap, refl, eq-eqb}
+use Rattle.std.proofs.lemmas.Bool.{ne_eqb}
+use Rattle.ob_requests.specs.Words.{Words}
+use Rattle.ob_effects.specs.Waiting.{is_waiting}
+
+module _ {X E : Type 0} (A B P : Type 0) (r : Result X E) where
+  -- two facts make a third
+  pub both_ok : (A → B → P) → OnOk r A → OnOk r B → OnOk r P
+  both_ok on a b = go r a b
+    where
+      go : (r : Result X E) → OnOk r A → OnOk r B → OnOk r P
+      go (Ok x) a b = on a b
+      go (Err e) a b = tt
+
+module _ {X E : Type 0} (A P : Type 0) (r : Result X E) where
+  pub then_ok : (A → P) → OnOk r A → OnOk r P
+  then_ok on a = go r a
+    where
+      go : (r : Result X E) → OnOk r A → OnOk r P
+      go (Ok x) a = on a
+      go (Err e) a = tt
+
+-- nothing is added
+pub adds_none : {X : Type 0} (xs : List X) → xs ≡ xs ++ []
+adds_none [] = refl
+adds_none (x ∷ xs) = λ i. x ∷ adds_none xs i
+
+-- an open waits under a word, or none does
+pub waits : (words : Words) (process : ℕ) (word : List ℕ) → words.tickets process word ≢ 0 → is_waiting words process word ≡ true
+waits words process word some = ap not (ne_eqb (words.tickets process word) 0 some)
+
+pub waits_not : (words : Words) (process : ℕ) (word : List ℕ) → words.tickets process word ≡ 0 → is_waiting words process word ≡ false
+waits_not words process word none = ap not (eq-eqb (words.tickets process word) 0 none)
+
+-- a fact of what was given makes another one
+pub if_ok : {X E : Type 0} (A P : X → Type 0) (r : Result X E) → ((x : X) → A x → P x) → IfOk r A → IfOk r P
+if_ok A P (Ok x) on a = on x a
+if_ok A P (Err e) on a = tt

@@ -1,0 +1,57 @@
+-- The open begins with the words as they were before room was made.
+use Rattle.std.proofs.Common.{◌∙◌, IfOk, ap, sym, subst}
+use Rattle.ob_model.specs.declared.reply.Answer.TheVariants.{Done}
+use Rattle.ob_model.specs.declared.reply.Event.TheVariants.{Start}
+use Rattle.ob_requests.specs.Tables.{words_in}
+use Rattle.ob_requests.specs.Words.{Words, with_ticket}
+use Rattle.ob_effects.specs.Waiting.{words_answered}
+use Rattle.ob_seats.specs.Kept.{AreHeld}
+use Rattle.ob_seats.specs.Received.{IsReceived, answer_of}
+use Rattle.ob_seats.proofs.Held.{held_freed}
+use Rattle.ob_seats.proofs.Told.{both_ok}
+use Rattle.ob_seats.proofs.waiting.begin.Goals as goal
+
+pub returns-in-Ok-Replied-clause-held : goal.returns-in-Ok-Replied-clause-held
+returns-in-Ok-Replied-clause-held g c =
+    let was = words_in c.args.words.now in
+    subst (λ (w : Words). AreHeld w.tickets c.args.waits.now)
+    (sym (c.keep_reply.ensures ∙ ap (λ (w : Words). words_answered w c.args.process c.args.word.now (Done c.in-Ok-Replied.reply)) c.in-Ok.ensures.same))
+    (held_freed was c.args.process c.args.word.now c.args.waits.now c.requires.free c.requires.held)
+
+pub returns-in-Ok-Replied-clause-played : goal.returns-in-Ok-Replied-clause-played
+returns-in-Ok-Replied-clause-played g c =
+    let was = words_in c.args.words.now in
+    let told = subst (λ r. IfOk r (λ begun. IsReceived (g.C.Callers.receipts c.args.pass) (Start c.args.process c.in-Ok.command) (answer_of g.C.Callers.ticket_of begun) (g.C.Callers.receipts c.start-pass.result.0)))
+    c.in-Ok-Replied.is c.start-pass.ensures.told in
+    let answered = told.3 ∙ ap (answer_of g.C.Callers.ticket_of) c.in-Ok-Replied.field-0-is in (
+      told.0,
+      told.1,
+      (
+        (c.in-Ok.command, c.in-Ok.ensures.command, told.2),
+        c.keep_reply.ensures ∙ (ap (λ (w : Words). words_answered w c.args.process c.args.word.now (Done c.in-Ok-Replied.reply)) c.in-Ok.ensures.same
+            ∙ ap (words_answered was c.args.process c.args.word.now) (sym answered)),
+      ),
+    )
+
+pub wait-requires-clause-held : goal.wait-requires-clause-held
+wait-requires-clause-held g c lifetimes bounds =
+    subst (λ (w : Words). AreHeld (with_ticket w c.args.process c.args.word.now 0).tickets c.args.waits.now) (sym c.in-Ok.ensures.same)
+    (held_freed (words_in c.args.words.now) c.args.process c.args.word.now c.args.waits.now c.requires.free c.requires.held)
+
+pub returns-in-Ok-Waits-clause-played : goal.returns-in-Ok-Waits-clause-played
+returns-in-Ok-Waits-clause-played g c =
+    let was = words_in c.args.words.now in
+    let told = subst (λ r. IfOk r (λ begun. IsReceived (g.C.Callers.receipts c.args.pass) (Start c.args.process c.in-Ok.command) (answer_of g.C.Callers.ticket_of begun) (g.C.Callers.receipts c.start-pass.result.0)))
+    c.in-Ok-Waits.is c.start-pass.ensures.told in
+    let answered = told.3 ∙ ap (answer_of g.C.Callers.ticket_of) c.in-Ok-Waits.field-0-is in
+    both_ok _ _ _ c.wait.result.1
+    (λ set kept. (
+      told.0,
+      kept ∙ told.1,
+      (
+        (c.in-Ok.command, c.in-Ok.ensures.command, told.2),
+        set ∙ (ap (λ (w : Words). with_ticket w c.args.process c.args.word.now (g.C.Callers.ticket_of c.in-Ok-Waits.parsing)) c.in-Ok.ensures.same
+            ∙ ap (words_answered was c.args.process c.args.word.now) (sym answered)),
+      ),
+    ))
+    c.wait.ensures.set c.wait.ensures.kept

@@ -1,0 +1,4 @@
+pub mod Received
+pub mod Played
+pub mod Kept
+pub mod Room

@@ -1,0 +1,118 @@
+//! Requests of a seat's processes: each is run to its reply, which changes the words.
+
+ghost use Rattle.std.specs.Prelude.{◌≡◌, ◌++◌, IfOk, OnOk, ℕ};
+ghost use Rattle.ob_model.specs.declared.reply.Event.TheVariants.{Start, Resume};
+ghost use Rattle.ob_model.specs.declared.reply.ParseRun.{ParseRun};
+ghost use Rattle.ob_complete.specs.Completes.{HasRun};
+ghost use Rattle.ob_lines.specs.Grammar.{HasTexts, request_seen};
+ghost use Rattle.ob_lines.specs.Changes.{change_seen};
+ghost use Rattle.ob_requests.specs.Commands.{IsCommand};
+ghost use Rattle.ob_requests.specs.Tables.{words_in};
+ghost use Rattle.ob_seats.specs.Received.{Entries};
+ghost use Rattle.ob_seats.specs.Played.{IsRequestPlayed, IsRunBy};
+ghost use Rattle.ob_seats.specs.Room.{HasRoomFor};
+
+use crate::callers::{Begun, Callers};
+use crate::changes::{keep_reply, make_room};
+use crate::stop::Stop;
+use ob_base::Proc;
+use ob_lines::{Change, Request, change_of};
+use ob_model::{Command, Reply};
+use ob_requests::{Asker, Words, command_of};
+use ob_standard::StandardKind;
+use std::alloc::AllocError;
+use std::sync::Wait;
+
+/// Runs the request of a process to its reply, and changes the words that its reply changes.
+pub(crate) fn answer<R: Wait, C: Callers>(
+    rt: &R,
+    callers: &C,
+    words: &mut Words,
+    pass: C::Pass,
+    process: Proc,
+    request: Request<&[u8]>,
+) -> (C::Pass, Result<(), Stop>)
+    requires texts { HasTexts (request_seen request) }
+    ensures played { OnOk (result.1) ((entries : Entries) × (C.receipts (result.0) ≡ C.receipts pass ++ entries)
+        × IsRequestPlayed (request_seen request.entry) process (words_in words.old) entries (words_in words.new)) }
+    ensures seat { C.seat_of (result.0) ≡ C.seat_of pass }
+    ensures tickets { (words_in words.new).tickets ≡ (words_in words.old).tickets }
+{
+    let change = change_of(request);
+    match prepare(words, process, request, change) {
+        Err(_) => (pass, Err(Stop::Memory)),
+        Ok(command) => {
+            let (pass, ran) = run(rt, callers, pass, process, &command);
+            match ran {
+                Err(stop) => (pass, Err(stop)),
+                Ok(reply) => match keep_reply(words, process, change, &reply) {
+                    Ok(()) => (pass, Ok(())),
+                    Err(_) => (pass, Err(Stop::Memory)),
+                },
+            }
+        }
+    }
+}
+
+/// The command of a request, with room for what its reply changes.
+fn prepare(
+    words: &mut Words,
+    process: Proc,
+    request: Request<&[u8]>,
+    change: Change<&[u8]>,
+) -> Result<Command<StandardKind>, AllocError>
+    requires texts { HasTexts (request_seen request) }
+    ensures command { IfOk result (IsCommand (request_seen request.entry) (words_in words.old) process) }
+    ensures room { OnOk result (HasRoomFor words.new process (change_seen change.entry)) }
+    ensures same { words_in words.new ≡ words_in words.old }
+{
+    make_room(words, process, change)?;
+    let asker = Asker { words, process };
+    command_of(&asker, request)
+}
+
+/// Runs a command of a process to its reply.
+fn run<R: Wait, C: Callers>(
+    rt: &R,
+    callers: &C,
+    pass: C::Pass,
+    process: Proc,
+    command: &Command<StandardKind>,
+) -> (C::Pass, Result<Reply, Stop>)
+    ensures ran { IfOk (result.1) (λ reply. (entries : Entries) × (C.receipts (result.0) ≡ C.receipts pass ++ entries) × IsRunBy (Start process command.now) entries reply) }
+    ensures seat { C.seat_of (result.0) ≡ C.seat_of pass }
+{
+    let (pass, begun) = callers.start(pass, process, command);
+    match begun {
+        Ok(Begun::Replied(reply)) => (pass, Ok(reply)),
+        Ok(Begun::Waits(parsing)) => bring(rt, callers, pass, parsing),
+        Err(fault) => (pass, Err(Stop::from(fault))),
+    }
+}
+
+/// Runs the parse that an open waits for, and those that follow it, to the reply.
+fn bring<R: Wait, C: Callers>(
+    rt: &R,
+    callers: &C,
+    pass: C::Pass,
+    parsing: C::Parsing,
+) -> (C::Pass, Result<Reply, Stop>)
+    ensures ran { IfOk (result.1) (λ reply. (entries : Entries) × (C.receipts (result.0) ≡ C.receipts pass ++ entries)
+        × (parse : ParseRun) × HasRun parse × IsRunBy (Resume (C.ticket_of parsing) parse) entries reply) }
+    ensures seat { C.seat_of (result.0) ≡ C.seat_of pass }
+{
+    let mut pass = pass;
+    let mut parsing = parsing;
+    for _ in rt.forever() {
+        let (back, begun) = callers.resume(pass, parsing);
+        match begun {
+            Ok(Begun::Replied(reply)) => return (back, Ok(reply)),
+            Ok(Begun::Waits(next)) => {
+                pass = back;
+                parsing = next;
+            }
+            Err(fault) => return (back, Err(Stop::from(fault))),
+        }
+    }
+    unreachable!()
+}

@@ -1,0 +1,76 @@
+//! A shared namespace, as a seat sees it.
+
+ghost use Rattle.std.specs.Prelude.{◌≡◌, ◌⊎◌, ℕ, true, false, IfOk, OnErr};
+ghost use Rattle.ob_base.specs.declared.status.Status.TheVariants.{Success};
+ghost use Rattle.ob_model.specs.declared.reply.Event.TheVariants.{Start, Resume, Abandon};
+ghost use Rattle.ob_model.specs.declared.reply.ParseRun.{ParseRun};
+ghost use Rattle.ob_model.specs.declared.reply.ParseRun.TheVariants.{Unrun};
+ghost use Rattle.ob_model.specs.Refusals.{answers};
+ghost use Rattle.ob_complete.specs.Completes.{HasRun};
+ghost use Rattle.ob_seats.specs.Received.{Entries, IsReceived, answer_of};
+
+use ob_base::{Fault, Proc};
+use ob_model::{Command, Reply};
+use ob_standard::StandardKind;
+
+/// How a step ended: with a reply, or with an open that waits for the parse `P`, which can be let go only where `P` can.
+pub enum Begun<P> {
+    /// The command is done, and this is its reply.
+    Replied(Reply),
+    /// An open reached an object whose kind parses, and waits for this parse.
+    Waits(P),
+}
+
+/// What a seat asks of a shared namespace over the standard set of types. Each call takes the seat's pass and hands it back, with a receipt of the
+/// step where one was made: then the step is one of the namespace's journal. Other seats may make steps at the same time. (this profile)
+pub trait Callers {
+    /// A seat's pass.
+    type Pass: Drop + Send;
+
+    /// A parse that an open waits for. It can't be let go: it is brought or given up.
+    type Parsing;
+
+    /// The seat of a pass.
+    ghost seat_of: { Self.Pass → ℕ };
+
+    /// The receipts that a pass has, in their order: the entries of the steps that were made by it.
+    ghost receipts: { Self.Pass → Entries };
+
+    /// The ticket of a parse.
+    ghost ticket_of: { Self.Parsing → ℕ };
+
+    /// The ticket of the open that waits for a parse.
+    fn ticket(parsing: &Self::Parsing) -> u64
+        ensures { result ≡ ticket_of parsing.now };
+
+    /// Starts a command of a process. A fault leaves all as it was.
+    fn start(
+        &self,
+        pass: Self::Pass,
+        process: Proc,
+        command: &Command<StandardKind>,
+    ) -> (Self::Pass, Result<Begun<Self::Parsing>, Fault>)
+        ensures seat { seat_of (result.0) ≡ seat_of pass }
+        ensures told { IfOk (result.1) (λ begun. IsReceived (receipts pass) (Start process command.now) (answer_of ticket_of begun) (receipts (result.0))) }
+        ensures unmade { OnErr (result.1) (receipts (result.0) ≡ receipts pass) };
+
+    /// Runs the parse that an open waits for, with nothing held, and brings it. At a fault no step was made by it, and the open is
+    /// given up, so that it doesn't wait any longer.
+    fn resume(
+        &self,
+        pass: Self::Pass,
+        parsing: Self::Parsing,
+    ) -> (Self::Pass, Result<Begun<Self::Parsing>, Fault>)
+        ensures seat { seat_of (result.0) ≡ seat_of pass }
+        ensures told { IfOk (result.1) (λ begun. (parse : ParseRun) × HasRun parse
+            × IsReceived (receipts pass) (Resume (ticket_of parsing) parse) (answer_of ticket_of begun) (receipts (result.0))) }
+        ensures given_up { OnErr (result.1) ((receipts (result.0) ≡ receipts pass)
+            ⊎ ((parse : ParseRun) × IsReceived (receipts pass) (Abandon (ticket_of parsing) parse) (answers Success) (receipts (result.0)))) };
+
+    /// Gives an open up whose parse wasn't run, and tells whether that was a step: it was none where the parse is a stranger's, which is let
+    /// go. Takes no memory.
+    fn abandon(&self, pass: Self::Pass, parsing: Self::Parsing) -> (Self::Pass, bool)
+        ensures seat { seat_of (result.0) ≡ seat_of pass }
+        ensures made { result.1 ≡ true → IsReceived (receipts pass) (Abandon (ticket_of parsing) Unrun) (answers Success) (receipts (result.0)) }
+        ensures unmade { result.1 ≡ false → receipts (result.0) ≡ receipts pass };
+}

@@ -1,0 +1,193 @@
+//! A seat, and the run of its lines.
+
+ghost use Rattle.std.specs.Prelude.{◌≡◌, ◌+◌, ◌≤◌, ◌<◌, ◌^◌, ◌++◌, [], true, length, IfOk, IfErr, OnOk};
+ghost use Rattle.ob_lines.specs.Grammar.{FormHasTexts, form_seen};
+ghost use Rattle.ob_requests.specs.Tables.{words_in};
+ghost use Rattle.ob_requests.specs.Words.{first_words};
+ghost use Rattle.ob_worker_lines.specs.Cuts.{AreScriptLines};
+ghost use Rattle.ob_worker_lines.specs.Parts.{lines_in};
+ghost use Rattle.ob_seats.specs.Received.{Entries};
+ghost use Rattle.ob_seats.specs.Played.{AreGivenUp, ArePlayed, IsLinePlayed, IsSeatPlayed};
+ghost use Rattle.ob_seats.specs.Kept.{AreHeld, for_worker};
+
+use crate::asking::answer;
+use crate::callers::Callers;
+use crate::copies::words_for_worker;
+use crate::stop::{Stop, Stopped};
+use crate::waiting::carry_on;
+use crate::waits::SeatWaits;
+use ob_lines::{Form, read_line};
+use ob_requests::Words;
+use ob_worker_lines::Part;
+use std::alloc::{AllocError, Global};
+use std::sync::Wait;
+
+/// What a seat keeps between its lines: the words of its script, and the opens that wait under them. It can't be let go: what waits is given up at
+/// its [end](Seat::end). Contracts see the words by `words_in`, and ask as `AreHeld` that the opens that wait are those
+/// under them. (this profile)
+pub struct Seat<C: Callers> {
+    pub(crate) words: Words,
+    pub(crate) waits: SeatWaits<C>,
+}
+
+impl<C: Callers> Seat<C> {
+    /// A seat that has run no line: `p1` is process 1, and no open waits. The only fault is want of memory. (this profile)
+    pub fn new(alloc: Global) -> Result<Seat<C>, AllocError>
+        ensures first { IfOk result (λ seat. words_in seat.words ≡ first_words) }
+        ensures held { IfOk result (λ seat. AreHeld (words_in seat.words).tickets seat.waits) }
+    {
+        let words = Words::new(alloc)?;
+        Ok(Seat {
+            words,
+            waits: SeatWaits::new(alloc),
+        })
+    }
+
+    /// A seat that begins with these words, under none of which an open waits. Takes no memory. (this profile)
+    pub fn with_words(words: Words) -> Seat<C>
+        requires none { AreHeld (words_in words).tickets [] }
+        ensures words { words_in result.words ≡ words_in words }
+        ensures held { AreHeld (words_in result.words).tickets result.waits }
+    {
+        let waits = SeatWaits::new(words.alloc);
+        Seat { words, waits }
+    }
+
+    /// The words that a worker begins with: the same, with their contexts, and under none of them an open waits. The only fault is want of memory.
+    /// (this profile)
+    pub fn words_for_worker(&self) -> Result<Words, AllocError>
+        ensures words { IfOk result (λ words. words_in words ≡ for_worker (words_in self.now.words)) }
+        ensures none { IfOk result (λ words. AreHeld (words_in words).tickets []) }
+    {
+        words_for_worker(&self.words)
+    }
+
+    /// Runs the lines of a part, one after another, by a pass, which comes back with the receipts of their steps. Ok gives the number behind
+    /// that of the last line.
+    ///
+    /// The fault tells the first line that could not be run to its end, and why; the lines before it were run. (this profile)
+    pub fn run_part<R: Wait>(
+        &mut self,
+        rt: &R,
+        callers: &C,
+        pass: C::Pass,
+        part: Part<'_>,
+    ) -> (C::Pass, Result<u64, Stopped>)
+        requires lines { AreScriptLines (lines_in part) }
+        requires numbers { part.first + length (lines_in part) < 2 ^ 64 }
+        requires held { AreHeld (words_in self.old.words).tickets self.old.waits }
+        ensures held { AreHeld (words_in self.new.words).tickets self.new.waits }
+        ensures played { OnOk (result.1) ((entries : Entries) × (C.receipts (result.0) ≡ C.receipts pass ++ entries)
+            × ArePlayed (lines_in part.entry) (words_in self.old.words) entries (words_in self.new.words)) }
+        ensures number { IfOk (result.1) (λ number. number ≡ part.entry.first + length (lines_in part.entry)) }
+        ensures line { IfErr (result.1) (λ stopped. (part.entry.first ≤ stopped.line) × (stopped.line < part.entry.first + length (lines_in part.entry))) }
+        ensures seat { C.seat_of (result.0) ≡ C.seat_of pass }
+    {
+        let mut pass = pass;
+        let mut rest = part.text;
+        let mut number = part.first;
+        while let Some((form, behind)) = read_line(rest) {
+            let Some(form) = form else {
+                unreachable!();
+            };
+            let (back, done) = self.perform(rt, callers, pass, form);
+            pass = back;
+            if let Err(why) = done {
+                return (pass, Err(Stopped { line: number, why }));
+            }
+            rest = behind;
+            number += 1;
+        }
+        (pass, Ok(number))
+    }
+
+    /// Does what a line of this form says; `stat` does nothing.
+    fn perform<R: Wait>(
+        &mut self,
+        rt: &R,
+        callers: &C,
+        pass: C::Pass,
+        form: Form<&[u8]>,
+    ) -> (C::Pass, Result<(), Stop>)
+        requires texts { FormHasTexts (form_seen form) }
+        requires held { AreHeld (words_in self.old.words).tickets self.old.waits }
+        ensures held { AreHeld (words_in self.new.words).tickets self.new.waits }
+        ensures played { OnOk (result.1) ((entries : Entries) × (C.receipts (result.0) ≡ C.receipts pass ++ entries)
+            × IsLinePlayed (form_seen form.entry) (words_in self.old.words) entries (words_in self.new.words)) }
+        ensures seat { C.seat_of (result.0) ≡ C.seat_of pass }
+    {
+        match form {
+            Form::Nothing => (pass, Ok(())),
+            Form::Stat => (pass, Ok(())),
+            Form::Asks { process, request } => {
+                let process = self.words.process_of(process);
+                answer(rt, callers, &mut self.words, pass, process, request)
+            }
+            Form::Waits { process, pending } => {
+                let process = self.words.process_of(process);
+                carry_on(
+                    callers,
+                    &mut self.words,
+                    &mut self.waits,
+                    pass,
+                    process,
+                    pending,
+                )
+            }
+        }
+    }
+
+    /// Ends the seat: all opens that wait are given up, by rising tickets, and their parses aren't run. It tells whether each was given up by a step, as
+    /// it is unless a parse is a stranger's. Takes no memory. (this profile)
+    pub fn end(self, callers: &C, pass: C::Pass) -> (C::Pass, bool)
+        requires held { AreHeld (words_in self.words).tickets self.waits }
+        ensures given_up { result.1 ≡ true → (entries : Entries) × (C.receipts (result.0) ≡ C.receipts pass ++ entries) × AreGivenUp (words_in self.words) entries }
+        ensures seat { C.seat_of (result.0) ≡ C.seat_of pass }
+    {
+        let Seat {
+            words: _,
+            mut waits,
+        } = self;
+        let mut pass = pass;
+        let mut is_whole = true;
+        while let Some(parsing) = waits.take_first() {
+            let (back, is_made) = callers.abandon(pass, parsing);
+            pass = back;
+            is_whole = is_whole && is_made;
+        }
+        waits.destroy_empty();
+        (pass, is_whole)
+    }
+}
+
+/// Runs the lines of a part, and ends the seat: a whole run of a worker, or of what is left of a seat's lines. Ok is the run of all its lines.
+///
+/// The fault tells the first line that could not be run to its end, and why; where all lines were run and what waited was not given up by a
+/// step, the line behind the last. (this profile)
+pub fn run_seat<R: Wait, C: Callers>(
+    rt: &R,
+    callers: &C,
+    seat: Seat<C>,
+    pass: C::Pass,
+    part: Part<'_>,
+) -> (C::Pass, Result<(), Stopped>)
+    requires lines { AreScriptLines (lines_in part) }
+    requires numbers { part.first + length (lines_in part) < 2 ^ 64 }
+    requires held { AreHeld (words_in seat.words).tickets seat.waits }
+    ensures played { OnOk (result.1) ((entries : Entries) × (C.receipts (result.0) ≡ C.receipts pass ++ entries)
+        × IsSeatPlayed (lines_in part.entry) (words_in seat.words) entries) }
+    ensures line { IfErr (result.1) (λ stopped. (part.entry.first ≤ stopped.line) × (stopped.line ≤ part.entry.first + length (lines_in part.entry))) }
+    ensures seat { C.seat_of (result.0) ≡ C.seat_of pass }
+{
+    let mut seat = seat;
+    let (pass, ran) = seat.run_part(rt, callers, pass, part);
+    let (pass, is_whole) = seat.end(callers, pass);
+    match ran {
+        Err(stopped) => (pass, Err(stopped)),
+        Ok(_) if is_whole => (pass, Ok(())),
+        Ok(line) => {
+            let why = Stop::Refused;
+            (pass, Err(Stopped { line, why }))
+        }
+    }
+}
