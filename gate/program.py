@@ -18,15 +18,70 @@ from pathlib import Path
 SCRIPT = b'p1 dir "\\A" - =a\np1 opendir "\\A" - =b\np1 opendir "\\a" - =c\np1 close b\np1 close a\n'
 SHOWN = b"1: SUCCESS\n2: SUCCESS\n3: OBJECT_NAME_NOT_FOUND\n4: SUCCESS\n5: SUCCESS\n"
 BAD = b'p1 dir "\\A" - =a\nno line\np1 close a\n'
-FILES = {"a.ntns": SCRIPT, "bad.ntns": BAD, " spaced.ntns ": SCRIPT, "-x": SCRIPT, "empty": b""}
+
+# scripts with workers, of which each has one at most, so that what they write is the same in each run
+WORKS = b'p1 dir "\\A" - =a\nthread\np1 opendir "\\No" - =x\n'
+WORKED = (
+    b'{"journal":1,"seats":2}\n'
+    b'{"n":1,"reply":{"handle":4,"status":0},"seat":0,"step":{"flags":0,"name":"\\\\A","op":"dir","proc":1,"root":null}}\n'
+    b'{"n":2,"reply":{"status":3221225524},"seat":1,"step":{"flags":0,"name":"\\\\No","op":"opendir","proc":1,"root":null}}\n'
+)
+
+# words and opens that wait, of seat 0 and of a worker: what a worker begins with, what it leaves, and what seat 0 goes on with
+SEATS = (
+    b'p1 make Device "\\D" P "a;b" =d\np1 begin File "\\D\\b" - =w\nthread\np1 begin File "\\D\\a" - =f\np1 end f\np1 end w\n'
+    b'p1 begin File "\\D\\b" - =g\np1 begin File "\\D\\b" - =g\nstat\np1 close d+1\njoin\np1 close f\np1 end w\np1 close w\np1 close d\n'
+)
+
+SEATED = (
+    b'{"journal":1,"seats":2}\n'
+    b'{"n":1,"reply":{"handle":4,"status":0},"seat":0,"step":{"args":"a;b","flags":16,"kind":"Device","name":"\\\\D","op":"make","proc":1,"root":null}}\n'
+    b'{"n":2,"reply":{"ticket":8},"seat":0,"step":{"flags":0,"name":"\\\\D\\\\b","op":"open","proc":1,"root":null,"want":"File"}}\n'
+    b'{"n":3,"reply":{"ticket":9},"seat":1,"step":{"flags":0,"name":"\\\\D\\\\a","op":"open","proc":1,"root":null,"want":"File"}}\n'
+    b'{"n":4,"reply":{"handle":8,"status":0},"seat":1,"step":{"op":"resume","parse":"ran","ticket":9}}\n'
+    b'{"n":5,"reply":{"ticket":10},"seat":1,"step":{"flags":0,"name":"\\\\D\\\\b","op":"open","proc":1,"root":null,"want":"File"}}\n'
+    b'{"n":6,"reply":{"status":0},"seat":1,"step":{"handle":5,"op":"close","proc":1}}\n'
+    b'{"n":7,"reply":{"status":0},"seat":1,"step":{"op":"abandon","parse":"none","ticket":10}}\n'
+    b'{"n":8,"reply":{"status":3221225480},"seat":0,"step":{"handle":0,"op":"close","proc":1}}\n'
+    b'{"n":9,"reply":{"handle":12,"status":0},"seat":0,"step":{"op":"resume","parse":"ran","ticket":8}}\n'
+    b'{"n":10,"reply":{"status":0},"seat":0,"step":{"handle":12,"op":"close","proc":1}}\n'
+    b'{"n":11,"reply":{"status":3221225480},"seat":0,"step":{"handle":4,"op":"close","proc":1}}\n'
+)
+
+# one close more than a journal has room for, since 33 places are kept for the steps of a last open
+CLOSES = 1_048_543
+OVERFULL = b"p1 close z\n" * (CLOSES + 1)
+
+
+def overfull():
+    """The journal of closes of no handle, up to the last one that it takes."""
+    lines = [b'{"journal":1,"seats":1}\n']
+    for number in range(1, CLOSES + 1):
+        lines.append(b'{"n":%d,"reply":{"status":3221225480},"seat":0,"step":{"handle":0,"op":"close","proc":1}}\n' % number)
+    return b"".join(lines)
+
+
+FILES = {
+    "a.ntns": SCRIPT,
+    "bad.ntns": BAD,
+    " spaced.ntns ": SCRIPT,
+    "-x": SCRIPT,
+    "empty": b"",
+    "workers": WORKS,
+    "seats": SEATS,
+    "join": b"join\n",
+    "overfull": OVERFULL,
+}
 
 HELP = (
     b"Runs a script of namespace commands, by default from standard input, and prints one reply a line\n\n"
-    b"Usage: ntns [COMMAND]\n\nCommands:\n  run   Runs the script in FILE\n"
-    b"  help  Print this message or the help of the given subcommand(s)\n\nOptions:\n  -h, --help  Print help\n"
+    b"Usage: ntns [COMMAND]\n\nCommands:\n  run      Runs the script in FILE\n"
+    b"  threads  Runs the script with workers in FILE, and prints its journal\n"
+    b"  help     Print this message or the help of the given subcommand(s)\n\nOptions:\n  -h, --help  Print help\n"
 )
 UNKNOWN = (
-    b"error: unrecognized subcommand 'other'\n\nUsage: ntns [COMMAND]\n\n"
+    b"error: unrecognized subcommand 'other'\n\n  tip: a similar subcommand exists: 'threads'\n\n"
+    b"Usage: ntns [COMMAND]\n\n"
     b"For more information, try '--help'.\n"
 )
 NO_TEXT = (
@@ -137,6 +192,13 @@ CASES = [
     Case("a path may begin with a hyphen behind --", ("run", "--", "-x"), 0, SHOWN),
     Case("an empty file is an empty script", ("run", "empty"), 0),
     Case("a file that isn't there is told", ("run", "missing"), 1, errors=b"ntns: cannot read\n"),
+    Case("so is one of a script with workers", ("threads", "missing"), 1, errors=b"ntns: cannot read\n"),
+    Case("a script with workers that has a bad line runs nothing", ("threads", "bad.ntns"), 1, b"2: not a script line\n"),
+    Case("a worker's steps stand behind those of the lines before it", ("threads", "workers"), 0, WORKED),
+    Case("each seat has its own words, and its own opens that wait", ("threads", "seats"), 0, SEATED),
+    Case("a join before any worker runs nothing", ("threads", "join"), 1, b"1: not a script line\n"),
+    Case("a journal that is full refuses a step, and is written", ("threads", "overfull"), 1, overfull(), b"ntns: step refused\n"),
+    Case("an empty script with workers has a journal without a step", ("threads", "empty"), 0, b'{"journal":1,"seats":1}\n'),
     Case("a directory is told", ("run", "."), 1, errors=b"ntns: cannot read\n"),
     Case("a mistake in the words ends with 2", ("other",), 2, errors=UNKNOWN, script=SCRIPT),
     Case("words that are no text end with 2", (b"\xff",), 2, errors=NO_TEXT),
@@ -160,7 +222,7 @@ def fault_of(case, program, folder):
     )
     left = (run.returncode, run.stdout, run.stderr)
     wanted = (case.status, case.output, case.errors)
-    return "" if left == wanted else f"it left {left}, and not {wanted}"
+    return "" if left == wanted else f"it left {str(left)[:2000]}, and not {str(wanted)[:2000]}"
 
 
 def main():

@@ -16,6 +16,7 @@ fn main(rt: HostRuntime) -> ExitCode {
     let end = match env::args(&rt) {
         Ok(words) => match words.collect::<Vec<String>>(alloc) {
             Ok(words) => serve(
+                &rt,
                 alloc,
                 words.as_slice(),
                 |path| fs::open(&rt, path),

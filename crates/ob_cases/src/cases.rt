@@ -517,5 +517,15 @@ fn worked_cases_print_what_they_show(rt: HostRuntime) {
 fn comments_and_empty_lines_are_counted_and_the_last_line_may_lack_its_end(rt: HostRuntime) {
     let script = b"# a comment\n\np1 opendir \"\\\" - =a";
     let input = Input::Bytes(script);
-    assert!(rt; performs(rt.alloc(), Task::Script, input, 0, b"3: SUCCESS\n", b""));
+    assert!(rt;
+        performs(
+            &rt,
+            rt.alloc(),
+            Task::Script,
+            input,
+            0,
+            b"3: SUCCESS\n",
+            b""
+        )
+    );
 }

@@ -2,7 +2,9 @@
 
 use crate::runs::{Input, Output, Streams, assert_cases, performs};
 use clap::error::ErrorKind;
-use ob_tasks::{End, Ending, ShellFault, complain, perform_opened, serve, starve};
+use ob_tasks::{
+    End, Ended, Ending, ShellFault, ThreadsEnding, complain, perform_opened, serve, starve,
+};
 use ob_words::{Task, plan, unreadable};
 use std::alloc::{AllocError, Global};
 use std::fs;
@@ -18,6 +20,12 @@ ntns|run|./a => run ./a
 ntns|run|/ => run /
 ntns|run|help => run help
 ntns|run|c:\a => run c:\a
+ntns|threads|a.ntns => threads a.ntns
+ntns|threads|--|-a b%20 => threads -a b%20
+ntns|threads|threads|-- => threads threads
+ntns|threads| => threads 
+ntns|threads|run => threads run
+ntns|run|threads => run threads
 ntns|other => unknown subcommand
 ntns|ntns => unknown subcommand
 ntns|-x => unknown argument
@@ -27,6 +35,9 @@ ntns|- => mistake
 ntns| => mistake
 ntns|RUN => mistake
 ntns|runs => mistake
+ntns|thread => mistake
+ntns|threads|a|b => mistake
+ntns|threads|-x => mistake
 ntns|--|run|a => mistake
 ntns|run|-x => mistake";
 
@@ -37,6 +48,7 @@ fn plans(alloc: Global, line: &str) -> Option<bool> {
     Some(match plan(alloc, words.as_slice()) {
         Ok(Task::Script) => wanted == "script",
         Ok(Task::Run(path)) => wanted.strip_prefix("run ") == Some(path),
+        Ok(Task::Threads(path)) => wanted.strip_prefix("threads ") == Some(path),
         Err(fault) => is_mistake(fault.kind(), wanted),
     })
 }
@@ -59,9 +71,19 @@ fn words_name_their_task_or_are_mistakes(rt: HostRuntime) {
 }
 
 const SERVED: &'static str = r#"== another word is a mistake
+$ ntns|x
+-- ends with 2
+error: unrecognized subcommand 'x'
+
+Usage: ntns [COMMAND]
+
+For more information, try '--help'.
+== a command that is near to it is told
 $ ntns|other
 -- ends with 2
 error: unrecognized subcommand 'other'
+
+  tip: a similar subcommand exists: 'threads'
 
 Usage: ntns [COMMAND]
 
@@ -92,6 +114,15 @@ error: unexpected argument 'b' found
 Usage: ntns run <FILE>
 
 For more information, try '--help'.
+== so it is for workers
+$ ntns|threads
+-- ends with 2
+error: the following required arguments were not provided:
+  <FILE>
+
+Usage: ntns threads <FILE>
+
+For more information, try '--help'.
 == the script of a file is run
 $ ntns|run|one
 -- ends with 0
@@ -119,6 +150,18 @@ ntns: cannot read
 $ ntns|run|big
 -- ends with 1
 ntns: want of memory
+== a script with workers that has another line runs nothing
+$ ntns|threads|bad
+-- ends with 1
+1: not a script line
+== its file may be missing
+$ ntns|threads|two
+-- ends with 1
+ntns: cannot read
+== or want memory
+$ ntns|threads|big
+-- ends with 1
+ntns: want of memory
 == help that is asked for is written
 $ ntns|-h
 -- ends with 0
@@ -127,8 +170,9 @@ Runs a script of namespace commands, by default from standard input, and prints 
 Usage: ntns [COMMAND]
 
 Commands:
-  run   Runs the script in FILE
-  help  Print this message or the help of the given subcommand(s)
+  run      Runs the script in FILE
+  threads  Runs the script with workers in FILE, and prints its journal
+  help     Print this message or the help of the given subcommand(s)
 
 Options:
   -h, --help  Print help
@@ -140,8 +184,9 @@ Runs a script of namespace commands, by default from standard input, and prints 
 Usage: ntns [COMMAND]
 
 Commands:
-  run   Runs the script in FILE
-  help  Print this message or the help of the given subcommand(s)
+  run      Runs the script in FILE
+  threads  Runs the script with workers in FILE, and prints its journal
+  help     Print this message or the help of the given subcommand(s)
 
 Options:
   -h, --help  Print help
@@ -153,8 +198,9 @@ Runs a script of namespace commands, by default from standard input, and prints 
 Usage: ntns [COMMAND]
 
 Commands:
-  run   Runs the script in FILE
-  help  Print this message or the help of the given subcommand(s)
+  run      Runs the script in FILE
+  threads  Runs the script with workers in FILE, and prints its journal
+  help     Print this message or the help of the given subcommand(s)
 
 Options:
   -h, --help  Print help
@@ -206,6 +252,18 @@ Arguments:
 
 Options:
   -h, --help  Print help
+== of the other command too
+$ ntns|threads|--help
+-- ends with 0
+Runs the script with workers in FILE, and prints its journal
+
+Usage: ntns threads <FILE>
+
+Arguments:
+  <FILE>  The path of the file, taken as it is
+
+Options:
+  -h, --help  Print help
 "#;
 
 #[test]
@@ -218,7 +276,8 @@ fn a_file_that_cannot_be_read_is_told(rt: HostRuntime) {
     let mut streams = Streams::new(rt.alloc(), Input::Bytes(b""));
     let Streams { output, errors, .. } = &mut streams;
     let opened = Ok(Input::Broken);
-    let outcome = perform_opened(rt.alloc(), Task::Run("one"), opened, output, errors);
+    let task = Task::Run("one");
+    let outcome = perform_opened(&rt, rt.alloc(), task, opened, output, errors);
     assert!(rt; End::Task(outcome).status() == 1);
     assert!(rt; streams.hold(b"", b"ntns: cannot read\n"));
 }
@@ -235,7 +294,15 @@ fn what_the_system_does_not_open_or_read_is_told(rt: HostRuntime) {
         } = &mut streams;
         let words = ["ntns", "run", path];
         let opener = |named| fs::open(&rt, named);
-        let end = serve(rt.alloc(), words.as_slice(), opener, input, output, errors);
+        let end = serve(
+            &rt,
+            rt.alloc(),
+            words.as_slice(),
+            opener,
+            input,
+            output,
+            errors,
+        );
         assert!(rt; end.status() == 1, "at {path:?}");
         assert!(rt; streams.hold(b"", b"ntns: cannot read\n"), "at {path:?}");
     }
@@ -247,11 +314,11 @@ fn a_mistake_that_cannot_be_told_ends_with_2_and_help_that_cannot_be_written_wit
 ) {
     let mut streams = Streams::new(rt.alloc(), Input::Bytes(b""));
     streams.errors.is_broken = true;
-    let end = streams.serve(rt.alloc(), &["ntns", "run"]);
+    let end = streams.serve(&rt, rt.alloc(), &["ntns", "run"]);
     assert!(rt; end.status() == 2 && streams.hold(b"", b""));
     streams.errors.is_broken = false;
     streams.output.is_broken = true;
-    let end = streams.serve(rt.alloc(), &["ntns", "--help"]);
+    let end = streams.serve(&rt, rt.alloc(), &["ntns", "--help"]);
     assert!(rt; end.status() == 1 && streams.hold(b"", b"ntns: cannot write\n"));
 }
 
@@ -271,12 +338,12 @@ fn words_that_are_no_text_end_with_2_and_want_of_memory_with_1(rt: HostRuntime) 
 fn the_input_of_a_run_is_its_script_and_faults_end_with_1(rt: HostRuntime) {
     let script = Input::Bytes(b"p1 dir \"\\A\" - =a\np1 name a\nno line\nstat\n");
     let prints = b"1: SUCCESS\n2: SUCCESS \"\\A\"\n3: not a script line\n";
-    assert!(rt; performs(rt.alloc(), Task::Run("one"), script, 1, prints, b""));
+    assert!(rt; performs(&rt, rt.alloc(), Task::Run("one"), script, 1, prints, b""));
     let told = b"ntns: cannot read\n";
-    assert!(rt; performs(rt.alloc(), Task::Script, Input::Broken, 1, b"", told));
+    assert!(rt; performs(&rt, rt.alloc(), Task::Script, Input::Broken, 1, b"", told));
     let mut streams = Streams::new(rt.alloc(), Input::Endless);
     streams.errors.is_broken = true;
-    let end = streams.perform(rt.alloc(), Task::Script);
+    let end = streams.perform(&rt, rt.alloc(), Task::Script);
     assert!(rt; end.status() == 1 && streams.hold(b"", b""));
 }
 
@@ -285,8 +352,11 @@ fn a_script_on_standard_input_opens_no_file(rt: HostRuntime) {
     let table: [&[&str]; 2] = [&["ntns"], &["ntns", "--"]];
     for words in table {
         let mut streams = Streams::new(rt.alloc(), Input::Bytes(b"stat\n"));
-        let end = streams.serve(rt.alloc(), words);
-        assert!(rt; end == End::Task(Ok(Ending::Done)), "at {words:?}");
+        let end = streams.serve(&rt, rt.alloc(), words);
+        assert!(rt;
+            end == End::Task(Ok(Ended::Script(Ending::Done))),
+            "at {words:?}"
+        );
         assert!(rt;
             !streams.has_opened && streams.errors.bytes.is_empty(),
             "at {words:?}"
@@ -297,9 +367,19 @@ fn a_script_on_standard_input_opens_no_file(rt: HostRuntime) {
 #[test]
 fn statuses_follow_the_end(rt: HostRuntime) {
     let table = [
-        (End::Task(Ok(Ending::Done)), 0),
-        (End::Task(Ok(Ending::BadLine(1))), 1),
-        (End::Task(Ok(Ending::NoMemoryAt(1))), 1),
+        (End::Task(Ok(Ended::Script(Ending::Done))), 0),
+        (End::Task(Ok(Ended::Script(Ending::BadLine(1)))), 1),
+        (End::Task(Ok(Ended::Script(Ending::NoMemoryAt(1)))), 1),
+        (End::Task(Ok(Ended::Threads(ThreadsEnding::Done))), 0),
+        (End::Task(Ok(Ended::Threads(ThreadsEnding::BadLine(1)))), 1),
+        (
+            End::Task(Ok(Ended::Threads(ThreadsEnding::NoMemoryAt(1)))),
+            1,
+        ),
+        (
+            End::Task(Ok(Ended::Threads(ThreadsEnding::RefusedAt(1)))),
+            1,
+        ),
         (End::Task(Err(ShellFault::Read)), 1),
         (End::Task(Err(ShellFault::Memory)), 1),
         (End::Mistake, 2),

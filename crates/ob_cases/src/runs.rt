@@ -6,6 +6,8 @@ use std::alloc::{AllocError, Global};
 use std::io;
 use std::io::{Error, ErrorKind, Read, Write};
 use std::process::Abort;
+use std::sync::Wait;
+use std::thread::Threads;
 
 /// An input: bytes, one that never ends, or one whose every read fails.
 #[derive(Drop)]
@@ -76,8 +78,14 @@ impl<'a> Streams<'a> {
     }
 
     /// Does a task.
-    pub(crate) fn perform(&mut self, alloc: Global, task: Task<'_>) -> End {
+    pub(crate) fn perform<H: Threads + Wait + Sync>(
+        &mut self,
+        rt: &H,
+        alloc: Global,
+        task: Task<'_>,
+    ) -> End {
         End::Task(perform(
+            rt,
             alloc,
             task,
             &mut self.input,
@@ -87,7 +95,12 @@ impl<'a> Streams<'a> {
     }
 
     /// Serves the words, over the files of the tests.
-    pub(crate) fn serve(&mut self, alloc: Global, words: &[&str]) -> End {
+    pub(crate) fn serve<H: Threads + Wait + Sync>(
+        &mut self,
+        rt: &H,
+        alloc: Global,
+        words: &[&str],
+    ) -> End {
         let Streams {
             input,
             output,
@@ -98,7 +111,7 @@ impl<'a> Streams<'a> {
             *has_opened = true;
             open_one(path)
         };
-        serve(alloc, words, opener, input, output, errors)
+        serve(rt, alloc, words, opener, input, output, errors)
     }
 
     /// Tells a fault of the words.
@@ -112,17 +125,19 @@ impl<'a> Streams<'a> {
     }
 }
 
-// The files of the tests: a script, one that wants memory, and no other.
+// The files of the tests: a script, one with a line that is none, one that wants memory, and no other.
 fn open_one(path: &str) -> io::Result<Input<'static>> {
     match path {
         "one" => Ok(Input::Bytes(b"p1 close z\nq close z\n")),
+        "bad" => Ok(Input::Bytes(b"no line\n")),
         "big" => Err(Error::from(ErrorKind::OutOfMemory)),
         _ => Err(Error::from(ErrorKind::NotFound)),
     }
 }
 
 /// Whether a task over an input ends with this status and leaves this.
-pub(crate) fn performs(
+pub(crate) fn performs<H: Threads + Wait + Sync>(
+    rt: &H,
     alloc: Global,
     task: Task<'_>,
     input: Input<'_>,
@@ -131,15 +146,22 @@ pub(crate) fn performs(
     errors: &[u8],
 ) -> bool {
     let mut streams = Streams::new(alloc, input);
-    let end = streams.perform(alloc, task);
+    let end = streams.perform(rt, alloc, task);
     end.status() == status && streams.hold(output, errors)
 }
 
 // Whether words, with bars between them, over an empty input, end with this status and leave this.
-fn serves(alloc: Global, words: &str, status: u8, output: &[u8], errors: &[u8]) -> Option<bool> {
+fn serves<H: Threads + Wait + Sync>(
+    rt: &H,
+    alloc: Global,
+    words: &str,
+    status: u8,
+    output: &[u8],
+    errors: &[u8],
+) -> Option<bool> {
     let words: Vec<&str> = words.split('|').collect(alloc).ok()?;
     let mut streams = Streams::new(alloc, Input::Bytes(b""));
-    let end = streams.serve(alloc, words.as_slice());
+    let end = streams.serve(rt, alloc, words.as_slice());
     Some(end.status() == status && streams.hold(output, errors))
 }
 
@@ -169,7 +191,7 @@ fn spelled(alloc: Global, text: &str) -> Option<Vec<u8>> {
 
 // Whether a case leaves what it tells: behind the line of what it shows stand its script, or a line of the program's
 // words, then the line of the program's status, and what it prints or complains of.
-fn passes(alloc: Global, case: &str) -> Option<bool> {
+fn passes<H: Threads + Wait + Sync>(rt: &H, alloc: Global, case: &str) -> Option<bool> {
     let (_shows, case) = case.split_once("\n")?;
     let (script, case) = case.split_once("-- ends with ")?;
     let (status, told) = case.split_once("\n")?;
@@ -182,11 +204,11 @@ fn passes(alloc: Global, case: &str) -> Option<bool> {
         (told, b"")
     };
     if let Some(words) = script.strip_prefix("$ ") {
-        return serves(alloc, words.trim_end(), status, output, errors);
+        return serves(rt, alloc, words.trim_end(), status, output, errors);
     }
     let script = spelled(alloc, script)?;
     let input = Input::Bytes(script.as_slice());
-    Some(performs(alloc, Task::Script, input, status, output, errors))
+    Some(performs(rt, alloc, Task::Script, input, status, output, errors))
 }
 
 // Whether what is told is a complaint: of the program, or of its words.
@@ -195,11 +217,11 @@ fn is_complaint(told: &[u8]) -> bool {
 }
 
 /// Asserts that each case of a text leaves what it tells. A case begins with `== ` and what it shows.
-pub(crate) fn assert_cases(rt: &impl Abort, alloc: Global, text: &str) {
+pub(crate) fn assert_cases<H: Abort + Threads + Wait + Sync>(rt: &H, alloc: Global, text: &str) {
     let mut rest = text.strip_prefix("== ").unwrap_or("");
     for _ in 0..text.len() {
         let (case, behind) = rest.split_once("== ").unwrap_or((rest, ""));
-        assert!(rt; passes(alloc, case) == Some(true), "{case}");
+        assert!(rt; passes(rt, alloc, case) == Some(true), "{case}");
         if behind.is_empty() {
             return;
         }

@@ -8,7 +8,7 @@ use Rattle.std.specs.declared.io.ErrorKind.{ErrorKind}
 use Rattle.std.specs.declared.io.ErrorKind.TheVariants.{OutOfMemory}
 use Rattle.ob_shell.specs.declared.fault.ShellFault.{ShellFault}
 use Rattle.ob_shell.specs.declared.fault.ShellFault.TheVariants.{Memory, Read}
-use Rattle.ob_shell.specs.declared.run.Ending.{Ending}
+use Rattle.ob_tasks.specs.declared.end.Ended.{Ended}
 use Rattle.ob_tasks.specs.Perform.{Complains, Performs}
 use Rattle.ob_words.specs.declared.planning.Task.{Task}
 
@@ -26,12 +26,12 @@ fault_of_opening OutOfMemory = Memory
 fault_of_opening _ = Read
 
 -- the file couldn't be opened: that is the outcome, nothing is written, and standard error says why
-pub record Unopened (kind : ErrorKind) (outcome : Result Ending ShellFault) (written written' told told' : Option (List ℕ)) : Type 0 where
+pub record Unopened (kind : ErrorKind) (outcome : Result Ended ShellFault) (written written' told told' : Option (List ℕ)) : Type 0 where
   pub ended : outcome ≡ Err (fault_of_opening kind)
   pub silent : Keeps written written'
   pub complained : Complains (fault_of_opening kind) told told'
 
 -- the task is done over the file, or the fault of opening is told
-abbrev pub Follows : Opened → Task → Result Ending ShellFault → Option (List ℕ) → Option (List ℕ) → Option (List ℕ) → Option (List ℕ) → Type 0
+abbrev pub Follows : Opened → Task → Result Ended ShellFault → Option (List ℕ) → Option (List ℕ) → Option (List ℕ) → Option (List ℕ) → Type 0
 Follows (Ok input) task outcome written written' told told' = Performs task outcome input written written' told told'
 Follows (Err kind) task outcome written written' told told' = Unopened kind outcome written written' told told'

@@ -1,31 +1,58 @@
 -- How a task is done: how it ends, and what it says on standard error.
 -- Source: this profile.
-use Rattle.std.specs.Prelude.{◌≡◌, ◌≢◌, ◌<◌, ◌⊎◌, ℕ, List, ◌++◌, length, Option, Result, Ok, Err, IfOk, IfErr, IsErr, IsErrOf, IfSome, codes}
+use Rattle.std.specs.Prelude.{◌≡◌, ◌≢◌, ◌<◌, ◌⊎◌, ℕ, List, ◌++◌, length, Option, Some, None, Result, Ok, Err, IfOk, IfErr, IsErr, IsErrOf, IfSome, codes}
 use Rattle.std.specs.Io.KnownBytes.{Appends, Keeps}
 use Rattle.ob_shell.specs.Fault.{fault_text_of}
 use Rattle.ob_shell.specs.Reading.{StopsLong}
 use Rattle.ob_shell.specs.Shown.{PlaysTo, PlaysPartTo}
 use Rattle.ob_shell.specs.Writing.{AppendsFront}
 use Rattle.ob_shell.specs.declared.fault.ShellFault.{ShellFault}
-use Rattle.ob_shell.specs.declared.fault.ShellFault.TheVariants.{Write, TooLong, Mismatch}
+use Rattle.ob_shell.specs.declared.fault.ShellFault.TheVariants.{Memory, Write, TooLong, Mismatch}
 use Rattle.ob_shell.specs.declared.reading.TheConstants.{SCRIPT_LIMIT}
 use Rattle.ob_shell.specs.declared.run.Ending.{Ending}
+use Rattle.ob_tasks.specs.declared.end.Ended.{Ended}
+use Rattle.ob_tasks.specs.declared.end.Ended.TheVariants as ended
+use Rattle.ob_threads.specs.Written.{IsWritten}
+use Rattle.ob_threads.specs.declared.ending.ThreadsEnding.{ThreadsEnding}
+use Rattle.ob_threads.specs.declared.ending.ThreadsEnding.TheVariants as threads
 use Rattle.ob_words.specs.declared.planning.Task.{Task}
-use Rattle.ob_words.specs.declared.planning.Task.TheVariants.{Script, Run}
+use Rattle.ob_words.specs.declared.planning.Task.TheVariants.{Script, Run, Threads}
 
--- the line that tells a fault
-abbrev pub complaint_of : ShellFault → List ℕ
-complaint_of fault = codes "ntns: " ++ fault_text_of fault ++ codes "\n"
+-- the line that tells a text
+abbrev pub line_of : List ℕ → List ℕ
+line_of text = codes "ntns: " ++ text ++ codes "\n"
 
 -- the line was written, or a beginning of it where a write failed
-abbrev pub Complains : ShellFault → Option (List ℕ) → Option (List ℕ) → Type 0
-Complains fault told told' = Appends told told' (complaint_of fault) ⊎ AppendsFront told told' (complaint_of fault)
+abbrev pub Says : List ℕ → Option (List ℕ) → Option (List ℕ) → Type 0
+Says text told told' = Appends told told' (line_of text) ⊎ AppendsFront told told' (line_of text)
 
--- what a run leaves on standard error: a fault's line, and nothing where there is none, since the
--- output tells the other ends
-abbrev pub Tells : Result Ending ShellFault → Option (List ℕ) → Option (List ℕ) → Type 0
-Tells (Ok ending) told told' = Keeps told told'
-Tells (Err fault) told told' = Complains fault told told'
+-- a fault's line was
+abbrev pub Complains : ShellFault → Option (List ℕ) → Option (List ℕ) → Type 0
+Complains fault told told' = Says (fault_text_of fault) told told'
+
+-- what standard error has to say of how a task ended, since the output doesn't: a fault, and of a run with workers, whose output
+-- is a journal, that a step found no memory or was refused
+abbrev pub text_told : Result Ended ShellFault → Option (List ℕ)
+text_told (Ok (ended.Script ending)) = None
+text_told (Ok (ended.Threads threads.Done)) = None
+text_told (Ok (ended.Threads (threads.BadLine line))) = None
+text_told (Ok (ended.Threads (threads.NoMemoryAt line))) = Some (fault_text_of Memory)
+text_told (Ok (ended.Threads (threads.RefusedAt line))) = Some (codes "step refused")
+text_told (Err fault) = Some (fault_text_of fault)
+
+-- it says that whole, or nothing where there is nothing to say
+abbrev pub SaysWhole : Option (List ℕ) → Option (List ℕ) → Option (List ℕ) → Type 0
+SaysWhole None told told' = Keeps told told'
+SaysWhole (Some text) told told' = Appends told told' (line_of text)
+
+-- it says a beginning of it, where a write failed
+abbrev pub SaysFront : Option (List ℕ) → Option (List ℕ) → Option (List ℕ) → Type 0
+SaysFront None told told' = ⊥
+SaysFront (Some text) told told' = AppendsFront told told' (line_of text)
+
+-- so standard error is left by a task
+abbrev pub Tells : Result Ended ShellFault → Option (List ℕ) → Option (List ℕ) → Type 0
+Tells outcome told told' = SaysWhole (text_told outcome) told told' ⊎ SaysFront (text_told outcome) told told'
 
 -- the run of the script on the input: what was written is what the script plays, or a beginning of it
 -- after a fault of writing, or nothing after any other fault; a script that is too long isn't run
@@ -38,12 +65,25 @@ pub record RunsScript (outcome : Result Ending ShellFault) (input written writte
   pub refused : IfSome input (λ script. SCRIPT_LIMIT < length script → IsErr outcome)
   pub long : IfSome input (λ script. SCRIPT_LIMIT < length script → IfErr outcome StopsLong × (written' ≡ written))
 
--- the run of a script to this outcome, with standard error before and after
-pub record PerformsScript (outcome : Result Ending ShellFault) (input written written' told told' : Option (List ℕ)) : Type 0 where
-  pub run : RunsScript outcome input written written'
-  pub told_end : Tells outcome told told'
+-- the outcome is that of a run of a script, of which this holds
+abbrev pub OfScript : (Result Ending ShellFault → Type 0) → Result Ended ShellFault → Type 0
+OfScript P (Ok (ended.Script ending)) = P (Ok ending)
+OfScript P (Ok (ended.Threads ending)) = ⊥
+OfScript P (Err fault) = P (Err fault)
+
+-- the outcome is that of a run of a script with workers, of which this holds
+abbrev pub OfThreads : (Result ThreadsEnding ShellFault → Type 0) → Result Ended ShellFault → Type 0
+OfThreads P (Ok (ended.Script ending)) = ⊥
+OfThreads P (Ok (ended.Threads ending)) = P (Ok ending)
+OfThreads P (Err fault) = P (Err fault)
+
+-- the run that the task asks for, to this outcome, with its input, and the output before and after
+abbrev pub Runs : Task → Result Ended ShellFault → Option (List ℕ) → Option (List ℕ) → Option (List ℕ) → Type 0
+Runs Script outcome input written written' = OfScript (λ ran. RunsScript ran input written written') outcome
+Runs (Run file) outcome input written written' = OfScript (λ ran. RunsScript ran input written written') outcome
+Runs (Threads file) outcome input written written' = OfThreads (λ ran. IsWritten ran input written written') outcome
 
 -- the task, to this outcome, with its input, and what was written before and after
-abbrev pub Performs : Task → Result Ending ShellFault → Option (List ℕ) → Option (List ℕ) → Option (List ℕ) → Option (List ℕ) → Option (List ℕ) → Type 0
-Performs Script outcome input written written' told told' = PerformsScript outcome input written written' told told'
-Performs (Run file) outcome input written written' told told' = PerformsScript outcome input written written' told told'
+pub record Performs (task : Task) (outcome : Result Ended ShellFault) (input written written' told told' : Option (List ℕ)) : Type 0 where
+  pub run : Runs task outcome input written written'
+  pub told_end : Tells outcome told told'

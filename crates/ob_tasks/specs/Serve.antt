@@ -8,38 +8,39 @@ use Rattle.clap.specs.Words.{IsAmong, Text, fault_of, subcommand_of, takes}
 use Rattle.clap.specs.declared.error.kind.ErrorKind.{ErrorKind}
 use Rattle.clap.specs.declared.error.kind.ErrorKind.TheVariants.{OutOfMemory}
 use Rattle.ob_shell.specs.declared.fault.ShellFault.{ShellFault}
-use Rattle.ob_shell.specs.declared.run.Ending.{Ending}
 use Rattle.ob_tasks.specs.declared.end.End.{End}
 use Rattle.ob_tasks.specs.declared.end.End.TheVariants as ends
+use Rattle.ob_tasks.specs.declared.end.Ended.{Ended}
 use Rattle.ob_tasks.specs.Opening.{Follows, Opened, opened_as}
 use Rattle.ob_tasks.specs.Perform.{Performs}
-use Rattle.ob_words.specs.Plan.{Named, named, ntns, script, run, task_of}
+use Rattle.ob_words.specs.Plan.{Named, named, ntns, script, run, task_of, threads}
 use Rattle.ob_tasks.specs.Refuse.{Blames, Fails, Helps, IsRequest, Starves}
 use Rattle.ob_words.specs.declared.planning.Task.{Task}
 
 -- the words have no fault and name the file of this path
 abbrev pub AsksFor : List Text → Text → Type 0
-AsksFor words path = task_of (subcommand_of ntns words) ≡ Some (run path)
+AsksFor words path = (task_of (subcommand_of ntns words) ≡ Some (run path)) ⊎ (task_of (subcommand_of ntns words) ≡ Some (threads path))
 
 -- what opening the file of a path may give, by a function that opens it
 abbrev pub Gives : {F I : Type 0} → Once F (Bor Text × Unit {0}) (Result I Error) → F → (I → Option (List ℕ)) → Text → Opened → Type 0
 Gives {F} {I} calls opener remaining path gave = (opened : Result I Error) × FnOnceReturnsAt calls opener path opened × (gave ≡ opened_as remaining opened)
 
 -- the task is done over the file of this path, or the fault of opening it is told
-pub record ServesFile (gives : Text → Opened → Type 0) (path : Text) (task : Task) (outcome : Result Ending ShellFault) (written written' told told' : Option (List ℕ)) : Type 0 where
+pub record ServesFile (gives : Text → Opened → Type 0) (path : Text) (task : Task) (outcome : Result Ended ShellFault) (written written' told told' : Option (List ℕ)) : Type 0 where
   pub opened : Opened
   pub given : gives path opened
   pub done : Follows opened task outcome written written' told told'
 
 -- the task is done over the input, or over the file that it names
-abbrev pub ServesNamed : (Text → Opened → Type 0) → Named → Task → Result Ending ShellFault → Option (List ℕ) → Option (List ℕ) → Option (List ℕ) → Option (List ℕ) → Option (List ℕ) → Type 0
+abbrev pub ServesNamed : (Text → Opened → Type 0) → Named → Task → Result Ended ShellFault → Option (List ℕ) → Option (List ℕ) → Option (List ℕ) → Option (List ℕ) → Option (List ℕ) → Type 0
 ServesNamed gives script task outcome input written written' told told' = Performs task outcome input written written' told told'
 ServesNamed gives (run path) task outcome input written written' told told' = ServesFile gives path task outcome written written' told told'
+ServesNamed gives (threads path) task outcome input written written' told told' = ServesFile gives path task outcome written written' told told'
 
 -- the words have no fault, and name the task that is done
 pub record ServesTask (gives : Text → Opened → Type 0) (words : List Text) (end : End) (input written written' told told' : Option (List ℕ)) : Type 0 where
   pub task : Task
-  pub outcome : Result Ending ShellFault
+  pub outcome : Result Ended ShellFault
   pub asked : task_of (subcommand_of ntns words) ≡ Some (named task)
   pub faultless : fault_of ntns words ≡ []
   pub ended : end ≡ ends.Task outcome

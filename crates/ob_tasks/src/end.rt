@@ -4,13 +4,23 @@ ghost use Rattle.std.specs.Prelude.{◌≡◌};
 ghost use Rattle.ob_tasks.specs.End.{status_of};
 
 use ob_shell::{Ending, ShellFault};
+use ob_threads::ThreadsEnding;
+
+/// How a task ended that no fault ended. (this profile)
+#[derive(Clone, Copy, PartialEq, Eq, Debug)]
+pub enum Ended {
+    /// The run of a script came to this ending.
+    Script(Ending),
+    /// The run of a script with workers came to this ending.
+    Threads(ThreadsEnding),
+}
 
 /// How the program ends. (this profile)
 #[derive(Clone, Copy, PartialEq, Eq, Debug)]
 pub enum End {
     /// A task was done to this ending, or a fault ended it. Memory that was wanting before there was a
     /// task, a file that could not be opened and help that could not be written are such faults too.
-    Task(Result<Ending, ShellFault>),
+    Task(Result<Ended, ShellFault>),
     /// The words are a mistake.
     Mistake,
     /// Help that the words asked for was written.
@@ -24,9 +34,13 @@ impl End {
         ensures { result ≡ status_of self.now }
     {
         match self {
-            End::Task(Ok(Ending::Done)) => 0,
-            End::Task(Ok(Ending::BadLine(_))) => 1,
-            End::Task(Ok(Ending::NoMemoryAt(_))) => 1,
+            End::Task(Ok(Ended::Script(Ending::Done))) => 0,
+            End::Task(Ok(Ended::Script(Ending::BadLine(_)))) => 1,
+            End::Task(Ok(Ended::Script(Ending::NoMemoryAt(_)))) => 1,
+            End::Task(Ok(Ended::Threads(ThreadsEnding::Done))) => 0,
+            End::Task(Ok(Ended::Threads(ThreadsEnding::BadLine(_)))) => 1,
+            End::Task(Ok(Ended::Threads(ThreadsEnding::NoMemoryAt(_)))) => 1,
+            End::Task(Ok(Ended::Threads(ThreadsEnding::RefusedAt(_)))) => 1,
             End::Task(Err(_)) => 1,
             End::Mistake => 2,
             End::Help => 0,

@@ -8,8 +8,9 @@ mod performing;
 mod refusing;
 mod serving;
 
-pub use end::End;
+pub use end::{End, Ended};
 pub use ob_shell::{Ending, ShellFault};
+pub use ob_threads::ThreadsEnding;
 pub use opening::perform_opened;
 pub use performing::{complain, perform, starve};
 pub use refusing::refuse;

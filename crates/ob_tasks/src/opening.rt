@@ -4,30 +4,34 @@ ghost use Rattle.std.specs.Prelude.{◌≡◌};
 ghost use Rattle.std.specs.IoError.{error_kind};
 ghost use Rattle.ob_tasks.specs.Opening.{Follows, fault_of_opening, opened_as};
 
+use crate::end::Ended;
 use crate::performing::{complain, perform};
-use ob_shell::{Ending, ShellFault};
+use ob_shell::ShellFault;
 use ob_words::Task;
 use std::alloc::Global;
 use std::io;
 use std::io::{Error, ErrorKind, Read, Write};
+use std::sync::Wait;
+use std::thread::Threads;
 
 /// Does the task over the file, where it was opened, and tells how it ended.
 ///
 /// A file that could not be opened is told on `errors`, and nothing is written: as want of memory where
 /// the opening wanted it, and else as an input that cannot be read. (this profile)
-pub fn perform_opened<I: Read + Drop, W: Write, E: Write>(
+pub fn perform_opened<H: Threads + Wait + Sync, I: Read + Drop, W: Write, E: Write>(
+    rt: &H,
     alloc: Global,
     task: Task<'_>,
     opened: io::Result<I>,
     writer: &mut W,
     errors: &mut E,
-) -> Result<Ending, ShellFault>
+) -> Result<Ended, ShellFault>
     ensures { Follows (opened_as I.remaining opened) task.entry result
         (W.contents writer.old) (W.contents writer.new)
         (E.contents errors.old) (E.contents errors.new) }
 {
     match opened {
-        Ok(mut reader) => perform(alloc, task, &mut reader, writer, errors),
+        Ok(mut reader) => perform(rt, alloc, task, &mut reader, writer, errors),
         Err(fault) => {
             let fault = opening_fault(&fault);
             let _ = complain(errors, fault);

@@ -3,41 +3,93 @@
 ghost use Rattle.std.specs.Prelude.{◌≡◌, OnOk, OnErr, Err};
 ghost use Rattle.std.specs.Io.KnownBytes.{Appends};
 ghost use Rattle.ob_shell.specs.declared.fault.ShellFault.TheVariants.{Memory};
+ghost use Rattle.ob_shell.specs.Fault.{fault_text_of};
 ghost use Rattle.ob_shell.specs.Writing.{AppendsFront};
 ghost use Rattle.ob_tasks.specs.declared.end.End.TheVariants as ends;
-ghost use Rattle.ob_tasks.specs.Perform.{Complains, Performs, complaint_of};
+ghost use Rattle.ob_tasks.specs.Perform.{Complains, Performs, Runs, SaysFront, SaysWhole, line_of, text_told};
+ghost use Rattle.ob_threads.specs.Written.{IsWritten};
 
-use crate::end::End;
-use ob_shell::{Ending, ShellFault, run_script, write_out};
+use crate::end::{End, Ended};
+use ob_shell::{ShellFault, run_script, write_out};
+use ob_threads::{ThreadsEnding, run_threads};
 use ob_words::Task;
 use std::alloc::Global;
 use std::io::{Read, Write};
+use std::marker::Brand;
+use std::sync::Wait;
+use std::sync::ledger::Blank;
+use std::thread::Threads;
 
-/// Does the task, and tells how it ended: the script's ending, or the fault that ended the task.
+/// Does the task, and tells how it ended: the ending of its kind of run, or the fault that ended the task.
 ///
 /// The input is the reader, which is standard input or the file that was opened for the task, and
 /// the output goes to the writer. To `errors` goes one line, `ntns: ` and the text of the fault that
-/// is answered; an end that the output tells has none. A fault of writing that line is not told, and
-/// changes no answer. (this profile)
-pub fn perform<R: Read, W: Write, E: Write>(
+/// is answered, or, where a run with workers had a step that found no memory or was refused, a text that says
+/// so; an end that the output tells has none. A fault of writing that line is not told, and changes no
+/// answer. (this profile)
+pub fn perform<H: Threads + Wait + Sync, R: Read, W: Write, E: Write>(
+    rt: &H,
     alloc: Global,
     task: Task<'_>,
     reader: &mut R,
     writer: &mut W,
     errors: &mut E,
-) -> Result<Ending, ShellFault>
+) -> Result<Ended, ShellFault>
     ensures { Performs task.entry result (R.remaining reader.old)
         (W.contents writer.old) (W.contents writer.new)
         (E.contents errors.old) (E.contents errors.new) }
 {
+    let outcome = run_task(rt, alloc, task, reader, writer);
+    let _ = tell(errors, &outcome);
+    outcome
+}
+
+// Runs what the task asks for, and tells nothing of it.
+fn run_task<H: Threads + Wait + Sync, R: Read, W: Write>(
+    rt: &H,
+    alloc: Global,
+    task: Task<'_>,
+    reader: &mut R,
+    writer: &mut W,
+) -> Result<Ended, ShellFault>
+    ensures { Runs task.entry result (R.remaining reader.old) (W.contents writer.old) (W.contents writer.new) }
+{
     match task {
         Task::Script | Task::Run(_) => match run_script(alloc, reader, writer) {
-            Ok(ending) => Ok(ending),
-            Err(fault) => {
-                let _ = complain(errors, fault);
-                Err(fault)
-            }
+            Ok(ending) => Ok(Ended::Script(ending)),
+            Err(fault) => Err(fault),
         },
+        Task::Threads(_) => match run_workers(rt, alloc, reader, writer) {
+            Ok(ending) => Ok(Ended::Threads(ending)),
+            Err(fault) => Err(fault),
+        },
+    }
+}
+
+// Runs a script with workers, whose steps are counted by a ledger of the run's own.
+fn run_workers<H: Threads + Wait + Sync, R: Read, W: Write>(
+    rt: &H,
+    alloc: Global,
+    reader: &mut R,
+    writer: &mut W,
+) -> Result<ThreadsEnding, ShellFault>
+    ensures { IsWritten result (R.remaining reader.old) (W.contents writer.old) (W.contents writer.new) }
+{
+    run_threads::<_, Brand, _, _>(rt, alloc, Blank::new(1_024), reader, writer)
+}
+
+// Tells how a task ended, where the output doesn't, and answers whether all of that was written, as `complain` does.
+fn tell<E: Write>(errors: &mut E, outcome: &Result<Ended, ShellFault>) -> Result<(), ShellFault>
+    ensures ok { OnOk result
+        (SaysWhole (text_told outcome.now) (E.contents errors.old) (E.contents errors.new)) }
+    ensures front { OnErr result
+        (SaysFront (text_told outcome.now) (E.contents errors.old) (E.contents errors.new)) }
+{
+    match outcome {
+        Ok(Ended::Threads(ThreadsEnding::NoMemoryAt(_))) => complain(errors, ShellFault::Memory),
+        Ok(Ended::Threads(ThreadsEnding::RefusedAt(_))) => say(errors, "step refused"),
+        Ok(_) => Ok(()),
+        Err(fault) => complain(errors, *fault),
     }
 }
 
@@ -55,11 +107,21 @@ pub fn starve<E: Write>(errors: &mut E) -> End
 /// (this profile)
 pub fn complain<E: Write>(errors: &mut E, fault: ShellFault) -> Result<(), ShellFault>
     ensures ok { OnOk result
-        (Appends (E.contents errors.old) (E.contents errors.new) (complaint_of fault)) }
+        (Appends (E.contents errors.old) (E.contents errors.new) (line_of (fault_text_of fault))) }
     ensures front { OnErr result
-        (AppendsFront (E.contents errors.old) (E.contents errors.new) (complaint_of fault)) }
+        (AppendsFront (E.contents errors.old) (E.contents errors.new) (line_of (fault_text_of fault))) }
+{
+    say(errors, fault.text())
+}
+
+// Writes the line that tells a text, as `complain` does.
+fn say<E: Write>(errors: &mut E, text: &str) -> Result<(), ShellFault>
+    ensures ok { OnOk result
+        (Appends (E.contents errors.old) (E.contents errors.new) (line_of text.now)) }
+    ensures front { OnErr result
+        (AppendsFront (E.contents errors.old) (E.contents errors.new) (line_of text.now)) }
 {
     write_out(errors, b"ntns: ")?;
-    write_out(errors, fault.text().as_bytes())?;
+    write_out(errors, text.as_bytes())?;
     write_out(errors, b"\n")
 }

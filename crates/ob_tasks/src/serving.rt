@@ -12,34 +12,47 @@ use std::alloc::Global;
 use std::convert::AsStr;
 use std::io;
 use std::io::{Read, Write};
+use std::sync::Wait;
+use std::thread::Threads;
 
 /// Does what the words ask for, and tells how the program ends. The first word is the program's name.
 ///
-/// Where the words name a task and have no fault, it is done: `Script` over the reader, and `Run`
-/// over the file that `opener` gives for its path. Nothing else is opened: `opener` need only be
+/// Where the words name a task and have no fault, it is done: `Script` over the reader, and `Run` and
+/// `Threads` over the file that `opener` gives for their path. Nothing else is opened: `opener` need only be
 /// callable at the path that the words name, and is called for no script on standard input. A file
 /// that could not be opened is told as `perform_opened` says. A fault of the words is told instead,
 /// and want of memory before there was a task. (this profile)
 pub fn serve<
     'a,
+    H: Threads + Wait + Sync,
     S: AsStr,
     O: FnOnce(&'a str) -> io::Result<I>,
     I: Read + Drop,
     R: Read,
     W: Write,
     E: Write,
->(alloc: Global, words: &'a [S], opener: O, reader: &mut R, writer: &mut W, errors: &mut E) -> End
+>(
+    rt: &H,
+    alloc: Global,
+    words: &'a [S],
+    opener: O,
+    reader: &mut R,
+    writer: &mut W,
+    errors: &mut E,
+) -> End
     requires { (path : _) → AsksFor (map S.text words.now) path.now → O.pre opener path }
     ensures { Serves (Gives O.FnOnce opener I.remaining) (map S.text words.now) result (R.remaining reader.old)
         (W.contents writer.old) (W.contents writer.new)
         (E.contents errors.old) (E.contents errors.new) }
 {
     match plan(alloc, words) {
-        Ok(Task::Script) => End::Task(perform(alloc, Task::Script, reader, writer, errors)),
-        Ok(Task::Run(file)) => {
-            let opened = opener(file);
-            End::Task(perform_opened(alloc, Task::Run(file), opened, writer, errors))
-        }
+        Ok(task) => End::Task(match task {
+            Task::Script => perform(rt, alloc, task, reader, writer, errors),
+            Task::Run(file) | Task::Threads(file) => {
+                let opened = opener(file);
+                perform_opened(rt, alloc, task, opened, writer, errors)
+            }
+        }),
         Err(fault) => refuse(alloc, &fault, writer, errors),
     }
 }

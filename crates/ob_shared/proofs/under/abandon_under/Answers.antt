@@ -1,5 +1,5 @@
 -- The open waited, and was given up; or it was a stranger's.
-use Rattle.std.proofs.Common.{◌≡◌, inl, inr, subst}
+use Rattle.std.proofs.Common.{inl, inr, subst}
 use Rattle.ob_model.specs.declared.reply.Event.TheVariants.{Abandon}
 use Rattle.ob_locked.specs.Answers.{brought_in, run_in}
 use Rattle.ob_locked.specs.Steps.{IsMade}

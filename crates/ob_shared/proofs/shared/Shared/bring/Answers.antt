@@ -1,5 +1,4 @@
 -- The open that waits is brought, answered, or given up.
-use Rattle.std.proofs.Common.{◌≡◌}
 use Rattle.ob_shared.proofs.Chained.{brought_on, brought_to_an_end, brought_to_reply}
 use Rattle.ob_shared.proofs.shared.Shared.bring.Goals as goal
 

@@ -1,5 +1,5 @@
 -- What was settled is what is handed back.
-use Rattle.std.proofs.Common.{◌≡◌, ◌∙◌, sym}
+use Rattle.std.proofs.Common.{sym}
 use Rattle.ob_shared.proofs.Chained.{mismatch_as, settled_as}
 use Rattle.ob_shared.proofs.shared.Shared.close.Goals as goal
 

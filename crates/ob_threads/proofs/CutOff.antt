@@ -1,0 +1,97 @@
+-- A journal that was written as far as this.
+use Rattle.std.proofs.Common.{◌≡◌, ◌≢◌, ◌∙◌, ℕ, ◌<◌, ◌≤◌, ◌+◌, zero, suc, List, [], ◌∷◌, ◌++◌, map, take, drop, get_or, length, Option, ap, refl, sym, subst, arith, append_assoc, append-nil}
+use Rattle.std.proofs.lemmas.List.{map-append}
+use Rattle.std.specs.Io.KnownBytes.{Appends}
+use Rattle.serde_json.specs.Written.{compact_text}
+use Rattle.ob_journal.specs.Lines.{entry_line, entry_lines, entry_value, header_line, journal_lines}
+use Rattle.ob_model.specs.Run.{Entry}
+use Rattle.ob_shell.specs.declared.fault.ShellFault.{ShellFault}
+use Rattle.ob_shell.specs.declared.fault.ShellFault.TheVariants as fault
+use Rattle.ob_shell.specs.Writing.{AppendsFront}
+use Rattle.ob_shell.proofs.Writers.{append-front, front-append}
+use Rattle.ob_standard.specs.Standard.{StandardKind, standard}
+use Rattle.ob_threads.specs.Written.{IsCutOff}
+
+-- a write failed behind a front
+pub cut_by : (f : ShellFault) (old mid new : Option (List ℕ)) (front piece rest whole : List ℕ) → f ≡ fault.Write → whole ≡ front ++ (piece ++ rest) → Appends old mid front → AppendsFront mid new piece
+    → IsCutOff f old new whole
+cut_by f old mid new front piece rest whole is split written cut =
+    subst (λ x. IsCutOff x old new whole) (sym is) (subst (AppendsFront old new) (sym split) (append-front old mid new front (piece ++ rest) written (front-append mid new piece rest cut)))
+
+-- memory was wanted there
+pub wants : (old mid : Option (List ℕ)) (front back whole : List ℕ) → whole ≡ front ++ back → back ≢ [] → Appends old mid front → AppendsFront old mid whole
+wants old mid front back whole split some written = record { front = front; back = back; joined = split; unwritten = some; written = written }
+
+abbrev pub type_name : StandardKind → List ℕ
+type_name = standard.type_name
+
+ends : (xs : List ℕ) (b : ℕ) (rest : List ℕ) → (xs ++ b ∷ []) ++ rest ≢ []
+ends [] b rest none = cc
+ends (x ∷ xs) b rest none = cc
+
+pub line_ends : (e : Entry StandardKind) (rest : List ℕ) → entry_line type_name e ++ rest ≢ []
+line_ends e rest = ends (compact_text (entry_value type_name e)) 10 rest
+
+lines_append : (xs ys : List (Entry StandardKind)) → entry_lines type_name (xs ++ ys) ≡ entry_lines type_name xs ++ entry_lines type_name ys
+lines_append [] ys = refl
+lines_append (x ∷ xs) ys = ap (λ l. entry_line type_name x ++ l) (lines_append xs ys) ∙ sym (append_assoc (entry_line type_name x) (entry_lines type_name xs) (entry_lines type_name ys))
+
+module _ {X : Type 0} where
+  pub split_there : (xs : List X) (i : ℕ) (x : X) → i < length xs → x ≡ get_or xs i x → xs ≡ take i xs ++ x ∷ drop (suc i) xs
+  split_there [] i x inside is = absurd (omega (arith, inside))
+  split_there (y ∷ ys) zero x inside is = λ i. sym is i ∷ ys
+  split_there (y ∷ ys) (suc i) x inside is = λ j. y ∷ split_there ys i x (omega (arith, inside)) is j
+
+  pub take_more : (xs : List X) (i : ℕ) (x : X) → i < length xs → x ≡ get_or xs i x → take (i + 1) xs ≡ take i xs ++ x ∷ []
+  take_more [] i x inside is = absurd (omega (arith, inside))
+  take_more (y ∷ ys) zero x inside is = λ i. sym is i ∷ []
+  take_more (y ∷ ys) (suc i) x inside is =
+      let n : suc i + 1 ≡ suc (i + 1) = omega arith in ap (λ n. take n (y ∷ ys)) n ∙ (λ j. y ∷ take_more ys i x (omega (arith, inside)) is j)
+
+  pub take_at : (xs : List X) (i : ℕ) (d : X) → i < length xs → take (i + 1) xs ≡ take i xs ++ get_or xs i d ∷ []
+  take_at [] i d inside = absurd (omega (arith, inside))
+  take_at (y ∷ ys) zero d inside = refl
+  take_at (y ∷ ys) (suc i) d inside = let n : suc i + 1 ≡ suc (i + 1) = omega arith in ap (λ n. take n (y ∷ ys)) n ∙ (λ j. y ∷ take_at ys i d (omega (arith, inside)) j)
+
+module _ (es : List (Entry StandardKind)) (i : ℕ) (e : Entry StandardKind) (inside : i < length es) (is : e ≡ get_or es i e) where
+  pub lines_split : entry_lines type_name es ≡ entry_lines type_name (take i es) ++ (entry_line type_name e ++ entry_lines type_name (drop (suc i) es))
+  lines_split = ap (entry_lines type_name) (split_there es i e inside is) ∙ lines_append (take i es) (e ∷ drop (suc i) es)
+
+  pub lines_more : entry_lines type_name (take (i + 1) es) ≡ entry_lines type_name (take i es) ++ entry_line type_name e
+  lines_more =
+      ap (entry_lines type_name) (take_more es i e inside is) ∙ (lines_append (take i es) (e ∷ []) ∙ ap (λ l. entry_lines type_name (take i es) ++ l) (append-nil (entry_line type_name e)))
+
+  -- a whole journal, split there
+  pub journal_split : (seats : ℕ) → journal_lines type_name seats es ≡ journal_lines type_name seats (take i es) ++ (entry_line type_name e ++ entry_lines type_name (drop (suc i) es))
+  journal_split seats =
+      ap (λ l. header_line seats ++ l) lines_split ∙ sym (append_assoc (header_line seats) (entry_lines type_name (take i es)) (entry_line type_name e ++ entry_lines type_name (drop (suc i) es)))
+
+  pub journal_more : (seats : ℕ) → journal_lines type_name seats (take i es) ++ entry_line type_name e ≡ journal_lines type_name seats (take (i + 1) es)
+  journal_more seats = append_assoc (header_line seats) (entry_lines type_name (take i es)) (entry_line type_name e) ∙ ap (λ l. header_line seats ++ l) (sym lines_more)
+
+take_all : {X : Type 0} (xs : List X) (i : ℕ) → length xs ≤ i → take i xs ≡ xs
+take_all [] zero over = refl
+take_all [] (suc i) over = refl
+take_all (x ∷ xs) zero over = absurd (omega (arith, over))
+take_all (x ∷ xs) (suc i) over = λ j. x ∷ take_all xs i (omega (arith, over)) j
+
+pub all_taken : (es : List (Entry StandardKind)) (i seats : ℕ) → length es ≤ i → journal_lines type_name seats (take i es) ≡ journal_lines type_name seats es
+all_taken es i seats over = ap (journal_lines type_name seats) (take_all es i over)
+
+-- the first of those that are left is put behind the others
+pub removed_first : {J P : Type 0} (of : J → P) (js js' : List J) (ps ps' all : List P) (j : J) → js' ≡ js ++ j ∷ [] → of j ≡ get_or ps 0 (of j) → ps' ≡ take 0 ps ++ drop (0 + 1) ps → 0 < length ps
+    → map of js ++ ps ≡ all → map of js' ++ ps' ≡ all
+removed_first of js js' [] ps' all j more first left some joined = absurd (omega (arith, some))
+removed_first of js js' (p ∷ ps) ps' all j more first left some joined =
+    ap (λ l. map of l ++ ps') more ∙ (ap (λ l. l ++ ps') (map-append of js (j ∷ [])) ∙ (append_assoc (map of js) (of j ∷ []) ps' ∙ (ap (λ l. map of js ++ of j ∷ l) left ∙ (ap (λ q. map of js ++ q ∷ ps) first ∙ joined))))
+
+-- the next of some things is put behind the others
+pub mapped_more : {J A : Type 0} (of : J → A) (js js' : List J) (j : J) (xs : List A) (i : ℕ) → js' ≡ js ++ j ∷ [] → map of js ≡ take i xs → i < length xs → of j ≡ get_or xs i (of j) → map of js' ≡ take (i + 1) xs
+mapped_more of js js' j xs i more so_far inside is =
+    ap (map of) more ∙ (map-append of js (j ∷ []) ∙ (ap (λ l. l ++ of j ∷ []) so_far ∙ sym (take_more xs i (of j) inside is)))
+
+-- an element is the same whatever stands for one that isn't there
+pub same_there : {X : Type 0} (xs : List X) (i : ℕ) (d e : X) → i < length xs → get_or xs i d ≡ get_or xs i e
+same_there [] i d e inside = absurd (omega (arith, inside))
+same_there (x ∷ xs) zero d e inside = refl
+same_there (x ∷ xs) (suc i) d e inside = same_there xs i d e (omega (arith, inside))

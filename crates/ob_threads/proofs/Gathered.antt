@@ -1,0 +1,44 @@
+-- What holds of all workers where the end that is told is that all lines were run.
+use Rattle.std.proofs.Common.{◌≡◌, ◌<◌, ℕ, suc, cond, Bool, true, false, List, [], ◌∷◌, ◌++◌, All, OnOk, IfOk, Result, Ok, Err, get_or, length, refl, arith}
+use Rattle.std.proofs.lemmas.List.Elements.{All-push}
+use Rattle.std.specs.List.{AllZip}
+use Rattle.ob_seats.specs.declared.stop.Stopped.{Stopped}
+use Rattle.ob_threads.specs.Ended.{is_told_first, told_of}
+
+abbrev pub End : Type 0
+End = Result (Unit {0}) Stopped
+
+-- where the one told is that all was run, both are
+pub both_done : (one other : End) (P : Type 0) → (one ≡ Ok tt → other ≡ Ok tt → P) → OnOk (told_of one other) P
+both_done (Ok u) (Ok v) P on = on refl refl
+both_done (Ok u) (Err e) P on = tt
+both_done (Err e) (Ok u) P on = tt
+both_done (Err e) (Err f) P on = go (is_told_first e.why f.why e.line f.line)
+  where
+    go : (b : Bool) → OnOk {T = Unit {0}} {E = Stopped} (cond b (Err e) (Err f)) P
+    go true = tt
+    go false = tt
+
+pub told_more : {W : Type 0} (ended : W → End) (ws : List W) (w : W) (so_far : End) → OnOk so_far (All (λ x. ended x ≡ Ok tt) ws) → OnOk (told_of so_far (ended w)) (All (λ x. ended x ≡ Ok tt) (ws ++ w ∷ []))
+told_more ended ws w (Ok u) all = both_done (Ok u) (ended w) (All (λ x. ended x ≡ Ok tt) (ws ++ w ∷ [])) (λ a b. All-push (λ x. ended x ≡ Ok tt) ws w all b)
+told_more ended ws w (Err e) all = both_done (Err e) (ended w) (All (λ x. ended x ≡ Ok tt) (ws ++ w ∷ [])) (λ a b. cc)
+
+-- lists of one length are alike place by place
+pub zipped : {A B : Type 0} (R : A → B → Type 0) (xs : List A) (ys : List B) → length ys ≡ length xs → ((i : ℕ) (a : A) (b : B) → i < length xs → R (get_or xs i a) (get_or ys i b)) → AllZip R xs ys
+zipped R [] [] same at = tt
+zipped R [] (y ∷ ys) same at = cc
+zipped R (x ∷ xs) [] same at = cc
+zipped R (x ∷ xs) (y ∷ ys) same at = (at 0 x y (omega arith), zipped R xs ys (omega (arith, same)) (λ i a b inside. at (suc i) a b (omega (arith, inside))))
+
+-- two facts of what was given make a third
+pub if_both : {X E : Type 0} (A B P : X → Type 0) (r : Result X E) → ((x : X) → A x → B x → P x) → IfOk r A → IfOk r B → IfOk r P
+if_both A B P (Ok x) on a b = on x a b
+if_both A B P (Err e) on a b = tt
+
+pub if_then : {X E : Type 0} (A P : X → Type 0) (r : Result X E) → ((x : X) → A x → P x) → IfOk r A → IfOk r P
+if_then A P (Ok x) on a = on x a
+if_then A P (Err e) on a = tt
+
+pub then_done : {X E : Type 0} (A P : Type 0) (r : Result X E) → (A → P) → OnOk r A → OnOk r P
+then_done A P (Ok x) on a = on a
+then_done A P (Err e) on a = tt

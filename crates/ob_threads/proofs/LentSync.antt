@@ -1,0 +1,97 @@
+-- That what lends a shared namespace of the standard set to the seats of a script may be shared with threads.
+use denote.RattleType.{RattleType}
+use denote.Param.Send.{IsSend, IsSync, recorded_sync, struct_sync, shr_sync}
+use denote.Ref.{NamedLft}
+use denote.Struct.Declared.{shape}
+use Rattle.std.proofs.alloc.Global.TheSendSync as heap
+use Rattle.std.specs.declared.cmp.PartialEq as PartialEq
+use Rattle.std.specs.declared.sync.ledger.Ledger as Ledger
+use Rattle.either.specs.contracts.Either as either
+use Rattle.either.specs.contracts.EitherPartialEq.TheImpl as either_equal
+use Rattle.either.proofs.Either.TheSendSync as eithers
+use Rattle.ob_types.specs.contracts.both.Both as both
+use Rattle.ob_types.proofs.both.Both.TheSendSync as boths
+use Rattle.ob_plain.specs.contracts.counting.Counting as counting
+use Rattle.ob_plain.specs.contracts.plain.Plain as plain
+use Rattle.ob_plain.specs.contracts.plain.PlainKind as plain_kind
+use Rattle.ob_plain.specs.contracts.plain.PlainFace as plain_face
+use Rattle.ob_plain.specs.contracts.plain.PlainInner as plain_inner
+use Rattle.ob_plain.specs.contracts.plain.PlainKindPartialEq.TheImpl as plain_equal
+use Rattle.ob_plain.proofs.counting.Counting.TheSendSync as countings
+use Rattle.ob_plain.proofs.plain.Plain.TheSendSync as plains
+use Rattle.ob_plain.proofs.plain.PlainKind.TheSendSync as plain_kinds
+use Rattle.ob_plain.proofs.plain.PlainFace.TheSendSync as plain_faces
+use Rattle.ob_plain.proofs.plain.PlainInner.TheSendSync as plain_inners
+use Rattle.ob_device.specs.contracts.device.DeviceSet as device
+use Rattle.ob_device.specs.contracts.device.DeviceKind as device_kind
+use Rattle.ob_device.specs.contracts.device.DeviceFace as device_face
+use Rattle.ob_device.specs.contracts.device.DeviceInner as device_inner
+use Rattle.ob_device.specs.contracts.device.DeviceKindPartialEq.TheImpl as device_equal
+use Rattle.ob_device.proofs.device.DeviceSet.TheSendSync as devices
+use Rattle.ob_device.proofs.device.DeviceKind.TheSendSync as device_kinds
+use Rattle.ob_device.proofs.device.DeviceFace.TheSendSync as device_faces
+use Rattle.ob_device.proofs.device.DeviceInner.TheSendSync as device_inners
+use Rattle.ob_key.specs.contracts.key.KeySet as key
+use Rattle.ob_key.specs.contracts.key.KeyKind as key_kind
+use Rattle.ob_key.specs.contracts.face.KeyFace as key_face
+use Rattle.ob_key.specs.contracts.key.KeyInner as key_inner
+use Rattle.ob_key.specs.contracts.key.KeyKindPartialEq.TheImpl as key_equal
+use Rattle.ob_key.proofs.key.KeySet.TheSendSync as keys
+use Rattle.ob_key.proofs.key.KeyKind.TheSendSync as key_kinds
+use Rattle.ob_key.proofs.face.KeyFace.TheSendSync as key_faces
+use Rattle.ob_key.proofs.key.KeyInner.TheSendSync as key_inners
+use Rattle.ob_handles.specs.contracts.open_table.OpenTable as table
+use Rattle.ob_handles.specs.contracts.open_table.OpenTableHandleTable.TheImpl as handles
+use Rattle.ob_handles.proofs.open_table.OpenTable.TheSendSync as tables
+use Rattle.ob_shared.proofs.Lent.{shared_sync}
+use Rattle.ob_threads.specs.contracts.lent.Lent as lent
+
+-- the set, and the types of its kinds, faces and inner values
+abbrev pair : RattleType
+pair = both.the_row device.the_row key.the_row
+
+abbrev set : RattleType
+set = counting.the_row (both.the_row plain.the_row pair)
+
+abbrev kind : RattleType
+kind = either.the_row plain_kind.the_row (either.the_row device_kind.the_row key_kind.the_row)
+
+abbrev face : RattleType
+face = either.the_row plain_face.the_row (either.the_row device_face.the_row key_face.the_row)
+
+abbrev inner : RattleType
+inner = either.the_row plain_inner.the_row (either.the_row device_inner.the_row key_inner.the_row)
+
+set_send : IsSend set
+set_send = countings.the_send (both.the_row plain.the_row pair)
+    (boths.the_send plain.the_row pair plains.the_send (boths.the_send device.the_row key.the_row devices.the_send keys.the_send))
+
+kind_send : IsSend kind
+kind_send = eithers.the_send plain_kind.the_row (either.the_row device_kind.the_row key_kind.the_row) plain_kinds.the_send
+    (eithers.the_send device_kind.the_row key_kind.the_row device_kinds.the_send key_kinds.the_send)
+
+face_send : IsSend face
+face_send = eithers.the_send plain_face.the_row (either.the_row device_face.the_row key_face.the_row) plain_faces.the_send
+    (eithers.the_send device_face.the_row key_face.the_row device_faces.the_send key_faces.the_send)
+
+face_sync : IsSync face
+face_sync = eithers.the_sync plain_face.the_row (either.the_row device_face.the_row key_face.the_row) plain_faces.the_sync
+    (eithers.the_sync device_face.the_row key_face.the_row device_faces.the_sync key_faces.the_sync)
+
+inner_send : IsSend inner
+inner_send = eithers.the_send plain_inner.the_row (either.the_row device_inner.the_row key_inner.the_row) plain_inners.the_send
+    (eithers.the_send device_inner.the_row key_inner.the_row device_inners.the_send key_inners.the_send)
+
+-- when two kinds are equal
+abbrev equal : PartialEq.Ghosts kind.Denot
+equal = either_equal.ghosts plain_kind.the_row (either.the_row device_kind.the_row key_kind.the_row) plain_equal.ghosts either_equal.no_dict
+    (either_equal.ghosts device_kind.the_row key_kind.the_row device_equal.ghosts either_equal.no_dict key_equal.ghosts either_equal.no_dict) either_equal.no_dict
+
+module _ (a : NamedLft) (H L : RattleType) (l : Ledger.Ghosts L.Denot) where
+  pub lent_sync : IsSync H → IsSync (lent.the_row a H L l)
+  lent_sync runtime =
+      recorded_sync (lent.the_field a H L l).row _ _ (lent.the_type a H L l).to_one
+      (struct_sync (shape (lent.the_type a H L l)) (
+        shr_sync _ _ _ (shared_sync set table.the_row L kind face inner _ equal handles.ghosts l set_send tables.the_send kind_send face_send inner_send face_sync),
+        (shr_sync _ _ _ runtime, (heap.the_field_sync, tt)),
+      ))

@@ -1,0 +1,31 @@
+-- Which of several ends of seats is told.
+--
+-- Source: this profile.
+use Rattle.std.specs.Prelude.{ℕ, nat_le, Bool, true, false, Result, Ok, Err, if◌then◌else◌}
+use Rattle.ob_seats.specs.declared.stop.Stop.{Stop}
+use Rattle.ob_seats.specs.declared.stop.Stop.TheVariants.{Memory, Refused}
+use Rattle.ob_seats.specs.declared.stop.Stopped.{Stopped}
+use Rattle.ob_threads.specs.declared.ending.ThreadsEnding.{ThreadsEnding}
+use Rattle.ob_threads.specs.declared.ending.ThreadsEnding.TheVariants as ending
+
+-- want of memory is told before a refusal, and of the same kind the least line
+abbrev pub is_told_first : Stop → Stop → ℕ → ℕ → Bool
+is_told_first Memory Refused line line' = true
+is_told_first Refused Memory line line' = false
+is_told_first Memory Memory line line' = nat_le line line'
+is_told_first Refused Refused line line' = nat_le line line'
+
+-- the one of two ends that is told
+abbrev pub told_of : Result (Unit {0}) Stopped → Result (Unit {0}) Stopped → Result (Unit {0}) Stopped
+told_of (Ok done) other = other
+told_of (Err one) (Ok done) = Err one
+told_of (Err one) (Err other) = if is_told_first one.why other.why one.line other.line then Err one else Err other
+
+-- how a run of lines that ended so ends
+abbrev pub stopped_ending : Stop → ℕ → ThreadsEnding
+stopped_ending Memory line = ending.NoMemoryAt line
+stopped_ending Refused line = ending.RefusedAt line
+
+abbrev pub ending_of : Result (Unit {0}) Stopped → ThreadsEnding
+ending_of (Ok done) = ending.Done
+ending_of (Err stopped) = stopped_ending stopped.why stopped.line

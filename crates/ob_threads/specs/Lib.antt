@@ -1,0 +1,4 @@
+pub mod Played
+pub mod Written
+pub mod Worked
+pub mod Ended
