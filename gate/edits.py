@@ -126,12 +126,15 @@ def homes(crate):
 def body_of(plain, place):
     """Where the body of a function opens that is named before `place`; none for a declaration.
 
-    Clauses stand in braces too, behind `requires` or `ensures` and perhaps a name.
+    Clauses stand in braces too, behind `requires` or `ensures` and perhaps a name, and the type of an array has a semicolon.
     """
     while True:
-        match = re.compile(r"[{;]").search(plain, place)
+        match = re.compile(r"\[[^\[\]]*\]|[{;]").search(plain, place)
         if match is None or match.group() == ";":
             return None
+        if match.group() != "{":
+            place = match.end()
+            continue
         before = plain[: match.start()].rstrip()
         if not re.search(r"\b(?:requires|ensures|ghost)(?:\s+\w+)?(?:\s*=)?$", before):
             return match.start()

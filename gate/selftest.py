@@ -1,5 +1,6 @@
 #!/usr/bin/env python3
-"""Tries what the gate's own tools judge by: what a check prints, what an edit turns, and what a record says.
+"""Tries what the gate's own tools judge by: what a check prints, what an edit turns, and what a record says; and that a program which a
+document shows is the one that is built.
 
     gate/selftest.py
 
@@ -39,7 +40,7 @@ JUDGED = [
 
 ANSWERS = "use a.b\n\npub first : goal.first\nfirst c =\n    one\n\npub second : goal.second\nsecond c = two\n"
 
-SOURCE = "fn one() -> u8\n    ensures { result ≡ 1 }\n{\n    1\n}\n\nfn two() -> u8 {\n    2 // \"}\"\n}\n"
+SOURCE = "fn one() -> u8\n    ensures { result ≡ 1 }\n{\n    1\n}\n\nfn two() -> u8 {\n    2 // \"}\"\n}\n\nfn three() -> [u8; 2] {\n    [3, 3]\n}\n"
 
 
 def faults_of_verdicts():
@@ -70,6 +71,7 @@ def faults_of_edits(folder):
         ("a name of another function", "two-is_two", head + "old:     1\nnew:     2\n", "it is named for two and turns ob_small::one"),
         ("a statement that is turned", "one-is_two", head + "old: ≡ 1\nnew: ≡ 2\n", "it turns what ob_small::one states, and not its body alone"),
         ("two functions", "one-is_two", head + "old:     1\nnew:     3\nold:     2\nnew:     3\n", "it lies in no one function"),
+        ("a body behind a type with a semicolon", "three-is_two", head + "old:     [3, 3]\nnew:     [2, 3]\n", "ob_small::three"),
         ("a text that isn't there", "one-is_two", head + "old: 7\nnew: 8\n", "the text '7' stands 0 times, and not once"),
         ("layout around a function", "two-is_one", head + "old:     1\nnew:   1\nold:     2\nnew:     1\n", "ob_small::two"),
     ]
@@ -77,7 +79,13 @@ def faults_of_edits(folder):
         yield f"edits: {shows}", read(folder, "ob_small", name, text) == wanted
     paths = {edits.owner_of(header) for header in (" Shelf<T> ", "<T: Drop> From<Failed<T>> for a::Shelf<T> ", " Find for Shelf where T: Drop")}
     yield "edits: the owners of functions", paths == {"Shelf", "ShelfFromFailed", "ShelfFind"}
-    yield "edits: contracts alone are left of a source", edits.without_bodies(SOURCE) == "fn one() -> u8 ensures { result ≡ 1 } {} fn two() -> u8 {}"
+    yield "edits: contracts alone are left of a source", edits.without_bodies(SOURCE) == "fn one() -> u8 ensures { result ≡ 1 } {} fn two() -> u8 {} fn three() -> [u8; 2] {}"
+
+
+def faults_of_documents(root):
+    """What a document shows otherwise than it is."""
+    source = (root / "crates" / "four_callers" / "src" / "main.rt").read_text()
+    yield "documents: threads.md shows the source of four_callers", f"\n```rust\n{source}```\n" in (root / "docs" / "threads.md").read_text()
 
 
 def again():
@@ -123,9 +131,9 @@ def main():
             (folder / "crates" / crate / "src").mkdir(parents=True)
             (folder / "crates" / crate / "src" / "lib.rt").write_text(SOURCE)
         (folder / "crates.txt").write_text("ob_low:\nob_small: ob_low\n")
-        crates.ROOT = folder
+        root, crates.ROOT = crates.ROOT, folder
         again()
-        for part in (faults_of_verdicts(), faults_of_edits(folder), faults_of_records(folder)):
+        for part in (faults_of_verdicts(), faults_of_edits(folder), faults_of_records(folder), faults_of_documents(root)):
             for shows, is_well in part:
                 passed, failed = passed + is_well, failed + (not is_well)
                 if not is_well:

@@ -14,7 +14,7 @@ pub(crate) type Space<T, L> = Shared<T, OpenTable, L>;
 
 /// A gate that is passed at once.
 #[derive(Drop)]
-struct NoGate;
+pub(crate) struct NoGate;
 
 impl Gate for NoGate {
     fn between(&self) {}
@@ -22,7 +22,7 @@ impl Gate for NoGate {
 
 /// What a caller asks for.
 #[derive(Clone, Copy)]
-enum Wish<'a> {
+pub(crate) enum Wish<'a> {
     /// To make a device of this name, which has the file `x`.
     Device(&'a [u8]),
     /// To make a directory.
@@ -31,14 +31,17 @@ enum Wish<'a> {
     Open(&'a [u8]),
     /// To open a file.
     File(&'a [u8]),
+    /// To be told the path of a handle's object.
+    Name(Handle),
     /// To close a handle.
     Close(Handle),
 }
 
 /// The command by which it is asked for.
-fn command_of(alloc: Global, wish: Wish<'_>) -> Result<Command<DeviceKind>, AllocError> {
+pub(crate) fn command_of(alloc: Global, wish: Wish<'_>) -> Result<Command<DeviceKind>, AllocError> {
     let bytes = match wish {
         Wish::Device(name) | Wish::Make(name) | Wish::Open(name) | Wish::File(name) => name,
+        Wish::Name(handle) => return Ok(Command::QueryName { handle }),
         Wish::Close(handle) => return Ok(Command::Close { handle }),
     };
     let name = Bytes::from_slice(alloc, bytes)?;
@@ -69,10 +72,10 @@ fn command_of(alloc: Global, wish: Wish<'_>) -> Result<Command<DeviceKind>, Allo
 }
 
 /// A pass that came back, with the status of the reply and the handle that was given, or 0.
-type Back<L> = (Pass<DeviceKind, L>, Result<(Status, Handle), Fault>);
+pub(crate) type Back<L> = (Pass<DeviceKind, L>, Result<(Status, Handle), Fault>);
 
 /// Runs a command to its reply.
-fn ask<R: Wait, T: TypeSet<Kind = DeviceKind>, L: Ledger, G: Gate>(
+pub(crate) fn ask<R: Wait, T: TypeSet<Kind = DeviceKind>, L: Ledger, G: Gate>(
     rt: &R,
     space: &Space<T, L>,
     pass: Pass<DeviceKind, L>,
@@ -124,41 +127,61 @@ pub(crate) fn make_and_close<R: Wait, T: TypeSet<Kind = DeviceKind>, L: Ledger>(
     pass: Pass<DeviceKind, L>,
     times: u32,
 ) -> Result<Pass<DeviceKind, L>, Fault> {
-    let name = [b'\\', b'A' + (pass.seat() % 26) as u8];
+    let name = own_name(&pass);
     let mut pass = pass;
     for _ in 0..times {
-        let (back, made) = ask(
-            rt,
-            space,
-            pass,
-            command_of(alloc, Wish::Make(&name)),
-            &NoGate,
-        );
-        let (back, opened) = ask(
-            rt,
-            space,
-            back,
-            command_of(alloc, Wish::Open(&name)),
-            &NoGate,
-        );
-        let (back, closed) = ask(
-            rt,
-            space,
-            back,
-            command_of(alloc, Wish::Close(opened?.1)),
-            &NoGate,
-        );
-        let (back, gone) = ask(
-            rt,
-            space,
-            back,
-            command_of(alloc, Wish::Close(made?.1)),
-            &NoGate,
-        );
-        if closed?.0 != Status::Success || gone?.0 != Status::Success {
+        let (back, is_well) = round(rt, alloc, space, pass, &name)?;
+        if !is_well {
             return Err(Fault::Refused(Status::InvalidHandle));
         }
         pass = back;
     }
     Ok(pass)
+}
+
+/// The name of a caller's own directory.
+fn own_name<L: Ledger>(pass: &Pass<DeviceKind, L>) -> [u8; 2] {
+    [b'\\', b'A' + (pass.seat() % 26) as u8]
+}
+
+/// Makes a directory of its own and one that all callers share, opens them and closes all handles, so many times over: eight steps
+/// each. What is answered of the shared one depends on the others.
+pub(crate) fn mix<R: Wait, T: TypeSet<Kind = DeviceKind>, L: Ledger>(
+    rt: &R,
+    alloc: Global,
+    space: &Space<T, L>,
+    pass: Pass<DeviceKind, L>,
+    times: u32,
+) -> Result<Pass<DeviceKind, L>, Fault> {
+    let own = own_name(&pass);
+    let mut pass = pass;
+    for _ in 0..times {
+        let (back, is_well) = round(rt, alloc, space, pass, &own)?;
+        if !is_well {
+            return Err(Fault::Refused(Status::InvalidHandle));
+        }
+        let (back, _) = round(rt, alloc, space, back, b"\\S")?;
+        pass = back;
+    }
+    Ok(pass)
+}
+
+/// Makes a directory, opens it, and closes both handles; whether all of it was done.
+fn round<R: Wait, T: TypeSet<Kind = DeviceKind>, L: Ledger>(
+    rt: &R,
+    alloc: Global,
+    space: &Space<T, L>,
+    pass: Pass<DeviceKind, L>,
+    name: &[u8],
+) -> Result<(Pass<DeviceKind, L>, bool), Fault> {
+    let made = command_of(alloc, Wish::Make(name));
+    let (pass, made) = ask(rt, space, pass, made, &NoGate);
+    let opened = command_of(alloc, Wish::Open(name));
+    let (pass, opened) = ask(rt, space, pass, opened, &NoGate);
+    let closed = command_of(alloc, Wish::Close(opened?.1));
+    let (pass, closed) = ask(rt, space, pass, closed, &NoGate);
+    let gone = command_of(alloc, Wish::Close(made?.1));
+    let (pass, gone) = ask(rt, space, pass, gone, &NoGate);
+    let is_well = closed?.0 == Status::Success && gone?.0 == Status::Success;
+    Ok((pass, is_well))
 }

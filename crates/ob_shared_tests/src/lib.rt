@@ -3,6 +3,8 @@
 #![tactic(auto)]
 
 #[cfg(test)]
+mod again;
+#[cfg(test)]
 mod callers;
 #[cfg(test)]
 mod closes;
@@ -12,3 +14,5 @@ mod full;
 mod scene;
 #[cfg(test)]
 mod tests;
+#[cfg(test)]
+mod threads;
