@@ -1,0 +1,4 @@
+pub mod Revalued
+pub mod Chosen
+pub mod ChosenSteps
+pub mod OneAnswer

@@ -1,0 +1,29 @@
+//! The one choice of the machine: which unused value a new handle gets.
+//!
+//! Each function has an empty body: its contract is a law about the definitions of `ob_model` alone, stated in
+//! `specs/Choice.antt`. The type parameters are those of the state: the kinds, the value, the faces and the inner
+//! values of any set of types. With these laws whoever knows one way to make a step knows all: they differ in the value
+//! of the handle that the step gives, and in nothing else.
+#![tactic(auto)]
+
+ghost use Rattle.ob_choices.specs.Choice.{AnyUnusedValueWillDo, NewHandleIsLast, NothingElseIsChosen};
+
+/// Where a step gives a handle, it may give it under each value that the process which gets it doesn't use: the answer
+/// and the state that it leaves are the same but for that value.
+///
+/// Source: handles are values of the system's choice (Windows Driver Kit); this profile leaves it open.
+pub fn any_unused_value_will_do<K, T, F, I>()
+    ensures { AnyUnusedValueWillDo K T F I }
+{}
+
+/// The handle that a step gives is the one that was opened last, of the process that gets it and under the value that
+/// is told; all others are as they were.
+pub fn a_new_handle_is_last<K, T, F, I>()
+    ensures { NewHandleIsLast K T F I }
+{}
+
+/// From a sound state one event has one answer but for the value of the handle that it gives, where it gives one; and
+/// each such value is one that the process which gets it didn't use.
+pub fn nothing_else_is_chosen<K, T, F, I>()
+    ensures { NothingElseIsChosen K T F I }
+{}
