@@ -2,3 +2,5 @@ pub mod Revalued
 pub mod Chosen
 pub mod ChosenSteps
 pub mod OneAnswer
+pub mod Answered
+pub mod Waits

@@ -10,13 +10,13 @@ use Rattle.ob_model.specs.Grants.{with_handle}
 use Rattle.ob_choices.specs.Choice.{with_last_value, revalued}
 
 -- the last of these handles is the one behind the others
-appended : (value : ℕ) (hs : List Held) (h : Held) → with_last_value value (hs ++ h ∷ []) ≡ hs ++ record h { value = value } ∷ []
+pub appended : (value : ℕ) (hs : List Held) (h : Held) → with_last_value value (hs ++ h ∷ []) ≡ hs ++ record h { value = value } ∷ []
 appended value [] h = refl
 appended value (x ∷ []) h = refl
 appended value (x ∷ y ∷ hs) h = ap (λ is. x ∷ is) (appended value (y ∷ hs) h)
 
 -- which objects have handles
-any_revalued : (value o : ℕ) (hs : List Held) → list_any (λ h. h.object == o) (with_last_value value hs) ≡ list_any (λ h. h.object == o) hs
+pub any_revalued : (value o : ℕ) (hs : List Held) → list_any (λ h. h.object == o) (with_last_value value hs) ≡ list_any (λ h. h.object == o) hs
 any_revalued value o [] = refl
 any_revalued value o (h ∷ []) = refl
 any_revalued value o (h ∷ i ∷ hs) = ap (λ b. (h.object == o) || b) (any_revalued value o (i ∷ hs))

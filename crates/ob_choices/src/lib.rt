@@ -1,12 +1,13 @@
-//! The one choice of the machine: which unused value a new handle gets.
+//! The one choice of the machine, which unused value a new handle gets; and which opens wait behind a step.
 //!
 //! Each function has an empty body: its contract is a law about the definitions of `ob_model` alone, stated in
-//! `specs/Choice.antt`. The type parameters are those of the state: the kinds, the value, the faces and the inner
+//! `specs/Choice.antt` and `specs/Waiting.antt`. The type parameters are those of the state: the kinds, the value, the faces and the inner
 //! values of any set of types. With these laws whoever knows one way to make a step knows all: they differ in the value
 //! of the handle that the step gives, and in nothing else.
 #![tactic(auto)]
 
 ghost use Rattle.ob_choices.specs.Choice.{AnyUnusedValueWillDo, NewHandleIsLast, NothingElseIsChosen};
+ghost use Rattle.ob_choices.specs.Waiting.{OpensWaitByTheirTickets};
 
 /// Where a step gives a handle, it may give it under each value that the process which gets it doesn't use: the answer
 /// and the state that it leaves are the same but for that value.
@@ -26,4 +27,12 @@ pub fn a_new_handle_is_last<K, T, F, I>()
 /// each such value is one that the process which gets it didn't use.
 pub fn nothing_else_is_chosen<K, T, F, I>()
     ensures { NothingElseIsChosen K T F I }
+{}
+
+/// Behind a step those opens wait that waited before it and weren't ended by it, in their order; and where a ticket is
+/// answered one more, the last, under that ticket.
+///
+/// Source: Windows Internals, Object Manager (parse methods); the ticket is this profile.
+pub fn opens_wait_by_their_tickets<K, T, F, I>()
+    ensures { OpensWaitByTheirTickets K T F I }
 {}

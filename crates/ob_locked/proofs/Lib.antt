@@ -1,4 +1,3 @@
-pub mod Answered
 pub mod Placed
 pub mod Pendings
 pub mod Starts

@@ -39,7 +39,7 @@ use Rattle.ob_complete.proofs.Fewer.{HandsOn, looks_hand_on, again_hands_on_fewe
 use Rattle.ob_locked.specs.Entered.{HasFew, PendingAfter, EndedAfter}
 use Rattle.ob_locked.specs.Rooms.{wants_memory, values_given, values_wanted, is_plain}
 use Rattle.ob_locked.proofs.Placed.{found_ticket}
-use Rattle.ob_locked.proofs.Answered.{IsNoChild, HandsFew, start_told, unless_ends_told}
+use Rattle.ob_choices.proofs.Answered.{IsNoChild, HandsFew, start_told, unless_ends_told}
 
 -- what is answered with the state t, from the state s: no more than so many values, and a text or a page only where nothing
 -- changed
