@@ -1,10 +1,10 @@
 -- What is begun, ended and given up, beside other parses that opens wait for.
-use Rattle.std.proofs.Common.{◌≡◌, ◌≢◌, ◌∙◌, ℕ, ◌<◌, ◌==◌, not, List, [], ◌∷◌, ◌++◌, All, Some, Result, Ok, Err, IfOk, OnOk, filter, find, inl, refl, ap, sym, subst, arith}
+use Rattle.std.proofs.Common.{◌≡◌, ◌≢◌, ◌∙◌, ℕ, ◌<◌, ◌==◌, not, List, [], ◌∷◌, ◌++◌, All, false, Some, Result, Ok, Err, IfOk, OnOk, filter, find, inl, refl, ap, sym, subst, arith}
 use Rattle.std.proofs.lemmas.List.{map-append}
-use Rattle.std.proofs.lemmas.List.Elements.{All-filter, All-tail, All-weaker}
+use Rattle.std.proofs.lemmas.List.Elements.{All-filter, All-map, All-tail, All-weaker}
+use Rattle.std.specs.List.{list_any}
 use Rattle.ob_base.specs.declared.status.Status.TheVariants.{Success}
 use Rattle.ob_model.specs.declared.reply.Answer.{Answer}
-use Rattle.ob_model.specs.declared.reply.Answer.TheVariants.{Ticket}
 use Rattle.ob_model.specs.declared.reply.Event.{Event}
 use Rattle.ob_model.specs.declared.reply.Event.TheVariants.{Resume, Abandon}
 use Rattle.ob_model.specs.declared.reply.ParseRun.{ParseRun}
@@ -15,13 +15,16 @@ use Rattle.ob_model.specs.Sound.{IsSound}
 use Rattle.ob_model.specs.State.{State}
 use Rattle.ob_model.specs.Step.{Step}
 use Rattle.ob_model.proofs.SoundPaths.{find_of, of_some}
+use Rattle.ob_parsing.specs.Brought.{run_of, run_of_end, brought as end_of}
+use Rattle.ob_parsing.specs.declared.brought.Brought.{Brought}
+use Rattle.ob_parsing.specs.declared.brought.Brought.TheVariants.{Unrun, Run}
 use Rattle.ob_parsing.specs.Parse.{ToRun, HasRun as HasRunOf, asked_of}
 use Rattle.ob_waiting.specs.Waiting.{IsParseOf}
-use Rattle.ob_complete.specs.Completes.{Made, GivesUp}
+use Rattle.ob_complete.specs.Completes.{Made, GivesUp, HasRun}
 use Rattle.ob_begun.specs.declared.begun.Begun.{Begun}
-use Rattle.ob_begun.specs.declared.begun.Begun.TheVariants.{Waits}
-use Rattle.ob_begun.specs.Begun.{AreAwaited, GivesAllUp, tickets_of, with_begun}
-use Rattle.ob_begun.proofs.Awaited.{all_await, newest_ticket}
+use Rattle.ob_begun.specs.declared.begun.Begun.TheVariants.{Replied, Waits}
+use Rattle.ob_begun.specs.Begun.{answer_in, AreAwaited, GivesAllUp, IfWaits, tickets_of, with_begun}
+use Rattle.ob_begun.proofs.Awaited.{all_await, ticket_is_new}
 use Rattle.ob_begun.proofs.Kept.{of_tickets, others_left}
 
 -- the results of a parse that is kept
@@ -40,6 +43,18 @@ module _ {E : Type 0} (result : Result Begun E) (m : ℕ) (waiting : IfOk result
       go : (r : Result Begun E) → IfOk r (λ it. it ≡ Waits m) → OnOk r A → IfOk r P
       go (Ok x) is on = subst P (sym is) (h on)
       go (Err e) is on = tt
+
+-- the parses that are left have other tickets
+pub left_have_others : {F : Type 0} (m n : ℕ) (parses left : List (ToRun F)) → m ≡ n → left ≡ filter (λ parse. not (parse.ticket == n)) parses → All (λ k. m ≢ k) (tickets_of left)
+left_have_others {F} m n parses left same is =
+    subst (λ j. All (λ k. j ≢ k) (tickets_of left)) (sym same)
+    (subst (λ (xs : List (ToRun F)). All (λ k. n ≢ k) (tickets_of xs)) (sym is)
+    (All-map (λ k. n ≢ k) (λ (x : ToRun F). x.ticket) (filter (λ (x : ToRun F). not (x.ticket == n)) parses) (others_left n parses)))
+
+-- what became of a parse that was brought, and that was run or found no memory
+pub run_brought : {K T F I : Type 0} (brought : Brought T K F I) (parse : ParseRun) → run_of brought ≡ parse → HasRun parse → run_of_end (end_of brought).outcome ≡ parse
+run_brought (Unrun asked) parse is ran = absurd (subst HasRun (sym is) ran)
+run_brought (Run parsed) parse is ran = is
 
 -- one more ticket
 pub one_more_ticket : {F : Type 0} (n : ℕ) (old : List ℕ) (before after : List (ToRun F)) (parse : ToRun F) → parse.ticket ≡ n → tickets_of before ≡ old → after ≡ before ++ parse ∷ []
@@ -62,12 +77,31 @@ module _ {K T F I : Type 0} (g : Procedures K T F I) where
       subst (AreAwaited t) (sym is)
       (given_up_await s t asked.ticket parses sound newest (subst (λ (x : ToRun F). Step g s (Abandon x.ticket run.Unrun) (answers Success) t) same does) h)
 
+  -- other parses are awaited once the open of a ticket that none of them has is resumed or given up
+  module _ (s t : State K T F I) (n : ℕ) (run : ParseRun) (answer : Answer) (parses : List (ToRun F)) (sound : IsSound s) (others : All (λ k. n ≢ k) (tickets_of parses)) where
+    pub others_resumed : Step g s (Resume n run) answer t → AreAwaited s parses → AreAwaited t parses
+    others_resumed does h = all_await g s t (Resume n run) answer parses sound (of_tickets (λ k. n ≢ k) parses others) does h
+
+    pub others_abandoned : Step g s (Abandon n run) answer t → AreAwaited s parses → AreAwaited t parses
+    others_abandoned does h = all_await g s t (Abandon n run) answer parses sound (of_tickets (λ k. n ≢ k) parses others) does h
+
+  -- a ticket that a step gives is a new one
+  pub told_fresh : {E : Type 0} (result : Result Begun E) (s t : State K T F I) (event : Event K) (parses : List (ToRun F)) → IsSound s → AreAwaited s parses
+      → IfOk result (λ begun. Step g s event (answer_in begun) t) → IfOk result (λ begun. IfWaits begun (λ n. (n ≢ 0) × (list_any (λ k. k == n) (tickets_of parses) ≡ false)))
+  told_fresh (Ok (Replied reply)) s t event parses sound h does = tt
+  told_fresh (Ok (Waits n)) s t event parses sound h does = ticket_is_new g s t event n parses sound h does
+  told_fresh (Err e) s t event parses sound h does = tt
+
   -- a parse that was run is the one that its open waits for
   pub run_awaits : (s u : State K T F I) (asked : ToRun F) (ran parsed : HasRunOf F I) → ran.ticket ≡ asked.ticket → ran.face ≡ asked.face → ran.rest ≡ asked.rest → parsed ≡ ran → u ≡ s
       → IsParseOf s asked → IsParseOf u (asked_of parsed)
   run_awaits s u asked ran parsed ticket face rest is same h =
       let one : asked_of parsed ≡ asked = ap asked_of is ∙ (λ i. record { ticket = ticket i; face = face i; rest = rest i }) in
       subst (λ x. IsParseOf x (asked_of parsed)) (sym same) (subst (IsParseOf s) (sym one) h)
+
+  -- a parse that is brought as one that was run is the one that its open waits for, where it is asked what that one is
+  pub brought_awaits : (s : State K T F I) (asked : ToRun F) (parsed : HasRunOf F I) → asked_of parsed ≡ asked → IsParseOf s asked → IsParseOf s (asked_of parsed)
+  brought_awaits s asked parsed is h = subst (IsParseOf s) (sym is) h
 
   -- the open of a ticket is given up, at once or behind a parse
   pub one_given_up : (s t : State K T F I) (n : ℕ) (parse : ParseRun) → Step g s (Abandon n parse) (answers Success) t → (steps : List (Made K)) × GivesUp g n steps s t
@@ -81,24 +115,15 @@ module _ {K T F I : Type 0} (g : Procedures K T F I) where
     pub found_awaits : (parse : ToRun F) → find (λ parse. parse.ticket == n) parses ≡ Some parse → IsParseOf s parse
     found_awaits parse e = of_some (IsParseOf s) (find (λ x. x.ticket == n) parses) parse e (find_of (IsParseOf s) (λ x. x.ticket == n) parses h)
 
-    -- they are awaited once the open of the ticket is resumed or given up
-    pub resumed_await : (t : State K T F I) (m : ℕ) (parse : ParseRun) (answer : Answer) (left : List (ToRun F)) → IsSound s → m ≡ n → left ≡ filter (λ parse. not (parse.ticket == n)) parses
-        → Step g s (Resume m parse) answer t → AreAwaited t left
-    resumed_await t m parse answer left sound same is does =
-        subst (AreAwaited t) (sym is)
-        (all_await g s t (Resume n parse) answer (filter (λ x. not (x.ticket == n)) parses) sound (others_left n parses) (subst (λ k. Step g s (Resume k parse) answer t) same does) left_await)
+    pub left_is_awaited : (left : List (ToRun F)) → left ≡ filter (λ parse. not (parse.ticket == n)) parses → AreAwaited s left
+    left_is_awaited left is = subst (AreAwaited s) (sym is) left_await
 
+    -- they are awaited once the open of the ticket is given up
     pub abandoned_await : (t : State K T F I) (m : ℕ) (parse : ParseRun) (answer : Answer) (left : List (ToRun F)) → IsSound s → m ≡ n → left ≡ filter (λ parse. not (parse.ticket == n)) parses
         → Step g s (Abandon m parse) answer t → AreAwaited t left
     abandoned_await t m parse answer left sound same is does =
         subst (AreAwaited t) (sym is)
         (all_await g s t (Abandon n parse) answer (filter (λ x. not (x.ticket == n)) parses) sound (others_left n parses) (subst (λ k. Step g s (Abandon k parse) answer t) same does) left_await)
-
-  -- a new ticket is above those that are left
-  pub newest_of_left : (s t : State K T F I) (event : Event K) (m n : ℕ) (parses left : List (ToRun F)) → IsSound s → AreAwaited s parses → left ≡ filter (λ parse. not (parse.ticket == n)) parses
-      → Step g s event (Ticket m) t → All (λ k. k < m) (tickets_of left)
-  newest_of_left s t event m n parses left sound h is does =
-      newest_ticket g s t event m left sound (subst (AreAwaited s) (sym is) (left_await s n parses h)) does
 
   -- ---- all are given up
 

@@ -4,3 +4,4 @@ pub mod Awaited
 pub mod Results
 pub mod Kept
 pub mod Beside
+pub mod Repeated

@@ -8,7 +8,7 @@ ghost use Rattle.ob_model.specs.declared.reply.ParseRun.{ParseRun};
 ghost use Rattle.ob_model.specs.declared.reply.ParseRun.TheVariants.{Unrun};
 ghost use Rattle.ob_model.specs.Refusals.{answers};
 ghost use Rattle.ob_model.specs.Step.{Step};
-ghost use Rattle.ob_parsing.specs.Brought.{run_of, brought as end_of};
+ghost use Rattle.ob_parsing.specs.Brought.{run_of, run_of_end, brought as end_of};
 ghost use Rattle.ob_parsing.specs.Parse.{asked_of};
 ghost use Rattle.ob_waiting.specs.Waiting.{IsParseOf};
 ghost use Rattle.ob_complete.specs.Completes.{Made, HasRun, GivesUp, Falters};
@@ -20,7 +20,7 @@ use ob_base::Proc;
 use ob_complete::{Core, Started};
 use ob_handles::HandleTable;
 use ob_model::Command;
-use ob_parsing::{Brought, Parsing};
+use ob_parsing::{Brought, Parsed, Parsing};
 use ob_types::TypeSet;
 use ob_types::laws::own_face;
 use std::alloc::{AllocError, Global};
@@ -83,14 +83,7 @@ pub fn end_open<T: TypeSet, H: HandleTable>(
 {
     core.state_is_sound();
     let parsing = waits.take(ticket);
-    match core.resume(parsing.run(alloc)) {
-        Ok(Started::Done(reply)) => Ok(Begun::Replied(reply)),
-        Ok(Started::Parsing(next)) => keep_parse(core, waits, next),
-        Err((_, parsed)) => {
-            abandon_open(core, Brought::Run(parsed));
-            Err(AllocError)
-        }
-    }
+    resume_open(core, waits, parsing.run(alloc))
 }
 
 /// Gives up an open that waits, without a run of its parse. Takes no memory, and the other parses stay.
@@ -127,6 +120,34 @@ pub fn give_all_up<T: TypeSet, H: HandleTable>(core: &mut Core<T, H>, waits: Wai
     left.destroy_empty();
 }
 
+/// Brings the parse of an open that waits, which is kept no longer, and goes on with the open: it is answered, or waits for
+/// another parse, which is kept. At want of memory the open is given up.
+pub(crate) fn resume_open<T: TypeSet, H: HandleTable>(
+    core: &mut Core<T, H>,
+    waits: &mut Waits<T>,
+    parsed: Parsed<T>,
+) -> Result<Begun, AllocError>
+    requires parse { IsParseOf core.old (asked_of parsed) }
+    requires awaited { AreAwaited core.old waits.old }
+    requires others { All (λ k. parsed.ticket ≢ k) (tickets_of waits.old) }
+    ensures awaited { AreAwaited core.new waits.new }
+    ensures ended { IfOk result (λ begun.
+        Step T.procedures core.old (Resume parsed.ticket (run_of_end parsed.outcome)) (answer_in begun) core.new) }
+    ensures tickets { IfOk result (λ begun. tickets_of waits.new ≡ with_begun begun (tickets_of waits.old)) }
+    ensures faltered { OnErr result ((steps : List (Made T.Kind)) × GivesUp T.procedures parsed.ticket steps core.old core.new) }
+    ensures kept { OnErr result (tickets_of waits.new ≡ tickets_of waits.old) }
+{
+    core.state_is_sound();
+    match core.resume(parsed) {
+        Ok(Started::Done(reply)) => Ok(Begun::Replied(reply)),
+        Ok(Started::Parsing(next)) => keep_parse(core, waits, next),
+        Err((_, parsed)) => {
+            abandon_open(core, Brought::Run(parsed));
+            Err(AllocError)
+        }
+    }
+}
+
 /// Keeps the parse of an open that begins to wait, and tells its ticket. At want of memory the open is given up.
 fn keep_parse<T: TypeSet, H: HandleTable>(
     core: &mut Core<T, H>,
@@ -155,7 +176,7 @@ fn keep_parse<T: TypeSet, H: HandleTable>(
 }
 
 /// Gives up the open that waits for a parse, whether that was run or not.
-fn abandon_open<T: TypeSet, H: HandleTable>(core: &mut Core<T, H>, brought: Brought<T>)
+pub(crate) fn abandon_open<T: TypeSet, H: HandleTable>(core: &mut Core<T, H>, brought: Brought<T>)
     requires { IsParseOf core.old (asked_of (end_of brought)) }
     ensures { Step T.procedures core.old (Abandon (end_of brought).ticket (run_of brought)) (answers Success) core.new }
 {

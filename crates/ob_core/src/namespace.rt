@@ -6,6 +6,9 @@ ghost use Rattle.ob_base.specs.declared.status.Status.TheVariants.{Success};
 ghost use Rattle.ob_model.specs.declared.reply.Event.TheVariants.{Start, Resume, Abandon};
 ghost use Rattle.std.specs.Option.{is_some, option_map};
 ghost use Rattle.ob_model.specs.State.{held_of, table_size};
+ghost use Rattle.ob_model.specs.Grants.{IsFreeValue};
+ghost use Rattle.ob_choices.specs.Choice.{revalued};
+ghost use Rattle.ob_core.specs.Revaluing.{IsLastHandle};
 ghost use Rattle.ob_model.specs.Opening.{opening};
 ghost use Rattle.ob_model.specs.Sound.{IsSound};
 ghost use Rattle.ob_model.specs.Step.{Step};
@@ -19,14 +22,14 @@ ghost use Rattle.ob_waiting.specs.Waiting.{answer_of, IfParsing, IsParseOf, IsAw
 use crate::steps::step_for;
 use ob_base::{Fault, Handle, Proc};
 use ob_handles::HandleTable;
-use ob_model::Command;
+use ob_model::{Command, Held};
 use ob_parsing::{Brought, Parsed};
 use ob_pending::PendingOpens;
 use ob_processes::Processes;
 use ob_space::{Namespace, Space, opening_store};
 use ob_types::TypeSet;
 use ob_waiting::{Started, abandon, resume};
-use std::alloc::Global;
+use std::alloc::{AllocError, Global};
 use std::marker::Model;
 
 /// The namespace of processes: its objects, their names, the live processes, their handles and their
@@ -148,6 +151,40 @@ impl<T: TypeSet, H: HandleTable> Core<T, H> {
         self.space.pending.get(ticket).map(|pending| pending.left)
     }
 
+    /// The process that asked for a pending open, live or not; none where no open is pending under this ticket. Takes no
+    /// memory. Source: this profile.
+    pub fn asker(&self, ticket: u64) -> Option<Proc>
+        ensures { result ≡ option_map (λ pending. pending.process) (pending_of self.now ticket) }
+    {
+        self.space
+            .pending
+            .get(ticket)
+            .map(|pending| pending.process)
+    }
+
+    /// The namespace in which the handle that was opened last, which is one of this process under the value `from`, has
+    /// the value `to` instead; nothing else differs. The process must not use that value: it may be any multiple of four
+    /// from 4 to 262,140 under which it has no handle.
+    ///
+    /// The only error is want of memory, and then the namespace is let go.
+    ///
+    /// Source: handles are values of the system's choice (Windows Driver Kit); that a choice may be changed is this profile.
+    pub fn revalue(self, process: Proc, from: Handle, to: Handle) -> Result<Core<T, H>, AllocError>
+        requires last { IsLastHandle self process from }
+        requires free { IsFreeValue self process to }
+        ensures { IfOk result (λ core. core ≡ revalued to self) }
+    {
+        // The next order tells that it is at most 2^64 - 1, and the length that the orders of all handles rise.
+        let _ = self.next_order();
+        let mut space = self.space;
+        let _ = space.processes.len();
+        let Some(held) = space.processes.take(process, from) else {
+            unreachable!();
+        };
+        space.processes.put(Held { value: to, ..held })?;
+        Ok(Core { space })
+    }
+
     /// How many objects there are: at most 1,048,576.
     pub fn objects(&self) -> usize
         ensures { result ≡ length self.now.objects }
@@ -187,6 +224,13 @@ impl<T: TypeSet, H: HandleTable> Core<T, H> {
         ensures { result ≡ self.now.next_process }
     {
         Proc(self.space.next_process)
+    }
+
+    /// The order of opening that the next handle gets. None is left where it is 2^64 - 1.
+    fn next_order(&self) -> u64
+        ensures { result ≡ self.now.next_order }
+    {
+        self.space.next_order
     }
 
     /// The law that the state of every core is sound: what its names, handles, maps and pending opens lead to is there,

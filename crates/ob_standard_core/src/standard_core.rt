@@ -1,7 +1,11 @@
 //! The core over the standard set.
 
 ghost use Rattle.std.specs.Prelude.{◌≡◌, List, IfOk, OnErr};
-ghost use Rattle.std.specs.Option.{is_some};
+ghost use Rattle.std.specs.Option.{is_some, option_map};
+ghost use Rattle.ob_choices.specs.Choice.{revalued};
+ghost use Rattle.ob_core.specs.Revaluing.{IsLastHandle};
+ghost use Rattle.ob_model.specs.Grants.{IsFreeValue};
+ghost use Rattle.ob_model.specs.PendingOpens.{pending_of};
 ghost use Rattle.ob_model.specs.declared.reply.Event.TheVariants.{Start};
 ghost use Rattle.ob_model.specs.Opening.{opening};
 ghost use Rattle.ob_model.specs.Sound.{IsSound};
@@ -86,6 +90,36 @@ impl StandardCore {
         ensures { result ≡ is_some (held_of self.now process handle) }
     {
         self.core.holds(process, handle)
+    }
+
+    /// The process that asked for a pending open, live or not; none where no open is pending under this ticket. Takes no
+    /// memory. Source: this profile.
+    pub fn asker(&self, ticket: u64) -> Option<Proc>
+        ensures { result ≡ option_map (λ pending. pending.process) (pending_of self.now ticket) }
+    {
+        self.core.asker(ticket)
+    }
+
+    /// The namespace in which the handle that was opened last, which is one of this process under the value `from`, has
+    /// the value `to` instead, which that process doesn't use; nothing else differs.
+    ///
+    /// The only error is want of memory, and then the namespace is let go.
+    ///
+    /// Source: handles are values of the system's choice (Windows Driver Kit); that a choice may be changed is this profile.
+    pub fn revalue(
+        self,
+        process: Proc,
+        from: Handle,
+        to: Handle,
+    ) -> Result<StandardCore, AllocError>
+        requires last { IsLastHandle self process from }
+        requires free { IsFreeValue self process to }
+        ensures { IfOk result (λ core. core ≡ revalued to self) }
+    {
+        let StandardCore { core } = self;
+        Ok(StandardCore {
+            core: core.revalue(process, from, to)?,
+        })
     }
 
     /// The number that the next process gets, whichever makes it: above those of all that ever were. Source: this

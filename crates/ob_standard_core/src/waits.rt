@@ -1,6 +1,6 @@
 //! The opens that wait, of the core over the standard set.
 
-ghost use Rattle.std.specs.Prelude.{◌≡◌, ◌≢◌, ◌==◌, true, false, [], List, IfOk, OnErr};
+ghost use Rattle.std.specs.Prelude.{◌≡◌, ◌≢◌, ◌==◌, true, false, [], List, IfOk, OnErr, OnOk};
 ghost use Rattle.std.specs.List.{list_any};
 ghost use Rattle.ob_base.specs.declared.status.Status.TheVariants.{Success};
 ghost use Rattle.ob_model.specs.declared.reply.Event.TheVariants.{Start, Resume, Abandon};
@@ -10,12 +10,13 @@ ghost use Rattle.ob_model.specs.Refusals.{answers};
 ghost use Rattle.ob_model.specs.Step.{Step};
 ghost use Rattle.ob_complete.specs.Completes.{Made, HasRun, GivesUp, Falters};
 ghost use Rattle.ob_begun.specs.Begun.{answer_in, AreAwaited, GivesAllUp, IfWaits, tickets_of, with_begun, without};
+ghost use Rattle.ob_begun.specs.Repeated.{AreAllKept, MayBe};
 ghost use Rattle.ob_standard.specs.Standard.{StandardKind, standard};
 
 use crate::standard_core::StandardCore;
 use ob_base::Proc;
-use ob_begun::{Begun, Waits, begin_open, drop_open, end_open, give_all_up};
-use ob_model::Command;
+use ob_begun::{Begun, Waits, begin_open, drop_open, end_open, give_all_up, repeat_step};
+use ob_model::{Answer, Command, Event};
 use ob_standard::{Standard, StandardKind};
 use std::alloc::{AllocError, Global};
 use std::marker::Model;
@@ -118,6 +119,30 @@ impl StandardWaits {
         drop_open(&mut core.core, &mut self.waits, ticket);
     }
 
+    /// Makes a step again that a history tells: a command is started, and an open that is pending is resumed or given up as
+    /// is told of its parse. An open that waits then is kept. It answers what the step does; only the value of a new handle
+    /// may be another one than the history has.
+    ///
+    /// The only fault is want of memory, and then other steps may have been made that give an open up; the parses that are
+    /// kept are still awaited.
+    ///
+    /// Source: Windows Internals, Object Manager (parse methods); that a parse is run between two steps is this profile.
+    pub fn repeat(
+        &mut self,
+        core: &mut StandardCore,
+        alloc: Global,
+        step: &Event<StandardKind>,
+    ) -> Result<Answer, AllocError>
+        requires awaited { AreAwaited core.old self.old }
+        requires all { AreAllKept core.old self.old }
+        requires possible { MayBe core.old step.now }
+        ensures awaited { AreAwaited core.new self.new }
+        ensures step { IfOk result (λ answer. Step standard core.old step.now answer core.new) }
+        ensures all { OnOk result (AreAllKept core.new self.new) }
+    {
+        repeat_step(&mut core.core, &mut self.waits, alloc, step)
+    }
+
     /// Gives up all opens that wait, by rising tickets, without a run of their parses. Takes no memory.
     ///
     /// Source: Windows Internals, Object Manager (parse methods); the order is this profile.
@@ -127,5 +152,12 @@ impl StandardWaits {
     {
         let StandardWaits { waits } = self;
         give_all_up(&mut core.core, waits);
+    }
+
+    /// Lets all parses go that are kept, for who has no core any more whose opens they could end. Takes no memory. (this
+    /// profile)
+    pub fn let_go(self) {
+        let StandardWaits { waits } = self;
+        waits.let_go();
     }
 }
