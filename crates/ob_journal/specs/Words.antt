@@ -1,7 +1,10 @@
--- The words of a journal's operations.
+-- The words of a journal's operations, and of what became of a parse.
 --
 -- Source: this profile.
-use Rattle.std.specs.Prelude.{ℕ, List, codes}
+use Rattle.std.specs.Prelude.{ℕ, List, [], ◌∷◌, Option, find, codes, bytes_eq}
+use Rattle.ob_model.specs.declared.reply.ParseRun.{ParseRun}
+use Rattle.ob_model.specs.declared.reply.ParseRun.TheVariants.{Unrun, Ran, NoMemory}
+use Rattle.ob_journal.specs.Lines.{parse_word}
 use Rattle.ob_journal.specs.declared.words.Operation.{Operation}
 use Rattle.ob_journal.specs.declared.words.Operation.TheVariants.{Directory, Link, Make, OpenDirectory, OpenLink, Open, Close, Temporary, Permanent, Target, Name, DeviceMap, Duplicate, Page, NewProcess, Exit, Resume, Abandon}
 
@@ -25,3 +28,16 @@ operation_word NewProcess = codes "new"
 operation_word Exit = codes "exit"
 operation_word Resume = codes "resume"
 operation_word Abandon = codes "abandon"
+
+-- all operations
+abbrev pub operations : List Operation
+operations =
+    Directory ∷ Link ∷ Make ∷ OpenDirectory ∷ OpenLink ∷ Open ∷ Close ∷ Temporary ∷ Permanent ∷ Target ∷ Name ∷ DeviceMap ∷ Duplicate ∷ Page ∷ NewProcess ∷ Exit ∷ Resume ∷ Abandon ∷ []
+
+-- the operation that a word stands for
+abbrev pub operation_for : List ℕ → Option Operation
+operation_for word = find (λ operation. bytes_eq word (operation_word operation)) operations
+
+-- what a word says of what became of a parse
+abbrev pub parse_for : List ℕ → Option ParseRun
+parse_for word = find (λ parse. bytes_eq word (parse_word parse)) (Unrun ∷ Ran ∷ NoMemory ∷ [])

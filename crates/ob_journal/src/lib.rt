@@ -3,7 +3,8 @@
 //! An [`Entry`] is one event of a history with its number, the seat whose caller asked, and how it ended. Contracts see it
 //! as the entry of a run of the abstract machine, so that a list of entries may be a run. Entries are compared by
 //! [`is_same_entry`], what they are made of is copied by [`copy_command`] and [`copy_reply`], and [`write_header`] and
-//! [`write_line`] write the lines of a journal.
+//! [`write_line`] write the lines of a journal. [`Operation`] and [`word_of_parse`] have the words that lines are made of, and
+//! [`Operation::from_word`] and [`parse_of_word`] what a word stands for.
 #![tactic(auto)]
 
 mod alike;
@@ -19,3 +20,4 @@ pub use alike::is_same_entry;
 pub use copies::{copy_command, copy_reply};
 pub use entry::Entry;
 pub use lines::{write_header, write_line};
+pub use words::{Operation, parse_of_word, word_of_parse};

@@ -2,13 +2,13 @@
 
 ghost use Rattle.std.specs.Prelude.{◌≡◌};
 ghost use Rattle.ob_journal.specs.Lines.{parse_word};
-ghost use Rattle.ob_journal.specs.Words.{operation_word};
+ghost use Rattle.ob_journal.specs.Words.{operation_word, operation_for, parse_for};
 
 use ob_model::ParseRun;
 
 /// What a step of a journal asks for. (this profile)
 #[derive(Clone, Copy, PartialEq, Eq, Debug)]
-pub(crate) enum Operation {
+pub enum Operation {
     /// Makes a directory.
     Directory,
     /// Makes a symbolic link.
@@ -49,7 +49,7 @@ pub(crate) enum Operation {
 
 impl Operation {
     /// The word that stands for the operation under the key `op`. (this profile)
-    pub(crate) fn word(self) -> &'static str
+    pub fn word(self) -> &'static str
         ensures { result.now ≡ operation_word self }
     {
         match self {
@@ -73,10 +73,72 @@ impl Operation {
             Operation::Abandon => "abandon",
         }
     }
+
+    /// The operation that a word stands for under the key `op`: none where it is the word of none. Takes no memory. (this
+    /// profile)
+    pub fn from_word(word: &str) -> Option<Operation>
+        ensures { result ≡ operation_for word.now }
+    {
+        if word == "dir" {
+            return Some(Operation::Directory);
+        }
+        if word == "link" {
+            return Some(Operation::Link);
+        }
+        if word == "make" {
+            return Some(Operation::Make);
+        }
+        if word == "opendir" {
+            return Some(Operation::OpenDirectory);
+        }
+        if word == "openlink" {
+            return Some(Operation::OpenLink);
+        }
+        if word == "open" {
+            return Some(Operation::Open);
+        }
+        if word == "close" {
+            return Some(Operation::Close);
+        }
+        if word == "temp" {
+            return Some(Operation::Temporary);
+        }
+        if word == "perm" {
+            return Some(Operation::Permanent);
+        }
+        if word == "target" {
+            return Some(Operation::Target);
+        }
+        if word == "name" {
+            return Some(Operation::Name);
+        }
+        if word == "map" {
+            return Some(Operation::DeviceMap);
+        }
+        if word == "dup" {
+            return Some(Operation::Duplicate);
+        }
+        if word == "list" {
+            return Some(Operation::Page);
+        }
+        if word == "new" {
+            return Some(Operation::NewProcess);
+        }
+        if word == "exit" {
+            return Some(Operation::Exit);
+        }
+        if word == "resume" {
+            return Some(Operation::Resume);
+        }
+        if word == "abandon" {
+            return Some(Operation::Abandon);
+        }
+        None
+    }
 }
 
 /// The word that stands for what became of a parse under the key `parse`. (this profile)
-pub(crate) fn word_of_parse(parse: ParseRun) -> &'static str
+pub fn word_of_parse(parse: ParseRun) -> &'static str
     ensures { result.now ≡ parse_word parse }
 {
     match parse {
@@ -84,4 +146,21 @@ pub(crate) fn word_of_parse(parse: ParseRun) -> &'static str
         ParseRun::Ran => "ran",
         ParseRun::NoMemory => "nomem",
     }
+}
+
+/// What a word says of what became of a parse, under the key `parse`: nothing where it is none of the three words. Takes no
+/// memory. (this profile)
+pub fn parse_of_word(word: &str) -> Option<ParseRun>
+    ensures { result ≡ parse_for word.now }
+{
+    if word == "none" {
+        return Some(ParseRun::Unrun);
+    }
+    if word == "ran" {
+        return Some(ParseRun::Ran);
+    }
+    if word == "nomem" {
+        return Some(ParseRun::NoMemory);
+    }
+    None
 }

@@ -1,0 +1,11 @@
+-- The members of an object are as many as its entries.
+use Rattle.std.proofs.Common.{◌≡◌, ◌==◌, ℕ, false, ap, sym, ◌∙◌}
+use Rattle.std.specs.Option.{option_map_or}
+use Rattle.serde_json.specs.Events.{members_len}
+use Rattle.serde_json.proofs.Views.{members_len-members_view}
+use Rattle.ob_reader.proofs.members.has_members.Goals as goal
+
+pub returns-in-Some : goal.returns-in-Some
+returns-in-Some c =
+    ap (λ n. n == c.args.count) (c.len.ensures.len ∙ sym (members_len-members_view c.in-Some.members.now.entries))
+    ∙ ap (λ o. option_map_or (λ members. members_len members == c.args.count) o false) c.in-Some.ensures

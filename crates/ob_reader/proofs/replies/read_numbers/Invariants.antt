@@ -1,0 +1,8 @@
+-- The numbers so far are what the items so far say.
+use Rattle.std.proofs.Common.{◌≡◌, Some, take}
+use Rattle.serde_json.specs.View.{items_view}
+use Rattle.ob_reader.specs.Reading.{each_in, u64_in}
+use Rattle.ob_reader.proofs.replies.read_numbers.Given as goal
+
+abbrev pub invariant-loop-item : goal.invariant-loop-item
+invariant-loop-item l = each_in u64_in (items_view (take l.item-index l.items)) ≡ Some l.numbers.items
