@@ -21,4 +21,4 @@ pub use ob_parts::{
 };
 pub use pending::PendingForm;
 pub use request::Request;
-pub use script::{every_script_has_a_reading, read_line, scripts_have_one_reading};
+pub use script::{every_script_has_a_reading, first_line, read_line, scripts_have_one_reading};

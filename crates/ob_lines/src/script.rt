@@ -27,8 +27,9 @@ pub fn read_line(script: &[u8]) -> Option<(Option<Form<&[u8]>>, &[u8])>
     Some((form_of(line), rest))
 }
 
-// The first line of a script, without its LF, and what stands behind it.
-fn first_line(bytes: &[u8]) -> Option<(&[u8], &[u8])>
+/// The first line of a text, without its LF, and what stands behind it; none where the text is empty. A line ends at its
+/// LF, or at the text's end. Takes no memory. Source: this profile.
+pub fn first_line(bytes: &[u8]) -> Option<(&[u8], &[u8])>
     ensures found { IfSome result (λ x. lines_of bytes.now ≡ x.0.now ∷ lines_of x.1.now) }
     ensures shorter { IfSome result (λ x. length x.1.now < length bytes.now) }
     ensures none { IfNone result (bytes.now ≡ []) }

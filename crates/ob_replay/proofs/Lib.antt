@@ -1,0 +1,4 @@
+pub mod Runs
+pub mod SoFar
+pub mod Choosing
+pub mod Turns
