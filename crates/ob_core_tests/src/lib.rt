@@ -1,9 +1,7 @@
-//! Tests of the namespace by its public functions: what no clause says, and the example of the README.
-//! The crate holds tests alone, since a crate with tests is proved twice.
+//! Tests of the namespace by its public functions: what no clause says. The crate holds tests alone, since a crate with tests is
+//! proved twice.
 #![tactic(auto)]
 
-#[cfg(test)]
-mod example;
 #[cfg(test)]
 mod namespace;
 #[cfg(test)]

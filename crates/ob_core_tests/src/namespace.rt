@@ -3,72 +3,36 @@
 
 mod doors;
 
-use crate::scenes::{Ask, Scene, Step, played};
+use crate::scenes::assert_scenes;
 use doors::Doors;
-use ob_base::Status;
-use std::test::Fail;
 
-// Doors, which are made and opened, and walls.
-const KINDS: (bool, bool) = (true, false);
-
-const DOOR: &[u8] = b"\\E";
-
-const SCENES: [Scene; 6] = [
-    ("nothing is called at first", &[], (6, 0, [0, 0, 0])),
-    (
-        "an open object is refused to a second open by its set",
-        &[
-            Step::Asks(1, Ask::Make(DOOR, 0), Status::Success),
-            Step::Asks(1, Ask::OpenAny(DOOR), Status::TypeRefused(9)),
-            Step::Asks(1, Ask::Open(DOOR, 0), Status::TypeRefused(9)),
-            Step::Asks(1, Ask::OpenOther(DOOR), Status::ObjectTypeMismatch),
-            Step::Asks(1, Ask::OpenDirectory(DOOR), Status::ObjectTypeMismatch),
-            Step::Asks(1, Ask::Path(0), Status::Success),
-        ],
-        (7, 1, [1, 0, 0]),
-    ),
-    (
-        "the last close closes and deletes it",
-        &[
-            Step::Asks(1, Ask::Make(DOOR, 0), Status::Success),
-            Step::Asks(1, Ask::Close(0), Status::Success),
-            Step::Asks(1, Ask::Close(0), Status::InvalidHandle),
-            Step::Asks(1, Ask::OpenAny(DOOR), Status::ObjectNameNotFound),
-        ],
-        (6, 0, [1, 1, 1]),
-    ),
-    (
-        "a new object whose open is refused is deleted, and its name goes",
-        &[
-            Step::Asks(1, Ask::MakeWith(DOOR, b"l"), Status::TypeRefused(5)),
-            Step::Asks(1, Ask::OpenAny(DOOR), Status::ObjectNameNotFound),
-        ],
-        (6, 0, [0, 0, 1]),
-    ),
-    (
-        "an object that isn't made changes nothing",
-        &[
-            Step::Asks(1, Ask::MakeOther(DOOR), Status::TypeRefused(7)),
-            Step::Asks(1, Ask::OpenAny(DOOR), Status::ObjectNameNotFound),
-        ],
-        (6, 0, [0, 0, 0]),
-    ),
-    (
-        "an object without a name goes with its handle",
-        &[
-            Step::Asks(1, Ask::Unnamed(0), Status::Success),
-            Step::Asks(1, Ask::Make(DOOR, 0), Status::Success),
-            Step::Asks(1, Ask::Close(0), Status::Success),
-        ],
-        (7, 1, [2, 1, 1]),
-    ),
-];
+// Doors are of the first kind and can be made and opened; walls are of the other.
+const SCENES: &'static str = r"# nothing is called at first | 6 0 0 0 0
+# an open object is refused to a second open by its set | 7 1 1 0 0
+1 make first \E 0     | SUCCESS
+1 open any \E 0       | TYPE_REFUSED 9
+1 open first \E 0     | TYPE_REFUSED 9
+1 open other \E 0     | OBJECT_TYPE_MISMATCH
+1 open directory \E 0 | OBJECT_TYPE_MISMATCH
+1 path 0              | SUCCESS
+# the last close closes and deletes it | 6 0 1 1 1
+1 make first \E 0     | SUCCESS
+1 close 0             | SUCCESS
+1 close 0             | INVALID_HANDLE
+1 open any \E 0       | OBJECT_NAME_NOT_FOUND
+# a new object whose open is refused is deleted, and its name goes | 6 0 0 0 1
+1 make first \E 0 l   | TYPE_REFUSED 5
+1 open any \E 0       | OBJECT_NAME_NOT_FOUND
+# an object that isn't made changes nothing | 6 0 0 0 0
+1 make other \E 0     | TYPE_REFUSED 7
+1 open any \E 0       | OBJECT_NAME_NOT_FOUND
+# an object without a name goes with its handle | 7 1 2 1 1
+1 make first - 0      | SUCCESS
+1 make first \E 0     | SUCCESS
+1 close 0             | SUCCESS
+";
 
 #[test]
-fn a_set_is_called_as_its_objects_live(rt: HostRuntime) -> Result<(), Fail> {
-    for (shows, steps, left) in SCENES {
-        let told = played(rt.alloc(), Doors, KINDS, steps)?;
-        assert_eq!(rt; told, (steps.len(), left), "{shows}");
-    }
-    Ok(())
+fn a_set_is_called_as_its_objects_live(rt: HostRuntime) {
+    assert_scenes::<Doors>(&rt, rt.alloc(), SCENES);
 }

@@ -1,180 +1,108 @@
 //! Processes: what they inherit, duplicate and close, and how many they and their handles may be, told by the replies and
 //! by the counts that are left.
 
-use crate::scenes::{Ask, EXCLUSIVE, INHERIT, PERMANENT, Scene, Step, played};
-use ob_base::Status;
-use ob_plain::{Plain, PlainKind};
-use std::test::Fail;
+use crate::scenes::assert_scenes;
+use ob_plain::Plain;
 
-const KINDS: (PlainKind, PlainKind) = (PlainKind::Event, PlainKind::Mutant);
-
-const ROOT: &[u8] = b"\\";
-
-const EVENT: &[u8] = b"\\E";
-
-const SHARED: [Scene; 9] = [
-    (
-        "an inherited handle keeps its object, and the exit of the child closes it",
-        &[
-            Step::Asks(1, Ask::Make(EVENT, INHERIT), Status::Success),
-            Step::Asks(1, Ask::Begin(true), Status::Success),
-            Step::Asks(1, Ask::Close(0), Status::Success),
-            Step::Asks(2, Ask::Path(1), Status::Success),
-            Step::Asks(2, Ask::Exit, Status::Success),
-            Step::Asks(2, Ask::Path(1), Status::ProcessGone),
-        ],
-        (6, 0, [2, 2, 1]),
-    ),
-    (
-        "a child that inherits nothing has no handle, nor one that isn't marked",
-        &[
-            Step::Asks(1, Ask::Make(EVENT, INHERIT), Status::Success),
-            Step::Asks(1, Ask::Open(EVENT, 0), Status::Success),
-            Step::Asks(1, Ask::Begin(false), Status::Success),
-            Step::Asks(2, Ask::Path(0), Status::InvalidHandle),
-            Step::Asks(1, Ask::Begin(true), Status::Success),
-            Step::Asks(3, Ask::Path(0), Status::Success),
-            Step::Asks(3, Ask::Path(1), Status::InvalidHandle),
-        ],
-        (7, 3, [3, 0, 0]),
-    ),
-    (
-        "what was inherited is inherited again",
-        &[
-            Step::Asks(1, Ask::Make(EVENT, INHERIT), Status::Success),
-            Step::Asks(1, Ask::Begin(true), Status::Success),
-            Step::Asks(2, Ask::Begin(true), Status::Success),
-            Step::Asks(1, Ask::Exit, Status::Success),
-            Step::Asks(2, Ask::Exit, Status::Success),
-            Step::Asks(3, Ask::Path(2), Status::Success),
-            Step::Asks(3, Ask::Close(2), Status::Success),
-        ],
-        (6, 0, [3, 3, 1]),
-    ),
-    (
-        "an exclusive object is its holder's alone, and free again after its exit",
-        &[
-            Step::Asks(1, Ask::Begin(false), Status::Success),
-            Step::Asks(1, Ask::Make(EVENT, EXCLUSIVE | PERMANENT), Status::Success),
-            Step::Asks(1, Ask::Open(EVENT, EXCLUSIVE), Status::Success),
-            Step::Asks(1, Ask::Open(EVENT, 0), Status::Success),
-            Step::Asks(1, Ask::Open(EVENT, INHERIT), Status::InvalidParameter),
-            Step::Asks(2, Ask::Open(EVENT, 0), Status::AccessDenied),
-            Step::Asks(1, Ask::Duplicate(1, 2, false), Status::AccessDenied),
-            Step::Asks(1, Ask::Duplicate(1, 1, false), Status::Success),
-            Step::Asks(1, Ask::Exit, Status::Success),
-            Step::Asks(2, Ask::Open(EVENT, EXCLUSIVE), Status::Success),
-        ],
-        (7, 1, [5, 4, 0]),
-    ),
-    (
-        "exclusive is refused where the object isn't",
-        &[
-            Step::Asks(1, Ask::Make(EVENT, 0), Status::Success),
-            Step::Asks(1, Ask::Open(EVENT, EXCLUSIVE), Status::InvalidParameter),
-        ],
-        (7, 1, [1, 0, 0]),
-    ),
-    (
-        "a duplicate goes to a live process, and has its own mark",
-        &[
-            Step::Asks(1, Ask::Make(EVENT, INHERIT), Status::Success),
-            Step::Asks(1, Ask::Begin(false), Status::Success),
-            Step::Asks(1, Ask::Duplicate(0, 2, false), Status::Success),
-            Step::Asks(2, Ask::Begin(true), Status::Success),
-            Step::Asks(3, Ask::Path(2), Status::InvalidHandle),
-            Step::Asks(2, Ask::Exit, Status::Success),
-            Step::Asks(1, Ask::Duplicate(0, 2, false), Status::ProcessGone),
-            Step::Asks(1, Ask::Duplicate(6, 1, false), Status::InvalidHandle),
-        ],
-        (7, 1, [2, 1, 0]),
-    ),
-    (
-        "a process that was never made, and one that ended, are gone",
-        &[
-            Step::Asks(0, Ask::Begin(true), Status::ProcessGone),
-            Step::Asks(2, Ask::Exit, Status::ProcessGone),
-            Step::Asks(1, Ask::Exit, Status::Success),
-            Step::Asks(1, Ask::Exit, Status::ProcessGone),
-            Step::Asks(1, Ask::Begin(false), Status::ProcessGone),
-        ],
-        (6, 0, [0, 0, 0]),
-    ),
-    (
-        "a value that was given up is used again for another handle",
-        &[
-            Step::Asks(1, Ask::Make(EVENT, 0), Status::Success),
-            Step::Asks(1, Ask::Open(EVENT, 0), Status::Success),
-            Step::Asks(1, Ask::Close(0), Status::Success),
-            Step::Asks(1, Ask::Close(1), Status::Success),
-            Step::Asks(1, Ask::Make(EVENT, 0), Status::Success),
-            Step::Asks(1, Ask::Path(4), Status::Success),
-            Step::Asks(1, Ask::Close(4), Status::Success),
-            Step::Asks(1, Ask::Close(4), Status::InvalidHandle),
-        ],
-        (6, 0, [3, 3, 2]),
-    ),
-    (
-        "a child of a process with 1,000 handles begins and ends",
-        &[
-            Step::Asks(1, Ask::Make(EVENT, INHERIT), Status::Success),
-            Step::Repeats(1, Ask::Open(EVENT, INHERIT), 999),
-            Step::Asks(1, Ask::Begin(true), Status::Success),
-            Step::Asks(1, Ask::Exit, Status::Success),
-            Step::Has(1, 0),
-            Step::Has(2, 1_000),
-            Step::Holds(2, 4, true),
-            Step::Holds(2, 6, false),
-            Step::Holds(2, 4_000, true),
-            Step::Holds(2, 4_004, false),
-            Step::Holds(1, 4, false),
-            Step::Asks(2, Ask::Exit, Status::Success),
-        ],
-        (6, 0, [2_000, 2_000, 1]),
-    ),
-];
+const SHARED: &'static str =
+    r"# an inherited handle keeps its object, and the exit of the child closes it | 6 0 2 2 1
+1 make first \E 2 | SUCCESS
+1 begin inherit   | SUCCESS
+1 close 0         | SUCCESS
+2 path 1          | SUCCESS
+2 exit            | SUCCESS
+2 path 1          | PROCESS_GONE
+# a child that inherits nothing has no handle, nor one that isn't marked | 7 3 3 0 0
+1 make first \E 2 | SUCCESS
+1 open first \E 0 | SUCCESS
+1 begin not       | SUCCESS
+2 path 0          | INVALID_HANDLE
+1 begin inherit   | SUCCESS
+3 path 0          | SUCCESS
+3 path 1          | INVALID_HANDLE
+# what was inherited is inherited again | 6 0 3 3 1
+1 make first \E 2 | SUCCESS
+1 begin inherit   | SUCCESS
+2 begin inherit   | SUCCESS
+1 exit            | SUCCESS
+2 exit            | SUCCESS
+3 path 2          | SUCCESS
+3 close 2         | SUCCESS
+# an exclusive object is its holder's alone, and free again after its exit | 7 1 5 4 0
+1 begin not          | SUCCESS
+1 make first \E 30   | SUCCESS
+1 open first \E 20   | SUCCESS
+1 open first \E 0    | SUCCESS
+1 open first \E 2    | INVALID_PARAMETER
+2 open first \E 0    | ACCESS_DENIED
+1 duplicate 1 2 not  | ACCESS_DENIED
+1 duplicate 1 1 not  | SUCCESS
+1 exit               | SUCCESS
+2 open first \E 20   | SUCCESS
+# exclusive is refused where the object isn't | 7 1 1 0 0
+1 make first \E 0    | SUCCESS
+1 open first \E 20   | INVALID_PARAMETER
+# a duplicate goes to a live process, and has its own mark | 7 1 2 1 0
+1 make first \E 2    | SUCCESS
+1 begin not          | SUCCESS
+1 duplicate 0 2 not  | SUCCESS
+2 begin inherit      | SUCCESS
+3 path 2             | INVALID_HANDLE
+2 exit               | SUCCESS
+1 duplicate 0 2 not  | PROCESS_GONE
+1 duplicate 6 1 not  | INVALID_HANDLE
+# a process that was never made, and one that ended, are gone | 6 0 0 0 0
+0 begin inherit   | PROCESS_GONE
+2 exit            | PROCESS_GONE
+1 exit            | SUCCESS
+1 exit            | PROCESS_GONE
+1 begin not       | PROCESS_GONE
+# a value that was given up is used again for another handle | 6 0 3 3 2
+1 make first \E 0 | SUCCESS
+1 open first \E 0 | SUCCESS
+1 close 0         | SUCCESS
+1 close 1         | SUCCESS
+1 make first \E 0 | SUCCESS
+1 path 4          | SUCCESS
+1 close 4         | SUCCESS
+1 close 4         | INVALID_HANDLE
+# a child of a process with 1,000 handles begins and ends | 6 0 2000 2000 1
+1 make first \E 2     | SUCCESS
+1*999 open first \E 2 | SUCCESS
+1 begin inherit       | SUCCESS
+1 exit                | SUCCESS
+1 has                 | 0
+2 has                 | 1000
+2 holds 4             | true
+2 holds 6             | false
+2 holds 4000          | true
+2 holds 4004          | false
+1 holds 4             | false
+2 exit                | SUCCESS
+";
 
 #[test]
-fn processes_share_objects_by_their_handles(rt: HostRuntime) -> Result<(), Fail> {
-    for (shows, steps, left) in SHARED {
-        let told = played(rt.alloc(), Plain, KINDS, steps)?;
-        assert_eq!(rt; told, (steps.len(), left), "{shows}");
-    }
-    Ok(())
+fn processes_share_objects_by_their_handles(rt: HostRuntime) {
+    assert_scenes::<Plain>(&rt, rt.alloc(), SHARED);
 }
 
-const FULL: [Scene; 2] = [
-    (
-        "a process that ends makes room for another",
-        &[
-            Step::Repeats(1, Ask::Begin(true), 1_023),
-            Step::Asks(1, Ask::Begin(true), Status::InsufficientResources),
-            Step::Asks(1_024, Ask::Exit, Status::Success),
-            Step::Asks(1, Ask::Begin(true), Status::Success),
-        ],
-        (6, 0, [0, 0, 0]),
-    ),
-    (
-        "a full table has room for a handle where one was closed, under its value",
-        &[
-            Step::Repeats(1, Ask::OpenDirectory(ROOT), 65_535),
-            Step::Has(1, 65_535),
-            Step::Has(2, 0),
-            Step::Asks(1, Ask::OpenDirectory(ROOT), Status::InsufficientResources),
-            Step::Asks(1, Ask::Close(0), Status::Success),
-            Step::Holds(1, 262_140, false),
-            Step::Asks(1, Ask::OpenDirectory(ROOT), Status::Success),
-            Step::Holds(1, 262_140, true),
-        ],
-        (6, 65_535, [0, 0, 0]),
-    ),
-];
+const FULL: &'static str = r"# a process that ends makes room for another | 6 0 0 0 0
+1*1023 begin inherit | SUCCESS
+1 begin inherit      | INSUFFICIENT_RESOURCES
+1024 exit            | SUCCESS
+1 begin inherit      | SUCCESS
+# a full table has room for a handle where one was closed, under its value | 6 65535 0 0 0
+1*65535 open directory \ 0 | SUCCESS
+1 has                      | 65535
+2 has                      | 0
+1 open directory \ 0       | INSUFFICIENT_RESOURCES
+1 close 0                  | SUCCESS
+1 holds 262140             | false
+1 open directory \ 0       | SUCCESS
+1 holds 262140             | true
+";
 
 #[test]
-fn there_are_1024_processes_of_65535_handles_at_most(rt: HostRuntime) -> Result<(), Fail> {
-    for (shows, steps, left) in FULL {
-        let told = played(rt.alloc(), Plain, KINDS, steps)?;
-        assert_eq!(rt; told, (steps.len(), left), "{shows}");
-    }
-    Ok(())
+fn there_are_1024_processes_of_65535_handles_at_most(rt: HostRuntime) {
+    assert_scenes::<Plain>(&rt, rt.alloc(), FULL);
 }

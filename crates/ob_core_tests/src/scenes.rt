@@ -1,181 +1,188 @@
-//! Scenes: what processes ask of a namespace, step by step, and how each step is answered. Namespaces, commands and
-//! replies are made and let go here, for every set of types at once, so that tests name plain values.
+//! Scenes: what processes ask of a namespace, step by step, and what each step is answered. Namespaces, commands and
+//! replies are made and let go here, for every set of types at once, so that tests name texts.
+//!
+//! A step is a line: a process and what it asks for, a bar, and what it is told. `1*9` says that process 1 asks for the same
+//! nine times. Behind a second bar stands what the step shows.
+//!
+//! - `make`, a kind, a name and attributes make an object, and `open` opens one: the kind is `directory`, the `first` or the
+//!   `other` one of the set, or for an open `any`. A name is absolute, and `-` is none; attributes are hexadecimal: 2 inherit, 10
+//!   permanent, 20 exclusive. Arguments may stand behind them.
+//! - `close`, `path`, `temporary` and `permanent` use the handle that was given to the step of this number, from 0, or the first
+//!   one that a new process inherited. `duplicate` gives it to a process, whose children `inherit` it, or `not`.
+//! - `list` lists the directory of such a handle behind a context, in a room, `one` entry or `all`, from the `next` on or the
+//!   `first`.
+//! - `begin` makes a child, which may `inherit` or `not`, and `exit` ends the process.
+//!
+//! What is told is a status, and the number of a type's refusal; of a list also the last byte of each of the first three names,
+//! `.` where there is none, and the context. `has` tells how many handles a process has, and `holds` whether it has one of exactly
+//! this value.
 
 use ob_base::{Fault, Handle, Proc, Status};
 use ob_core::{Brought, Bytes, Command, Core, Entries, Given, OpenTable, Place, Reply, Started};
-use ob_plain::Counting;
+use ob_plain::{Counting, Plain, PlainKind};
 use ob_types::TypeSet;
-use std::alloc::{AllocError, Global};
+use std::alloc::Global;
+use std::process::Abort;
 
-pub(crate) const INHERIT: u32 = 0x2;
+/// A set over which scenes are played.
+pub(crate) trait Staged: TypeSet {
+    /// A new one.
+    fn new() -> Self;
 
-pub(crate) const PERMANENT: u32 = 0x10;
-
-pub(crate) const EXCLUSIVE: u32 = 0x20;
-
-/// The part of a directory that a page is asked for: behind a context, in a room, one entry alone, and from the first
-/// on.
-pub(crate) type Part = (u64, u32, bool, bool);
-
-/// What a page shows: the last byte of each of its first three names, and its context; zeros where none is given.
-pub(crate) type Shown = ([u8; 3], u64);
-
-/// What a process asks for, of objects of two kinds. Names are absolute, attributes are raw, and arguments are empty
-/// where none are said. A handle is the one that was given to the step of this number, from 0, or the first one that a
-/// new process inherited.
-#[derive(Clone, Copy)]
-pub(crate) enum Ask {
-    /// Makes a directory.
-    Directory(&'static [u8], u32),
-    /// Makes an object.
-    Make(&'static [u8], u32),
-    /// Makes an object with arguments.
-    MakeWith(&'static [u8], &'static [u8]),
-    /// Makes an object of the other kind.
-    MakeOther(&'static [u8]),
-    /// Makes an object without a name.
-    Unnamed(u32),
-    OpenDirectory(&'static [u8]),
-    /// Opens an object, whose kind is asked for.
-    Open(&'static [u8], u32),
-    /// Opens an object as one of the other kind.
-    OpenOther(&'static [u8]),
-    /// Opens whatever has the name.
-    OpenAny(&'static [u8]),
-    Close(usize),
-    Path(usize),
-    Temporary(usize),
-    Permanent(usize),
-    /// Duplicates a handle into a process, for its children too or not.
-    Duplicate(usize, u32, bool),
-    List(usize, Part),
-    /// Makes a child, which inherits or not.
-    Begin(bool),
-    Exit,
+    /// The first and the other kind of the scenes.
+    fn kinds() -> (Self::Kind, Self::Kind);
 }
 
-/// A step of a scene, and what is to be seen of it.
-#[derive(Clone, Copy)]
-pub(crate) enum Step {
-    /// A process asks, and is answered with this status.
-    Asks(u32, Ask, Status),
-    /// A process asks for the same so often, each time with success.
-    Repeats(u32, Ask, u32),
-    /// Process 1 lists a directory by its handle, and is shown this, with this status.
-    Lists(usize, Part, Status, Shown),
-    /// A process has so many handles.
-    Has(u32, usize),
-    /// Whether a process has a handle of exactly this value.
-    Holds(u32, u32, bool),
+impl Staged for Plain {
+    fn new() -> Plain {
+        Plain
+    }
+
+    fn kinds() -> (PlainKind, PlainKind) {
+        (PlainKind::Event, PlainKind::Mutant)
+    }
 }
 
-/// What is there behind a scene: objects, handles, and the set's opens, closes and deletes.
-pub(crate) type Left = (usize, usize, [u64; 3]);
+/// The words of a step, or of what it is told.
+pub(crate) type Line<'a> = [&'a str; 7];
 
-/// A scene: what it shows, its steps, and what they leave.
-pub(crate) type Scene = (&'static str, &'static [Step], Left);
-
-/// What a reply tells: its status, the handle that it gives, or 0, and the page.
+/// What a reply tells: its status, the handle that it gives, or 0, and of a page the last byte of each of its first three
+/// names, and its context.
 #[derive(Clone, Copy)]
 pub(crate) struct Told {
     pub(crate) status: Status,
     pub(crate) handle: Handle,
-    page: Shown,
+    page: ([u8; 3], u64),
 }
 
-fn place(alloc: Global, name: &[u8]) -> Result<Place, AllocError> {
-    Ok(Place::At {
-        root: None,
-        name: Bytes::from_slice(alloc, name)?,
-    })
+/// The words of a text; those that it lacks are empty.
+pub(crate) fn words(text: &str) -> Line<'_> {
+    let mut words = text.split_ascii_whitespace();
+    [
+        words.next().unwrap_or(""),
+        words.next().unwrap_or(""),
+        words.next().unwrap_or(""),
+        words.next().unwrap_or(""),
+        words.next().unwrap_or(""),
+        words.next().unwrap_or(""),
+        words.next().unwrap_or(""),
+    ]
 }
 
+// The kind of the set that a word says, or that it says none of these; nothing where it is no such word.
+fn kind_of<K: Copy>(kinds: (K, K), word: &str) -> Option<Option<K>> {
+    match word {
+        "first" => Some(Some(kinds.0)),
+        "other" => Some(Some(kinds.1)),
+        "directory" | "any" => Some(None),
+        _ => None,
+    }
+}
+
+fn place(alloc: Global, name: &str) -> Option<Place> {
+    if name == "-" {
+        return Some(Place::Unnamed);
+    }
+    let name = Bytes::from_slice(alloc, name.as_bytes()).ok()?;
+    Some(Place::At { root: None, name })
+}
+
+// A create of an object, or of a directory where no kind is said.
 fn make<K: Copy>(
     alloc: Global,
-    place: Place,
+    kind: Option<K>,
+    name: &str,
     attrs: u32,
-    kind: K,
-    args: &[u8],
-) -> Result<Command<K>, AllocError> {
-    Ok(Command::CreateObject {
+    args: &str,
+) -> Option<Command<K>> {
+    let place = place(alloc, name)?;
+    let Some(kind) = kind else {
+        return Some(Command::CreateDirectory { place, attrs });
+    };
+    let args = Bytes::from_slice(alloc, args.as_bytes()).ok()?;
+    Some(Command::CreateObject {
         place,
         attrs,
         kind,
-        args: Bytes::from_slice(alloc, args)?,
+        args,
     })
 }
 
 fn open<K: Copy>(
     alloc: Global,
-    name: &[u8],
-    attrs: u32,
     want: Option<K>,
-) -> Result<Command<K>, AllocError> {
-    Ok(Command::OpenObject {
-        root: None,
-        name: Bytes::from_slice(alloc, name)?,
+    is_directory: bool,
+    name: &str,
+    attrs: u32,
+) -> Option<Command<K>> {
+    let (root, name) = (None, Bytes::from_slice(alloc, name.as_bytes()).ok()?);
+    if is_directory {
+        return Some(Command::OpenDirectory { root, name, attrs });
+    }
+    Some(Command::OpenObject {
+        root,
+        name,
         attrs,
         want,
     })
 }
 
-// The command of what is asked for.
-fn command<K: Copy>(
-    alloc: Global,
-    kinds: (K, K),
-    ask: Ask,
-    given: &[Handle],
-) -> Result<Command<K>, AllocError> {
-    match ask {
-        Ask::Directory(name, attrs) => Ok(Command::CreateDirectory {
-            place: place(alloc, name)?,
-            attrs,
+// A command that uses a handle, by what it does and the words behind.
+fn on_handle<K>(what: &str, handle: Handle, told: [&str; 4]) -> Option<Command<K>> {
+    let [first, second, third, fourth] = told;
+    match what {
+        "close" => Some(Command::Close { handle }),
+        "path" => Some(Command::QueryName { handle }),
+        "temporary" => Some(Command::MakeTemporary { handle }),
+        "permanent" => Some(Command::MakePermanent { handle }),
+        "duplicate" => Some(Command::Duplicate {
+            handle,
+            to: Proc(first.parse().ok()?),
+            inherit: second == "inherit",
         }),
-        Ask::Make(name, attrs) => make(alloc, place(alloc, name)?, attrs, kinds.0, b""),
-        Ask::MakeWith(name, args) => make(alloc, place(alloc, name)?, 0, kinds.0, args),
-        Ask::MakeOther(name) => make(alloc, place(alloc, name)?, 0, kinds.1, b""),
-        Ask::Unnamed(attrs) => make(alloc, Place::Unnamed, attrs, kinds.0, b""),
-        Ask::OpenDirectory(name) => Ok(Command::OpenDirectory {
-            root: None,
-            name: Bytes::from_slice(alloc, name)?,
-            attrs: 0,
+        "list" => Some(Command::QueryDirectory {
+            handle,
+            context: first.parse().ok()?,
+            room: second.parse().ok()?,
+            single: third == "one",
+            restart: fourth == "first",
         }),
-        Ask::Open(name, attrs) => open(alloc, name, attrs, Some(kinds.0)),
-        Ask::OpenOther(name) => open(alloc, name, 0, Some(kinds.1)),
-        Ask::OpenAny(name) => open(alloc, name, 0, None),
-        _ => Ok(unnamed(ask, given)),
+        _ => None,
     }
 }
 
-// A command that has no name.
-fn unnamed<K: Copy>(ask: Ask, given: &[Handle]) -> Command<K> {
-    match ask {
-        Ask::Close(step) => Command::Close {
-            handle: given_to(given, step),
-        },
-        Ask::Path(step) => Command::QueryName {
-            handle: given_to(given, step),
-        },
-        Ask::Temporary(step) => Command::MakeTemporary {
-            handle: given_to(given, step),
-        },
-        Ask::Permanent(step) => Command::MakePermanent {
-            handle: given_to(given, step),
-        },
-        Ask::Duplicate(step, to, inherit) => Command::Duplicate {
-            handle: given_to(given, step),
-            to: Proc(to),
-            inherit,
-        },
-        Ask::List(step, (context, room, single, restart)) => Command::QueryDirectory {
-            handle: given_to(given, step),
-            context,
-            room,
-            single,
-            restart,
-        },
-        Ask::Begin(inherit) => Command::NewProcess { inherit },
-        _ => Command::ExitProcess,
+fn attrs_of(word: &str) -> Option<u32> {
+    u32::from_str_radix(word, 16).ok()
+}
+
+// The command that the words of a step ask for, where these handles were given.
+fn command<K: Copy>(
+    alloc: Global,
+    kinds: (K, K),
+    asked: Line<'_>,
+    given: &[Handle],
+) -> Option<Command<K>> {
+    let [_, what, first, second, third, fourth, fifth] = asked;
+    match what {
+        "make" => make(
+            alloc,
+            kind_of(kinds, first)?,
+            second,
+            attrs_of(third)?,
+            fourth,
+        ),
+        "open" => {
+            let (want, attrs) = (kind_of(kinds, first)?, attrs_of(third)?);
+            open(alloc, want, first == "directory", second, attrs)
+        }
+        "begin" => Some(Command::NewProcess {
+            inherit: first == "inherit",
+        }),
+        "exit" => Some(Command::ExitProcess),
+        _ => {
+            let handle = given_to(given, first.parse().ok()?);
+            on_handle(what, handle, [second, third, fourth, fifth])
+        }
     }
 }
 
@@ -183,11 +190,11 @@ fn given_to(given: &[Handle], step: usize) -> Handle {
     given.get(step).copied().unwrap_or(Handle(0))
 }
 
-// The last byte of the name at a place, or 0.
+// The last byte of the name at a place.
 fn letter(entries: &Entries, place: usize) -> u8 {
     match entries.as_slice().get(place) {
-        Some(listed) => listed.name.as_slice().last().copied().unwrap_or(0),
-        None => 0,
+        Some(listed) => listed.name.as_slice().last().copied().unwrap_or(b'.'),
+        None => b'.',
     }
 }
 
@@ -196,7 +203,7 @@ pub(crate) fn tell(reply: &Reply) -> Told {
     let mut told = Told {
         status: reply.status,
         handle: Handle(0),
-        page: ([0; 3], 0),
+        page: (*b"...", 0),
     };
     match &reply.given {
         Given::Handle(handle) => told.handle = *handle,
@@ -210,99 +217,175 @@ pub(crate) fn tell(reply: &Reply) -> Told {
     told
 }
 
-/// What a process is answered that asks for this. An open that waits for a parse is given up, and told as a fault that
-/// no command is answered with.
-pub(crate) fn answer<T: TypeSet>(
-    alloc: Global,
-    core: &mut Core<T, OpenTable>,
-    kinds: (T::Kind, T::Kind),
-    (process, ask): (u32, Ask),
-    given: &[Handle],
-) -> Result<Told, Fault> {
-    match start(alloc, core, kinds, (process, ask), given)? {
-        Started::Done(reply) => Ok(tell(&reply)),
-        Started::Parsing(parsing) => {
-            core.abandon(Brought::Unrun(parsing));
-            Err(Fault::Refused(Status::InvalidParameter))
-        }
-    }
+/// Whether a word says this status, with the number by which a type refuses.
+pub(crate) fn is_status(status: Status, word: &str, number: &str) -> bool {
+    let is_number = match status {
+        Status::TypeRefused(code) => number.parse().ok() == Some(code),
+        _ => true,
+    };
+    status.text() == word && is_number
 }
 
-/// How the command ends that a process asks for.
+/// How the command ends that a process asks for; `None` where that can't be asked, or there is no memory.
 pub(crate) fn start<T: TypeSet>(
     alloc: Global,
     core: &mut Core<T, OpenTable>,
     kinds: (T::Kind, T::Kind),
-    (process, ask): (u32, Ask),
+    process: Proc,
+    asked: Line<'_>,
     given: &[Handle],
-) -> Result<Started<T>, Fault> {
-    let command = command(alloc, kinds, ask, given)?;
-    core.start(Proc(process), &command)
+) -> Option<Started<T>> {
+    let command = command(alloc, kinds, asked, given)?;
+    core.start(process, &command).ok()
 }
 
-// Whether a step is as it says, and then the handle that it gives, or 0.
+/// What a process is told that asks for this. An open that waits for a parse is given up, and told nothing.
+pub(crate) fn answer<T: TypeSet>(
+    alloc: Global,
+    core: &mut Core<T, OpenTable>,
+    kinds: (T::Kind, T::Kind),
+    process: Proc,
+    asked: Line<'_>,
+    given: &[Handle],
+) -> Option<Told> {
+    match start(alloc, core, kinds, process, asked, given)? {
+        Started::Done(reply) => Some(tell(&reply)),
+        Started::Parsing(parsing) => {
+            core.abandon(Brought::Unrun(parsing));
+            None
+        }
+    }
+}
+
+// The handle that a step is given, or 0, where it is told this.
+fn answered<T: TypeSet>(
+    alloc: Global,
+    core: &mut Core<T, OpenTable>,
+    kinds: (T::Kind, T::Kind),
+    process: Proc,
+    asked: Line<'_>,
+    given: &[Handle],
+    told: Line<'_>,
+) -> Option<Handle> {
+    let [status, second, third, ..] = told;
+    let answered = answer(alloc, core, kinds, process, asked, given)?;
+    let (letters, context) = answered.page;
+    let is_page = asked[1] != "list"
+        || (letters.as_slice() == second.as_bytes() && third.parse().ok() == Some(context));
+    (is_page && is_status(answered.status, status, second)).then_some(answered.handle)
+}
+
+// The same of a step that may ask for nothing.
 fn taken<T: TypeSet>(
     alloc: Global,
     core: &mut Core<T, OpenTable>,
     kinds: (T::Kind, T::Kind),
-    step: Step,
+    process: Proc,
+    asked: Line<'_>,
     given: &[Handle],
-) -> Result<(bool, Handle), Fault> {
-    match step {
-        Step::Asks(process, ask, status) => {
-            let told = answer(alloc, core, kinds, (process, ask), given)?;
-            Ok((told.status == status, told.handle))
+    told: Line<'_>,
+) -> Option<Handle> {
+    let is_so = match asked[1] {
+        "has" => told[0].parse().ok() == Some(core.handles_of(process)),
+        "holds" => {
+            let handle = Handle(asked[2].parse().ok()?);
+            core.holds(process, handle) == (told[0] == "true")
         }
-        Step::Repeats(process, ask, count) => {
-            let mut last = Handle(0);
-            for _ in 0..count {
-                let told = answer(alloc, core, kinds, (process, ask), given)?;
-                if told.status != Status::Success {
-                    return Ok((false, last));
-                }
-                last = told.handle;
-            }
-            Ok((true, last))
-        }
-        Step::Lists(place, part, status, shown) => {
-            let told = answer(alloc, core, kinds, (1, Ask::List(place, part)), given)?;
-            Ok((told.status == status && told.page == shown, Handle(0)))
-        }
-        Step::Has(process, count) => Ok((core.handles_of(Proc(process)) == count, Handle(0))),
-        Step::Holds(process, value, holds) => {
-            Ok((core.holds(Proc(process), Handle(value)) == holds, Handle(0)))
-        }
-    }
+        _ => return answered(alloc, core, kinds, process, asked, given, told),
+    };
+    is_so.then_some(Handle(0))
 }
 
-/// How many of the steps are as they say, up to the first that isn't.
-pub(crate) fn play<T: TypeSet>(
+// The process of a step, and how often it asks.
+fn asking(word: &str) -> Option<(Proc, u32)> {
+    let (process, times) = word.split_once('*').unwrap_or((word, "1"));
+    Some((Proc(process.parse().ok()?), times.parse().ok()?))
+}
+
+// The handle that a line's step is given at last, or 0, where it is told what the line says each time.
+fn last_of<T: TypeSet>(
     alloc: Global,
     core: &mut Core<T, OpenTable>,
     kinds: (T::Kind, T::Kind),
-    steps: &[Step],
-) -> Result<usize, Fault> {
-    let mut given = Vec::new(alloc);
-    for step in steps {
-        let (is_taken, handle) = taken(alloc, core, kinds, *step, given.as_slice())?;
-        if !is_taken {
-            return Ok(given.len());
-        }
-        given.push(handle)?;
+    line: &str,
+    given: &[Handle],
+) -> Option<Handle> {
+    let (asked, told) = line.split_once('|')?;
+    let (asked, told) = (words(asked), words(told));
+    let (process, times) = asking(asked[0])?;
+    let mut last = Handle(0);
+    for _ in 0..times {
+        last = taken(alloc, core, kinds, process, asked, given, told)?;
     }
-    Ok(given.len())
+    Some(last)
 }
 
-/// How many of the steps are as they say in a new namespace with this set, whose calls are counted, and what they leave.
-pub(crate) fn played<T: TypeSet>(
+/// The first line whose step isn't told what it says.
+pub(crate) fn first_other<'a, T: TypeSet>(
     alloc: Global,
-    set: T,
+    core: &mut Core<T, OpenTable>,
     kinds: (T::Kind, T::Kind),
-    steps: &[Step],
-) -> Result<(usize, Left), Fault> {
-    let mut core: Core<Counting<T>, OpenTable> = Core::new(alloc, Counting::new(set))?;
-    let done = play(alloc, &mut core, kinds, steps)?;
+    steps: &'a str,
+) -> Option<&'a str> {
+    let mut given = Vec::new(alloc);
+    for line in steps.trim().lines() {
+        let Some(handle) = last_of(alloc, core, kinds, line, given.as_slice()) else {
+            return Some(line);
+        };
+        if given.push(handle).is_err() {
+            return Some(line);
+        }
+    }
+    None
+}
+
+/// Whether there are so many objects, and handles.
+pub(crate) fn is_counted<T: TypeSet>(
+    core: &Core<T, OpenTable>,
+    objects: &str,
+    handles: &str,
+) -> bool {
+    objects.parse().ok() == Some(core.objects()) && handles.parse().ok() == Some(core.handles())
+}
+
+// Whether this is left of a scene: objects, handles, and the set's opens, closes and deletes.
+fn is_left<T: TypeSet>(core: &Core<Counting<T>, OpenTable>, left: &str) -> bool {
+    let [objects, handles, opens, closes, deletes, ..] = words(left);
     let set = core.set();
-    let calls = [set.opens(), set.closes(), set.deletes()];
-    Ok((done, (core.objects(), core.handles(), calls)))
+    is_counted(core, objects, handles)
+        && opens.parse().ok() == Some(set.opens())
+        && closes.parse().ok() == Some(set.closes())
+        && deletes.parse().ok() == Some(set.deletes())
+}
+
+// The first line of a scene that isn't as it says: its own, which tells what is left of it, or that of a step.
+fn first_other_in<'a, T: TypeSet>(
+    alloc: Global,
+    core: &mut Core<Counting<T>, OpenTable>,
+    kinds: (T::Kind, T::Kind),
+    scene: &'a str,
+) -> Option<&'a str> {
+    let (shows, steps) = scene.split_once('\n').unwrap_or((scene, ""));
+    let (_, left) = shows.split_once('|').unwrap_or((shows, ""));
+    let other = first_other(alloc, core, kinds, steps);
+    match other {
+        None if !is_left(core, left) => Some(shows),
+        other => other,
+    }
+}
+
+// The same of a new namespace with a set whose calls are counted.
+fn first_other_of<T: Staged>(alloc: Global, scene: &str) -> Result<Option<&str>, Fault> {
+    let mut core: Core<Counting<T>, OpenTable> = Core::new(alloc, Counting::new(T::new()))?;
+    Ok(first_other_in(alloc, &mut core, T::kinds(), scene))
+}
+
+/// Asserts that each scene of a text is played as it says. The first line of a scene begins with `#` and what it shows; behind
+/// a bar stands what is left of it: objects, handles, and the set's opens, closes and deletes.
+pub(crate) fn assert_scenes<T: Staged>(rt: &impl Abort, alloc: Global, scenes: &str) {
+    let scenes = scenes.strip_prefix("#").unwrap_or("");
+    for scene in scenes.split('#') {
+        let other = first_other_of::<T>(alloc, scene);
+        assert!(rt; matches!(other, Ok(None)), "{scene} {other:?}");
+    }
 }

@@ -1,46 +1,29 @@
 //! Opens that wait for a parse: they go on when it is brought, in the state as it is then, or are given up. The
 //! object that they pin stays until then.
 
-use crate::scenes::{Ask, Step, answer, play, start, tell};
-use ob_base::{Fault, Handle, Status};
+use crate::scenes::{Staged, answer, first_other, is_counted, is_status, start, tell, words};
+use ob_base::{Fault, Handle, Proc, Status};
 use ob_core::{Brought, Core, OpenTable, Started};
 use ob_device::{DeviceKind, DeviceSet};
 use ob_types::TypeSet;
 use std::alloc::Global;
-use std::test::Fail;
 
-const KINDS: (DeviceKind, DeviceKind) = (DeviceKind::Device, DeviceKind::File);
+impl Staged for DeviceSet {
+    fn new() -> DeviceSet {
+        DeviceSet
+    }
 
-const DEVICE: &[u8] = b"\\Device\\Serial0";
-
-const PORT: &[u8] = b"\\Device\\Serial0\\com1";
-
-const DEEP: &[u8] = b"\\Device\\Serial0\\a\\b";
+    fn kinds() -> (DeviceKind, DeviceKind) {
+        (DeviceKind::Device, DeviceKind::File)
+    }
+}
 
 // A device of the files `com1` and `a\b`, to which process 1 gets the handle 4, and a child without handles.
-const FIRST: [Step; 2] = [
-    Step::Asks(1, Ask::MakeWith(DEVICE, b"com1;a\\b"), Status::Success),
-    Step::Asks(1, Ask::Begin(false), Status::Success),
-];
+const FIRST: &str = r"1 make first \Device\Serial0 0 com1;a\b | SUCCESS
+1 begin not                             | SUCCESS";
 
 // The ticket of the first open that waits, behind the six objects of a new namespace and the device.
 const TICKET: u64 = 8;
-
-// An open: its process, its name, what of the name is behind the device, whether the parse is run, what comes between
-// the open and the end of its parse.
-type Opens = (u32, &'static [u8], &'static [u8], bool, Between);
-
-// What may come between an open and the end of its parse.
-#[derive(Clone, Copy)]
-enum Between {
-    Nothing,
-    // A process asks for something else.
-    Asked(u32, Ask),
-    // The parse of another namespace is brought, of the same ticket, for an open of some name.
-    Brought(&'static [u8]),
-    // The open is given up by such a parse.
-    GivenUp(&'static [u8]),
-}
 
 // What becomes of a parse: the status and the handle that are answered; its ticket, where it is handed back as a
 // stranger's; and whether it gives an open up.
@@ -50,44 +33,73 @@ const STRANGER: End = (None, Some(TICKET), false);
 
 const GIVEN_UP: End = (None, None, true);
 
-// What is seen while an open waits, behind what came between: how many reparses are left to it, objects, and handles.
-type Waits = (Option<u32>, usize, usize);
+// Opens that wait, a line each:
+//
+// - the process that asks, whether the parse is `run` or `not`, and what is opened;
+// - the rest behind the device;
+// - what comes before the end of the parse: what a process asks for; the parse of another namespace, of the same ticket, that
+//   is `brought`, or that gives the open up, `gone`, for an open of some name; or nothing;
+// - what becomes of that parse: it is a `stranger`'s, or an open is `given` up;
+// - what is seen then: how many reparses are left to the open, objects, and handles;
+// - what becomes of the open's own parse: so too, or the handle and the status that are answered;
+// - objects and handles in the end;
+// - what the line shows.
+const OPENS: &'static str = r"
+1 run open any \Device\Serial0\com1 0 | \com1 | | | 32 7 1 | 8 SUCCESS | 8 2 | a file that the device has
+1 run open any \Device\Serial0\a\b 0  | \a\b  | | | 32 7 1 | 8 SUCCESS | 8 2 | a file two components deep
+1 run open any \Device\Serial0 0      |       | | | 32 7 1 | 8 SUCCESS | 8 2 | the device itself
+1 run open any \Device\Serial0\com2 0 | \com2 | | | 32 7 1 | 0 TYPE_REFUSED 3 | 7 1 | a file that it hasn't
+1 run open any \Device\Serial0\ 0     | \     | | | 32 7 1 | 0 TYPE_REFUSED 3 | 7 1 | an empty component
+2 run open any \Device\Serial0\com1 0 | \com1 | | | 32 7 1 | 4 SUCCESS | 8 2 | an open of another process
+2 run open any \Device\Serial0\com1 0 | \com1 | 1 close 0 | | 32 7 0 | 4 SUCCESS | 7 1 | the device is pinned, though its last handle is closed and its name goes
+2 run open any \Device\Serial0\com1 0 | \com1 | 2 exit | | 32 7 1 | 0 PROCESS_GONE | 7 1 | the process that asked ends, and is judged when the parse is brought
+1 run open any \Device\Serial0\com1 0 | \com1 | brought open any \Device\Serial0\a\b 0 | stranger | 32 7 1 | 8 SUCCESS | 8 2 | a stranger's parse is handed back
+1 run open any \Device\Serial0\com1 0 | \com1 | gone open any \Device\Serial0\com1 0 | given | - 7 1 | stranger | 7 1 | the parse of an open that was given up by another like it is a stranger's
+1 not open any \Device\Serial0\a\b 0  | \a\b  | 1 close 0 | | 32 7 0 | given | 6 0 | what an open pins stays until it is given up
+";
 
-// An open, as it is told: whether its ticket and its rest are as they should be; what became of the parse that came
-// between; what was seen then; what becomes of its own parse; and objects and handles in the end.
-type Told = (bool, Option<End>, Waits, End, (usize, usize));
+// The first field of a line, and what stands behind its bar.
+fn cut(line: &str) -> (&str, &str) {
+    let (field, behind) = line.split_once('|').unwrap_or((line, ""));
+    (field.trim(), behind)
+}
 
-// The parse that an open waits for, run or not, and whether its ticket and its rest are as they should be.
+// What a line tells: the open and its rest, what comes between, what becomes of that, what is seen, the end, and the counts.
+fn fields(line: &str) -> [&str; 7] {
+    let (opens, behind) = cut(line);
+    let (rest, behind) = cut(behind);
+    let (between, behind) = cut(behind);
+    let (came, behind) = cut(behind);
+    let (seen, behind) = cut(behind);
+    let (end, behind) = cut(behind);
+    let (counts, _) = cut(behind);
+    [opens, rest, between, came, seen, end, counts]
+}
+
+// The parse that an open of a process waits for behind the first steps, run or `not`, and whether its ticket and its rest are as
+// they should be; `None` where it doesn't wait.
 fn begun<T: TypeSet>(
     alloc: Global,
     core: &mut Core<T, OpenTable>,
     kinds: (T::Kind, T::Kind),
-    opens: Opens,
-) -> Result<(Brought<T>, bool), Fault> {
-    let (process, name, rest, is_run, _) = opens;
-    play(alloc, core, kinds, &FIRST)?;
-    match start(alloc, core, kinds, (process, Ask::OpenAny(name)), &[])? {
-        Started::Done(_) => Err(Fault::Refused(Status::InvalidParameter)),
+    process: Proc,
+    asked: &str,
+    rest: &str,
+) -> Option<(Brought<T>, bool)> {
+    if first_other(alloc, core, kinds, FIRST).is_some() {
+        return None;
+    }
+    let (line, is_run) = (words(asked), !asked.starts_with("not "));
+    match start(alloc, core, kinds, process, line, &[])? {
+        Started::Done(_) => None,
         Started::Parsing(parsing) => {
-            let is_asked = parsing.ticket() == TICKET && parsing.rest() == rest;
+            let is_asked = parsing.ticket() == TICKET && parsing.rest() == rest.as_bytes();
             match is_run {
-                true => Ok((Brought::Run(parsing.run(alloc)), is_asked)),
-                false => Ok((Brought::Unrun(parsing), is_asked)),
+                true => Some((Brought::Run(parsing.run(alloc)), is_asked)),
+                false => Some((Brought::Unrun(parsing), is_asked)),
             }
         }
     }
-}
-
-// The parse that an open of process 1 waits for in another namespace, run.
-fn of_another<T: TypeSet>(
-    alloc: Global,
-    other: &mut Core<T, OpenTable>,
-    kinds: (T::Kind, T::Kind),
-    name: &'static [u8],
-) -> Result<Brought<T>, Fault> {
-    let opens: Opens = (1, name, b"", true, Between::Nothing);
-    let (brought, _) = begun(alloc, other, kinds, opens)?;
-    Ok(brought)
 }
 
 // What becomes of a parse: one that was run is brought, and one that isn't taken, or wasn't run, gives its open up.
@@ -110,147 +122,112 @@ fn ended<T: TypeSet>(core: &mut Core<T, OpenTable>, brought: Brought<T>) -> End 
     }
 }
 
-// What comes between, and what becomes of the parse with which it comes.
-fn come_between<T: TypeSet>(
+// What becomes of the parse of another namespace, which process 1 waits for there: it is brought, or gives an open up.
+fn end_of_another<T: TypeSet>(
     alloc: Global,
     core: &mut Core<T, OpenTable>,
     other: &mut Core<T, OpenTable>,
     kinds: (T::Kind, T::Kind),
-    between: Between,
-) -> Result<Option<End>, Fault> {
-    match between {
-        Between::Nothing => Ok(None),
-        Between::Asked(process, ask) => {
-            answer(alloc, core, kinds, (process, ask), &[Handle(4)])?;
-            Ok(None)
+    between: &str,
+) -> Option<End> {
+    let (brought, _) = begun(alloc, other, kinds, Proc(1), between, "")?;
+    match words(between)[0] {
+        "brought" => Some(ended(core, brought)),
+        _ => Some((None, None, core.abandon(brought))),
+    }
+}
+
+// Whether the end of a parse is this one.
+fn is_end(end: End, wanted: &str) -> bool {
+    let [handle, status, number, ..] = words(wanted);
+    match (handle, end) {
+        ("stranger", end) => end == STRANGER,
+        ("given", end) => end == GIVEN_UP,
+        (_, (Some((told, value)), None, false)) => {
+            handle.parse().ok() == Some(value.0) && is_status(told, status, number)
         }
-        Between::Brought(name) => {
-            let stranger = of_another(alloc, other, kinds, name)?;
-            Ok(Some(ended(core, stranger)))
+        _ => false,
+    }
+}
+
+// Whether what comes between is made, and becomes this of its parse.
+fn comes_between<T: TypeSet>(
+    alloc: Global,
+    core: &mut Core<T, OpenTable>,
+    other: &mut Core<T, OpenTable>,
+    kinds: (T::Kind, T::Kind),
+    between: &str,
+    wanted: &str,
+) -> Option<bool> {
+    let asked = words(between);
+    match asked[0] {
+        "" => Some(true),
+        "brought" | "gone" => {
+            let end = end_of_another(alloc, core, other, kinds, between)?;
+            Some(is_end(end, wanted))
         }
-        Between::GivenUp(name) => {
-            let twin = of_another(alloc, other, kinds, name)?;
-            Ok(Some((None, None, core.abandon(twin))))
+        process => {
+            let process = Proc(process.parse().ok()?);
+            answer(alloc, core, kinds, process, asked, &[Handle(4)])?;
+            Some(true)
         }
     }
 }
 
-fn told_in<T: TypeSet>(
+// Whether this is seen: how many reparses are left to the open, objects, and handles.
+fn is_seen<T: TypeSet>(core: &Core<T, OpenTable>, seen: &str) -> bool {
+    let [left, objects, handles, ..] = words(seen);
+    core.left(TICKET) == left.parse().ok() && is_counted(core, objects, handles)
+}
+
+// Whether this becomes of a parse, and objects and handles in the end are these.
+fn ends<T: TypeSet>(
+    core: &mut Core<T, OpenTable>,
+    brought: Brought<T>,
+    end: &str,
+    counts: &str,
+) -> bool {
+    let ended = ended(core, brought);
+    let [objects, handles, ..] = words(counts);
+    is_end(ended, end) && is_counted(core, objects, handles)
+}
+
+// Whether an open is as a line says in a new namespace, beside another.
+fn is_so_in<T: TypeSet>(
     alloc: Global,
     core: &mut Core<T, OpenTable>,
     other: &mut Core<T, OpenTable>,
     kinds: (T::Kind, T::Kind),
-    opens: Opens,
-) -> Result<Told, Fault> {
-    let (own, is_asked) = begun(alloc, core, kinds, opens)?;
-    let came = come_between(alloc, core, other, kinds, opens.4);
-    let waits = (core.left(TICKET), core.objects(), core.handles());
-    let end = ended(core, own);
-    let counts = (core.objects(), core.handles());
-    Ok((is_asked, came?, waits, end, counts))
+    line: &str,
+) -> Option<bool> {
+    let [opens, rest, between, came, seen, end, counts] = fields(line);
+    let (process, asked) = opens.split_once(' ')?;
+    let process = Proc(process.parse().ok()?);
+    let (own, is_asked) = begun(alloc, core, kinds, process, asked, rest)?;
+    let came = comes_between(alloc, core, other, kinds, between, came);
+    let is_seen_so = is_seen(core, seen);
+    let is_ended = ends(core, own, end, counts);
+    Some(came? && is_asked && is_seen_so && is_ended)
 }
 
-// What is told of an open in a new namespace, beside another.
-fn told<T: TypeSet>(
+fn is_so_beside<T: Staged>(
     alloc: Global,
-    sets: (T, T),
-    kinds: (T::Kind, T::Kind),
-    opens: Opens,
-) -> Result<Told, Fault> {
-    let mut core = Core::new(alloc, sets.0)?;
-    let mut other = Core::new(alloc, sets.1)?;
-    told_in(alloc, &mut core, &mut other, kinds, opens)
+    core: &mut Core<T, OpenTable>,
+    line: &str,
+) -> Result<Option<bool>, Fault> {
+    let mut other = Core::new(alloc, T::new())?;
+    Ok(is_so_in(alloc, core, &mut other, T::kinds(), line))
 }
 
-// An open that is answered.
-fn answered(status: Status, handle: u32) -> End {
-    (Some((status, Handle(handle))), None, false)
+fn is_so<T: Staged>(alloc: Global, line: &str) -> Result<Option<bool>, Fault> {
+    let mut core = Core::new(alloc, T::new())?;
+    is_so_beside(alloc, &mut core, line)
 }
 
 #[test]
-fn opens_that_wait_go_on_with_their_parse_or_are_given_up(rt: HostRuntime) -> Result<(), Fail> {
-    let nothing = Between::Nothing;
-    let close = Between::Asked(1, Ask::Close(0));
-    let exit = Between::Asked(2, Ask::Exit);
-    let (waits, closed) = ((Some(32), 7, 1), (Some(32), 7, 0));
-    let scenes: [(&str, Opens, Told); 11] = [
-        (
-            "a file that the device has",
-            (1, PORT, b"\\com1", true, nothing),
-            (true, None, waits, answered(Status::Success, 8), (8, 2)),
-        ),
-        (
-            "a file two components deep",
-            (1, DEEP, b"\\a\\b", true, nothing),
-            (true, None, waits, answered(Status::Success, 8), (8, 2)),
-        ),
-        (
-            "the device itself",
-            (1, DEVICE, b"", true, nothing),
-            (true, None, waits, answered(Status::Success, 8), (8, 2)),
-        ),
-        (
-            "a file that it hasn't",
-            (1, b"\\Device\\Serial0\\com2", b"\\com2", true, nothing),
-            (
-                true,
-                None,
-                waits,
-                answered(Status::TypeRefused(3), 0),
-                (7, 1),
-            ),
-        ),
-        (
-            "an empty component",
-            (1, b"\\Device\\Serial0\\", b"\\", true, nothing),
-            (
-                true,
-                None,
-                waits,
-                answered(Status::TypeRefused(3), 0),
-                (7, 1),
-            ),
-        ),
-        (
-            "an open of another process",
-            (2, PORT, b"\\com1", true, nothing),
-            (true, None, waits, answered(Status::Success, 4), (8, 2)),
-        ),
-        (
-            "the device is pinned, though its last handle is closed and its name goes",
-            (2, PORT, b"\\com1", true, close),
-            (true, None, closed, answered(Status::Success, 4), (7, 1)),
-        ),
-        (
-            "the process that asked ends, and is judged when the parse is brought",
-            (2, PORT, b"\\com1", true, exit),
-            (true, None, waits, answered(Status::ProcessGone, 0), (7, 1)),
-        ),
-        (
-            "a stranger's parse is handed back",
-            (1, PORT, b"\\com1", true, Between::Brought(DEEP)),
-            (
-                true,
-                Some(STRANGER),
-                waits,
-                answered(Status::Success, 8),
-                (8, 2),
-            ),
-        ),
-        (
-            "the parse of an open that was given up by another like it is a stranger's",
-            (1, PORT, b"\\com1", true, Between::GivenUp(PORT)),
-            (true, Some(GIVEN_UP), (None, 7, 1), STRANGER, (7, 1)),
-        ),
-        (
-            "what an open pins stays until it is given up",
-            (1, DEEP, b"\\a\\b", false, close),
-            (true, None, closed, GIVEN_UP, (6, 0)),
-        ),
-    ];
-    for (shows, opens, wanted) in scenes {
-        let told = told(rt.alloc(), (DeviceSet, DeviceSet), KINDS, opens)?;
-        assert_eq!(rt; told, wanted, "{shows}");
+fn opens_that_wait_go_on_with_their_parse_or_are_given_up(rt: HostRuntime) {
+    for line in OPENS.trim().lines() {
+        let is_so = is_so::<DeviceSet>(rt.alloc(), line);
+        assert!(rt; is_so == Ok(Some(true)), "{line}");
     }
-    Ok(())
 }

@@ -16,5 +16,3 @@ mod permanence;
 mod processes;
 #[cfg(test)]
 mod tables;
-#[cfg(test)]
-mod words;

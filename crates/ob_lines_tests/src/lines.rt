@@ -1,14 +1,15 @@
 //! Lines of each form, lines that are none, scripts that are cut into lines, and texts.
 
-use crate::tables::{assert_none, first_other_request, first_with_form};
+use crate::tables::assert_rows;
 use ob_lines::{
     Form, HandleForm, Offset, Request, decode, every_script_has_a_reading, read_line,
     scripts_have_one_reading,
 };
 use std::alloc::{AllocError, Global};
 
-// Each part of a request stands between bars: a place or a name, the bits of the flags, and words.
-const CREATES: &str = r#"p1 dir "\A" PC =a | CreateDirectory | \A | 80 | a
+// Each part of a request stands between bars: a place or a name, the bits of the flags, and words. A handle may have 1 to 3
+// behind its word.
+const REQUESTS: &str = r#"p1 dir "\A" PC =a | CreateDirectory | \A | 80 | a
 p1 dir a:"B" - =b | CreateDirectory | B of a+0 | 0 | b
 p1 dir none - =none | CreateDirectory | none | 0 | none
 p1 dir none:"" - =a | CreateDirectory |  of none+0 | 0 | a
@@ -16,14 +17,8 @@ p1 link "\L" O "\A b:" =l | CreateLink | \L | 128 | \A b: | l
 p1 link a1:"L" L "" =l | CreateLink | L of a1+0 | 256 |  | l
 p1 link none - "a:" =l | CreateLink | none | 0 | a: | l
 p1 make Event stat:"E:" x40 "1" =e | CreateObject | Event | E: of stat+0 | 64 | 1 | e
-p1 make Device "\D" - "a;b" =d | CreateObject | Device | \D | 0 | a;b | d"#;
-
-#[test]
-fn creates_have_their_parts_in_order(rt: HostRuntime) {
-    assert_none(&rt, first_other_request(CREATES));
-}
-
-const OPENS_AND_QUERIES: &str = r#"p1 opendir "\A:" L =a | OpenDirectory | \A: | 256 | a
+p1 make Device "\D" - "a;b" =d | CreateObject | Device | \D | 0 | a;b | d
+p1 opendir "\A:" L =a | OpenDirectory | \A: | 256 | a
 p1 opendir abcdefghijklmnopqrstuvwxyz012345:"" - =a | OpenDirectory |  of abcdefghijklmnopqrstuvwxyz012345+0 | 0 | a
 p1 openlink "\L" C =l | OpenLink | \L | 64 | l
 p1 openlink p1:"L\M" - =l | OpenLink | L\M of p1+0 | 0 | l
@@ -33,14 +28,8 @@ p1 open File "\D\a" - =f | OpenObject | File | \D\a | 0 | f
 p1 open Key k:"a" - =c | OpenObject | Key | a of k+0 | 0 | c
 p1 close l | Close | l+0
 p1 target l | QueryLink | l+0
-p1 name target | QueryName | target+0"#;
-
-#[test]
-fn opens_and_queries_have_their_parts_in_order(rt: HostRuntime) {
-    assert_none(&rt, first_other_request(OPENS_AND_QUERIES));
-}
-
-const OFFSETS: &str = r#"p1 close a+1 | Close | a+1
+p1 name target | QueryName | target+0
+p1 close a+1 | Close | a+1
 p1 close close+2 | Close | close+2
 p1 close abcdefghijklmnopqrstuvwxyz012345+3 | Close | abcdefghijklmnopqrstuvwxyz012345+3
 p1 target a+1 | QueryLink | a+1
@@ -55,11 +44,13 @@ p1 opendir abcdefghijklmnopqrstuvwxyz012345+3:"X" - =x | OpenDirectory | X of ab
 p1 dir a+1:"+2:" - =x | CreateDirectory | +2: of a+1 | 0 | x"#;
 
 #[test]
-fn a_handle_may_have_1_to_3_behind_its_word(rt: HostRuntime) {
-    assert_none(&rt, first_other_request(OFFSETS));
+fn requests_have_their_parts_in_order(rt: HostRuntime) {
+    assert_rows(&rt, REQUESTS);
 }
 
-const OTHER_OFFSETS: &str = r#"p1 close a+|
+// Nothing else stands behind a plus; a relative name is a word, a colon and a text; creates and opens want all their parts;
+// and a target is asked of one word.
+const OTHERS: &str = r#"p1 close a+|
 p1 close a+0|
 p1 close a+4|
 p1 close a+9|
@@ -86,14 +77,8 @@ p1 opendir +1:"X" - =x|
 p1 opendir a:+1"X" - =x|
 p1 opendir "X"+1 - =x|
 p1 opendir "X" - =x+1|
-p1+1 close a|"#;
-
-#[test]
-fn nothing_else_stands_behind_a_plus(rt: HostRuntime) {
-    assert_none(&rt, first_with_form(OTHER_OFFSETS));
-}
-
-const OTHER_NAMES: &str = r#"p1 opendir a: - =x|
+p1+1 close a|
+p1 opendir a: - =x|
 p1 opendir a:x - =x|
 p1 opendir a:" - =x|
 p1 opendir a:"x - =x|
@@ -110,14 +95,8 @@ p1 opendir a::"x" - =x|
 p1 opendir a:b:"x" - =x|
 p1 opendir "a":"x" - =x|
 p1 opendir "a:"x" - =x|
-p1 opendir abcdefghijklmnopqrstuvwxyz0123456:"x" - =x|"#;
-
-#[test]
-fn a_relative_name_is_a_word_a_colon_and_a_text(rt: HostRuntime) {
-    assert_none(&rt, first_with_form(OTHER_NAMES));
-}
-
-const OTHER_CREATES_AND_OPENS: &str = r#"p1 dir a:none - =x|
+p1 opendir abcdefghijklmnopqrstuvwxyz0123456:"x" - =x|
+p1 dir a:none - =x|
 p1 dir none: - =x|
 p1 make Event a:- "" =x|
 p1 make device "\D" - "" =x|
@@ -139,14 +118,8 @@ p1 openlink none - =l|
 p1 openlink "\L" =l|
 p1 openlink any "\L" - =l|
 p1 openlink "\L" - "\A" =l|
-p1 openLink "\L" - =l|"#;
-
-#[test]
-fn creates_and_opens_want_all_their_parts(rt: HostRuntime) {
-    assert_none(&rt, first_with_form(OTHER_CREATES_AND_OPENS));
-}
-
-const OTHER_TARGETS: &str = r#"p1 target|
+p1 openLink "\L" - =l|
+p1 target|
 p1 target |
 p1 target =l|
 p1 target l m|
@@ -157,8 +130,8 @@ p1 target l:""|
 p1 targets l|"#;
 
 #[test]
-fn a_target_is_asked_of_one_word(rt: HostRuntime) {
-    assert_none(&rt, first_with_form(OTHER_TARGETS));
+fn other_lines_are_no_requests(rt: HostRuntime) {
+    assert_rows(&rt, OTHERS);
 }
 
 #[test]

@@ -1,7 +1,7 @@
 //! Lines that list the entries of a directory, page by page.
 
-use crate::tables::{assert_none, first_other_request, first_with_form, request};
-use ob_lines::{Change, PageMode, Request, change_of, form_of};
+use crate::tables::assert_rows;
+use ob_lines::{PageMode, form_of};
 
 const PAGES: &str = r#"p1 list h 0 first | QueryDirectory | h+0 | 0 | First
 p1 list h 16 next | QueryDirectory | h+0 | 16 | Next
@@ -12,37 +12,25 @@ p1 list h 1000000000 next | QueryDirectory | h+0 | 1000000000 | Next
 p1 list h 0 next1 | QueryDirectory | h+0 | 0 | NextSingle
 p1 list h+3 10 first | QueryDirectory | h+3 | 10 | First
 p1 list list 1 first1 | QueryDirectory | list+0 | 1 | FirstSingle
-p1 list next+1 65536 next | QueryDirectory | next+1 | 65536 | Next"#;
-
-// Whether the request of a row turns the page of the word that it lists.
-fn turns_a_page(row: &str) -> Option<bool> {
-    let (_, told) = row.split_once(" | ")?;
-    let request = request(told)?;
-    match request {
-        Request::QueryDirectory { handle, .. } => {
-            Some(change_of(request) == Change::TurnsPage(handle.word))
-        }
-        _ => None,
-    }
-}
-
-// The first row whose request turns no page, or that of another word.
-fn first_other_page(rows: &str) -> Option<&str> {
-    for row in rows.lines() {
-        if turns_a_page(row) != Some(true) {
-            return Some(row);
-        }
-    }
-    None
-}
+p1 list next+1 65536 next | QueryDirectory | next+1 | 65536 | Next
+TurnsPage | h || QueryDirectory | h+0 | 0 | First
+TurnsPage | h || QueryDirectory | h+0 | 16 | Next
+TurnsPage | h || QueryDirectory | h+0 | 1048576 | FirstSingle
+TurnsPage | h || QueryDirectory | h+0 | 4294967295 | NextSingle
+TurnsPage | h || QueryDirectory | h+0 | 9 | First
+TurnsPage | h || QueryDirectory | h+0 | 1000000000 | Next
+TurnsPage | h || QueryDirectory | h+0 | 0 | NextSingle
+TurnsPage | h || QueryDirectory | h+3 | 10 | First
+TurnsPage | list || QueryDirectory | list+0 | 1 | FirstSingle
+TurnsPage | next || QueryDirectory | next+1 | 65536 | Next"#;
 
 #[test]
-fn list_has_a_handle_a_room_and_a_mode(rt: HostRuntime) {
-    assert_none(&rt, first_other_request(PAGES));
-    assert_none(&rt, first_other_page(PAGES));
+fn list_has_a_handle_a_room_and_a_mode_and_turns_the_page_of_its_word(rt: HostRuntime) {
+    assert_rows(&rt, PAGES);
 }
 
-const OTHER_ROOMS: &str = r#"p1 list h 4294967296 first|
+// A room is a number below 2^32 without needless zeros.
+const OTHERS: &str = r#"p1 list h 4294967296 first|
 p1 list h 4294967297 first|
 p1 list h 10000000000 first|
 p1 list h 18446744073709551616 first|
@@ -56,16 +44,8 @@ p1 list h  first|
 p1 list h first|
 p1 list h 1x first|
 p1 list h x1 first|
-p1 list h 1a first|"#;
-
-#[test]
-fn a_room_is_a_number_below_2_to_the_32_without_needless_zeros(rt: HostRuntime) {
-    assert_none(&rt, first_with_form(OTHER_ROOMS));
-    assert!(rt; form_of(b"p1 list h \xFF first").is_none());
-    assert!(rt; form_of(b"p1 list h 1\xFF first").is_none());
-}
-
-const OTHER_LINES: &str = r#"p1 list|
+p1 list h 1a first|
+p1 list|
 p1 list |
 p1 list h|
 p1 list h 1|
@@ -86,7 +66,9 @@ list h 1 first|"#;
 
 #[test]
 fn no_other_lines_list_a_directory(rt: HostRuntime) {
-    assert_none(&rt, first_with_form(OTHER_LINES));
+    assert_rows(&rt, OTHERS);
+    assert!(rt; form_of(b"p1 list h \xFF first").is_none());
+    assert!(rt; form_of(b"p1 list h 1\xFF first").is_none());
 }
 
 #[test]

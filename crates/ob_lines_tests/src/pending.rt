@@ -1,8 +1,8 @@
 //! Lines that begin an open, and that end or drop one that waits for a parse.
 
-use crate::tables::{assert_none, first_other_pending, first_with_form};
+use crate::tables::assert_rows;
 
-// Behind each line stand its process and what that asks, part by part.
+// Behind each line stand its process and what that asks, part by part. The words of these lines may be those of processes.
 const PENDING: &str = r#"p1 begin any "\A" - =v | p1 | Begin | any | \A | 0 | v
 p1 begin Event "\A" I =v | p1 | Begin | Event | \A | 2 | v
 p1 begin Mutant "\A" C =v | p1 | Begin | Mutant | \A | 64 | v
@@ -17,24 +17,18 @@ p1 end stat | p1 | End | stat
 p1 end abcdefghijklmnopqrstuvwxyz012345 | p1 | End | abcdefghijklmnopqrstuvwxyz012345
 p1 drop v | p1 | Drop | v
 p1 drop drop | p1 | Drop | drop
-p1 drop join | p1 | Drop | join"#;
-
-#[test]
-fn opens_that_wait_are_begun_ended_and_dropped(rt: HostRuntime) {
-    assert_none(&rt, first_other_pending(PENDING));
-}
-
-const PROCESS_WORDS: &str = r#"begin end a | begin | End | a
+p1 drop join | p1 | Drop | join
+begin end a | begin | End | a
 end end a | end | End | a
 end drop a | end | Drop | a
 drop begin any "\A" - =v | drop | Begin | any | \A | 0 | v"#;
 
 #[test]
-fn begin_end_and_drop_may_be_process_words(rt: HostRuntime) {
-    assert_none(&rt, first_other_pending(PROCESS_WORDS));
+fn opens_that_wait_are_begun_ended_and_dropped(rt: HostRuntime) {
+    assert_rows(&rt, PENDING);
 }
 
-const OTHER_BEGINS: &str = r#"p1 begin|
+const OTHERS: &str = r#"p1 begin|
 p1 begin |
 p1 begin any|
 p1 begin any "\A"|
@@ -51,14 +45,8 @@ p1 begin any none - =v|
 p1 begin any "\A" II =v|
 p1 begins any "\A" - =v|
 stat begin any "\A" - =v|
-begin any "\A" - =v|"#;
-
-#[test]
-fn no_other_lines_begin_an_open(rt: HostRuntime) {
-    assert_none(&rt, first_with_form(OTHER_BEGINS));
-}
-
-const OTHER_ENDS_AND_DROPS: &str = r#"p1 end|
+begin any "\A" - =v|
+p1 end|
 p1 end |
 p1 end a+1|
 p1 end =a|
@@ -78,6 +66,6 @@ end a|
 join drop a|"#;
 
 #[test]
-fn no_other_lines_end_or_drop_an_open(rt: HostRuntime) {
-    assert_none(&rt, first_with_form(OTHER_ENDS_AND_DROPS));
+fn no_other_lines_begin_end_or_drop_an_open(rt: HostRuntime) {
+    assert_rows(&rt, OTHERS);
 }

@@ -1,6 +1,6 @@
 //! Lines that make an object temporary or permanent.
 
-use crate::tables::{assert_none, first_change, first_other_request, first_with_form};
+use crate::tables::assert_rows;
 
 const TURNS: &str = r#"p1 temp h | MakeTemporary | h+0
 p1 perm h | MakePermanent | h+0
@@ -9,15 +9,16 @@ p1 perm h+3 | MakePermanent | h+3
 p1 temp temp | MakeTemporary | temp+0
 p1 perm temp | MakePermanent | temp+0
 p1 temp perm+1 | MakeTemporary | perm+1
-p1 perm perm+1 | MakePermanent | perm+1"#;
-
-#[test]
-fn temp_and_perm_have_a_handle(rt: HostRuntime) {
-    assert_none(&rt, first_other_request(TURNS));
-    assert_none(&rt, first_change(TURNS));
-}
-
-const OTHER_LINES: &str = r#"p1 temp|
+p1 perm perm+1 | MakePermanent | perm+1
+Nothing || MakeTemporary | h+0
+Nothing || MakePermanent | h+0
+Nothing || MakeTemporary | h+3
+Nothing || MakePermanent | h+3
+Nothing || MakeTemporary | temp+0
+Nothing || MakePermanent | temp+0
+Nothing || MakeTemporary | perm+1
+Nothing || MakePermanent | perm+1
+p1 temp|
 p1 temp |
 p1 temp h |
 p1 temp h q|
@@ -33,6 +34,6 @@ p1 permanent h|
 temp h|"#;
 
 #[test]
-fn no_other_lines_change_permanence(rt: HostRuntime) {
-    assert_none(&rt, first_with_form(OTHER_LINES));
+fn temp_and_perm_have_a_handle_and_change_no_word(rt: HostRuntime) {
+    assert_rows(&rt, TURNS);
 }

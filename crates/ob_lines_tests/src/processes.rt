@@ -1,7 +1,8 @@
 //! Lines that duplicate a handle, begin a process or end one, and the words that a request changes.
 
-use crate::tables::{assert_none, first_other_change, first_other_request, first_with_form};
+use crate::tables::assert_rows;
 
+// At last what the reply to a request changes, and the request.
 const LINES: &str = r#"p1 dup h q plain =v | Duplicate | h+0 | q | false | v
 p1 dup h q inherit =v | Duplicate | h+0 | q | true | v
 p1 dup h p1 plain =h | Duplicate | h+0 | p1 | false | h
@@ -14,14 +15,23 @@ p1 new plain =inherit | NewProcess | false | inherit
 p1 new inherit =p1 | NewProcess | true | p1
 p1 new plain =abcdefghijklmnopqrstuvwxyz012345 | NewProcess | false | abcdefghijklmnopqrstuvwxyz012345
 p1 new inherit =Stat | NewProcess | true | Stat
-p1 exit | ExitProcess"#;
+p1 exit | ExitProcess
+Sets | v || CreateDirectory | none | 0 | v
+Sets | v || OpenObject | any | \A | 0 | v
+GivesUp | h || Close | h+1
+Nothing || QueryName | h+0
+SetsFor | q | v || Duplicate | h+0 | q | false | v
+SetsFor | p1 | h || Duplicate | h+0 | p1 | true | h
+SetsProcess | q | true || NewProcess | true | q
+SetsProcess | p2 | false || NewProcess | false | p2
+GivesAllUp || ExitProcess"#;
 
 #[test]
-fn lines_of_processes_have_their_parts_in_order(rt: HostRuntime) {
-    assert_none(&rt, first_other_request(LINES));
+fn lines_of_processes_have_their_parts_and_replies_change_their_words(rt: HostRuntime) {
+    assert_rows(&rt, LINES);
 }
 
-const OTHER_DUPLICATES: &str = r#"p1 dup|
+const OTHERS: &str = r#"p1 dup|
 p1 dup |
 p1 dup h|
 p1 dup h q|
@@ -44,14 +54,8 @@ p1 dup h  q plain =v|
 p1 dup h stat plain =v|
 p1 dup h thread inherit =v|
 p1 dup h join plain =v|
-stat dup h q plain =v|"#;
-
-#[test]
-fn a_duplicate_wants_all_its_parts(rt: HostRuntime) {
-    assert_none(&rt, first_with_form(OTHER_DUPLICATES));
-}
-
-const OTHER_LINES: &str = r#"p1 new|
+stat dup h q plain =v|
+p1 new|
 p1 new |
 p1 new =q|
 p1 new plain|
@@ -74,22 +78,6 @@ p1 exits|
 join exit|"#;
 
 #[test]
-fn processes_begin_and_end_in_no_other_lines(rt: HostRuntime) {
-    assert_none(&rt, first_with_form(OTHER_LINES));
-}
-
-// What the reply to a request changes, and the request.
-const CHANGES: &str = r#"Sets | v || CreateDirectory | none | 0 | v
-Sets | v || OpenObject | any | \A | 0 | v
-GivesUp | h || Close | h+1
-Nothing || QueryName | h+0
-SetsFor | q | v || Duplicate | h+0 | q | false | v
-SetsFor | p1 | h || Duplicate | h+0 | p1 | true | h
-SetsProcess | q | true || NewProcess | true | q
-SetsProcess | p2 | false || NewProcess | false | p2
-GivesAllUp || ExitProcess"#;
-
-#[test]
-fn a_reply_changes_the_words_of_its_request(rt: HostRuntime) {
-    assert_none(&rt, first_other_change(CHANGES));
+fn no_other_lines_duplicate_a_handle_or_begin_or_end_a_process(rt: HostRuntime) {
+    assert_rows(&rt, OTHERS);
 }

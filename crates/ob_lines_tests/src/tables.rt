@@ -1,4 +1,5 @@
-//! Tables of lines as texts: a row has a line and, behind it, what the line is, part by part.
+//! Tables of lines as texts: a row has a line and, behind it, what the line is, part by part; or a change, and behind it the
+//! request whose reply makes it.
 
 use ob_lines::{
     Change, Form, HandleForm, KindForm, NameForm, Offset, PageMode, PendingForm, PlaceForm,
@@ -6,86 +7,43 @@ use ob_lines::{
 };
 use std::process::Abort;
 
-/// Asserts that no row is other than it is to be.
-pub(crate) fn assert_none(rt: &impl Abort, other: Option<&str>) {
-    assert_eq!(rt; other, None);
+/// Asserts that each row of a table is as it says.
+pub(crate) fn assert_rows(rt: &impl Abort, rows: &str) {
+    assert_eq!(rt; first_other(rows), None);
 }
 
-/// The first line of a table that has a form, where none is to. Each line ends at a bar, so that a blank at its end is
-/// seen.
-pub(crate) fn first_with_form(lines: &str) -> Option<&str> {
-    for row in lines.lines() {
-        match row.strip_suffix("|") {
-            Some(line) if form_of(line.as_bytes()).is_none() => {}
-            _ => return Some(row),
-        }
-    }
-    None
-}
-
-/// The first row of a table whose line isn't what the row tells behind it: what process `p1` asks for.
-pub(crate) fn first_other_request(rows: &str) -> Option<&str> {
+// The first row of a table that isn't as it says.
+fn first_other(rows: &str) -> Option<&str> {
     for row in rows.lines() {
-        if is_request(row) != Some(true) {
+        if is_so(row) != Some(true) {
             return Some(row);
         }
     }
     None
 }
 
-fn is_request(row: &str) -> Option<bool> {
+// Whether a row is as it says: its line has no form, where it ends at a bar, so that a blank at its end is seen; or the reply to
+// a request makes a change; or its line has the form that stands behind it.
+fn is_so(row: &str) -> Option<bool> {
+    if let Some(line) = row.strip_suffix("|") {
+        return Some(form_of(line.as_bytes()).is_none());
+    }
+    if let Some((told, of)) = row.split_once(" || ") {
+        return Some(change_of(request(of)?) == change(told)?);
+    }
     let (line, told) = row.split_once(" | ")?;
-    let request = request(told)?;
-    let process = b"p1".as_slice();
-    Some(form_of(line.as_bytes()) == Some(Form::Asks { process, request }))
+    Some(form_of(line.as_bytes()) == Some(form(told)?))
 }
 
-/// The first row of a table whose line isn't what the row tells behind it: what a process asks of the opens that wait.
-pub(crate) fn first_other_pending(rows: &str) -> Option<&str> {
-    for row in rows.lines() {
-        if is_pending(row) != Some(true) {
-            return Some(row);
-        }
+// A form: what a process asks of the opens that wait, told behind the process, or what process `p1` asks for.
+fn form(told: &str) -> Option<Form<&[u8]>> {
+    let (process, behind) = cut(told);
+    if let Some(pending) = pending(behind) {
+        let process = process.as_bytes();
+        return Some(Form::Waits { process, pending });
     }
-    None
-}
-
-fn is_pending(row: &str) -> Option<bool> {
-    let (line, told) = row.split_once(" | ")?;
-    let (process, told) = told.split_once(" | ")?;
-    let pending = pending(told)?;
-    let process = process.as_bytes();
-    Some(form_of(line.as_bytes()) == Some(Form::Waits { process, pending }))
-}
-
-/// The first row of a table of requests whose reply changes a word, or turns a page.
-pub(crate) fn first_change(rows: &str) -> Option<&str> {
-    for row in rows.lines() {
-        if changes(row) != Some(false) {
-            return Some(row);
-        }
-    }
-    None
-}
-
-fn changes(row: &str) -> Option<bool> {
-    let (_, told) = row.split_once(" | ")?;
-    Some(change_of(request(told)?) != Change::Nothing)
-}
-
-/// The first row of a table that tells another change than the reply to its request makes.
-pub(crate) fn first_other_change(rows: &str) -> Option<&str> {
-    for row in rows.lines() {
-        if is_change(row) != Some(true) {
-            return Some(row);
-        }
-    }
-    None
-}
-
-fn is_change(row: &str) -> Option<bool> {
-    let (told, of) = row.split_once(" || ")?;
-    Some(change_of(request(of)?) == change(told)?)
+    let (process, request) = (b"p1".as_slice(), request(told)?);
+    Some(Form::Asks { process, request })
 }
 
 // A change, told by its name and its parts.
@@ -97,6 +55,7 @@ fn change(told: &str) -> Option<Change<&[u8]>> {
         "Sets" => Some(Change::Sets(word)),
         "GivesUp" => Some(Change::GivesUp(word)),
         "GivesAllUp" => Some(Change::GivesAllUp),
+        "TurnsPage" => Some(Change::TurnsPage(word)),
         _ => change_of_another(parts),
     }
 }
@@ -116,8 +75,8 @@ fn change_of_another(parts: Parts<'_>) -> Option<Change<&[u8]>> {
     }
 }
 
-/// A request, told by its name and its parts, in their order, with bars between them.
-pub(crate) fn request(told: &str) -> Option<Request<&[u8]>> {
+// A request, told by its name and its parts, in their order, with bars between them.
+fn request(told: &str) -> Option<Request<&[u8]>> {
     let parts = parts(told);
     match parts[0] {
         "CreateDirectory" => Some(directory(parts)),

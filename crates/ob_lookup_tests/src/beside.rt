@@ -10,7 +10,6 @@ use ob_device::{DeviceKind, DeviceSet};
 use ob_devmap::View;
 use ob_types::TypeSet;
 use std::alloc::Global;
-use std::test::Fail;
 
 // The names, the kinds and the links of the namespaces below, and what is looked up in them.
 const NAMES: [u8; 3] = [b'a', b'A', b'b'];
@@ -41,7 +40,7 @@ fn fill<T: TypeSet>(
     rows: &mut Vec<PlainRow>,
     devices: T::Kind,
     number: u64,
-) -> Result<(), Fail> {
+) -> Option<()> {
     let mut last = ROOT;
     for k in 0..4u32 {
         let directory = if digit(number, k, 2) == 0 { ROOT } else { last };
@@ -60,12 +59,13 @@ fn fill<T: TypeSet>(
             name,
             object: id.0,
             kind,
-        })?;
+        })
+        .ok()?;
         if matches!(kind, Kind::Directory) {
             last = id;
         }
     }
-    Ok(())
+    Some(())
 }
 
 // The view of a namespace: its first directory below the root is the global one, and a later one the local one.
@@ -87,44 +87,57 @@ fn view_of(rows: &[PlainRow]) -> View {
     }
 }
 
-// The first name that a lookup and the plain search don't end alike for, where at most three reparses are made, in the
-// namespace of a number.
+// Whether a lookup and the plain search end alike for a name in each mode, where at most three reparses are made; nothing where
+// memory is wanted.
+fn ends_alike<T: TypeSet>(
+    alloc: Global,
+    space: &Space<T>,
+    rows: &[PlainRow],
+    view: &View,
+    name: &str,
+) -> Option<bool> {
+    for mode in ["open", "folded", "link", "create"] {
+        let (mode, text) = (mode_of(mode), name.as_bytes());
+        let end = search(alloc, rows, view, mode, text, 3)?;
+        if !ends_within(alloc, space, view, (mode, 3), text, end)? {
+            return Some(false);
+        }
+    }
+    Some(true)
+}
+
+// The first name that both don't end alike for, in the namespace of a number.
 fn first_other<T: TypeSet>(
     alloc: Global,
     space: &mut Space<T>,
     devices: T::Kind,
     number: u64,
-) -> Result<Option<&'static str>, Fail> {
+) -> Option<&'static str> {
     let mut rows = Vec::new(alloc);
-    fill(alloc, space, &mut rows, devices, number)?;
+    if fill(alloc, space, &mut rows, devices, number).is_none() {
+        return Some("no memory");
+    }
     let view = view_of(rows.as_slice());
     for name in LOOKED_UP.split_whitespace() {
-        for mode in ["open", "folded", "link", "create"] {
-            let (mode, text) = (mode_of(mode), name.as_bytes());
-            let end = search(alloc, rows.as_slice(), &view, mode, text, 3)?;
-            if !ends_within(alloc, space, &view, (mode, 3), text, end)? {
-                return Ok(Some(name));
-            }
+        if ends_alike(alloc, space, rows.as_slice(), &view, name) != Some(true) {
+            return Some(name);
         }
     }
-    Ok(None)
+    None
 }
 
 // The same in a new namespace.
-fn differs<T: TypeSet>(
-    alloc: Global,
-    devices: T::Kind,
-    number: u64,
-) -> Result<Option<&'static str>, Fail> {
-    let mut space: Space<T> = Space::new(alloc)?;
+fn differs<T: TypeSet>(alloc: Global, devices: T::Kind, number: u64) -> Option<&'static str> {
+    let Some(mut space) = Space::<T>::new(alloc) else {
+        return Some("no memory");
+    };
     first_other(alloc, &mut space, devices, number)
 }
 
 #[test]
-fn ends_as_a_plain_search(rt: HostRuntime) -> Result<(), Fail> {
+fn ends_as_a_plain_search(rt: HostRuntime) {
     for number in 0..343u64 {
-        let name = differs::<DeviceSet>(rt.alloc(), DeviceKind::Device, number * 7)?;
+        let name = differs::<DeviceSet>(rt.alloc(), DeviceKind::Device, number * 7);
         assert!(rt; name.is_none(), "at {number} {name:?}");
     }
-    Ok(())
 }

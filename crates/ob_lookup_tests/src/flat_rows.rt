@@ -4,7 +4,6 @@
 use ob_devmap::View;
 use ob_lookup::Mode;
 use std::alloc::Global;
-use std::test::Fail;
 
 // What a lookup is wanted to end with; a refusal by the word of its status.
 #[derive(Clone, Copy)]
@@ -81,7 +80,7 @@ fn begin_of(view: &View, create: bool, text: &[u8]) -> Begin {
     }
 }
 
-// What an absolute name ends with.
+// What an absolute name ends with; nothing where memory is wanted, or the search has no end.
 pub(crate) fn search(
     alloc: Global,
     rows: &[PlainRow],
@@ -89,9 +88,9 @@ pub(crate) fn search(
     mode: Mode,
     name: &[u8],
     budget: u32,
-) -> Result<End<'static>, Fail> {
+) -> Option<End<'static>> {
     let mut left = budget;
-    let mut text = name.to_vec(alloc)?;
+    let mut text = name.to_vec(alloc).ok()?;
     let Begin {
         mut directory,
         mut second,
@@ -100,7 +99,7 @@ pub(crate) fn search(
     for _ in 0..64 {
         let rest = text.as_slice().get(at..).unwrap_or(&[]);
         match next_turn(rows, mode, directory, second, rest) {
-            Turn::Ends(end) => return Ok(end),
+            Turn::Ends(end) => return Some(end),
             Turn::Enters(next) => {
                 directory = next;
                 second = None;
@@ -108,10 +107,10 @@ pub(crate) fn search(
             }
             Turn::Follows(target) => {
                 if left == 0 {
-                    return Ok(End::Refused("REPARSE_LIMIT"));
+                    return Some(End::Refused("REPARSE_LIMIT"));
                 }
                 if target.first() != Some(&b'\\') {
-                    return Ok(End::Refused("OBJECT_PATH_SYNTAX_BAD"));
+                    return Some(End::Refused("OBJECT_PATH_SYNTAX_BAD"));
                 }
                 let made = joined(alloc, target, rest.get(2..).unwrap_or(&[]))?;
                 left -= 1;
@@ -123,17 +122,17 @@ pub(crate) fn search(
             }
         }
     }
-    Err(Fail::from("the search has no end"))
+    None
 }
 
 // A target and a rest, with one separator where two meet.
-fn joined(alloc: Global, target: &[u8], rest: &[u8]) -> Result<Vec<u8>, Fail> {
-    let mut made = target.to_vec(alloc)?;
+fn joined(alloc: Global, target: &[u8], rest: &[u8]) -> Option<Vec<u8>> {
+    let mut made = target.to_vec(alloc).ok()?;
     if made.as_slice().last() == Some(&b'\\') && !rest.is_empty() {
         made.pop();
     }
-    made.extend_from_slice(rest)?;
-    Ok(made)
+    made.extend_from_slice(rest).ok()?;
+    Some(made)
 }
 
 // What comes of the next component in a directory, and in a second one.

@@ -21,7 +21,6 @@ use ob_lookup::{Look, Mode, look};
 use ob_names::Name;
 use ob_types::TypeSet;
 use std::alloc::Global;
-use std::test::Fail;
 
 pub(crate) const ROOT: ObjId = ObjId(1);
 
@@ -83,7 +82,8 @@ fn is_end(look: &Look, end: End<'_>) -> bool {
     }
 }
 
-/// Whether a name ends so for a process of this view, where at most so many reparses are made.
+/// Whether a name ends so for a process of this view, where at most so many reparses are made; nothing where a directory of the
+/// view isn't there, or memory is wanted.
 pub(crate) fn ends_within<T: TypeSet>(
     alloc: Global,
     space: &Space<T>,
@@ -91,13 +91,14 @@ pub(crate) fn ends_within<T: TypeSet>(
     (mode, budget): (Mode, u32),
     name: &[u8],
     end: End<'_>,
-) -> Result<bool, Fail> {
+) -> Option<bool> {
     let store = space.store();
     if !has_view(store, view) {
-        return Err(Fail::from("no directory of the view"));
+        return None;
     }
-    let found = look(alloc, store, *view, None, Name::read(name)?, mode, budget)?;
-    Ok(is_end(&found, end))
+    let name = Name::read(name).ok()?;
+    let found = look(alloc, store, *view, None, name, mode, budget).ok()?;
+    Some(is_end(&found, end))
 }
 
 // Whether a name ends so, relative to an object.
@@ -108,22 +109,18 @@ fn ends_from<T: TypeSet>(
     mode: Mode,
     name: &[u8],
     end: End<'_>,
-) -> Result<bool, Fail> {
+) -> Option<bool> {
     let store = space.store();
     let Some(_) = store.get(root) else {
-        return Err(Fail::from("no root object"));
+        return None;
     };
-    let found = look(alloc, store, PLAIN, Some(root), Name::read(name)?, mode, 32)?;
-    Ok(is_end(&found, end))
+    let name = Name::read(name).ok()?;
+    let found = look(alloc, store, PLAIN, Some(root), name, mode, 32).ok()?;
+    Some(is_end(&found, end))
 }
 
 // Whether a name is looked up to the end that a line says.
-fn ends_so<T: TypeSet>(
-    alloc: Global,
-    space: &Space<T>,
-    view: &View,
-    line: &str,
-) -> Result<bool, Fail> {
+fn ends_so<T: TypeSet>(alloc: Global, space: &Space<T>, view: &View, line: &str) -> Option<bool> {
     let (asked, behind) = line.split_once('|').unwrap_or((line, ""));
     let (name, end) = behind.split_once('|').unwrap_or((behind, ""));
     let ([mode, root, budget, ..], name, end) = (words(asked), name.trim(), end_of(end));
@@ -141,23 +138,23 @@ fn add_chain<T: TypeSet>(
     space: &mut Space<T>,
     devices: T::Kind,
     target: &[u8],
-) -> Result<(), Fail> {
+) -> Option<()> {
     space.add(alloc, devices, ROOT, b"0", Kind::Link(target))?;
     for k in 0..32u8 {
         let before = [b'\\', b'0' + k];
         space.add(alloc, devices, ROOT, &[b'1' + k], Kind::Link(&before))?;
     }
-    Ok(())
+    Some(())
 }
 
 // Adds a link `\L` to a name of 32,760 bytes that leads nowhere.
-fn add_long<T: TypeSet>(alloc: Global, space: &mut Space<T>, devices: T::Kind) -> Result<(), Fail> {
-    let mut target = vec![in alloc; b'a'; 32_760]?;
+fn add_long<T: TypeSet>(alloc: Global, space: &mut Space<T>, devices: T::Kind) -> Option<()> {
+    let mut target = vec![in alloc; b'a'; 32_760].ok()?;
     if let Some(byte) = target.first_mut() {
         *byte = b'\\';
     }
     space.add(alloc, devices, ROOT, b"L", Kind::Link(target.as_slice()))?;
-    Ok(())
+    Some(())
 }
 
 // The kind of an object by a word, with this target where it is a link.
@@ -176,15 +173,15 @@ fn add<T: TypeSet>(
     space: &mut Space<T>,
     devices: T::Kind,
     words: [&str; 5],
-) -> Result<(), Fail> {
+) -> Option<()> {
     let [what, first, name, kind, target] = words;
     match what {
         "chain" => add_chain(alloc, space, devices, first.as_bytes()),
         "long" => add_long(alloc, space, devices),
         _ => {
-            let (directory, kind) = (ObjId(first.parse()?), kind_of(kind, target));
+            let (directory, kind) = (ObjId(first.parse().ok()?), kind_of(kind, target));
             space.add(alloc, devices, directory, name.as_bytes(), kind)?;
-            Ok(())
+            Some(())
         }
     }
 }
@@ -195,26 +192,23 @@ fn first_other_in<'a, T: TypeSet>(
     space: &mut Space<T>,
     devices: T::Kind,
     lines: &'a str,
-) -> Result<Option<&'a str>, Fail> {
+) -> Option<&'a str> {
     let mut view = PLAIN;
     for line in lines.trim().lines() {
         let [what, first, second, third, ..] = words(line);
         let is_so = match what {
-            "add" | "chain" | "long" => {
-                add(alloc, space, devices, words(line))?;
-                true
-            }
+            "add" | "chain" | "long" => add(alloc, space, devices, words(line)).is_some(),
             "view" => {
                 view = view_of(first, second);
                 has_view(space.store(), &view) == (third == "there")
             }
-            _ => ends_so(alloc, space, &view, line)?,
+            _ => ends_so(alloc, space, &view, line) == Some(true),
         };
         if !is_so {
-            return Ok(Some(line));
+            return Some(line);
         }
     }
-    Ok(None)
+    None
 }
 
 fn view_of(local: &str, global: &str) -> View {
@@ -227,12 +221,10 @@ fn view_of(local: &str, global: &str) -> View {
     }
 }
 
-fn first_other<'a, T: TypeSet>(
-    alloc: Global,
-    devices: T::Kind,
-    lines: &'a str,
-) -> Result<Option<&'a str>, Fail> {
-    let mut space: Space<T> = Space::new(alloc)?;
+fn first_other<T: TypeSet>(alloc: Global, devices: T::Kind, lines: &str) -> Option<&str> {
+    let Some(mut space) = Space::<T>::new(alloc) else {
+        return Some(lines);
+    };
     first_other_in(alloc, &mut space, devices, lines)
 }
 
@@ -304,26 +296,17 @@ open 2    | Raw\a       | parse 10 32 \a
 open 2    |             | at 2
 ";
 
-#[test]
-fn names_end_at_objects_at_vacant_places_in_parses_and_in_refusals(
-    rt: HostRuntime,
-) -> Result<(), Fail> {
-    let other = first_other::<DeviceSet>(rt.alloc(), DeviceKind::Device, SMALL)?;
-    assert_eq!(rt; other, None);
-    Ok(())
-}
-
-// Chains of links to `\Device`, which is the local directory, and to `\??`, which behind 32 links is the view as it is
-// without one.
-const CHAINS: [&'static str; 2] = [
-    r"
+// A chain of links to `\Device`, which is the local directory: 32 are followed.
+const CHAIN: &'static str = r"
 add 1 Device directory
 chain \Device
 view 2 1 there
 open   | \O        | at 2
 open   | \P        | REPARSE_LIMIT
-",
-    r"
+";
+
+// One of links to `\??`, which behind 32 links is the view as it is without one.
+const CHAIN_TO_VIEW: &'static str = r"
 add 1 Device directory
 chain \??
 view 2 1 there
@@ -331,17 +314,7 @@ open   | \O        | at 2
 open   | \P        | REPARSE_LIMIT
 open   | \O\Device | at 2
 create | \O\Device | vacant 2 Device
-",
-];
-
-#[test]
-fn chains_of_32_links_are_followed_and_longer_ones_refused(rt: HostRuntime) -> Result<(), Fail> {
-    for chain in CHAINS {
-        let other = first_other::<DeviceSet>(rt.alloc(), DeviceKind::Device, chain)?;
-        assert_eq!(rt; other, None, "{chain}");
-    }
-    Ok(())
-}
+";
 
 // A namespace with device names: `\GLOBAL??` is 2, a process's local directory 3. `C:` is 4 locally and 5 globally, and
 // `D:` is 6 globally alone. `\DosDevices` leads to `\??`, and `\Drive` behind that to `D:`. `e:` is local, `E:` and `f:`
@@ -406,15 +379,7 @@ create | \??\D:           | at 6
 create | \??\G:           | vacant 2 G:
 ";
 
-#[test]
-fn a_process_looks_in_its_local_directory_before_the_global_one(
-    rt: HostRuntime,
-) -> Result<(), Fail> {
-    let other = first_other::<DeviceSet>(rt.alloc(), DeviceKind::Device, DEVICE_NAMES)?;
-    assert_eq!(rt; other, None);
-    Ok(())
-}
-
+// The limit of reparses is told before the length of a name.
 const LONG: &'static str = r"
 long
 open - 32 | \L\234567  | OBJECT_PATH_NOT_FOUND
@@ -422,9 +387,12 @@ open - 32 | \L\2345678 | NAME_TOO_LONG
 open - 0  | \L\2345678 | REPARSE_LIMIT
 ";
 
+const SPACES: [&'static str; 5] = [SMALL, CHAIN, CHAIN_TO_VIEW, DEVICE_NAMES, LONG];
+
 #[test]
-fn the_limit_is_told_before_the_length(rt: HostRuntime) -> Result<(), Fail> {
-    let other = first_other::<DeviceSet>(rt.alloc(), DeviceKind::Device, LONG)?;
-    assert_eq!(rt; other, None);
-    Ok(())
+fn names_end_at_objects_at_vacant_places_in_parses_and_in_refusals(rt: HostRuntime) {
+    for lines in SPACES {
+        let other = first_other::<DeviceSet>(rt.alloc(), DeviceKind::Device, lines);
+        assert_eq!(rt; other, None);
+    }
 }

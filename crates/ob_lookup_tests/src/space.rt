@@ -16,7 +16,6 @@ use ob_objects::{Store, StoredBody, StoredObject};
 use ob_types::TypeSet;
 use std::alloc::Global;
 use std::marker::Model;
-use std::test::Fail;
 
 // A store in which each name leads to an object, and the number that the next object gets, which is
 // the stamp of its name too. The first one is the root.
@@ -39,11 +38,11 @@ impl<T: TypeSet> Model for Space<T> {
 
 impl<T: TypeSet> Space<T> {
     // A namespace of a root directory alone.
-    pub(crate) fn new(alloc: Global) -> Result<Space<T>, Fail> {
+    pub(crate) fn new(alloc: Global) -> Option<Space<T>> {
         let mut store = Store::new(alloc);
         let root = temporary(StoredBody::Directory(Dir::new(alloc)));
-        store.insert(ObjId(1), root)?;
-        Ok(Space { store, next: 2 })
+        store.insert(ObjId(1), root).ok()?;
+        Some(Space { store, next: 2 })
     }
 
     // The store.
@@ -54,7 +53,7 @@ impl<T: TypeSet> Space<T> {
     }
 
     // Adds an object of a kind under a name in a directory, where this kind of the set is that of devices, and gives
-    // its id.
+    // its id; nothing where the directory has no place for it, or memory is wanted.
     pub(crate) fn add(
         &mut self,
         alloc: Global,
@@ -62,16 +61,16 @@ impl<T: TypeSet> Space<T> {
         directory: ObjId,
         name: &[u8],
         kind: Kind<'_>,
-    ) -> Result<ObjId, Fail> {
-        let name = NameBuf::from_name(alloc, Name::read(name)?)?;
+    ) -> Option<ObjId> {
+        let name = NameBuf::from_name(alloc, Name::read(name).ok()?).ok()?;
         let id = self.next;
         if id == u64::MAX || !is_free(&self.store, directory, name.as_slice()) {
-            return Err(Fail::from("no place for the object"));
+            return None;
         }
         let body = body::<T>(alloc, devices, kind)?;
         self.next += 1;
-        put(&mut self.store, directory, id, name, temporary(body))?;
-        Ok(ObjId(id))
+        put(&mut self.store, directory, id, name, temporary(body)).ok()?;
+        Some(ObjId(id))
     }
 }
 

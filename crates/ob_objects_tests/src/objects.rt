@@ -171,7 +171,7 @@ fn enters<T: TypeSet>(store: &Store<T>, directory: ObjId, told: [&str; 3]) -> Op
 
 // Whether a line is told.
 fn is_told<T: TypeSet>(store: &Store<T>, line: &str) -> Option<bool> {
-    let [what, number, a, b, c, d, ..] = words(line);
+    let [what, number, a, b, c, d] = words(line);
     let id = object(number)?;
     match what {
         "counts" => Some(counts(store, number)),

@@ -3,12 +3,9 @@
 use ob_base::ObjId;
 
 /// The words of a line; those that it lacks are empty.
-pub(crate) fn words(line: &str) -> [&str; 9] {
+pub(crate) fn words(line: &str) -> [&str; 6] {
     let mut words = line.split_ascii_whitespace();
     [
-        words.next().unwrap_or(""),
-        words.next().unwrap_or(""),
-        words.next().unwrap_or(""),
         words.next().unwrap_or(""),
         words.next().unwrap_or(""),
         words.next().unwrap_or(""),

@@ -1,18 +1,30 @@
 //! Keys: their arguments, and the keys and names that names lead to.
 
-use crate::objects::{
-    Told, answers, are_counted, are_same, face, hand_over_laws, refusal, refusal_of_letters,
-};
-use crate::tables::{assert_lines, fields, refused, word};
+use crate::objects::{Told, is_so, made};
+use crate::tables::{fields, refused, word};
 use ob_arguments::{Path, is_readable};
 use ob_key::{KeyFace, KeyInner, KeyKind, KeySet, KeyTable};
-use ob_types::{ParseAnswer, Reason, TypeSet, is_one_kind};
-use std::alloc::{AllocError, Global};
-use std::test::Fail;
+use ob_types::{ParseAnswer, TypeSet};
+use std::alloc::Global;
+use std::process::Abort;
 
+// A key `a` with `b` and `c` below it, a key `d`, and links to `\X` and to `\Y\`.
+const ENTRIES: &str = r"a\b\c;d;l>\X;a\m>\Y\";
+
+/// A key is told by its arguments and, behind `@`, its path; or by `at` and the path of a key of the entries above.
 impl Told for KeySet {
     fn kind(_name: &str) -> KeyKind {
         KeyKind::Key
+    }
+
+    fn face(alloc: Global, object: &str) -> Option<KeyFace> {
+        let (name, told) = word(object);
+        let (args, path) = match name {
+            "at" => (ENTRIES, told),
+            _ => told.split_once('@').unwrap_or((told, "")),
+        };
+        let root = made::<KeySet>(alloc, KeyKind::Key, args.trim().as_bytes())?;
+        root.at(Path::new(alloc, path.trim().as_bytes()).ok()?).ok()
     }
 
     fn is_new(face: &KeyFace, inner: &KeyInner, field: &str) -> bool {
@@ -25,296 +37,162 @@ impl Told for KeySet {
     }
 }
 
-// Arguments, and whether a key is made of them or a number refuses it.
-const MAKES: &'static str = r"
-              | made
-a             | made
-a;a\b;b       | made
-a;A           | made
-a\b>\X;a      | made
-a>b>c         | made
-ab;a>b        | made
-a>x;b\c>x     | made
-;             | refused 1
-a;            | refused 1
-;a            | refused 1
-a;;b          | refused 1
-\a            | refused 1
-a\            | refused 1
-a\\b          | refused 1
-a>            | refused 1
->a            | refused 1
-a>;b          | refused 1
-a;b;a         | refused 1
-a;b;a>c       | refused 1
-a>b;c;a>d     | refused 1
-a>b;c;a\d     | refused 1
-a\d;c;a>b     | refused 1
-a\b\c>d;a\b>d | refused 1
+// Beside what is told of any set:
+//
+// - `make`: the entries of the arguments may stand in one table where the key is made, and else not.
+// - `parse`: where it leads to a key, that has the table of the key that is asked.
+// - `path`: the path of a key, a name, and the path of that name below the key.
+// - `long`: the bytes of a target, and what is answered to `\l\b` and to `\l` where the link `l` has it: the bytes of the
+//   name, or a number that refuses.
+const KEYS: &'static str = r"
+make    | Key               | made      | parses
+make    | Key a             | made      | parses
+make    | Key a;a\b;b       | made      | parses
+make    | Key a;A           | made      | parses
+make    | Key a\b>\X;a      | made      | parses
+make    | Key a>b>c         | made      | parses
+make    | Key ab;a>b        | made      | parses
+make    | Key a>x;b\c>x     | made      | parses
+make    | Key ;             | refused 1 | parses
+make    | Key a;            | refused 1 | parses
+make    | Key ;a            | refused 1 | parses
+make    | Key a;;b          | refused 1 | parses
+make    | Key \a            | refused 1 | parses
+make    | Key a\            | refused 1 | parses
+make    | Key a\\b          | refused 1 | parses
+make    | Key a>            | refused 1 | parses
+make    | Key >a            | refused 1 | parses
+make    | Key a>;b          | refused 1 | parses
+make    | Key a;b;a         | refused 1 | parses
+make    | Key a;b;a>c       | refused 1 | parses
+make    | Key a>b;c;a>d     | refused 1 | parses
+make    | Key a>b;c;a\d     | refused 1 | parses
+make    | Key a\d;c;a>b     | refused 1 | parses
+make    | Key a\b\c>d;a\b>d | refused 1 | parses
+letters | Key 65535         | made
+letters | Key 65536         | refused 1
+kind    | Key               | Key | parses
+same    | Key           | Key           | same
+same    | Key a;b>c @ a | Key a;b>c @ a | same
+same    | Key a\b @ a   | Key a\b @ a\b | other
+same    | Key a @ a     | Key a;b @ a   | other
+same    | Key a;b       | Key b;a       | other
+same    | Key a>b       | Key a         | other
+parse   | at       |        | itself
+parse   | at a\b   |        | itself
+parse   | at       | d      | 1 key d
+parse   | at       | \d     | 2 key d
+parse   | at       | \a\b\c | 2 key a
+parse   | at a     | \b\c   | 2 key a\b
+parse   | at a\b   | \c     | 2 key a\b\c
+parse   | at       | d\     | 1 key d
+parse   | at       | l      | name \X
+parse   | at       | \l     | name \X
+parse   | at       | \l\b c | name \X\b c
+parse   | at       | l\     | name \X\
+parse   | at a     | \m     | name \Y\
+parse   | at a     | \m\b   | name \Y\b
+parse   | at       | \      | refused 3
+parse   | at       | \\d    | refused 3
+parse   | at d     | \      | refused 3
+parse   | at       | \b     | refused 3
+parse   | at       | \D     | refused 3
+parse   | at       | \L     | refused 3
+parse   | at       | \m     | refused 3
+parse   | at d     | \d     | refused 3
+parse   | at a\b\c | d      | refused 3
+path    |     | a   | a
+path    | a   | b   | a\b
+path    | a\b | c d | a\b\c d
+path    |     |     |
+long    | 32765 | 32767     | 32765
+long    | 32766 | refused 4 | 32766
+long    | 32767 | refused 4 | 32767
+long    | 32768 | refused 4 | refused 4
+life    | Key | 0          | inherited 1 | 2
+life    | Key | 7          | inherited 8 | 9
+life    | Key | 4294967294 | inherited 4294967295 | 4294967295
+life    | Key | 4294967295 | inherited 4294967295 | 4294967295
 ";
 
-// The same with bytes that can't be read.
+// Bytes that can't be read.
 const UNREADABLE: &'static str = "
-a\x1f  | refused 1
-a>\x7f | refused 1
+make  | Key a\x1f  | refused 1 | parses
+make  | Key a>\x7f | refused 1 | parses
+parse | at         | l\\\x7f   | refused 3
 ";
 
 // Whether the entries of arguments that can be read may stand in one table.
-fn is_fit(alloc: Global, args: &[u8]) -> Result<bool, AllocError> {
+fn is_fit(alloc: Global, args: &[u8]) -> Option<bool> {
     if !is_readable(args) {
-        return Ok(false);
+        return Some(false);
     }
-    Ok(KeyTable::read(alloc, args)?.is_fit())
+    Some(KeyTable::read(alloc, args).ok()?.is_fit())
 }
-
-fn is_made_so(alloc: Global, line: &str) -> Result<bool, Fail> {
-    let [args, wanted, ..] = fields(line);
-    let code = refusal::<KeySet>(alloc, KeyKind::Key, args.as_bytes())?;
-    let is_fit = is_fit(alloc, args.as_bytes())?;
-    Ok(code == refused(wanted) && is_fit == (wanted == "made"))
-}
-
-#[test]
-fn keys_are_made_of_entries_that_are_fit(rt: HostRuntime) -> Result<(), Fail> {
-    assert_lines(&rt, rt.alloc(), MAKES, is_made_so)?;
-    assert_lines(&rt, rt.alloc(), UNREADABLE, is_made_so)
-}
-
-#[test]
-fn arguments_above_65535_bytes_are_refused(rt: HostRuntime) -> Result<(), Fail> {
-    let key = KeyKind::Key;
-    assert!(rt; refusal_of_letters::<KeySet>(rt.alloc(), key, 65_535)?.is_none());
-    assert!(rt; refusal_of_letters::<KeySet>(rt.alloc(), key, 65_536)? == Some(1));
-    Ok(())
-}
-
-// The root of the keys of some arguments.
-fn root(alloc: Global, args: &[u8]) -> Result<KeyFace, Fail> {
-    face::<KeySet>(alloc, KeyKind::Key, args)
-}
-
-// The key of a path, below a root.
-fn key_below(alloc: Global, root: &KeyFace, path: &str) -> Result<KeyFace, AllocError> {
-    let path = Path::new(alloc, path.as_bytes())?;
-    root.at(path)
-}
-
-// The key of a path, below the root of some arguments.
-fn key(alloc: Global, args: &[u8], path: &str) -> Result<KeyFace, Fail> {
-    let root = root(alloc, args)?;
-    Ok(key_below(alloc, &root, path)?)
-}
-
-// The path of a key, a name, and the path of that name below the key.
-const PATHS: &'static str = r"
-    | a   | a
-a   | b   | a\b
-a\b | c d | a\b\c d
-    |     |
-";
-
-// Whether a key has this path, and a name below it that path.
-fn joins_so(
-    alloc: Global,
-    face: &KeyFace,
-    path: &str,
-    name: &str,
-    wanted: &str,
-) -> Result<bool, Fail> {
-    let below = face.path_of(alloc, name.as_bytes())?;
-    Ok(face.path().as_slice() == path.as_bytes() && below.as_slice() == wanted.as_bytes())
-}
-
-// The root of an empty table.
-fn empty_root(alloc: Global) -> Result<KeyFace, AllocError> {
-    let table = KeyTable::read(alloc, b"")?;
-    KeyFace::root(alloc, table)
-}
-
-fn is_path_below(
-    alloc: Global,
-    root: &KeyFace,
-    path: &str,
-    name: &str,
-    wanted: &str,
-) -> Result<bool, Fail> {
-    let face = key_below(alloc, root, path)?;
-    joins_so(alloc, &face, path, name, wanted)
-}
-
-fn is_path_of(alloc: Global, line: &str) -> Result<bool, Fail> {
-    let [path, name, wanted, ..] = fields(line);
-    let root = empty_root(alloc)?;
-    is_path_below(alloc, &root, path, name, wanted)
-}
-
-#[test]
-fn paths_are_joined_by_backslashes(rt: HostRuntime) -> Result<(), Fail> {
-    assert_lines(&rt, rt.alloc(), PATHS, is_path_of)
-}
-
-// The entries of these tests: a key `a` with `b` and `c` below it, a key `d`, and links to `\X` and to `\Y\`.
-const ENTRIES: &[u8] = b"a\\b\\c;d;l>\\X;a\\m>\\Y\\";
-
-// The path of a key, a rest there, and what is answered.
-const PARSES: &'static str = r"
-      |        | itself
-a\b   |        | itself
-      | d      | 1 key d
-      | \d     | 2 key d
-      | \a\b\c | 2 key a
-a     | \b\c   | 2 key a\b
-a\b   | \c     | 2 key a\b\c
-      | d\     | 1 key d
-      | l      | name \X
-      | \l     | name \X
-      | \l\b c | name \X\b c
-      | l\     | name \X\
-a     | \m     | name \Y\
-a     | \m\b   | name \Y\b
-      | \      | refused 3
-      | \\d    | refused 3
-d     | \      | refused 3
-      | \b     | refused 3
-      | \D     | refused 3
-      | \L     | refused 3
-      | \m     | refused 3
-d     | \d     | refused 3
-a\b\c | d      | refused 3
-";
-
-// The same with a byte that can't be read.
-const UNREADABLE_REST: &'static str = " | l\\\x7f | refused 3";
 
 // Whether an answer leads to no key, or to one of the table of the key that is asked.
-fn keeps_table(alloc: Global, face: &KeyFace, rest: &str) -> Result<bool, Fail> {
-    Ok(match KeySet::parse(alloc, face, rest.as_bytes())? {
+fn keeps_table(alloc: Global, object: &str, rest: &str) -> Option<bool> {
+    let face = KeySet::face(alloc, object)?;
+    Some(match KeySet::parse(alloc, &face, rest.as_bytes()).ok()? {
         ParseAnswer::Front { next, .. } => next.table() == face.table(),
         _ => true,
     })
 }
 
-fn leads_so(alloc: Global, face: &KeyFace, rest: &str, wanted: &str) -> Result<bool, Fail> {
-    Ok(answers::<KeySet>(alloc, face, rest, wanted)? && keeps_table(alloc, face, rest)?)
+// Whether a key of a path, of a table without entries, has it, and a name below it that path.
+fn joins(alloc: Global, path: &str, name: &str, wanted: &str) -> Option<bool> {
+    let root = KeyFace::root(alloc, KeyTable::read(alloc, b"").ok()?).ok()?;
+    let face = root.at(Path::new(alloc, path.as_bytes()).ok()?).ok()?;
+    let below = face.path_of(alloc, name.as_bytes()).ok()?;
+    let is_path = face.path().as_slice() == path.as_bytes();
+    Some(is_path && below.as_slice() == wanted.as_bytes())
 }
 
-fn answers_so(alloc: Global, line: &str) -> Result<bool, Fail> {
-    let [path, rest, wanted, ..] = fields(line);
-    let face = key(alloc, ENTRIES, path)?;
-    leads_so(alloc, &face, rest, wanted)
+// The root of a link `l` to a name of so many letters.
+fn linked(alloc: Global, letters: usize) -> Option<KeyFace> {
+    let letters = vec![in alloc; b'a'; letters].ok()?;
+    let mut args = b"l>".to_vec(alloc).ok()?;
+    args.extend_from_slice(letters.as_slice()).ok()?;
+    made::<KeySet>(alloc, KeyKind::Key, args.as_slice())
 }
-
-#[test]
-fn keys_lead_to_keys_and_names(rt: HostRuntime) -> Result<(), Fail> {
-    assert_lines(&rt, rt.alloc(), PARSES, answers_so)?;
-    assert_lines(&rt, rt.alloc(), UNREADABLE_REST, answers_so)
-}
-
-// The bytes of a target, and what is answered to `\l\b` and to `\l` where the link `l` has it: the bytes of the
-// name, or a number that refuses.
-const LONG: &'static str = r"
-32765 | 32767     | 32765
-32766 | refused 4 | 32766
-32767 | refused 4 | 32767
-32768 | refused 4 | refused 4
-";
 
 // Whether a rest leads to a name of so many bytes, or is refused so.
-fn has_length(alloc: Global, root: &KeyFace, rest: &[u8], wanted: &str) -> Result<bool, Fail> {
-    Ok(match KeySet::parse(alloc, root, rest)? {
+fn has_length(alloc: Global, root: &KeyFace, rest: &[u8], wanted: &str) -> Option<bool> {
+    Some(match KeySet::parse(alloc, root, rest).ok()? {
         ParseAnswer::Reparse(text) => wanted.parse().ok() == Some(text.as_slice().len()),
         ParseAnswer::Refused(code) => refused(wanted) == Some(code),
         _ => false,
     })
 }
 
-fn long_root(alloc: Global, bytes: usize) -> Result<KeyFace, Fail> {
-    let mut args = b"l>".to_vec(alloc)?;
-    args.extend_from_slice(vec![in alloc; b'a'; bytes]?.as_slice())?;
-    root(alloc, args.as_slice())
+// Whether both rests lead to names of so many bytes, or are refused so.
+fn have_lengths(alloc: Global, letters: &str, below: &str, alone: &str) -> Option<bool> {
+    let root = linked(alloc, letters.parse().ok()?)?;
+    let is_below = has_length(alloc, &root, b"\\l\\b", below)?;
+    Some(is_below && has_length(alloc, &root, b"\\l", alone)?)
 }
 
-fn have_lengths(alloc: Global, root: &KeyFace, below: &str, alone: &str) -> Result<bool, Fail> {
-    Ok(has_length(alloc, root, b"\\l\\b", below)? && has_length(alloc, root, b"\\l", alone)?)
+// Whether a line of the tables is so.
+fn is_line_so(alloc: Global, line: &str) -> Option<bool> {
+    let [what, a, b, c, ..] = fields(line);
+    let more = match what {
+        "path" => return joins(alloc, a, b, c),
+        "long" => return have_lengths(alloc, a, b, c),
+        "make" => is_fit(alloc, word(a).1.as_bytes())? == (b == "made"),
+        "parse" => keeps_table(alloc, a, b)?,
+        _ => true,
+    };
+    Some(more && is_so(alloc, &mut KeySet, line)?)
 }
 
-fn is_long_so(alloc: Global, line: &str) -> Result<bool, Fail> {
-    let [bytes, below, alone, ..] = fields(line);
-    let root = long_root(alloc, bytes.parse()?)?;
-    have_lengths(alloc, &root, below, alone)
-}
-
-#[test]
-fn names_of_links_have_32767_bytes_at_most(rt: HostRuntime) -> Result<(), Fail> {
-    assert_lines(&rt, rt.alloc(), LONG, is_long_so)
-}
-
-// The arguments and the path of two keys, and whether they are the same.
-const FACES: &'static str = r"
-      |   |       |   | same
-a;b>c | a | a;b>c | a | same
-a\b   | a | a\b   | a\b | other
-a     | a | a;b   | a | other
-a;b   |   | b;a   |   | other
-a>b   |   | a     |   | other
-";
-
-fn is_same_as(
-    alloc: Global,
-    a: &KeyFace,
-    args: &str,
-    path: &str,
-    is_same: bool,
-) -> Result<bool, Fail> {
-    let b = key(alloc, args.as_bytes(), path)?;
-    Ok(are_same::<KeySet>(a, &b, is_same))
-}
-
-fn compares_so(alloc: Global, line: &str) -> Result<bool, Fail> {
-    let [args_a, path_a, args_b, path_b, wanted, ..] = fields(line);
-    let a = key(alloc, args_a.as_bytes(), path_a)?;
-    is_same_as(alloc, &a, args_b, path_b, wanted == "same")
-}
-
-#[test]
-fn same_keys_have_one_table_and_one_path(rt: HostRuntime) -> Result<(), Fail> {
-    assert_lines(&rt, rt.alloc(), FACES, compares_so)
-}
-
-fn is_key(face: &KeyFace) -> bool {
-    let kind = KeySet::kind_of(face);
-    let is_key = is_one_kind::<KeySet>(kind, KeyKind::Key);
-    is_key && KeySet::type_name(kind) == "Key" && KeySet::parses(kind)
-}
-
-fn root_is_key(alloc: Global) -> Result<bool, Fail> {
-    let root = root(alloc, b"")?;
-    Ok(is_key(&root))
-}
-
-#[test]
-fn keys_have_one_kind(rt: HostRuntime) -> Result<(), Fail> {
-    assert!(rt; root_is_key(rt.alloc())?);
-    Ok(())
-}
-
-// The handles before and behind an open.
-const OPENS: [(u32, u32); 4] = [
-    (0, 1),
-    (7, 8),
-    (u32::MAX - 1, u32::MAX),
-    (u32::MAX, u32::MAX),
-];
-
-#[test]
-fn handles_of_keys_are_counted(rt: HostRuntime) {
-    for (handles, behind) in OPENS {
-        let are_so = are_counted(&mut KeySet, KeyInner { handles }, Reason::Inherited, behind);
-        assert!(rt; are_so, "at {handles}");
+fn assert_keys(rt: &impl Abort, alloc: Global, table: &str) {
+    for line in table.trim().lines() {
+        assert!(rt; is_line_so(alloc, line) == Some(true), "{line}");
     }
 }
 
 #[test]
-fn laws_at_keys(_rt: HostRuntime) {
-    hand_over_laws::<KeySet>();
+fn keys_are_made_of_entries_that_are_fit_and_lead_to_keys_and_names(rt: HostRuntime) {
+    assert_keys(&rt, rt.alloc(), KEYS);
+    assert_keys(&rt, rt.alloc(), UNREADABLE);
 }

@@ -3,17 +3,11 @@
 #![tactic(auto)]
 
 #[cfg(test)]
-mod arguments;
-#[cfg(test)]
 mod devices;
-#[cfg(test)]
-mod entries;
 #[cfg(test)]
 mod keys;
 #[cfg(test)]
 mod objects;
-#[cfg(test)]
-mod parsing;
 #[cfg(test)]
 mod sum;
 #[cfg(test)]

@@ -1,17 +1,32 @@
-//! What the tests ask of the objects of any set of types.
+//! What the tests ask of the objects of any set of types, line by line of a table:
+//!
+//! - `make`: an object, by the name of its kind's type and its arguments; whether it is made, or the number that refuses
+//!   it; and whether the kind parses.
+//! - `letters`: the same with so many letters as arguments.
+//! - `kind`: an object, the name of its kind's type, and whether that parses.
+//! - `same`: two objects, and whether they are the same.
+//! - `parse`: an object, a rest there, and what its parse procedure answers: `itself`; the bytes that are used, and the
+//!   instance; `name` and the name; or a number that refuses.
+//! - `run`: an object that parses, a rest there, and how the run ends: `itself`; with a new object; with `name` and the
+//!   name; or with a number that refuses.
+//! - `life`: an object that is made, the handles to it, why it is opened then and how many there are behind that, and as many
+//!   behind a second open, or the number that refuses that.
 
 use crate::tables::{fields, refused, word};
 use ob_types::{
-    Outcome, ParseAnswer, Reason, Refusal, TypeSet, a_parse_run_has_one_end, close_last, laws,
-    same_faces_end_alike,
+    Outcome, ParseAnswer, Reason, Refusal, TypeSet, a_parse_run_has_one_end, close_last,
+    is_one_kind, laws, run_parse, same_faces_end_alike,
 };
-use std::alloc::{AllocError, Global};
-use std::test::Fail;
+use std::alloc::Global;
+use std::process::Abort;
 
 /// A set whose kinds have words, and whose objects can be told.
 pub(crate) trait Told: TypeSet {
     /// The kind whose type has this name.
     fn kind(name: &str) -> Self::Kind;
+
+    /// The face of the object that a field tells; `None` where there is no memory, or no such object.
+    fn face(alloc: Global, object: &str) -> Option<Self::Face>;
 
     /// Whether an object that a parse made is what a field says, a word and a path, and has no handle yet.
     fn is_new(face: &Self::Face, inner: &Self::Inner, field: &str) -> bool;
@@ -20,127 +35,169 @@ pub(crate) trait Told: TypeSet {
     fn handles(inner: &Self::Inner) -> u32;
 }
 
-/// What a make gives: an object, or the number that refuses it.
-pub(crate) fn made<T: TypeSet>(
-    alloc: Global,
-    kind: T::Kind,
-    args: &[u8],
-) -> Result<Result<(T::Face, T::Inner), u16>, AllocError> {
+/// The face of an object that is made of some arguments.
+pub(crate) fn made<T: TypeSet>(alloc: Global, kind: T::Kind, args: &[u8]) -> Option<T::Face> {
+    let (face, _) = T::make(alloc, kind, args).ok()?;
+    Some(face)
+}
+
+// The inner value of the object that a field tells, which is made.
+fn inner<T: Told>(alloc: Global, object: &str) -> Option<T::Inner> {
+    let (name, args) = word(object);
+    let (_, inner) = T::make(alloc, T::kind(name), args.as_bytes()).ok()?;
+    Some(inner)
+}
+
+// Whether an object is made, or refused, as a field says.
+fn is_made<T: TypeSet>(alloc: Global, kind: T::Kind, args: &[u8], wanted: &str) -> Option<bool> {
     match T::make(alloc, kind, args) {
-        Ok(object) => Ok(Ok(object)),
-        Err(Refusal::Code(code)) => Ok(Err(code)),
-        Err(Refusal::Memory) => Err(AllocError),
+        Ok((face, _)) => Some(wanted == "made" && T::kind_of(&face) == kind),
+        Err(Refusal::Code(code)) => Some(refused(wanted) == Some(code)),
+        Err(Refusal::Memory) => None,
     }
 }
 
-/// The number that refuses a make.
-pub(crate) fn refusal<T: TypeSet>(
-    alloc: Global,
-    kind: T::Kind,
-    args: &[u8],
-) -> Result<Option<u16>, AllocError> {
-    Ok(made::<T>(alloc, kind, args)?.err())
+// Whether a kind has this name, and parses or not.
+fn is_named<T: TypeSet>(kind: T::Kind, name: &str, parses: &str) -> bool {
+    T::type_name(kind) == name && T::parses(kind) == (parses == "parses")
 }
 
-/// The number that refuses a make with so many letters as arguments.
-pub(crate) fn refusal_of_letters<T: TypeSet>(
-    alloc: Global,
-    kind: T::Kind,
-    count: usize,
-) -> Result<Option<u16>, AllocError> {
-    let args = vec![in alloc; b'a'; count]?;
-    refusal::<T>(alloc, kind, args.as_slice())
-}
-
-/// The face of an object that is made.
-pub(crate) fn face<T: TypeSet>(alloc: Global, kind: T::Kind, args: &[u8]) -> Result<T::Face, Fail> {
-    match made::<T>(alloc, kind, args)? {
-        Ok((face, _)) => Ok(face),
-        Err(_) => Err(Fail::from("arguments that are refused")),
-    }
-}
-
-// Whether an object that is made is of its kind.
-fn is_of_kind<T: TypeSet>(alloc: Global, kind: T::Kind, args: &[u8]) -> Result<bool, Fail> {
-    let face = face::<T>(alloc, kind, args)?;
-    Ok(T::kind_of(&face) == kind)
-}
-
-/// Whether an object is made, or refused, as a line says: its kind, its arguments, and what comes of them.
-pub(crate) fn is_made_so<T: Told>(alloc: Global, line: &str) -> Result<bool, Fail> {
-    let [name, args, wanted, ..] = fields(line);
+// Whether an object is made so of arguments of its kind.
+fn makes<T: Told>(alloc: Global, object: &str, wanted: &str, parses: &str) -> Option<bool> {
+    let (name, args) = word(object);
     let kind = T::kind(name);
-    match refusal::<T>(alloc, kind, args.as_bytes())? {
-        Some(code) => Ok(refused(wanted) == Some(code)),
-        None => Ok(wanted == "made" && is_of_kind::<T>(alloc, kind, args.as_bytes())?),
-    }
+    let is_made = is_made::<T>(alloc, kind, args.as_bytes(), wanted)?;
+    Some(is_made && is_named::<T>(kind, name, parses))
 }
 
-/// Whether two faces are the same, or not, in both orders.
-pub(crate) fn are_same<T: TypeSet>(a: &T::Face, b: &T::Face, is_same: bool) -> bool {
-    T::same(a, b) == is_same && T::same(b, a) == is_same
+// The same of so many letters.
+fn makes_of_letters<T: Told>(alloc: Global, object: &str, wanted: &str) -> Option<bool> {
+    let (name, count) = word(object);
+    let letters = vec![in alloc; b'a'; count.parse().ok()?].ok()?;
+    is_made::<T>(alloc, T::kind(name), letters.as_slice(), wanted)
 }
 
-/// Whether a parse procedure answers what a field says: `itself`; the bytes that are used, and the instance; `name` and
-/// the name; or a number that refuses.
+// Whether an object is of the kind of this name, which parses or not.
+fn is_of_kind<T: Told>(alloc: Global, object: &str, name: &str, parses: &str) -> Option<bool> {
+    let face = T::face(alloc, object)?;
+    let kind = T::kind_of(&face);
+    Some(is_one_kind::<T>(kind, T::kind(name)) && is_named::<T>(kind, name, parses))
+}
+
+// Whether two objects are the same, or not, in both orders.
+fn are_same<T: Told>(alloc: Global, a: &str, b: &str, wanted: &str) -> Option<bool> {
+    let a = T::face(alloc, a)?;
+    let b = T::face(alloc, b)?;
+    let is_same = wanted == "same";
+    Some(T::same(&a, &b) == is_same && T::same(&b, &a) == is_same)
+}
+
+// Whether a parse procedure answers what a field says.
 fn is_answer<T: Told>(answer: &ParseAnswer<T::Face, T::Inner>, wanted: &str) -> bool {
+    let (what, told) = word(wanted);
     match answer {
         ParseAnswer::Itself => wanted == "itself",
-        ParseAnswer::Front { used, next, inner } => is_front::<T>(*used, next, inner, wanted),
-        ParseAnswer::Reparse(text) => is_name(text.as_slice(), wanted),
+        ParseAnswer::Front { used, next, inner } => {
+            what.parse().ok() == Some(*used) && T::is_new(next, inner, told)
+        }
+        ParseAnswer::Reparse(text) => what == "name" && text.as_slice() == told.as_bytes(),
         ParseAnswer::Refused(code) => refused(wanted) == Some(*code),
     }
 }
 
-fn is_front<T: Told>(used: usize, next: &T::Face, inner: &T::Inner, wanted: &str) -> bool {
-    let (bytes, instance) = word(wanted);
-    bytes.parse().ok() == Some(used) && T::is_new(next, inner, instance)
+// Whether an object answers a rest so.
+fn answers<T: Told>(alloc: Global, object: &str, rest: &str, wanted: &str) -> Option<bool> {
+    let face = T::face(alloc, object)?;
+    let answer = T::parse(alloc, &face, rest.as_bytes()).ok()?;
+    Some(is_answer::<T>(&answer, wanted))
 }
 
-/// Whether an object with this face answers a rest so.
-pub(crate) fn answers<T: Told>(
-    alloc: Global,
-    face: &T::Face,
-    rest: &str,
-    wanted: &str,
-) -> Result<bool, Fail> {
-    let answer = T::parse(alloc, face, rest.as_bytes())?;
-    Ok(is_answer::<T>(&answer, wanted))
-}
-
-/// Whether a run of parse procedures ends as a field says: `itself`, with a new object, with `name` and the name, with a
-/// number that refuses, or with `no memory`.
-pub(crate) fn is_end<T: Told>(outcome: &Outcome<T::Face, T::Inner>, wanted: &str) -> bool {
+// Whether a run of parse procedures ends as a field says.
+fn is_end<T: Told>(outcome: &Outcome<T::Face, T::Inner>, wanted: &str) -> bool {
+    let (what, told) = word(wanted);
     match outcome {
         Outcome::Itself => wanted == "itself",
         Outcome::Made(face, inner) => T::is_new(face, inner, wanted),
-        Outcome::Reparse(text) => is_name(text.as_slice(), wanted),
+        Outcome::Reparse(text) => what == "name" && text.as_slice() == told.as_bytes(),
         Outcome::Refused(code) => refused(wanted) == Some(*code),
-        Outcome::NoMemory => wanted == "no memory",
+        Outcome::NoMemory => false,
     }
 }
 
-/// Whether a field says this name.
-fn is_name(name: &[u8], wanted: &str) -> bool {
-    match wanted.strip_prefix("name ") {
-        Some(text) => name == text.as_bytes(),
-        None => false,
+// Whether a run from an object ends so.
+fn ends<T: Told>(alloc: Global, object: &str, rest: &str, wanted: &str) -> Option<bool> {
+    let face = T::face(alloc, object)?;
+    if !T::parses(T::kind_of(&face)) {
+        return Some(false);
     }
+    let outcome = run_parse::<T>(alloc, &face, rest.as_bytes());
+    Some(is_end::<T>(&outcome, wanted))
 }
 
-/// Whether handles are counted from some number on, stop at the greatest, and are set by a close.
-pub(crate) fn are_counted<T: Told>(
+// The handles to an object that has so many, behind a first open for a reason, a second one, and a close that leaves three, and
+// the number that refuses the second; `None` where the first open is refused.
+fn life<T: Told>(
     set: &mut T,
     mut inner: T::Inner,
+    before: u32,
     reason: Reason,
-    behind: u32,
-) -> bool {
-    let opened = set.on_open(&mut inner, reason);
-    let open = T::handles(&inner);
-    set.on_close(&mut inner, 2, 5);
+) -> Option<([u32; 3], Option<u16>)> {
+    set.on_close(&mut inner, 0, before);
+    let first = set.on_open(&mut inner, reason);
+    let once = T::handles(&inner);
+    let second = set.on_open(&mut inner, Reason::Opened);
+    let twice = T::handles(&inner);
+    set.on_close(&mut inner, 1, 3);
     let left = T::handles(&inner);
     close_last(set, inner);
-    opened == Ok(()) && open == behind && left == 5
+    first.ok()?;
+    Some(([once, twice, left], second.err()))
+}
+
+fn reason(word: &str) -> Option<Reason> {
+    match word {
+        "created" => Some(Reason::Created),
+        "inherited" => Some(Reason::Inherited),
+        "duplicated" => Some(Reason::Duplicated),
+        _ => None,
+    }
+}
+
+// Whether an object lives as fields say: the handles before, the reason and the handles behind it, and what comes of a
+// second open.
+fn lives<T: Told>(alloc: Global, set: &mut T, object: &str, told: [&str; 3]) -> Option<bool> {
+    let [before, why, second] = told;
+    let (reason, behind) = (reason(word(why).0)?, word(why).1.parse().ok()?);
+    let inner = inner::<T>(alloc, object)?;
+    let (handles, code) = life(set, inner, before.parse().ok()?, reason)?;
+    let twice = match code {
+        Some(code) if refused(second) == Some(code) => behind,
+        None => second.parse().ok()?,
+        _ => return Some(false),
+    };
+    Some(handles == [behind, twice, 3])
+}
+
+/// Whether a line of a table is so.
+pub(crate) fn is_so<T: Told>(alloc: Global, set: &mut T, line: &str) -> Option<bool> {
+    let [what, object, a, b, c] = fields(line);
+    match what {
+        "make" => makes::<T>(alloc, object, a, b),
+        "letters" => makes_of_letters::<T>(alloc, object, a),
+        "kind" => is_of_kind::<T>(alloc, object, a, b),
+        "same" => are_same::<T>(alloc, object, a, b),
+        "parse" => answers::<T>(alloc, object, a, b),
+        "run" => ends::<T>(alloc, object, a, b),
+        "life" => lives(alloc, set, object, [a, b, c]),
+        _ => None,
+    }
+}
+
+/// Asserts of each line of a table that it is so.
+pub(crate) fn assert_objects<T: Told>(rt: &impl Abort, alloc: Global, set: &mut T, table: &str) {
+    for line in table.trim().lines() {
+        assert!(rt; is_so(alloc, set, line) == Some(true), "{line}");
+    }
 }
 
 /// Hands over the laws of a set.

@@ -6,6 +6,7 @@ ghost use Rattle.std.proofs.Common.{rules};
 ghost use Rattle.ob_model.specs.Procedures.{Refused};
 ghost use Rattle.ob_core_tests.specs.declared.namespace.doors.Door.TheVariants.{Free, Through, Locked};
 
+use crate::scenes::Staged;
 use ob_types::{ParseAnswer, Reason, Refusal, TypeSet};
 use std::alloc::{AllocError, Global};
 
@@ -122,4 +123,14 @@ impl TypeSet for Doors {
     ghost own_kind = { Prim.search rules };
 
     ghost equal_kinds = { λ _ _. refl };
+}
+
+impl Staged for Doors {
+    fn new() -> Doors {
+        Doors
+    }
+
+    fn kinds() -> (bool, bool) {
+        (true, false)
+    }
 }

@@ -2,9 +2,9 @@
 
 ghost use Rattle.std.specs.Prelude.{◌≡◌, true, false, refl};
 ghost use Rattle.std.proofs.Common.{rules};
-ghost use Rattle.ob_names_tests.specs.Boxes.{box_procedures, box_front, box_itself, box_idle, box_same};
+ghost use Rattle.ob_plain_tests.specs.Boxes.{box_procedures, box_front, box_itself, box_idle, box_same};
 
-use crate::objects::is_of_kind;
+use crate::objects::{is_of_kind, refusal};
 use crate::tables::fields;
 use ob_names::{Name, NameBuf};
 use ob_types::{
@@ -108,24 +108,15 @@ impl TypeSet for Boxes {
     ghost equal_kinds = { λ _ _. refl };
 }
 
-#[test]
-fn boxes_open_and_close(rt: HostRuntime) {
-    let Ok((face, mut inner)) = Boxes::make(rt.alloc(), true, &[]) else {
-        assert!(rt; false);
-        return;
-    };
-    assert!(rt; is_of_kind::<Boxes>(&face, true, "Box", true));
-    assert!(rt; !is_one_kind::<Boxes>(true, false));
+// Whether a new box is of its kind and no other, and is opened once.
+fn is_opened_once(alloc: Global) -> Option<bool> {
+    let (face, mut inner) = Boxes::make(alloc, true, b"").ok()?;
+    let is_box = is_of_kind::<Boxes>(&face, true, "Box", true);
     let made = open_or_leave(&mut Boxes, &mut inner, Reason::Created);
     let opened = open_or_leave(&mut Boxes, &mut inner, Reason::Opened);
-    assert!(rt; made == Ok(()) && opened == Err(9) && inner);
+    let is_open = made == Ok(()) && opened == Err(9) && inner;
     close_last(&mut Boxes, inner);
-}
-
-#[test]
-fn boxes_are_refused(rt: HostRuntime) {
-    assert!(rt; matches!(Boxes::make(rt.alloc(), true, b"1"), Err(Refusal::Code(7))));
-    assert!(rt; Refusal::from(AllocError) == Refusal::Memory);
+    Some(is_box && is_open && !is_one_kind::<Boxes>(true, false))
 }
 
 // Boxes of so many levels, a rest there, and how the run ends: with a box of so many levels, with a name, or with a
@@ -162,7 +153,10 @@ fn ends_so(alloc: Global, line: &str) -> Option<bool> {
 }
 
 #[test]
-fn runs_end(rt: HostRuntime) {
+fn boxes_are_made_opened_and_lead_to_others(rt: HostRuntime) {
+    assert!(rt; is_opened_once(rt.alloc()) == Some(true));
+    assert!(rt; refusal::<Boxes>(rt.alloc(), true, b"1") == Some(Some(7)));
+    assert!(rt; Refusal::from(AllocError) == Refusal::Memory);
     for line in RUNS.trim().lines() {
         assert!(rt; ends_so(rt.alloc(), line) == Some(true), "{line}");
     }

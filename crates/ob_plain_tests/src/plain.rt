@@ -1,6 +1,6 @@
 //! The edges of a limit, and a life of an object under the counted set.
 
-use crate::objects::{is_of_kind, refusal};
+use crate::objects::{inner, is_of_kind, refusal};
 use crate::tables::fields;
 use ob_plain::{Counting, Plain, PlainFace, PlainInner, PlainKind, Standard, limit_of};
 use ob_types::{Reason, TypeSet, close_last, is_one_kind, open_or_leave};
@@ -84,26 +84,32 @@ fn is_opened_once<T: TypeSet>(set: &mut T, inner: &mut T::Inner) -> bool {
     made == Ok(()) && opened == Err(2) && left == Err(2)
 }
 
-#[test]
-fn a_life_is_counted(rt: HostRuntime) {
-    let mut set = Counting::new(Plain);
-    let Ok((_, mut inner)) = Standard::make(rt.alloc(), PlainKind::Event, b"1") else {
-        assert!(rt; false);
-        return;
-    };
-    assert!(rt; is_opened_once(&mut set, &mut inner) && inner.handles == 1);
+// Whether a new object of a counted set lives so, and the opens, closes and deletes then.
+fn life<T: TypeSet>(alloc: Global, set: T, kind: T::Kind) -> Option<(bool, [u64; 3])> {
+    let mut set = Counting::new(set);
+    let mut inner = inner::<Counting<T>>(alloc, kind, b"1")?;
+    let is_opened = is_opened_once(&mut set, &mut inner);
     close_last(&mut set, inner);
-    assert!(rt; set.opens() == 1 && set.closes() == 1 && set.deletes() == 1);
+    Some((is_opened, [set.opens(), set.closes(), set.deletes()]))
 }
 
 #[test]
-fn handles_stop_at_the_greatest(rt: HostRuntime) {
-    let mut inner = PlainInner {
-        handles: u32::MAX,
-        limit: None,
-    };
-    let opened = Plain.on_open(&mut inner, Reason::Inherited);
-    assert!(rt; opened == Ok(()) && inner.handles == u32::MAX);
-    Plain.on_close(&mut inner, 0, 3);
-    assert!(rt; inner.handles == 3);
+fn a_life_is_counted(rt: HostRuntime) {
+    let life = life(rt.alloc(), Plain, PlainKind::Event);
+    assert!(rt; life == Some((true, [1, 1, 1])));
+}
+
+// The handles before and behind an open.
+const OPENS: [(u32, u32); 3] = [(0, 1), (u32::MAX - 1, u32::MAX), (u32::MAX, u32::MAX)];
+
+#[test]
+fn handles_are_counted_and_stop_at_the_greatest(rt: HostRuntime) {
+    for (handles, behind) in OPENS {
+        let limit = None;
+        let mut inner = PlainInner { handles, limit };
+        let opened = Plain.on_open(&mut inner, Reason::Inherited);
+        assert!(rt; opened == Ok(()) && inner.handles == behind, "at {handles}");
+        Plain.on_close(&mut inner, 0, 3);
+        assert!(rt; inner.handles == 3);
+    }
 }

@@ -111,9 +111,10 @@ fn serials_are_drawn_by_first_opens(rt: HostRuntime) -> Result<(), Fault> {
 
 #[test]
 fn recorded_objects_are_of_their_kinds(rt: HostRuntime) {
-    let is_named = new_one_is_named::<Recording>(rt.alloc(), PlainKind::Event, "Event");
-    assert!(rt; is_named == Some(true));
-    assert!(rt; Recording::type_name(PlainKind::Section) == "Section");
+    for (kind, name) in [(PlainKind::Event, "Event"), (PlainKind::Section, "Section")] {
+        let is_named = new_one_is_named::<Recording>(rt.alloc(), kind, name);
+        assert!(rt; is_named == Some(true), "{name}");
+    }
 }
 
 #[test]

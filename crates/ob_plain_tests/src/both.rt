@@ -74,18 +74,25 @@ fn are_apart<T: TypeSet>(a: &T::Face, b: &T::Face) -> bool {
     T::same(a, a) && T::same(b, b) && !T::same(a, b) && !T::same(b, a)
 }
 
+// Whether events and boxes are of their kinds, and faces of them and of others are apart: those of an event, of another kind of
+// the first part, and of two boxes.
+fn are_of_their_parts<T: TypeSet>(faces: [&T::Face; 4], event: T::Kind, boxed: T::Kind) -> bool {
+    is_of_kind::<T>(faces[0], event, "Event", false)
+        && is_of_kind::<T>(faces[2], boxed, "Box", true)
+        && !is_one_kind::<T>(event, boxed)
+        && are_apart::<T>(faces[0], faces[1])
+        && are_apart::<T>(faces[2], faces[3])
+        && are_apart::<T>(faces[0], faces[2])
+}
+
 #[test]
 fn kinds_and_faces_are_of_their_part(rt: HostRuntime) {
     let (event, mutant) = (plain_face(PlainKind::Event), plain_face(PlainKind::Mutant));
     let (first, second) = (Either::Left(PlainKind::Event), Either::Right(true));
-    assert!(rt; is_of_kind::<Sum>(&event, first, "Event", false));
-    assert!(rt; is_of_kind::<Sum>(&Either::Right(3), second, "Box", true));
-    assert!(rt; !is_one_kind::<Sum>(first, second));
-    assert!(rt; are_apart::<Sum>(&event, &mutant));
-    assert!(rt; are_apart::<Sum>(&Either::Right(3), &Either::Right(2)));
-    assert!(rt; are_apart::<Sum>(&event, &Either::Right(3)));
-    let is_refused = refusal::<Sum>(rt.alloc(), first, b"0") == Some(Some(1));
-    assert!(rt; is_refused && refusal::<Sum>(rt.alloc(), second, b"0") == Some(Some(7)));
+    let faces = [&event, &mutant, &Either::Right(3), &Either::Right(2)];
+    assert!(rt; are_of_their_parts::<Sum>(faces, first, second));
+    assert!(rt; refusal::<Sum>(rt.alloc(), first, b"0") == Some(Some(1)));
+    assert!(rt; refusal::<Sum>(rt.alloc(), second, b"0") == Some(Some(7)));
 }
 
 // Whether a run ended with a box of one level, which is closed.

@@ -1,0 +1,14 @@
+//! Tests of the table of handles, of device maps, of the live processes and of pending opens, by their public functions. The
+//! crate holds tests alone, since a crate with tests is proved twice.
+#![tactic(auto)]
+
+#[cfg(test)]
+mod handles;
+#[cfg(test)]
+mod maps;
+#[cfg(test)]
+mod pending;
+#[cfg(test)]
+mod processes;
+#[cfg(test)]
+mod tables;
