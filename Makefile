@@ -36,10 +36,10 @@ times:
 	gate/times.py gate/test.sh
 
 build:
-	@gate/build.py ntns
+	@gate/program_of.py ntns
 
 bench: build
-	@gate/build.py share_bench
+	@gate/program_of.py share_bench
 	bench/lines.py crates/ntns/out/ntns
 	bench/threads.py crates/share_bench/out/share_bench
 

@@ -1,0 +1,108 @@
+#!/usr/bin/env python3
+"""Proves a program and all that it stands on, and builds it, with a line a crate.
+
+Proved is as the gate does it, by `rt ci`, in a copy without tests and edits: a crate reads the statements alone of those that it stands
+on, which takes less than reading their proofs, and what is proved is kept beside the kit, so that the gate behind it has that much less to do.
+What the prover prints goes to a file, whose path is told. The program is then brought into the work tree, as
+crates/NAME/out/NAME, and isn't built again while nothing that it is made of changes.
+
+    gate/program_of.py PROGRAM..
+
+The exit status is 0 where all is proved, else 1.
+"""
+
+import argparse
+import hashlib
+import re
+import shutil
+import subprocess
+import sys
+import tempfile
+import time
+from pathlib import Path
+
+from build import TELLS, in_words, say
+from crates import EDITS, MADE, ROOT, begin_repository, folder_of, is_program, listed, with_dependencies
+
+LOG = ROOT / "out" / "program.log"
+
+# what tells in `rt`'s lines that it is done with a crate
+DONE = re.compile(r"rt: (\w+) (proved|is kept|NOT PROVED)\b")
+
+
+def sum_of(program):
+    """The sum of all files that a program is made of, and of the kit."""
+    found = hashlib.sha256(subprocess.run(["rt", "version"], stdout=subprocess.PIPE, check=True).stdout)
+    for crate in sorted(with_dependencies(program)):
+        for path in sorted(folder_of(crate).rglob("*")):
+            inside = path.relative_to(folder_of(crate)).parts[0]
+            if path.is_file() and inside not in (*EDITS, MADE):
+                found.update(f"{path.relative_to(ROOT)}\0".encode() + hashlib.sha256(path.read_bytes()).digest())
+    return found.hexdigest()
+
+
+def stamp_of(program):
+    """Where the sum of a built program is kept."""
+    return folder_of(program) / MADE / f"{program}.sum"
+
+
+def is_built(program):
+    """Whether the program of the work tree is made of today's files."""
+    stamp = stamp_of(program)
+    return (folder_of(program) / MADE / program).is_file() and stamp.is_file() and stamp.read_text() == sum_of(program)
+
+
+def copied(program, folder):
+    """Puts the crates of a program into a repository of their own."""
+    crates = with_dependencies(program)
+    begin_repository(crates, folder)
+    for crate in crates:
+        shutil.copytree(folder_of(crate), folder / "crates" / crate, ignore=shutil.ignore_patterns(*EDITS, MADE))
+    return len(crates)
+
+
+def prove(folder, count, log):
+    """Runs `rt ci` there, and tells each crate that is done; gives the lines of a run that failed."""
+    begun, done, lines = time.monotonic(), 0, []
+    how = {"stdin": subprocess.DEVNULL, "stdout": subprocess.PIPE, "stderr": subprocess.STDOUT, "text": True, "errors": "replace"}
+    with subprocess.Popen(["rt", "ci"], cwd=folder, **how) as run:
+        for line in run.stdout:
+            log.write(line)
+            lines.append(line.rstrip("\n"))
+            found = DONE.match(line)
+            if found and found[2] != "NOT PROVED":
+                done += 1
+                how_far = "kept" if found[2] == "is kept" else in_words(time.monotonic() - begun)
+                say(f"{done} of {count} proved: {found[1]}, {how_far}")
+    return [] if run.returncode == 0 else lines
+
+
+def make(program):
+    """Proves and builds a program; whether all is proved."""
+    LOG.parent.mkdir(exist_ok=True)
+    with tempfile.TemporaryDirectory(prefix="program-") as room, LOG.open("w") as log:
+        folder = Path(room) / "repository"
+        count = copied(program, folder)
+        say(f"crates of {program}: {count}; with each the time since the beginning; the prover's own lines go to {LOG}")
+        lines = prove(folder, count, log)
+        if lines:
+            told = [line for line in lines if TELLS.search(line)]
+            say(*(line[:400] for line in told[-40:] or lines[-40:]))
+            say(f"{program} is not proved; all that the prover printed stands in {LOG}")
+            return False
+        made = folder_of(program) / MADE
+        made.mkdir(exist_ok=True)
+        shutil.copy2(folder / "crates" / program / MADE / program, made / program)
+        stamp_of(program).write_text(sum_of(program))
+        return True
+
+
+def main():
+    parser = argparse.ArgumentParser(description="Proves programs and all that they stand on, and builds them.")
+    parser.add_argument("programs", nargs="+", metavar="PROGRAM", choices=[it for it in listed() if is_program(it)])
+    words = parser.parse_args()
+    return 0 if all(is_built(program) or make(program) for program in words.programs) else 1
+
+
+if __name__ == "__main__":
+    sys.exit(main())
