@@ -61,7 +61,27 @@ def overfull():
     return b"".join(lines)
 
 
+# a journal of two directories, and what stands in place of its last line where it is refused
+HEADER = b'{"journal":1,"seats":1}\n'
+FIRST = b'{"n":1,"reply":{"handle":4,"status":0},"seat":0,"step":{"flags":0,"name":"\\\\A","op":"dir","proc":1,"root":null}}\n'
+SECOND = b'{"n":2,"reply":{"handle":8,"status":0},"seat":0,"step":{"flags":0,"name":"\\\\B","op":"dir","proc":1,"root":null}}\n'
+STRAY = b'{"n":2,"reply":{"status":0},"seat":0,"step":{"op":"abandon","parse":"none","ticket":9}}\n'
+
+# how many bytes a journal may have
+JOURNAL_LIMIT = 268_435_456
+
 FILES = {
+    "journal": HEADER + FIRST + SECOND,
+    "no line end": HEADER + FIRST + SECOND[:-1],
+    "other value": HEADER + FIRST + SECOND.replace(b'"handle":8', b'"handle":262140'),
+    "no header": FIRST + SECOND,
+    "cut": HEADER + FIRST + SECOND[:20],
+    "number": HEADER + FIRST + SECOND.replace(b'"n":2', b'"n":3'),
+    "seat": HEADER + FIRST + SECOND.replace(b'"seat":0', b'"seat":1'),
+    "ticket": HEADER + FIRST + STRAY,
+    "reply": HEADER + FIRST + SECOND.replace(b'"handle":8', b'"handle":4'),
+    "worked": WORKED,
+    "seated": SEATED,
     "a.ntns": SCRIPT,
     "bad.ntns": BAD,
     " spaced.ntns ": SCRIPT,
@@ -77,11 +97,16 @@ HELP = (
     b"Runs a script of namespace commands, by default from standard input, and prints one reply a line\n\n"
     b"Usage: ntns [COMMAND]\n\nCommands:\n  run      Runs the script in FILE\n"
     b"  threads  Runs the script with workers in FILE, and prints its journal\n"
+    b"  replay   Checks the journal in FILE, and prints the verdict\n"
     b"  help     Print this message or the help of the given subcommand(s)\n\nOptions:\n  -h, --help  Print help\n"
 )
 UNKNOWN = (
     b"error: unrecognized subcommand 'other'\n\n  tip: a similar subcommand exists: 'threads'\n\n"
     b"Usage: ntns [COMMAND]\n\n"
+    b"For more information, try '--help'.\n"
+)
+NO_FILE = (
+    b"error: the following required arguments were not provided:\n  <FILE>\n\nUsage: ntns replay <FILE>\n\n"
     b"For more information, try '--help'.\n"
 )
 NO_TEXT = (
@@ -199,6 +224,21 @@ CASES = [
     Case("a join before any worker runs nothing", ("threads", "join"), 1, b"1: not a script line\n"),
     Case("a journal that is full refuses a step, and is written", ("threads", "overfull"), 1, overfull(), b"ntns: step refused\n"),
     Case("an empty script with workers has a journal without a step", ("threads", "empty"), 0, b'{"journal":1,"seats":1}\n'),
+    Case("a journal of two entries is accepted", ("replay", "journal"), 0, b"accepted 2 entries\n"),
+    Case("its last line may have no end", ("replay", "no line end"), 0, b"accepted 2 entries\n"),
+    Case("the value of a handle is any that is free", ("replay", "other value"), 0, b"accepted 2 entries\n"),
+    Case("a journal that was written is accepted", ("replay", "worked"), 0, b"accepted 2 entries\n"),
+    Case("so is one with opens that waited", ("replay", "seated"), 0, b"accepted 11 entries\n"),
+    Case("an empty file is no journal", ("replay", "empty"), 3, b"line 1: header\n"),
+    Case("so is one without a header", ("replay", "no header"), 3, b"line 1: header\n"),
+    Case("a line that is cut is refused", ("replay", "cut"), 3, b"line 3: syntax\n"),
+    Case("so is a wrong number", ("replay", "number"), 3, b"line 3: number\n"),
+    Case("so is a seat that isn't there", ("replay", "seat"), 3, b"line 3: seat\n"),
+    Case("so is a ticket that isn't pending", ("replay", "ticket"), 3, b"line 3: ticket\n"),
+    Case("so is a reply that the step doesn't give", ("replay", "reply"), 3, b"line 3: reply\n"),
+    Case("a journal that isn't there is told", ("replay", "missing"), 1, errors=b"ntns: cannot read\n"),
+    Case("a journal that is too long is not checked", ("replay", "long"), 1, errors=b"ntns: input too long\n"),
+    Case("a journal wants its file", ("replay",), 2, errors=NO_FILE, script=HEADER),
     Case("a directory is told", ("run", "."), 1, errors=b"ntns: cannot read\n"),
     Case("a mistake in the words ends with 2", ("other",), 2, errors=UNKNOWN, script=SCRIPT),
     Case("words that are no text end with 2", (b"\xff",), 2, errors=NO_TEXT),
@@ -233,6 +273,8 @@ def main():
     with tempfile.TemporaryDirectory(prefix="ntns-runs-") as folder:
         for name, text in FILES.items():
             (Path(folder) / name).write_bytes(text)
+        with (Path(folder) / "long").open("wb") as file:
+            file.truncate(JOURNAL_LIMIT + 1)
         for case in CASES:
             try:
                 fault = fault_of(case, program, folder)

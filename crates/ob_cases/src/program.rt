@@ -3,7 +3,7 @@
 use crate::runs::{Input, Output, Streams, assert_cases, performs};
 use clap::error::ErrorKind;
 use ob_tasks::{
-    End, Ended, Ending, ShellFault, ThreadsEnding, complain, perform_opened, serve, starve,
+    End, Ended, Ending, ShellFault, ThreadsEnding, Verdict, complain, perform_opened, serve, starve,
 };
 use ob_words::{Task, plan, unreadable};
 use std::alloc::{AllocError, Global};
@@ -26,6 +26,12 @@ ntns|threads|threads|-- => threads threads
 ntns|threads| => threads 
 ntns|threads|run => threads run
 ntns|run|threads => run threads
+ntns|replay|a.journal => replay a.journal
+ntns|replay|--|-a b%20 => replay -a b%20
+ntns|replay|replay|-- => replay replay
+ntns|replay| => replay 
+ntns|replay|run => replay run
+ntns|run|replay => run replay
 ntns|other => unknown subcommand
 ntns|ntns => unknown subcommand
 ntns|-x => unknown argument
@@ -38,6 +44,9 @@ ntns|runs => mistake
 ntns|thread => mistake
 ntns|threads|a|b => mistake
 ntns|threads|-x => mistake
+ntns|replays => mistake
+ntns|replay|a|b => mistake
+ntns|replay|-x => mistake
 ntns|--|run|a => mistake
 ntns|run|-x => mistake";
 
@@ -49,6 +58,7 @@ fn plans(alloc: Global, line: &str) -> Option<bool> {
         Ok(Task::Script) => wanted == "script",
         Ok(Task::Run(path)) => wanted.strip_prefix("run ") == Some(path),
         Ok(Task::Threads(path)) => wanted.strip_prefix("threads ") == Some(path),
+        Ok(Task::Replay(path)) => wanted.strip_prefix("replay ") == Some(path),
         Err(fault) => is_mistake(fault.kind(), wanted),
     })
 }
@@ -123,6 +133,15 @@ error: the following required arguments were not provided:
 Usage: ntns threads <FILE>
 
 For more information, try '--help'.
+== and for a journal
+$ ntns|replay
+-- ends with 2
+error: the following required arguments were not provided:
+  <FILE>
+
+Usage: ntns replay <FILE>
+
+For more information, try '--help'.
 == the script of a file is run
 $ ntns|run|one
 -- ends with 0
@@ -162,6 +181,22 @@ ntns: cannot read
 $ ntns|threads|big
 -- ends with 1
 ntns: want of memory
+== a journal is accepted
+$ ntns|replay|journal
+-- ends with 0
+accepted 1 entries
+== what is no journal is refused
+$ ntns|replay|bad
+-- ends with 3
+line 1: header
+== the file of a journal may be missing
+$ ntns|replay|two
+-- ends with 1
+ntns: cannot read
+== or want memory
+$ ntns|replay|big
+-- ends with 1
+ntns: want of memory
 == help that is asked for is written
 $ ntns|-h
 -- ends with 0
@@ -172,6 +207,7 @@ Usage: ntns [COMMAND]
 Commands:
   run      Runs the script in FILE
   threads  Runs the script with workers in FILE, and prints its journal
+  replay   Checks the journal in FILE, and prints the verdict
   help     Print this message or the help of the given subcommand(s)
 
 Options:
@@ -186,6 +222,7 @@ Usage: ntns [COMMAND]
 Commands:
   run      Runs the script in FILE
   threads  Runs the script with workers in FILE, and prints its journal
+  replay   Checks the journal in FILE, and prints the verdict
   help     Print this message or the help of the given subcommand(s)
 
 Options:
@@ -200,6 +237,7 @@ Usage: ntns [COMMAND]
 Commands:
   run      Runs the script in FILE
   threads  Runs the script with workers in FILE, and prints its journal
+  replay   Checks the journal in FILE, and prints the verdict
   help     Print this message or the help of the given subcommand(s)
 
 Options:
@@ -252,12 +290,24 @@ Arguments:
 
 Options:
   -h, --help  Print help
-== of the other command too
+== of the other commands too
 $ ntns|threads|--help
 -- ends with 0
 Runs the script with workers in FILE, and prints its journal
 
 Usage: ntns threads <FILE>
+
+Arguments:
+  <FILE>  The path of the file, taken as it is
+
+Options:
+  -h, --help  Print help
+== and as one word behind another
+$ ntns|help|replay
+-- ends with 0
+Checks the journal in FILE, and prints the verdict
+
+Usage: ntns replay <FILE>
 
 Arguments:
   <FILE>  The path of the file, taken as it is
@@ -348,6 +398,26 @@ fn the_input_of_a_run_is_its_script_and_faults_end_with_1(rt: HostRuntime) {
 }
 
 #[test]
+fn a_verdict_that_cannot_be_written_ends_with_1(rt: HostRuntime) {
+    let told = b"ntns: cannot read\n";
+    assert!(rt;
+        performs(
+            &rt,
+            rt.alloc(),
+            Task::Replay("one"),
+            Input::Broken,
+            1,
+            b"",
+            told
+        )
+    );
+    let mut streams = Streams::new(rt.alloc(), Input::Bytes(b""));
+    streams.output.is_broken = true;
+    let end = streams.perform(&rt, rt.alloc(), Task::Replay("one"));
+    assert!(rt; end.status() == 1 && streams.hold(b"", b"ntns: cannot write\n"));
+}
+
+#[test]
 fn a_script_on_standard_input_opens_no_file(rt: HostRuntime) {
     let table: [&[&str]; 2] = [&["ntns"], &["ntns", "--"]];
     for words in table {
@@ -380,6 +450,8 @@ fn statuses_follow_the_end(rt: HostRuntime) {
             End::Task(Ok(Ended::Threads(ThreadsEnding::RefusedAt(1)))),
             1,
         ),
+        (End::Task(Ok(Ended::Replay(Verdict::Accepted))), 0),
+        (End::Task(Ok(Ended::Replay(Verdict::Refused))), 3),
         (End::Task(Err(ShellFault::Read)), 1),
         (End::Task(Err(ShellFault::Memory)), 1),
         (End::Mistake, 2),

@@ -125,11 +125,17 @@ impl<'a> Streams<'a> {
     }
 }
 
-// The files of the tests: a script, one with a line that is none, one that wants memory, and no other.
+// A journal of one entry: a directory is made.
+const JOURNAL: &'static [u8] = br#"{"journal":1,"seats":1}
+{"n":1,"reply":{"handle":4,"status":0},"seat":0,"step":{"flags":0,"name":"\\A","op":"dir","proc":1,"root":null}}
+"#;
+
+// The files of the tests: a script, one with a line that is none, a journal, one that wants memory, and no other.
 fn open_one(path: &str) -> io::Result<Input<'static>> {
     match path {
         "one" => Ok(Input::Bytes(b"p1 close z\nq close z\n")),
         "bad" => Ok(Input::Bytes(b"no line\n")),
+        "journal" => Ok(Input::Bytes(JOURNAL)),
         "big" => Err(Error::from(ErrorKind::OutOfMemory)),
         _ => Err(Error::from(ErrorKind::NotFound)),
     }

@@ -11,10 +11,10 @@ pub record ReadsWhole (old new : Option (List ℕ)) (taken : List ℕ) : Type 0 
   pub taken_all : Consumes old new taken
   pub ended : IsAtEnd new
 
--- the next bytes of the reader were added to the script, `count` of them, none only at the end
-pub record ReadsMore (old new : Option (List ℕ)) (script script' : List ℕ) (count : ℕ) : Type 0 where
+-- the next bytes of the reader were added to the text, `count` of them, none only at the end
+pub record ReadsMore (old new : Option (List ℕ)) (text text' : List ℕ) (count : ℕ) : Type 0 where
   pub more : List ℕ
-  pub added : script' ≡ script ++ more
+  pub added : text' ≡ text ++ more
   pub counted : length more ≡ count
   pub taken : Consumes old new more
   pub ended : count ≡ 0 → IsAtEnd new
@@ -31,24 +31,28 @@ pub record TakesExactly (old new : Option (List ℕ)) (count : ℕ) : Type 0 whe
   pub taken : Consumes old new front
   pub counted : length front ≡ count
 
--- what a reader has given when a fault ends the reading: one byte more than a script may have; or,
--- where a read failed or memory was wanting, no more than a script may have. No other fault comes
+-- what a reader has given when a fault ends a reading of up to so many bytes: one byte more than those;
+-- or, where a read failed or memory was wanting, no more than those. No other fault comes
+abbrev pub StopsReadingAt : ℕ → ShellFault → Option (List ℕ) → Option (List ℕ) → Type 0
+StopsReadingAt limit TooLong old new = TakesExactly old new (limit + 1)
+StopsReadingAt limit Read old new = TakesAtMost old new limit
+StopsReadingAt limit Memory old new = TakesAtMost old new limit
+StopsReadingAt limit Write old new = ⊥
+StopsReadingAt limit Mismatch old new = ⊥
+
+-- the same, of the reading of a script
 abbrev pub StopsReading : ShellFault → Option (List ℕ) → Option (List ℕ) → Type 0
-StopsReading TooLong old new = TakesExactly old new (SCRIPT_LIMIT + 1)
-StopsReading Read old new = TakesAtMost old new SCRIPT_LIMIT
-StopsReading Memory old new = TakesAtMost old new SCRIPT_LIMIT
-StopsReading Write old new = ⊥
-StopsReading Mismatch old new = ⊥
+StopsReading fault old new = StopsReadingAt SCRIPT_LIMIT fault old new
 
--- the same, for a reading that goes on behind the bytes that it has already
-abbrev pub StopsReadingAfter : ℕ → ShellFault → Option (List ℕ) → Option (List ℕ) → Type 0
-StopsReadingAfter had TooLong old new = TakesExactly old new (SCRIPT_LIMIT + 1 - had)
-StopsReadingAfter had Read old new = TakesAtMost old new (SCRIPT_LIMIT - had)
-StopsReadingAfter had Memory old new = TakesAtMost old new (SCRIPT_LIMIT - had)
-StopsReadingAfter had Write old new = ⊥
-StopsReadingAfter had Mismatch old new = ⊥
+-- the same as the first, for a reading that goes on behind the bytes that it has already
+abbrev pub StopsReadingAfter : (limit had : ℕ) → ShellFault → Option (List ℕ) → Option (List ℕ) → Type 0
+StopsReadingAfter limit had TooLong old new = TakesExactly old new (limit + 1 - had)
+StopsReadingAfter limit had Read old new = TakesAtMost old new (limit - had)
+StopsReadingAfter limit had Memory old new = TakesAtMost old new (limit - had)
+StopsReadingAfter limit had Write old new = ⊥
+StopsReadingAfter limit had Mismatch old new = ⊥
 
--- how the reading of a script above the limit ends: it is told as too long, unless a read failed or memory
+-- how the reading of what is above the limit ends: it is told as too long, unless a read failed or memory
 -- was wanting before
 abbrev pub StopsLong : ShellFault → Type 0
 StopsLong TooLong = Unit {0}

@@ -10,6 +10,6 @@ mod writing;
 
 pub use fault::ShellFault;
 pub use laws::{offsets_are_added_in_full, shown_law};
-pub use reading::{SCRIPT_LIMIT, read_script};
+pub use reading::{SCRIPT_LIMIT, read_all, read_script};
 pub use run::{Ending, run_script};
 pub use writing::write_out;

@@ -15,8 +15,10 @@ use Rattle.ob_tasks.specs.declared.end.Ended.TheVariants as ended
 use Rattle.ob_threads.specs.Written.{IsWritten}
 use Rattle.ob_threads.specs.declared.ending.ThreadsEnding.{ThreadsEnding}
 use Rattle.ob_threads.specs.declared.ending.ThreadsEnding.TheVariants as threads
+use Rattle.ob_verdict.specs.Verdict.{Replays}
+use Rattle.ob_verdict.specs.declared.verdict.Verdict.{Verdict}
 use Rattle.ob_words.specs.declared.planning.Task.{Task}
-use Rattle.ob_words.specs.declared.planning.Task.TheVariants.{Script, Run, Threads}
+use Rattle.ob_words.specs.declared.planning.Task.TheVariants.{Script, Run, Threads, Replay}
 
 -- the line that tells a text
 abbrev pub line_of : List ℕ → List ℕ
@@ -38,6 +40,7 @@ text_told (Ok (ended.Threads threads.Done)) = None
 text_told (Ok (ended.Threads (threads.BadLine line))) = None
 text_told (Ok (ended.Threads (threads.NoMemoryAt line))) = Some (fault_text_of Memory)
 text_told (Ok (ended.Threads (threads.RefusedAt line))) = Some (codes "step refused")
+text_told (Ok (ended.Replay verdict)) = None
 text_told (Err fault) = Some (fault_text_of fault)
 
 -- it says that whole, or nothing where there is nothing to say
@@ -69,19 +72,29 @@ pub record RunsScript (outcome : Result Ending ShellFault) (input written writte
 abbrev pub OfScript : (Result Ending ShellFault → Type 0) → Result Ended ShellFault → Type 0
 OfScript P (Ok (ended.Script ending)) = P (Ok ending)
 OfScript P (Ok (ended.Threads ending)) = ⊥
+OfScript P (Ok (ended.Replay verdict)) = ⊥
 OfScript P (Err fault) = P (Err fault)
 
 -- the outcome is that of a run of a script with workers, of which this holds
 abbrev pub OfThreads : (Result ThreadsEnding ShellFault → Type 0) → Result Ended ShellFault → Type 0
 OfThreads P (Ok (ended.Script ending)) = ⊥
 OfThreads P (Ok (ended.Threads ending)) = P (Ok ending)
+OfThreads P (Ok (ended.Replay verdict)) = ⊥
 OfThreads P (Err fault) = P (Err fault)
 
--- the run that the task asks for, to this outcome, with its input, and the output before and after
+-- the outcome is that of the check of a journal, of which this holds
+abbrev pub OfReplay : (Result Verdict ShellFault → Type 0) → Result Ended ShellFault → Type 0
+OfReplay P (Ok (ended.Script ending)) = ⊥
+OfReplay P (Ok (ended.Threads ending)) = ⊥
+OfReplay P (Ok (ended.Replay verdict)) = P (Ok verdict)
+OfReplay P (Err fault) = P (Err fault)
+
+-- the run or the check that the task asks for, to this outcome, with its input, and the output before and after
 abbrev pub Runs : Task → Result Ended ShellFault → Option (List ℕ) → Option (List ℕ) → Option (List ℕ) → Type 0
 Runs Script outcome input written written' = OfScript (λ ran. RunsScript ran input written written') outcome
 Runs (Run file) outcome input written written' = OfScript (λ ran. RunsScript ran input written written') outcome
 Runs (Threads file) outcome input written written' = OfThreads (λ ran. IsWritten ran input written written') outcome
+Runs (Replay file) outcome input written written' = OfReplay (λ ran. Replays ran input written written') outcome
 
 -- the task, to this outcome, with its input, and what was written before and after
 pub record Performs (task : Task) (outcome : Result Ended ShellFault) (input written written' told told' : Option (List ℕ)) : Type 0 where

@@ -5,6 +5,7 @@ ghost use Rattle.ob_tasks.specs.End.{status_of};
 
 use ob_shell::{Ending, ShellFault};
 use ob_threads::ThreadsEnding;
+use ob_verdict::Verdict;
 
 /// How a task ended that no fault ended. (this profile)
 #[derive(Clone, Copy, PartialEq, Eq, Debug)]
@@ -13,6 +14,8 @@ pub enum Ended {
     Script(Ending),
     /// The run of a script with workers came to this ending.
     Threads(ThreadsEnding),
+    /// The check of a journal came to this verdict.
+    Replay(Verdict),
 }
 
 /// How the program ends. (this profile)
@@ -28,8 +31,8 @@ pub enum End {
 }
 
 impl End {
-    /// The program's status: 0 where the whole script was run or help was written, 2 where the words
-    /// are a mistake, and else 1. (this profile)
+    /// The program's status: 0 where the whole script was run, a journal is accepted or help was written, 2 where
+    /// the words are a mistake, 3 where a journal is refused, and else 1. (this profile)
     pub fn status(&self) -> u8
         ensures { result ≡ status_of self.now }
     {
@@ -41,6 +44,8 @@ impl End {
             End::Task(Ok(Ended::Threads(ThreadsEnding::BadLine(_)))) => 1,
             End::Task(Ok(Ended::Threads(ThreadsEnding::NoMemoryAt(_)))) => 1,
             End::Task(Ok(Ended::Threads(ThreadsEnding::RefusedAt(_)))) => 1,
+            End::Task(Ok(Ended::Replay(Verdict::Accepted))) => 0,
+            End::Task(Ok(Ended::Replay(Verdict::Refused))) => 3,
             End::Task(Err(_)) => 1,
             End::Mistake => 2,
             End::Help => 0,

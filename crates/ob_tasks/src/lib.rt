@@ -11,6 +11,7 @@ mod serving;
 pub use end::{End, Ended};
 pub use ob_shell::{Ending, ShellFault};
 pub use ob_threads::ThreadsEnding;
+pub use ob_verdict::Verdict;
 pub use opening::perform_opened;
 pub use performing::{complain, perform, starve};
 pub use refusing::refuse;

@@ -12,6 +12,7 @@ ghost use Rattle.ob_threads.specs.Written.{IsWritten};
 use crate::end::{End, Ended};
 use ob_shell::{ShellFault, run_script, write_out};
 use ob_threads::{ThreadsEnding, run_threads};
+use ob_verdict::run_replay;
 use ob_words::Task;
 use std::alloc::Global;
 use std::io::{Read, Write};
@@ -20,7 +21,7 @@ use std::sync::Wait;
 use std::sync::ledger::Blank;
 use std::thread::Threads;
 
-/// Does the task, and tells how it ended: the ending of its kind of run, or the fault that ended the task.
+/// Does the task, and tells how it ended: the ending of its kind of run, the verdict on a journal, or the fault that ended the task.
 ///
 /// The input is the reader, which is standard input or the file that was opened for the task, and
 /// the output goes to the writer. To `errors` goes one line, `ntns: ` and the text of the fault that
@@ -61,6 +62,10 @@ fn run_task<H: Threads + Wait + Sync, R: Read, W: Write>(
         },
         Task::Threads(_) => match run_workers(rt, alloc, reader, writer) {
             Ok(ending) => Ok(Ended::Threads(ending)),
+            Err(fault) => Err(fault),
+        },
+        Task::Replay(_) => match run_replay(alloc, reader, writer) {
+            Ok(verdict) => Ok(Ended::Replay(verdict)),
             Err(fault) => Err(fault),
         },
     }

@@ -17,8 +17,8 @@ use std::thread::Threads;
 
 /// Does what the words ask for, and tells how the program ends. The first word is the program's name.
 ///
-/// Where the words name a task and have no fault, it is done: `Script` over the reader, and `Run` and
-/// `Threads` over the file that `opener` gives for their path. Nothing else is opened: `opener` need only be
+/// Where the words name a task and have no fault, it is done: `Script` over the reader, and `Run`,
+/// `Threads` and `Replay` over the file that `opener` gives for their path. Nothing else is opened: `opener` need only be
 /// callable at the path that the words name, and is called for no script on standard input. A file
 /// that could not be opened is told as `perform_opened` says. A fault of the words is told instead,
 /// and want of memory before there was a task. (this profile)
@@ -48,7 +48,7 @@ pub fn serve<
     match plan(alloc, words) {
         Ok(task) => End::Task(match task {
             Task::Script => perform(rt, alloc, task, reader, writer, errors),
-            Task::Run(file) | Task::Threads(file) => {
+            Task::Run(file) | Task::Threads(file) | Task::Replay(file) => {
                 let opened = opener(file);
                 perform_opened(rt, alloc, task, opened, writer, errors)
             }

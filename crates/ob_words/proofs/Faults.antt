@@ -9,7 +9,7 @@ use Rattle.clap.specs.Simple.{Shape, built_leaf, entered, inherited, marked_buil
 use Rattle.clap.specs.Words.{App, Row, Text, built, fault_of, first_of, is_simple, is_simple_and_free, new_app, subcommand_of, with_rule}
 use Rattle.clap.proofs.OnLiterals.{clap_on_literals}
 use Rattle.clap.proofs.WalkLemmas.{walk_stopped}
-use Rattle.ob_words.specs.Plan.{IsFileIn, Named, Spells, file_rule, ntns, run, script, task_of, threads}
+use Rattle.ob_words.specs.Plan.{IsFileIn, Named, Spells, file_rule, ntns, replay, run, script, task_of, threads}
 use Rattle.ob_words.proofs.Flags.{HasOnlyHelp, help, long_is_plain, or_else_next, or_else_none}
 
 -- the program, as the parser builds it
@@ -27,6 +27,9 @@ run_word = codes "run"
 
 abbrev threads_word : Text
 threads_word = codes "threads"
+
+abbrev replay_word : Text
+replay_word = codes "replay"
 
 abbrev help_word : Text
 help_word = codes "help"
@@ -59,35 +62,44 @@ run_name = (run_word, [])
 abbrev threads_name : Text × List Text
 threads_name = (threads_word, [])
 
+abbrev replay_name : Text × List Text
+replay_name = (replay_word, [])
+
 abbrev help_name : Text × List Text
 help_name = (help_word, [])
 
 -- the subcommand that a word names, by the names
-abbrev met_by : Bool → Bool → Bool → Option Text
-met_by is_run is_threads is_help = option_map (λ s. s.0)
-    (if is_run || false then Some run_name else (if is_threads || false then Some threads_name else (if is_help || false then Some help_name else None)))
+abbrev met_by : Bool → Bool → Bool → Bool → Option Text
+met_by is_run is_threads is_replay is_help = option_map (λ s. s.0)
+    (if is_run || false then Some run_name else (if is_threads || false then Some threads_name
+    else (if is_replay || false then Some replay_name else (if is_help || false then Some help_name else None))))
 
--- a first word is `run`, `threads` or `--`
-abbrev IsFirst : Bool → Bool → Text → Type 0
-IsFirst is_run is_threads word = (is_run ≡ true) ⊎ ((is_threads ≡ true) ⊎ (bytes_eq word dashes ≡ true))
+-- a first word is `run`, `threads`, `replay` or `--`
+abbrev IsFirst : Bool → Bool → Bool → Text → Type 0
+IsFirst is_run is_threads is_replay word = (is_run ≡ true) ⊎ ((is_threads ≡ true) ⊎ ((is_replay ≡ true) ⊎ (bytes_eq word dashes ≡ true)))
 
-first_turn : (is_run is_threads is_help : Bool) (word : Text)
-    → or_else (other_fault top (met_by is_run is_threads is_help) word nothing_held)
+first_turn : (is_run is_threads is_replay is_help : Bool) (word : Text)
+    → or_else (other_fault top (met_by is_run is_threads is_replay is_help) word nothing_held)
     (step_fault top 1
-    (subcommand_or_other top.rules (met_by is_run is_threads is_help) idle 1 word nothing_held).0
-    (subcommand_or_other top.rules (met_by is_run is_threads is_help) idle 1 word nothing_held).1) ≡ []
-    → IsFirst is_run is_threads word
-first_turn true is_threads is_help word none = inl refl
-first_turn false true is_help word none = inr (inl refl)
-first_turn false false true word none = cc
-first_turn false false false word none = inr (inr (dashes_first (bytes_eq word dashes) word none))
+    (subcommand_or_other top.rules (met_by is_run is_threads is_replay is_help) idle 1 word nothing_held).0
+    (subcommand_or_other top.rules (met_by is_run is_threads is_replay is_help) idle 1 word nothing_held).1) ≡ []
+    → IsFirst is_run is_threads is_replay word
+first_turn true is_threads is_replay is_help word none = inl refl
+first_turn false true is_replay is_help word none = inr (inl refl)
+first_turn false false true is_help word none = inr (inr (inl refl))
+first_turn false false false true word none = cc
+first_turn false false false false word none = inr (inr (inr (dashes_first (bytes_eq word dashes) word none)))
 
--- a first word without a fault is `run`, `threads` or `--`
-first_word : (word : Text) → turn_fault top names (walk_from nothing_held) word ≡ [] → (word ≡ run_word) ⊎ ((word ≡ threads_word) ⊎ (word ≡ dashes))
-first_word word none = elim (first_turn (bytes_eq run_word word) (bytes_eq threads_word word) (bytes_eq help_word word) word none) [
+-- what a first word without a fault is
+abbrev IsFirstWord : Text → Type 0
+IsFirstWord word = (word ≡ run_word) ⊎ ((word ≡ threads_word) ⊎ ((word ≡ replay_word) ⊎ (word ≡ dashes)))
+
+first_word : (word : Text) → turn_fault top names (walk_from nothing_held) word ≡ [] → IsFirstWord word
+first_word word none = elim (first_turn (bytes_eq run_word word) (bytes_eq threads_word word) (bytes_eq replay_word word) (bytes_eq help_word word) word none) [
   | inl is_run ↦ inl (sym ((bytes_eq-Decides run_word word).0 is_run))
   | inr (inl is_threads) ↦ inr (inl (sym ((bytes_eq-Decides threads_word word).0 is_threads)))
-  | inr (inr is_dashes) ↦ inr (inr ((bytes_eq-Decides word dashes).0 is_dashes))
+  | inr (inr (inl is_replay)) ↦ inr (inr (inl (sym ((bytes_eq-Decides replay_word word).0 is_replay))))
+  | inr (inr (inr is_dashes)) ↦ inr (inr (inr ((bytes_eq-Decides word dashes).0 is_dashes)))
 ]
 
 -- ---- the words behind a subcommand
@@ -211,6 +223,10 @@ left_to_threads : (rest : List Text) → stop_after top.rules names (threads_wor
 unfolding walked
 left_to_threads rest = sym (ap (λ (w : Walk). w.stopped) (walk_stopped top.rules names (walk_from nothing_held) threads_word [] rest))
 
+left_to_replay : (rest : List Text) → stop_after top.rules names (replay_word ∷ rest) ≡ Some (replay_word, rest)
+unfolding walked
+left_to_replay rest = sym (ap (λ (w : Walk). w.stopped) (walk_stopped top.rules names (walk_from nothing_held) replay_word [] rest))
+
 no_fault_below : (name : Text) (words : List Text) → fault_of ntns (name ∷ words) ≡ [] → entered_fault (built ntns) (stop_after top.rules names words) ≡ []
 no_fault_below name words none = or_else_none _ _ (or_else_next _ _ none)
 
@@ -232,18 +248,26 @@ names_threads name rest none =
     let rows : subcommand_of ntns (name ∷ threads_word ∷ rest) ≡ Some (threads_word, rows_after (inner threads_word).rules [] rest) = ap (entered (built ntns)) (left_to_threads rest) in
     (threads found.0, (ap task_of rows ∙ ap (option_map threads) found.1.0, (refl, found.1.1)))
 
+names_replay : (name : Text) (rest : List Text) → fault_of ntns (name ∷ replay_word ∷ rest) ≡ [] → NamesTask (name ∷ replay_word ∷ rest)
+names_replay name rest none =
+    let below : no_fault replay_word rest = subst (λ stop. entered_fault (built ntns) stop ≡ []) (left_to_replay rest) (no_fault_below name (replay_word ∷ rest) none) in
+    let found : NamesFile replay_word rest = names_file replay_word rest below in
+    let rows : subcommand_of ntns (name ∷ replay_word ∷ rest) ≡ Some (replay_word, rows_after (inner replay_word).rules [] rest) = ap (entered (built ntns)) (left_to_replay rest) in
+    (replay found.0, (ap task_of rows ∙ ap (option_map replay) found.1.0, (refl, found.1.1)))
+
 names_dashes : (name : Text) (rest : List Text) → fault_of ntns (name ∷ dashes ∷ rest) ≡ [] → NamesTask (name ∷ dashes ∷ rest)
 unfolding clap_on_literals
 names_dashes name [] none = (script, (refl, refl))
 names_dashes name (word ∷ rest) none = cc
 
-names_by : (name word : Text) (rest : List Text) → fault_of ntns (name ∷ word ∷ rest) ≡ [] → (word ≡ run_word) ⊎ ((word ≡ threads_word) ⊎ (word ≡ dashes))
-    → NamesTask (name ∷ word ∷ rest)
+names_by : (name word : Text) (rest : List Text) → fault_of ntns (name ∷ word ∷ rest) ≡ [] → IsFirstWord word → NamesTask (name ∷ word ∷ rest)
 names_by name word rest none (inl same) =
     subst (λ w. NamesTask (name ∷ w ∷ rest)) (sym same) (names_run name rest (subst (λ w. fault_of ntns (name ∷ w ∷ rest) ≡ []) same none))
 names_by name word rest none (inr (inl same)) =
     subst (λ w. NamesTask (name ∷ w ∷ rest)) (sym same) (names_threads name rest (subst (λ w. fault_of ntns (name ∷ w ∷ rest) ≡ []) same none))
-names_by name word rest none (inr (inr same)) =
+names_by name word rest none (inr (inr (inl same))) =
+    subst (λ w. NamesTask (name ∷ w ∷ rest)) (sym same) (names_replay name rest (subst (λ w. fault_of ntns (name ∷ w ∷ rest) ≡ []) same none))
+names_by name word rest none (inr (inr (inr same))) =
     subst (λ w. NamesTask (name ∷ w ∷ rest)) (sym same) (names_dashes name rest (subst (λ w. fault_of ntns (name ∷ w ∷ rest) ≡ []) same none))
 
 first_turn_passes : (name word : Text) (rest : List Text) → fault_of ntns (name ∷ word ∷ rest) ≡ [] → turn_fault top names (walk_from nothing_held) word ≡ []

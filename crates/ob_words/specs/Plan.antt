@@ -20,26 +20,33 @@ run_app = with_rule (new_app (codes "run")) file_rule
 abbrev pub threads_app : App
 threads_app = with_rule (new_app (codes "threads")) file_rule
 
--- the program: it has the subcommands `run` and `threads`, what the parser adds to ask for help, and nothing else
+-- the subcommand `replay`
+abbrev pub replay_app : App
+replay_app = with_rule (new_app (codes "replay")) file_rule
+
+-- the program: it has the subcommands `run`, `threads` and `replay`, what the parser adds to ask for help, and nothing else
 abbrev pub ntns : App
-ntns = with_subcommand (with_subcommand (new_app (codes "ntns")) run_app.top) threads_app.top
+ntns = with_subcommand (with_subcommand (with_subcommand (new_app (codes "ntns")) run_app.top) threads_app.top) replay_app.top
 
 -- a task by its words
 pub data Named : Type 0 where
   script : Named
   run : Text → Named
   threads : Text → Named
+  replay : Text → Named
 
 abbrev pub named : Task → Named
 named task.Script = script
 named (task.Run file) = run file.now
 named (task.Threads file) = threads file.now
+named (task.Replay file) = replay file.now
 
 -- the task that a subcommand names, where there is one
 abbrev pub task_of : Option (Text × List Row) → Option Named
 task_of None = Some script
 task_of (Some used) = if bytes_eq used.0 (codes "run") then option_map run (first_of (codes "FILE") used.1)
-    else (if bytes_eq used.0 (codes "threads") then option_map threads (first_of (codes "FILE") used.1) else None)
+    else (if bytes_eq used.0 (codes "threads") then option_map threads (first_of (codes "FILE") used.1)
+    else (if bytes_eq used.0 (codes "replay") then option_map replay (first_of (codes "FILE") used.1) else None))
 
 -- no word stands behind the program's name, or `--` alone, which ends the flags
 abbrev pub IsBare : List Text → Type 0
@@ -66,6 +73,7 @@ abbrev pub Spells : List Text → Named → Type 0
 Spells words script = IsBare words
 Spells words (run file) = IsOverFile (codes "run") file words
 Spells words (threads file) = IsOverFile (codes "threads") file words
+Spells words (replay file) = IsOverFile (codes "replay") file words
 
 -- a mistake in the words, or want of memory
 abbrev pub IsMistakeOrWant : ErrorKind → Type 0

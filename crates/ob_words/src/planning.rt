@@ -3,7 +3,7 @@
 ghost use Rattle.std.specs.Prelude.{◌≡◌, ◌≤◌, true, false, Some, IfOk, IfErr, length, map, option_map};
 ghost use Rattle.clap.specs.Words.{FailsBy, app_of, fault_of, kind_of, rule_of, subcommand_of, subcommand_rows_of, takes};
 ghost use Rattle.clap.specs.declared.builder.command.Command.TheViews.{out-Command as fields_of};
-ghost use Rattle.ob_words.specs.Plan.{IsMistakeOrWant, Spells, file_rule, named, ntns, run_app, task_of, threads_app};
+ghost use Rattle.ob_words.specs.Plan.{IsMistakeOrWant, Spells, file_rule, named, ntns, replay_app, run_app, task_of, threads_app};
 
 use clap::error::ErrorKind;
 use clap::{Arg, ArgMatches, Command, Error};
@@ -19,14 +19,16 @@ pub enum Task<'a> {
     Run(&'a str),
     /// Run the script with workers in the file of this path, and print its journal.
     Threads(&'a str),
+    /// Check the journal in the file of this path, and print the verdict.
+    Replay(&'a str),
 }
 
 /// The task that the words ask for. The first word is the program's name.
 ///
 /// It is `Script` where no word stands behind the program's name, or `--` alone, and `Run` where
 /// these are `run` and a path, which is taken as it is, with `--` before or behind it or without;
-/// so it is `Threads` where they are `threads` and a path. The task is what the parser `clap` states for these words and the program as `ntns` describes
-/// it. The faults are clap's: of the kinds that clap states for the words, which are mistakes, or
+/// so it is `Threads` where they are `threads` and a path, and `Replay` where they are `replay` and a path. The task is what the parser
+/// `clap` states for these words and the program as `ntns` describes it. The faults are clap's: of the kinds that clap states for the words, which are mistakes, or
 /// the request for help; or want of memory, which alone can refuse words that name a task, as no
 /// words behind the program's name do. (this profile)
 pub fn plan<'a, S: AsStr>(alloc: Global, words: &'a [S]) -> Result<Task<'a>, Error>
@@ -65,6 +67,10 @@ fn task_in<'a>(matches: &ArgMatches<'a>) -> Option<Task<'a>>
             Some(file) => Some(Task::Threads(file)),
             None => None,
         },
+        Some((name, inside)) if name == "replay" => match inside.get_str("FILE") {
+            Some(file) => Some(Task::Replay(file)),
+            None => None,
+        },
         Some(_) => None,
     }
 }
@@ -91,12 +97,14 @@ fn program<'a>(alloc: Global) -> Result<Command<'a>, AllocError>
 {
     let run = run_command(alloc)?;
     let threads = threads_command(alloc)?;
+    let replay = replay_command(alloc)?;
     Command::new(alloc, "ntns")
         .about(
             "Runs a script of namespace commands, by default from standard input, and prints one reply a line",
         )
         .subcommand(run)?
-        .subcommand(threads)
+        .subcommand(threads)?
+        .subcommand(replay)
 }
 
 // The subcommand `run`.
@@ -116,6 +124,16 @@ fn threads_command<'a>(alloc: Global) -> Result<Command<'a>, AllocError>
 {
     Command::new(alloc, "threads")
         .about("Runs the script with workers in FILE, and prints its journal")
+        .arg(file_argument(alloc))
+}
+
+// The subcommand `replay`.
+fn replay_command<'a>(alloc: Global) -> Result<Command<'a>, AllocError>
+    ensures app { IfOk result (λ command. app_of command ≡ replay_app) }
+    ensures local { IfOk result (λ command. (fields_of command).has_globals ≡ false) }
+{
+    Command::new(alloc, "replay")
+        .about("Checks the journal in FILE, and prints the verdict")
         .arg(file_argument(alloc))
 }
 

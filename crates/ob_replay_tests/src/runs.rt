@@ -1,0 +1,137 @@
+//! The journals of runs, and what is told of their fronts and changes.
+
+use crate::run::journal;
+use crate::told::told;
+use ob_replay::Cause;
+use std::alloc::{AllocError, Global};
+use std::test::Fail;
+
+// How often a text has a byte.
+fn count_of(text: &[u8], wanted: u8) -> usize {
+    text.iter().filter(|byte| **byte == wanted).count()
+}
+
+// The length of the first front of a journal of which something else is told than is to be: those that end at a line's end, with its
+// LF or without, are accepted, and others are refused at their last line for its form.
+fn first_other_front(alloc: Global, text: &[u8]) -> Option<usize> {
+    for length in 0..=text.len() {
+        let front = text.get(..length).unwrap_or(&[]);
+        let lines = count_of(front, b'\n');
+        let is_cut = front.last() != Some(&b'\n');
+        let is_whole = length > 0 && (!is_cut || text.get(length) == Some(&b'\n'));
+        let wanted = match (is_whole, is_cut) {
+            (true, true) => (lines, None),
+            (true, false) => (lines.wrapping_sub(1), None),
+            (false, _) if lines == 0 => (1, Some(Cause::Header)),
+            (false, _) => (lines.wrapping_add(1), Some(Cause::Syntax)),
+        };
+        if told(alloc, front) != wanted {
+            return Some(length);
+        }
+    }
+    None
+}
+
+// The number of the first line of a journal where the front that it ends isn't accepted.
+fn first_refused_front(alloc: Global, text: &[u8]) -> Option<usize> {
+    let mut entries = 0;
+    for (place, byte) in text.iter().enumerate() {
+        if *byte == b'\n' {
+            let front = text.get(..place).unwrap_or(&[]);
+            if told(alloc, front) != (entries, None) {
+                return Some(entries);
+            }
+            entries = entries.wrapping_add(1);
+        }
+    }
+    None
+}
+
+#[test]
+fn each_front_of_the_journal_of_a_run_is_accepted(rt: HostRuntime) -> Result<(), Fail> {
+    let alloc = rt.alloc();
+    for state in 1..=5 {
+        let text = journal(alloc, state, 220)?;
+        assert!(rt; count_of(text.as_slice(), b'\n') == 221);
+        let refused = first_refused_front(alloc, text.as_slice());
+        assert!(rt; refused.is_none(), "{refused:?} from {state}");
+    }
+    Ok(())
+}
+
+#[test]
+fn a_front_that_ends_inside_a_line_is_refused(rt: HostRuntime) -> Result<(), Fail> {
+    let alloc = rt.alloc();
+    let text = journal(alloc, 6, 50)?;
+    let other = first_other_front(alloc, text.as_slice());
+    assert!(rt; other.is_none(), "{other:?}");
+    Ok(())
+}
+
+// What is counted of answers: those that accept, those of each cause in order, and those that find no memory.
+type Counts = [usize; 8];
+
+// The place of an answer.
+fn place_of(told: (usize, Option<Cause>)) -> usize {
+    match told {
+        (0, None) => 7,
+        (_, None) => 0,
+        (_, Some(Cause::Header)) => 1,
+        (_, Some(Cause::Syntax)) => 2,
+        (_, Some(Cause::Number)) => 3,
+        (_, Some(Cause::Seat)) => 4,
+        (_, Some(Cause::Ticket)) => 5,
+        (_, Some(Cause::Reply)) => 6,
+    }
+}
+
+// Counts what is told of a text in which each byte in turn is this one.
+fn count_changed(alloc: Global, text: &[u8], byte: u8) -> Result<Counts, AllocError> {
+    let mut counts = [0; 8];
+    for place in 0..text.len() {
+        let mut changed = text.to_vec(alloc)?;
+        if let Some(slot) = changed.get_mut(place) {
+            *slot = byte;
+        }
+        let at = place_of(told(alloc, changed.as_slice()));
+        if let Some(count) = counts.get_mut(at) {
+            *count = usize::wrapping_add(*count, 1);
+        }
+    }
+    Ok(counts)
+}
+
+// A byte that is there already changes nothing. Else the 24 bytes of the first line are those of no header then, and others those of
+// no entry: a quote or a backslash in a text leaves no text of the form, a line feed cuts its line.
+#[test]
+fn what_is_no_text_takes_the_form_from_each_line(rt: HostRuntime) -> Result<(), Fail> {
+    let alloc = rt.alloc();
+    let text = journal(alloc, 6, 50)?;
+    let table: [(u8, usize); 5] = [(b'"', 20), (b'\\', 24), (b'\n', 23), (0x00, 24), (0xFF, 24)];
+    for (byte, header) in table {
+        let same = count_of(text.as_slice(), byte);
+        let syntax = text.len().wrapping_sub(same).wrapping_sub(header);
+        let counts = count_changed(alloc, text.as_slice(), byte)?;
+        assert!(rt;
+            counts == [same, header, syntax, 0, 0, 0, 0, 0],
+            "{counts:?} of {byte}"
+        );
+    }
+    Ok(())
+}
+
+// With a 9 in its place the number of seats is still one. A bracket changes names, and no number.
+#[test]
+fn what_may_be_of_the_form_is_judged(rt: HostRuntime) -> Result<(), Fail> {
+    let alloc = rt.alloc();
+    let text = journal(alloc, 6, 50)?;
+    let brackets = count_changed(alloc, text.as_slice(), b'{')?;
+    assert!(rt; brackets[1] == 23, "{brackets:?}");
+    assert!(rt;
+        [brackets[3], brackets[4], brackets[5], brackets[7]] == [0; 4],
+        "{brackets:?}"
+    );
+    let nines = count_changed(alloc, text.as_slice(), b'9')?;
+    assert!(rt; nines[1] == 23 && nines[7] == 0, "{nines:?}");
+    Ok(())
+}
