@@ -61,10 +61,11 @@ def overfull():
     return b"".join(lines)
 
 
-# a journal of two directories, and what stands in place of its last line where it is refused
+# a journal of two directories, and what stands in place of its last line: each row of the example in docs/journal.md
 HEADER = b'{"journal":1,"seats":1}\n'
 FIRST = b'{"n":1,"reply":{"handle":4,"status":0},"seat":0,"step":{"flags":0,"name":"\\\\A","op":"dir","proc":1,"root":null}}\n'
 SECOND = b'{"n":2,"reply":{"handle":8,"status":0},"seat":0,"step":{"flags":0,"name":"\\\\B","op":"dir","proc":1,"root":null}}\n'
+AGAIN = SECOND.replace(b"B", b"A")
 STRAY = b'{"n":2,"reply":{"status":0},"seat":0,"step":{"op":"abandon","parse":"none","ticket":9}}\n'
 
 # how many bytes a journal may have
@@ -73,13 +74,18 @@ JOURNAL_LIMIT = 268_435_456
 FILES = {
     "journal": HEADER + FIRST + SECOND,
     "no line end": HEADER + FIRST + SECOND[:-1],
-    "other value": HEADER + FIRST + SECOND.replace(b'"handle":8', b'"handle":262140'),
+    "other value": HEADER + FIRST + SECOND.replace(b'"handle":8', b'"handle":400'),
+    "last value": HEADER + FIRST + SECOND.replace(b'"handle":8', b'"handle":262140'),
+    "odd value": HEADER + FIRST + SECOND.replace(b'"handle":8', b'"handle":6'),
+    "great value": HEADER + FIRST + SECOND.replace(b'"handle":8', b'"handle":262144'),
+    "collision": HEADER + FIRST + AGAIN.replace(b'"handle":8,"status":0', b'"status":3221225525'),
+    "no collision": HEADER + FIRST + AGAIN.replace(b'"handle":8,', b""),
     "no header": FIRST + SECOND,
     "cut": HEADER + FIRST + SECOND[:20],
     "number": HEADER + FIRST + SECOND.replace(b'"n":2', b'"n":3'),
     "seat": HEADER + FIRST + SECOND.replace(b'"seat":0', b'"seat":1'),
     "ticket": HEADER + FIRST + STRAY,
-    "reply": HEADER + FIRST + SECOND.replace(b'"handle":8', b'"handle":4'),
+    "used value": HEADER + FIRST + SECOND.replace(b'"handle":8', b'"handle":4'),
     "worked": WORKED,
     "seated": SEATED,
     "a.ntns": SCRIPT,
@@ -91,6 +97,7 @@ FILES = {
     "seats": SEATS,
     "join": b"join\n",
     "overfull": OVERFULL,
+    "full": overfull(),
 }
 
 HELP = (
@@ -227,15 +234,21 @@ CASES = [
     Case("a journal of two entries is accepted", ("replay", "journal"), 0, b"accepted 2 entries\n"),
     Case("its last line may have no end", ("replay", "no line end"), 0, b"accepted 2 entries\n"),
     Case("the value of a handle is any that is free", ("replay", "other value"), 0, b"accepted 2 entries\n"),
+    Case("the last one too", ("replay", "last value"), 0, b"accepted 2 entries\n"),
+    Case("a status that refuses is a reply like another", ("replay", "collision"), 0, b"accepted 2 entries\n"),
     Case("a journal that was written is accepted", ("replay", "worked"), 0, b"accepted 2 entries\n"),
     Case("so is one with opens that waited", ("replay", "seated"), 0, b"accepted 11 entries\n"),
+    Case("so is one that is full", ("replay", "full"), 0, b"accepted %d entries\n" % CLOSES),
     Case("an empty file is no journal", ("replay", "empty"), 3, b"line 1: header\n"),
     Case("so is one without a header", ("replay", "no header"), 3, b"line 1: header\n"),
     Case("a line that is cut is refused", ("replay", "cut"), 3, b"line 3: syntax\n"),
     Case("so is a wrong number", ("replay", "number"), 3, b"line 3: number\n"),
     Case("so is a seat that isn't there", ("replay", "seat"), 3, b"line 3: seat\n"),
     Case("so is a ticket that isn't pending", ("replay", "ticket"), 3, b"line 3: ticket\n"),
-    Case("so is a reply that the step doesn't give", ("replay", "reply"), 3, b"line 3: reply\n"),
+    Case("so is a handle that is in use", ("replay", "used value"), 3, b"line 3: reply\n"),
+    Case("so is a handle that is no multiple of four", ("replay", "odd value"), 3, b"line 3: reply\n"),
+    Case("so is one that is too great", ("replay", "great value"), 3, b"line 3: reply\n"),
+    Case("so is a reply that the step doesn't give", ("replay", "no collision"), 3, b"line 3: reply\n"),
     Case("a journal that isn't there is told", ("replay", "missing"), 1, errors=b"ntns: cannot read\n"),
     Case("a journal that is too long is not checked", ("replay", "long"), 1, errors=b"ntns: input too long\n"),
     Case("a journal wants its file", ("replay",), 2, errors=NO_FILE, script=HEADER),
