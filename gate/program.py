@@ -15,8 +15,10 @@ import tempfile
 from dataclasses import dataclass
 from pathlib import Path
 
-SCRIPT = b'p1 dir "\\A" - =a\np1 opendir "\\A" - =b\np1 opendir "\\a" - =c\np1 close b\np1 close a\n'
-SHOWN = b"1: SUCCESS\n2: SUCCESS\n3: OBJECT_NAME_NOT_FOUND\n4: SUCCESS\n5: SUCCESS\n"
+# the scripts of examples/, and what each prints beside it; the first is that of README.md
+EXAMPLES = Path(__file__).resolve().parent.parent / "examples"
+SCRIPT = (EXAMPLES / "first.ntns").read_bytes()
+SHOWN = (EXAMPLES / "first.out").read_bytes()
 BAD = b'p1 dir "\\A" - =a\nno line\np1 close a\n'
 
 # scripts with workers, of which each has one at most, so that what they write is the same in each run
@@ -188,20 +190,6 @@ def pages():
     return b"".join(script), b"".join(prints)
 
 
-# the scripts of examples/ that list a directory and that open by parse, and what they print
-EXAMPLES = Path(__file__).resolve().parent.parent / "examples"
-LISTED = (
-    b"2: SUCCESS\n3: SUCCESS\n4: SUCCESS\n5: SUCCESS\n"
-    b'7: MORE_ENTRIES "start" Event "current" SymbolicLink\n9: SUCCESS\n10: SUCCESS\n'
-    b'11: SUCCESS "old" Directory "new" Mutant\n12: NO_MORE_ENTRIES\n14: SUCCESS "start" Event\n'
-)
-PARSED = (
-    b"2: SUCCESS\n3: SUCCESS\n4: SUCCESS\n5: TYPE_REFUSED 3\n7: SUCCESS\n8: SUCCESS\n9: SUCCESS\n10: SUCCESS\n"
-    b"12: PENDING\n13: SUCCESS\n14: objects 13 handles 6 opens 6 closes 1 deletes 0\n15: SUCCESS\n"
-    b"16: objects 13 handles 7 opens 7 closes 1 deletes 1\n"
-)
-
-
 @dataclass(frozen=True)
 class Case:
     shows: str
@@ -262,9 +250,10 @@ CASES = [
     Case("a view is found behind 32 links, and not behind 33", (), 0, LINKED, script=LINKS + VIEWED + BEHIND),
     Case("a table that is filled refuses an open that waited, and takes it when there is room", (), 0, WAITED, script=WAITS + ROOM_AGAIN),
     Case("a thousand opens that wait outlive their processes", (), 0, MANY_WAIT + ALL_LEFT, script=MANY + LEFT),
-    Case("a directory is listed in pages", ("run", str(EXAMPLES / "pages.ntns")), 0, LISTED),
-    Case("names go on behind devices and keys", ("run", str(EXAMPLES / "parses.ntns")), 0, PARSED),
     Case("20,000 names are shown whole in pages of six sizes", (), 0, pages()[1], script=pages()[0]),
+] + [
+    Case(f"examples/{script.name} prints what stands beside it", ("run", str(script)), 0, script.with_suffix(".out").read_bytes())
+    for script in sorted(EXAMPLES.glob("*.ntns"))
 ]
 
 
