@@ -3,4 +3,4 @@
 
 mod set;
 
-pub use set::{Standard, StandardKind, standard};
+pub use set::{Standard, StandardFace, StandardInner, StandardKind};

@@ -18,7 +18,7 @@ use ob_base::{Handle, Proc};
 use ob_complete::{Core, OpenTable, run_command};
 use ob_model::{Command, Reply};
 use ob_output::Counts;
-use ob_standard::{Standard, StandardKind, standard};
+use ob_standard::{Standard, StandardKind};
 use std::alloc::{AllocError, Global};
 use std::marker::Model;
 
@@ -44,7 +44,7 @@ impl StandardCore {
     pub fn new(alloc: Global) -> Result<StandardCore, AllocError>
         ensures { IfOk result (λ core. (first : StandardSet) × IsFresh first × (core ≡ opening first)) }
     {
-        match Core::new(alloc, standard()) {
+        match Core::new(alloc, Standard::new()) {
             Ok(core) => Ok(StandardCore { core }),
             Err(_) => Err(AllocError),
         }

@@ -21,7 +21,7 @@ use ob_journal::Entry;
 use ob_seats::Stopped;
 use ob_shared::{Ended, Pass, Shared, open_shared};
 use ob_shell::{SCRIPT_LIMIT, ShellFault, read_script};
-use ob_standard::{Standard, StandardKind, standard};
+use ob_standard::{Standard, StandardKind};
 use ob_worker_lines::{CutFault, WorkerScript, cut};
 use std::alloc::Global;
 use std::io::{Read, Write};
@@ -145,7 +145,7 @@ fn play<H: Threads + Wait + Sync, L: Ledger + Send + Sync>(
     ensures played { IfOk result (λ played. OnOk (played.1) (IsPlayedOf (lines_in parts.now.before) (map lines_in parts.now.workers.items) (lines_in parts.now.behind) (played.0.items))) }
     ensures fault { IfErr result (λ fault. (fault ≡ ShellFault.Memory) ⊎ (fault ≡ ShellFault.Mismatch)) }
 {
-    match open_shared::<Standard, OpenTable, L>(alloc, blank, standard(), seats_of(parts)) {
+    match open_shared::<Standard, OpenTable, L>(alloc, blank, Standard::new(), seats_of(parts)) {
         Ok((shared, passes)) => play_shared(rt, alloc, parts, shared, passes),
         Err(_) => Err(ShellFault::Memory),
     }
