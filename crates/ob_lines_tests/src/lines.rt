@@ -1,10 +1,7 @@
 //! Lines of each form, lines that are none, scripts that are cut into lines, and texts.
 
 use crate::tables::assert_rows;
-use ob_lines::{
-    Form, HandleForm, Offset, Request, decode, every_script_has_a_reading, read_line,
-    scripts_have_one_reading,
-};
+use ob_lines::{Form, HandleForm, Offset, Request, decode, every_script_has_a_reading, read_line};
 use std::alloc::{AllocError, Global};
 
 // Each part of a request stands between bars: a place or a name, the bits of the flags, and words. A handle may have 1 to 3
@@ -154,6 +151,8 @@ fn a_script_is_read_line_by_line(rt: HostRuntime) {
         Some(closes),
     ];
     assert!(rt; reads(script, &forms));
+    // It answers nothing, and ends.
+    every_script_has_a_reading(script);
 }
 
 // Whether a script is read as lines of these forms, and no more.
@@ -186,22 +185,6 @@ fn only_lf_ends_a_line_and_the_last_may_lack_it(rt: HostRuntime) {
     assert!(rt; read_line(b"\n") == Some((Some(Form::Nothing), b"".as_slice())));
     assert!(rt; read_line(b"stat\r\n") == Some((None, b"".as_slice())));
     assert!(rt; read_line(b"stat\0") == Some((None, b"".as_slice())));
-}
-
-// The calls answer nothing; what they are for is told by their contracts, and here they return.
-#[test]
-fn every_script_is_read_in_one_way() {
-    let scripts: [&[u8]; 5] = [
-        b"",
-        b"\n",
-        b"stat\n\nstat",
-        b"stat\0\nstat\n",
-        b"p1 close a\r\n",
-    ];
-    for script in scripts {
-        every_script_has_a_reading(script);
-    }
-    scripts_have_one_reading();
 }
 
 // Whether the target of the link that a line makes spells these bytes.

@@ -1,5 +1,5 @@
 //! Tables of lines as texts: a row has a line and, behind it, what the line is, part by part; or a change, and behind it the
-//! request whose reply makes it.
+//! request whose reply makes it. A row with a part that can't be told is not as it says.
 
 use ob_lines::{
     Change, Form, HandleForm, KindForm, NameForm, Offset, PageMode, PendingForm, PlaceForm,
@@ -69,7 +69,7 @@ fn change_of_another(parts: Parts<'_>) -> Option<Change<&[u8]>> {
         }),
         "SetsProcess" => Some(Change::SetsProcess {
             process,
-            inherit: parts[2] == "true",
+            inherit: truth(parts[2])?,
         }),
         _ => None,
     }
@@ -79,67 +79,69 @@ fn change_of_another(parts: Parts<'_>) -> Option<Change<&[u8]>> {
 fn request(told: &str) -> Option<Request<&[u8]>> {
     let parts = parts(told);
     match parts[0] {
-        "CreateDirectory" => Some(directory(parts)),
-        "CreateLink" => Some(link(parts)),
+        "CreateDirectory" => directory(parts),
+        "CreateLink" => link(parts),
         "CreateObject" => object(parts),
         "QueryDirectory" => page(parts),
-        "Duplicate" => Some(duplicate(parts)),
-        "NewProcess" => Some(child(parts)),
+        "Duplicate" => duplicate(parts),
+        "NewProcess" => child(parts),
         "ExitProcess" => Some(Request::ExitProcess),
         _ => open(parts).or(of_a_handle(parts)),
     }
 }
 
-fn directory(parts: Parts<'_>) -> Request<&[u8]> {
-    Request::CreateDirectory {
-        place: place_of(parts[1]),
-        attrs: number(parts[2]),
+fn directory(parts: Parts<'_>) -> Option<Request<&[u8]>> {
+    Some(Request::CreateDirectory {
+        place: place_of(parts[1])?,
+        attrs: number(parts[2])?,
         word: parts[3].as_bytes(),
-    }
+    })
 }
 
-fn link(parts: Parts<'_>) -> Request<&[u8]> {
-    Request::CreateLink {
-        place: place_of(parts[1]),
-        attrs: number(parts[2]),
+fn link(parts: Parts<'_>) -> Option<Request<&[u8]>> {
+    Some(Request::CreateLink {
+        place: place_of(parts[1])?,
+        attrs: number(parts[2])?,
         target: parts[3].as_bytes(),
         word: parts[4].as_bytes(),
-    }
+    })
 }
 
 fn object(parts: Parts<'_>) -> Option<Request<&[u8]>> {
     Some(Request::CreateObject {
         kind: kind_of(parts[1])?,
-        place: place_of(parts[2]),
-        attrs: number(parts[3]),
+        place: place_of(parts[2])?,
+        attrs: number(parts[3])?,
         args: parts[4].as_bytes(),
         word: parts[5].as_bytes(),
     })
 }
 
 fn open(parts: Parts<'_>) -> Option<Request<&[u8]>> {
-    let (name, attrs, word) = (name_of(parts[1]), number(parts[2]), parts[3].as_bytes());
+    if parts[0] == "OpenObject" {
+        return open_object(parts);
+    }
+    let (name, attrs, word) = (name_of(parts[1])?, number(parts[2])?, parts[3].as_bytes());
     match parts[0] {
         "OpenDirectory" => Some(Request::OpenDirectory { name, attrs, word }),
         "OpenLink" => Some(Request::OpenLink { name, attrs, word }),
-        "OpenObject" => Some(open_object(parts)),
         _ => None,
     }
 }
 
-fn open_object(parts: Parts<'_>) -> Request<&[u8]> {
-    Request::OpenObject {
-        want: kind_of(parts[1]),
-        name: name_of(parts[2]),
-        attrs: number(parts[3]),
+fn open_object(parts: Parts<'_>) -> Option<Request<&[u8]>> {
+    Some(Request::OpenObject {
+        want: want_of(parts[1])?,
+        name: name_of(parts[2])?,
+        attrs: number(parts[3])?,
         word: parts[4].as_bytes(),
-    }
+    })
 }
 
 fn page(parts: Parts<'_>) -> Option<Request<&[u8]>> {
     Some(Request::QueryDirectory {
-        handle: handle(parts[1]),
-        room: number(parts[2]),
+        handle: handle(parts[1])?,
+        room: number(parts[2])?,
         mode: mode_of(parts[3])?,
     })
 }
@@ -154,24 +156,24 @@ fn mode_of(told: &str) -> Option<PageMode> {
     }
 }
 
-fn duplicate(parts: Parts<'_>) -> Request<&[u8]> {
-    Request::Duplicate {
-        handle: handle(parts[1]),
+fn duplicate(parts: Parts<'_>) -> Option<Request<&[u8]>> {
+    Some(Request::Duplicate {
+        handle: handle(parts[1])?,
         to: parts[2].as_bytes(),
-        inherit: parts[3] == "true",
+        inherit: truth(parts[3])?,
         word: parts[4].as_bytes(),
-    }
+    })
 }
 
-fn child(parts: Parts<'_>) -> Request<&[u8]> {
-    Request::NewProcess {
-        inherit: parts[1] == "true",
+fn child(parts: Parts<'_>) -> Option<Request<&[u8]>> {
+    Some(Request::NewProcess {
+        inherit: truth(parts[1])?,
         child: parts[2].as_bytes(),
-    }
+    })
 }
 
 fn of_a_handle(parts: Parts<'_>) -> Option<Request<&[u8]>> {
-    let handle = handle(parts[1]);
+    let handle = handle(parts[1])?;
     match parts[0] {
         "Close" => Some(Request::Close { handle }),
         "QueryLink" => Some(Request::QueryLink { handle }),
@@ -187,20 +189,20 @@ fn pending(told: &str) -> Option<PendingForm<&[u8]>> {
     let parts = parts(told);
     let word = parts[1].as_bytes();
     match parts[0] {
-        "Begin" => Some(begin(parts)),
+        "Begin" => begin(parts),
         "End" => Some(PendingForm::End { word }),
         "Drop" => Some(PendingForm::Drop { word }),
         _ => None,
     }
 }
 
-fn begin(parts: Parts<'_>) -> PendingForm<&[u8]> {
-    PendingForm::Begin {
-        want: kind_of(parts[1]),
-        name: name_of(parts[2]),
-        attrs: number(parts[3]),
+fn begin(parts: Parts<'_>) -> Option<PendingForm<&[u8]>> {
+    Some(PendingForm::Begin {
+        want: want_of(parts[1])?,
+        name: name_of(parts[2])?,
+        attrs: number(parts[3])?,
         word: parts[4].as_bytes(),
-    }
+    })
 }
 
 // A name and up to five parts behind it, which are empty where there are fewer.
@@ -220,41 +222,55 @@ fn cut(told: &str) -> (&str, &str) {
     told.split_once(" | ").unwrap_or((told, ""))
 }
 
-// A number, or the greatest where none is told.
-fn number(told: &str) -> u32 {
-    told.parse::<u32>().unwrap_or(u32::MAX)
+fn number(told: &str) -> Option<u32> {
+    told.parse().ok()
+}
+
+fn truth(told: &str) -> Option<bool> {
+    match told {
+        "true" => Some(true),
+        "false" => Some(false),
+        _ => None,
+    }
 }
 
 // A place, which is a name or none.
-fn place_of(told: &str) -> PlaceForm<&[u8]> {
+fn place_of(told: &str) -> Option<PlaceForm<&[u8]>> {
     match told {
-        "none" => PlaceForm::Unnamed,
-        _ => PlaceForm::Named(name_of(told)),
+        "none" => Some(PlaceForm::Unnamed),
+        _ => Some(PlaceForm::Named(name_of(told)?)),
     }
 }
 
 // A name, which is absolute, or relative to a handle that is told behind it: `B of a+1`.
-fn name_of(told: &str) -> NameForm<&[u8]> {
-    match told.split_once(" of ") {
-        Some((text, root)) => NameForm::Relative {
-            root: handle(root),
-            text: text.as_bytes(),
-        },
-        None => NameForm::Absolute(told.as_bytes()),
-    }
+fn name_of(told: &str) -> Option<NameForm<&[u8]>> {
+    let Some((text, root)) = told.split_once(" of ") else {
+        return Some(NameForm::Absolute(told.as_bytes()));
+    };
+    let (root, text) = (handle(root)?, text.as_bytes());
+    Some(NameForm::Relative { root, text })
 }
 
 // A handle: its word, and what is added to its value, from 0 to 3.
-fn handle(told: &str) -> HandleForm<&[u8]> {
-    let (word, offset) = told.split_once("+").unwrap_or((told, ""));
+fn handle(told: &str) -> Option<HandleForm<&[u8]>> {
+    let (word, offset) = told.split_once("+")?;
     let offset = match offset {
+        "0" => Offset::Zero,
         "1" => Offset::One,
         "2" => Offset::Two,
         "3" => Offset::Three,
-        _ => Offset::Zero,
+        _ => return None,
     };
     let word = word.as_bytes();
-    HandleForm { word, offset }
+    Some(HandleForm { word, offset })
+}
+
+// What an open wants: a kind, or `any`.
+fn want_of(told: &str) -> Option<Option<KindForm>> {
+    match told {
+        "any" => Some(None),
+        _ => Some(Some(kind_of(told)?)),
+    }
 }
 
 fn kind_of(told: &str) -> Option<KindForm> {

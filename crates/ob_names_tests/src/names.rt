@@ -106,10 +106,10 @@ fn keeps_taken(alloc: Global, text: &[u8]) -> Option<bool> {
     Some(NameBuf::new(bytes).as_slice() == text)
 }
 
-// Whether a text has this first component, or an empty one, and this behind it.
+// Whether a text has this first component, and this behind it, or an empty one.
 fn splits(text: &[u8], component: &[u8], behind: &[u8]) -> bool {
     match first(text) {
-        Component::Empty => component.is_empty(),
+        Component::Empty => component.is_empty() && behind.is_empty(),
         Component::One { name, rest } => !name.is_empty() && name == component && rest == behind,
     }
 }

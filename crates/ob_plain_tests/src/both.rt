@@ -1,7 +1,7 @@
 //! The sum of the plain types and of boxes, both counted.
 
 use crate::boxes::Boxes;
-use crate::objects::{inner, is_of_kind, refusal};
+use crate::objects::{hand_over_laws, inner, is_of_kind, refusal};
 use either::Either;
 use ob_plain::{Counting, Plain, PlainFace, PlainInner, PlainKind};
 use ob_types::{Both, Outcome, Reason, TypeSet, close_last, is_one_kind, run_parse};
@@ -87,6 +87,7 @@ fn are_of_their_parts<T: TypeSet>(faces: [&T::Face; 4], event: T::Kind, boxed: T
 
 #[test]
 fn kinds_and_faces_are_of_their_part(rt: HostRuntime) {
+    hand_over_laws::<Sum>();
     let (event, mutant) = (plain_face(PlainKind::Event), plain_face(PlainKind::Mutant));
     let (first, second) = (Either::Left(PlainKind::Event), Either::Right(true));
     let faces = [&event, &mutant, &Either::Right(3), &Either::Right(2)];

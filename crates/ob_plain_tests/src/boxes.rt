@@ -4,7 +4,7 @@ ghost use Rattle.std.specs.Prelude.{◌≡◌, true, false, refl};
 ghost use Rattle.std.proofs.Common.{rules};
 ghost use Rattle.ob_plain_tests.specs.Boxes.{box_procedures, box_front, box_itself, box_idle, box_same};
 
-use crate::objects::{is_of_kind, refusal};
+use crate::objects::{hand_over_laws, is_of_kind, refusal};
 use crate::tables::fields;
 use ob_names::{Name, NameBuf};
 use ob_types::{
@@ -154,6 +154,7 @@ fn ends_so(alloc: Global, line: &str) -> Option<bool> {
 
 #[test]
 fn boxes_are_made_opened_and_lead_to_others(rt: HostRuntime) {
+    hand_over_laws::<Boxes>();
     assert!(rt; is_opened_once(rt.alloc()) == Some(true));
     assert!(rt; refusal::<Boxes>(rt.alloc(), true, b"1") == Some(Some(7)));
     assert!(rt; Refusal::from(AllocError) == Refusal::Memory);

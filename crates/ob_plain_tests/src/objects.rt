@@ -1,9 +1,8 @@
 //! What the tests ask of any set of types.
 
-use crate::boxes::Boxes;
-use ob_plain::{Counting, Plain, Recorder, accepted_opens_are_noted, accepted_opens_count};
+use ob_plain::{accepted_opens_are_noted, accepted_opens_count};
 use ob_types::{
-    Both, Refusal, TypeSet, a_parse_run_has_one_end, calls_go_to_their_part, is_one_kind, laws,
+    Refusal, TypeSet, a_parse_run_has_one_end, calls_go_to_their_part, is_one_kind, laws,
     same_faces_end_alike,
 };
 use std::alloc::Global;
@@ -39,8 +38,8 @@ pub(crate) fn is_of_kind<T: TypeSet>(
     is_kind && T::type_name(found) == name && T::parses(found) == parses
 }
 
-// Hands over the laws of a set, and those of sets that are made of it.
-fn hand_over_laws<T: TypeSet>() {
+/// Hands over the laws of a set, and those of sets that are made of it.
+pub(crate) fn hand_over_laws<T: TypeSet>() {
     laws::refused_open::<T>();
     laws::made_idle::<T>();
     laws::closed_idle::<T>();
@@ -58,9 +57,4 @@ fn hand_over_laws<T: TypeSet>() {
     accepted_opens_count::<T>();
     accepted_opens_are_noted::<T>();
     calls_go_to_their_part::<T, T>();
-}
-
-#[test]
-fn laws_hold_of_a_recorded_sum_of_counted_sets() {
-    hand_over_laws::<Recorder<Both<Counting<Plain>, Counting<Boxes>>>>();
 }

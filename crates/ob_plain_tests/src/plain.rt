@@ -1,13 +1,13 @@
 //! The edges of a limit, and a life of an object under the counted set.
 
-use crate::objects::{inner, is_of_kind, refusal};
+use crate::objects::{hand_over_laws, inner, is_of_kind, refusal};
 use crate::tables::fields;
 use ob_plain::{Counting, Plain, PlainFace, PlainInner, PlainKind, Standard, limit_of};
-use ob_types::{Reason, TypeSet, close_last, is_one_kind, open_or_leave};
+use ob_types::{ParseAnswer, Reason, TypeSet, close_last, is_one_kind, open_or_leave};
 use std::alloc::Global;
 
-// Arguments and the limit that they say; kinds; and arguments of an event, and that one is made of them, or the number
-// that refuses it.
+// Arguments and the limit that they say; kinds; arguments of an event, and that one is made of them, or the number that
+// refuses it; and a rest at an event, and the number that refuses to parse it.
 const PLAIN: &'static str = "
 limit | 1      | 1
 limit | 10     | 10
@@ -30,6 +30,8 @@ event | 0      | 1
 event | 01     | 1
 event | 65536  | 1
 event | \x1f   | 1
+parse |        | 3
+parse | a      | 3
 ";
 
 fn kind(name: &str) -> Option<PlainKind> {
@@ -50,6 +52,15 @@ fn is_named<T: TypeSet<Kind = PlainKind, Face = PlainFace>>(kind: PlainKind, nam
         && is_event == (name == "Event")
 }
 
+// The number by which an event refuses to parse a rest.
+fn unparsed<T: TypeSet<Face = PlainFace>>(alloc: Global, rest: &[u8]) -> Option<u16> {
+    let kind = PlainKind::Event;
+    match T::parse(alloc, &PlainFace { kind }, rest).ok()? {
+        ParseAnswer::Refused(code) => Some(code),
+        _ => None,
+    }
+}
+
 // Whether a line of the table is so in a set.
 fn is_so<T: TypeSet<Kind = PlainKind, Face = PlainFace>>(
     alloc: Global,
@@ -63,12 +74,14 @@ fn is_so<T: TypeSet<Kind = PlainKind, Face = PlainFace>>(
             let refused = refusal::<T>(alloc, PlainKind::Event, text.as_bytes())?;
             Some(refused == wanted.parse().ok())
         }
+        "parse" => Some(unparsed::<T>(alloc, text.as_bytes())? == wanted.parse().ok()?),
         _ => None,
     }
 }
 
 #[test]
 fn limits_and_kinds_are_those_of_the_table(rt: HostRuntime) {
+    hand_over_laws::<Standard>();
     assert!(rt; limit_of(b"1 ").is_none());
     for line in PLAIN.trim().lines() {
         assert!(rt; is_so::<Plain>(rt.alloc(), line) == Some(true), "{line}");
@@ -99,16 +112,26 @@ fn a_life_is_counted(rt: HostRuntime) {
     assert!(rt; life == Some((true, [1, 1, 1])));
 }
 
-// The handles before and behind an open.
-const OPENS: [(u32, u32); 3] = [(0, 1), (u32::MAX - 1, u32::MAX), (u32::MAX, u32::MAX)];
+// The handles before an open, the limit, what the open is answered, and the handles behind it.
+const OPENS: [(u32, Option<u16>, Result<(), u16>, u32); 7] = [
+    (0, None, Ok(()), 1),
+    (u32::MAX - 1, None, Ok(()), u32::MAX),
+    (u32::MAX, None, Ok(()), u32::MAX),
+    (0, Some(1), Ok(()), 1),
+    (1, Some(1), Err(2), 1),
+    (65_534, Some(65_535), Ok(()), 65_535),
+    (65_535, Some(65_535), Err(2), 65_535),
+];
 
 #[test]
-fn handles_are_counted_and_stop_at_the_greatest(rt: HostRuntime) {
-    for (handles, behind) in OPENS {
-        let limit = None;
+fn handles_are_counted_up_to_the_limit_and_stop_at_the_greatest(rt: HostRuntime) {
+    for (handles, limit, answered, behind) in OPENS {
         let mut inner = PlainInner { handles, limit };
         let opened = Plain.on_open(&mut inner, Reason::Inherited);
-        assert!(rt; opened == Ok(()) && inner.handles == behind, "at {handles}");
+        assert!(rt;
+            opened == answered && inner.handles == behind,
+            "at {handles}"
+        );
         Plain.on_close(&mut inner, 0, 3);
         assert!(rt; inner.handles == 3);
     }

@@ -1,9 +1,10 @@
 //! Lives of objects, recorded.
 
-use crate::objects::{inner, is_of_kind};
+use crate::boxes::Boxes;
+use crate::objects::{hand_over_laws, inner, is_of_kind};
 use ob_base::Fault;
 use ob_plain::{Call, CallKind, Counting, Plain, PlainKind, Recorded, Recorder};
-use ob_types::{Reason, TypeSet, close_last, open_or_leave};
+use ob_types::{Outcome, Reason, TypeSet, close_last, open_or_leave, run_parse};
 use std::alloc::Global;
 
 // A set that is recorded in these tests: one that counts, so that both can be compared.
@@ -109,12 +110,24 @@ fn serials_are_drawn_by_first_opens(rt: HostRuntime) -> Result<(), Fault> {
     Ok(())
 }
 
+// Whether a run from a recorded box of three levels ends with one of so many, which was never opened.
+fn leads_to(alloc: Global, rest: &[u8], levels: u8) -> bool {
+    match run_parse::<Recorder<Boxes>>(alloc, &3, rest) {
+        Outcome::Made(face, inner) => *face == levels && inner.serial == 0 && !inner.part,
+        _ => false,
+    }
+}
+
 #[test]
 fn recorded_objects_are_of_their_kinds(rt: HostRuntime) {
+    hand_over_laws::<Recording>();
     for (kind, name) in [(PlainKind::Event, "Event"), (PlainKind::Section, "Section")] {
         let is_named = new_one_is_named::<Recording>(rt.alloc(), kind, name);
         assert!(rt; is_named == Some(true), "{name}");
     }
+    let same = [2, 3].map(|levels| Recorder::<Boxes>::same(&3, &levels));
+    assert!(rt; same == [false, true]);
+    assert!(rt; leads_to(rt.alloc(), b"a", 2) && leads_to(rt.alloc(), b"abc", 0));
 }
 
 #[test]

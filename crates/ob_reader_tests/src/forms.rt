@@ -91,11 +91,16 @@ fn steps_are_read_back(rt: HostRuntime) -> Result<(), Fail> {
     Ok(())
 }
 
-// Whether the end of process 9, as entry 4 of seat 1023, is read with this reply.
-fn is_reply(alloc: Global, reply: &str, answer: Answer) -> Result<bool, AllocError> {
-    let text = format!(in alloc;
+// The line of the end of process 9, as entry 4 of seat 1023, with a reply.
+fn exit_with(alloc: Global, reply: &str) -> Result<String, AllocError> {
+    format!(in alloc;
         "{{\"n\":4,\"reply\":{reply},\"seat\":1023,\"step\":{{\"op\":\"exit\",\"proc\":9}}}}"
-    )?;
+    )
+}
+
+// Whether that line is read with this reply.
+fn is_reply(alloc: Global, reply: &str, answer: Answer) -> Result<bool, AllocError> {
+    let text = exit_with(alloc, reply)?;
     is_read(alloc, text.as_str(), answer)
 }
 
@@ -163,24 +168,32 @@ fn pages_are_read_back(rt: HostRuntime) -> Result<(), Fail> {
     Ok(())
 }
 
+// Whether the same line is read, and says another reply than this one.
+fn is_other(alloc: Global, reply: &str, answer: Answer) -> Result<bool, AllocError> {
+    let text = exit_with(alloc, reply)?;
+    Ok(match read_line(alloc, text.as_bytes())? {
+        Some(line) => !is_said(&line.reply, &answer),
+        None => false,
+    })
+}
+
 #[test]
 fn other_answers_are_told_apart(rt: HostRuntime) -> Result<(), Fail> {
     let alloc = rt.alloc();
-    assert!(rt; !is_reply(alloc, r#"{"ticket":5}"#, Answer::Ticket(6))?);
-    assert!(rt;
-        !is_reply(
-            alloc,
+    let table = [
+        (r#"{"ticket":5}"#, Answer::Ticket(6)),
+        (
             r#"{"handle":8,"status":0}"#,
-            gives(Given::Handle(Handle(4)))
-        )?
-    );
-    assert!(rt;
-        !is_reply(
-            alloc,
+            gives(Given::Handle(Handle(4))),
+        ),
+        (
             r#"{"handle":8,"status":7}"#,
-            gives(Given::Handle(Handle(8)))
-        )?
-    );
-    assert!(rt; !is_reply(alloc, r#"{"status":0}"#, Answer::Ticket(0))?);
+            gives(Given::Handle(Handle(8))),
+        ),
+        (r#"{"status":0}"#, Answer::Ticket(0)),
+    ];
+    for (reply, answer) in table {
+        assert!(rt; is_other(alloc, reply, answer)?, "{reply}");
+    }
     Ok(())
 }

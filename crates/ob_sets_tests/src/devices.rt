@@ -1,6 +1,6 @@
 //! Devices and files: their arguments, and the files that names lead to.
 
-use crate::objects::{Told, is_so, made};
+use crate::objects::{Told, hand_over_laws, is_so, made};
 use crate::tables::{fields, word};
 use ob_arguments::Path;
 use ob_device::{DeviceFace, DeviceInner, DeviceKind, DeviceSet, PathTable};
@@ -119,6 +119,7 @@ fn is_line_so(alloc: Global, line: &str) -> Option<bool> {
 
 #[test]
 fn devices_are_made_of_paths_and_lead_to_their_files(rt: HostRuntime) {
+    hand_over_laws::<DeviceSet>();
     assert!(rt; DeviceKind::Device != DeviceKind::File);
     for line in DEVICES.trim().lines() {
         assert!(rt; is_line_so(rt.alloc(), line) == Some(true), "{line}");

@@ -1,6 +1,6 @@
 //! Keys: their arguments, and the keys and names that names lead to.
 
-use crate::objects::{Told, is_so, made};
+use crate::objects::{Told, hand_over_laws, is_so, made};
 use crate::tables::{fields, refused, word};
 use ob_arguments::{Path, is_readable};
 use ob_key::{KeyFace, KeyInner, KeyKind, KeySet, KeyTable};
@@ -193,6 +193,7 @@ fn assert_keys(rt: &impl Abort, alloc: Global, table: &str) {
 
 #[test]
 fn keys_are_made_of_entries_that_are_fit_and_lead_to_keys_and_names(rt: HostRuntime) {
+    hand_over_laws::<KeySet>();
     assert_keys(&rt, rt.alloc(), KEYS);
     assert_keys(&rt, rt.alloc(), UNREADABLE);
 }

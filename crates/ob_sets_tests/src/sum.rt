@@ -114,13 +114,9 @@ run  | Key                      | \a        | refused 3
 
 #[test]
 fn objects_of_a_sum_are_those_of_its_parts(rt: HostRuntime) {
-    let mut sum = Both::new(Plain, Both::new(DeviceSet, KeySet));
-    assert_objects(&rt, rt.alloc(), &mut sum, OBJECTS);
-}
-
-// The laws of the sum are made of those of its parts.
-#[test]
-fn the_sum_is_lawful(_rt: HostRuntime) {
+    // The laws of the sum are made of those of its parts.
     hand_over_laws::<Both<Plain, Both<DeviceSet, KeySet>>>();
     calls_go_to_their_part::<Plain, Both<DeviceSet, KeySet>>();
+    let mut sum = Both::new(Plain, Both::new(DeviceSet, KeySet));
+    assert_objects(&rt, rt.alloc(), &mut sum, OBJECTS);
 }

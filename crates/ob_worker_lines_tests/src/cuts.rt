@@ -1,7 +1,7 @@
 //! Scripts that are cut, and scripts that can't be.
 
 use crate::tables::assert_rows;
-use ob_worker_lines::{CutFault, MOST_WORKERS, cut, lines_of_parts_are_read, scripts_have_one_cut};
+use ob_worker_lines::{CutFault, MOST_WORKERS, cut};
 use std::alloc::{AllocError, Global};
 use std::test::Fail;
 
@@ -112,11 +112,4 @@ fn a_line_has_at_most_262144_bytes(rt: HostRuntime) -> Result<(), Fail> {
         Some(CutFault::BadLine(3))
     );
     Ok(())
-}
-
-// The calls answer nothing; what they are for is told by their contracts, and here they return.
-#[test]
-fn scripts_are_cut_and_read_in_one_way() {
-    scripts_have_one_cut();
-    lines_of_parts_are_read();
 }
