@@ -5,7 +5,7 @@
 //! another reply. Where the bytes differ in the value of the new handle alone, and that value may be chosen, it is played no
 //! further, since this namespace has its own value there.
 
-ghost use Rattle.std.specs.Prelude.{◌≡◌, true, OnOk};
+ghost use Rattle.std.specs.Prelude.{OnOk};
 ghost use Rattle.ob_begun.specs.Begun.{AreAwaited};
 ghost use Rattle.ob_begun.specs.Repeated.{AreAllKept};
 
