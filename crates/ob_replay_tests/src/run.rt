@@ -31,8 +31,9 @@ impl Dice {
     }
 }
 
-// The steps that every run begins with: a device, a key with a link, directories and links, and children.
-const FIRST: [&'static str; 14] = [
+// The steps that every run begins with: a device, a key with a link, directories and links, children, and opens by a parse that are
+// ended in each way. Tickets and new objects are numbered together: the first open gets 13.
+const FIRST: [&'static str; 19] = [
     r#"{"args":"x;y\\z","flags":18,"kind":"Device","name":"\\Device\\D","op":"make","proc":1,"root":null}"#,
     r#"{"args":"a\\b;l>\\Device\\D;m>\\A","flags":16,"kind":"Key","name":"\\K","op":"make","proc":1,"root":null}"#,
     r#"{"flags":18,"name":"\\A","op":"dir","proc":1,"root":null}"#,
@@ -45,6 +46,11 @@ const FIRST: [&'static str; 14] = [
     r#"{"flags":0,"name":"\\K\\l\\y\\z","op":"open","proc":2,"root":null,"want":null}"#,
     r#"{"context":0,"handle":12,"op":"list","proc":2,"restart":true,"room":1048576,"single":false}"#,
     r#"{"flags":64,"name":"\\k\\a","op":"open","proc":1,"root":null,"want":"Key"}"#,
+    r#"{"op":"resume","parse":"ran","ticket":13}"#,
+    r#"{"op":"resume","parse":"ran","ticket":14}"#,
+    r#"{"op":"resume","parse":"nomem","ticket":15}"#,
+    r#"{"flags":0,"name":"\\Device\\D\\x","op":"open","proc":2,"root":null,"want":null}"#,
+    r#"{"op":"abandon","parse":"none","ticket":17}"#,
     r#"{"flags":0,"name":null,"op":"dir","proc":3,"root":null}"#,
     r#"{"flags":2,"name":"\\??\\C%C3","op":"link","proc":3,"root":null,"target":"\\A"}"#,
 ];
@@ -121,8 +127,8 @@ fn may_be(core: &StandardCore, step: &Event<StandardKind>) -> bool
     }
 }
 
-// Makes a step, and gives what it is answered; nothing where it can't be made.
-fn answer(
+/// Makes a step, and gives what it is answered; nothing where it can't be made.
+pub(crate) fn answer(
     core: &mut StandardCore,
     waits: &mut StandardWaits,
     alloc: Global,
@@ -171,9 +177,9 @@ fn play(
     Ok(Some(write_line::<Standard>(alloc, &entry)?))
 }
 
-// The next step of a run: one of the first, or any.
-fn next_step(alloc: Global, dice: &mut Dice, number: u64) -> Result<String, AllocError> {
-    match FIRST.get(number.wrapping_sub(1) as usize) {
+// The step of a run that is tried behind so many: one of the first, or any.
+fn next_step(alloc: Global, dice: &mut Dice, tried: usize) -> Result<String, AllocError> {
+    match FIRST.get(tried) {
         Some(step) => String::from_str(alloc, step),
         None => any_step(alloc, dice),
     }
@@ -193,11 +199,11 @@ fn play_all(
 {
     let (mut dice, mut number) = (Dice { state }, 1);
     let mut text = write_header(alloc, 3)?;
-    for _ in 0..100_000u32 {
+    for tried in 0..100_000 {
         if number > entries {
             break;
         }
-        let step = next_step(alloc, &mut dice, number)?;
+        let step = next_step(alloc, &mut dice, tried)?;
         if let Some(line) = play(core, waits, alloc, number, step.as_str())? {
             text.extend_from_slice(line.as_slice())?;
             number = number.wrapping_add(1);

@@ -3,6 +3,7 @@
 ghost use Rattle.std.specs.Prelude.{◌≡◌};
 
 use crate::callers::{make_and_close, open_file};
+use crate::scene::{entries_told, lines_of};
 use ob_base::Fault;
 use ob_core::OpenTable;
 use ob_device::{DeviceKind, DeviceSet};
@@ -15,7 +16,7 @@ use std::sync::ledger::{Blank, Ledger};
 use std::test::Fail;
 
 /// Of two seats one makes steps, an open by parse among them, and some of the passes are handed to the close; the mismatch that it
-/// tells.
+/// tells, or how many entries the checker tells of the journal's lines.
 fn closed_with<R: Wait, T: TypeSet<Kind = DeviceKind>, L: Ledger>(
     rt: &R,
     alloc: Global,
@@ -23,7 +24,7 @@ fn closed_with<R: Wait, T: TypeSet<Kind = DeviceKind>, L: Ledger>(
     types: T,
     maker: u32,
     handed: (bool, bool),
-) -> Result<Option<Mismatch>, Fault>
+) -> Result<Result<Option<usize>, Mismatch>, Fault>
     requires name { blank.name ≡ L.name }
     requires parts { blank.parts ≡ L.parts }
     requires whole { L.parts ≡ 1024 }
@@ -41,24 +42,30 @@ fn closed_with<R: Wait, T: TypeSet<Kind = DeviceKind>, L: Ledger>(
             kept.push(pass)?;
         }
     }
-    Ok(space.close(kept).err())
+    match space.close(kept) {
+        Ok(ended) => {
+            let lines = lines_of::<T>(alloc, ended.journal.as_slice())?;
+            Ok(Ok(entries_told(alloc, 2, lines.as_slice())?))
+        }
+        Err(mismatch) => Ok(Err(mismatch)),
+    }
 }
 
 #[test]
 fn a_close_without_a_pass_tells_its_seat_and_first_entry(rt: HostRuntime) -> Result<(), Fail> {
     let told = |seat, in_journal| {
-        Some(Mismatch {
+        Err(Mismatch {
             seat,
             in_journal,
             in_pass: 0,
         })
     };
-    for (maker, handed, mismatch) in [
+    for (maker, handed, wanted) in [
         (1, (true, false), told(1, 1)),
         (0, (true, false), told(1, 0)),
         (0, (false, true), told(0, 1)),
         (1, (false, false), told(0, 0)),
-        (1, (true, true), None),
+        (1, (true, true), Ok(Some(11))),
     ] {
         let blank = Blank::new(1024);
         let seen = closed_with::<_, DeviceSet, Brand>(
@@ -69,7 +76,7 @@ fn a_close_without_a_pass_tells_its_seat_and_first_entry(rt: HostRuntime) -> Res
             maker,
             handed,
         )?;
-        assert!(rt; seen == mismatch);
+        assert!(rt; seen == wanted);
     }
     Ok(())
 }

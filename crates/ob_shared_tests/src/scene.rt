@@ -4,7 +4,8 @@
 use ob_base::{Fault, Proc, Status};
 use ob_core::{Bytes, Command, OpenTable, Place, Reply};
 use ob_device::DeviceKind;
-use ob_journal::{Entry, write_line};
+use ob_journal::{Entry, write_header, write_line};
+use ob_replay::check_journal;
 use ob_shared::{Asked, Locked, Parsing, Pass, Pending, Started, step};
 use ob_types::TypeSet;
 use std::alloc::{AllocError, Global};
@@ -114,4 +115,18 @@ pub(crate) fn lines_of<T: TypeSet<Kind = DeviceKind>>(
         lines.extend_from_slice(write_line::<T>(alloc, entry)?.as_slice())?;
     }
     Ok(lines)
+}
+
+/// How many entries the checker of journals tells of one of so many seats with these lines; none where it isn't accepted.
+pub(crate) fn entries_told(
+    alloc: Global,
+    seats: u32,
+    lines: &[u8],
+) -> Result<Option<usize>, AllocError> {
+    let mut text = write_header(alloc, seats)?;
+    text.extend_from_slice(lines)?;
+    Ok(match check_journal(alloc, text.as_slice()) {
+        Ok(report) => Some(report.entries),
+        Err(_) => None,
+    })
 }

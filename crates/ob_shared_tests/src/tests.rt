@@ -2,7 +2,7 @@
 
 ghost use Rattle.std.specs.Prelude.{◌≡◌};
 
-use crate::scene::{Shared, begin, end, give_up, lines_of, make_device};
+use crate::scene::{Shared, begin, end, entries_told, give_up, lines_of, make_device};
 use ob_base::{Fault, Status};
 use ob_device::{DeviceKind, DeviceSet};
 use ob_shared::{Pass, open_locked};
@@ -86,5 +86,6 @@ fn two_passes_make_steps_and_the_journal_has_each_once(rt: HostRuntime) -> Resul
     assert!(rt; seen.reserved == (33, 0));
     assert!(rt; seen.counts == (2, 3) && seen.last == (3, 5));
     assert!(rt; seen.journal.as_slice() == JOURNAL.as_bytes());
+    assert!(rt; entries_told(rt.alloc(), 2, seen.journal.as_slice())? == Some(5));
     Ok(())
 }
