@@ -147,14 +147,14 @@ fn what_is_no_text_takes_the_form_from_each_line(rt: HostRuntime) -> Result<(), 
 
 // With a 9 the seats of the header are nine, and of its other 23 bytes none may be one; nor may a bracket but where it stands. The
 // numbers 1 to 50 have 91 digits, of which 5 are a 9 already: the other 86 make another number. Each of the 50 seats becomes 9, and
-// there are three. What is 0 in the columns of what is accepted, and of syntax, tickets and replies, is still to be counted.
+// there are three. What else is of the form and what its step replies then, the play says of each place, which sees the same.
 #[test]
 fn what_may_be_of_the_form_is_judged(rt: HostRuntime) -> Result<(), Fail> {
     let alloc = rt.alloc();
     let text = journal(alloc, 6, 50)?;
     let table: [(u8, Counts); 2] = [
-        (b'{', [0, 23, 0, 0, 0, 0, 0, 0]),
-        (b'9', [0, 23, 0, 86, 50, 0, 0, 0]),
+        (b'{', [202, 23, 5_919, 0, 0, 0, 118, 0]),
+        (b'9', [98, 23, 5_483, 86, 50, 8, 514, 0]),
     ];
     for (byte, wanted) in table {
         let Changes { counts, other } = change_each(alloc, text.as_slice(), byte)?;

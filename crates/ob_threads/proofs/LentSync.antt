@@ -9,50 +9,36 @@ use Rattle.std.specs.declared.sync.ledger.Ledger as Ledger
 use Rattle.either.specs.contracts.Either as either
 use Rattle.either.specs.contracts.EitherPartialEq.TheImpl as either_equal
 use Rattle.either.proofs.Either.TheSendSync as eithers
-use Rattle.ob_types.specs.contracts.both.Both as both
-use Rattle.ob_types.proofs.both.Both.TheSendSync as boths
-use Rattle.ob_plain.specs.contracts.counting.Counting as counting
-use Rattle.ob_plain.specs.contracts.plain.Plain as plain
 use Rattle.ob_plain.specs.contracts.plain.PlainKind as plain_kind
 use Rattle.ob_plain.specs.contracts.plain.PlainFace as plain_face
 use Rattle.ob_plain.specs.contracts.plain.PlainInner as plain_inner
 use Rattle.ob_plain.specs.contracts.plain.PlainKindPartialEq.TheImpl as plain_equal
-use Rattle.ob_plain.proofs.counting.Counting.TheSendSync as countings
-use Rattle.ob_plain.proofs.plain.Plain.TheSendSync as plains
 use Rattle.ob_plain.proofs.plain.PlainKind.TheSendSync as plain_kinds
 use Rattle.ob_plain.proofs.plain.PlainFace.TheSendSync as plain_faces
 use Rattle.ob_plain.proofs.plain.PlainInner.TheSendSync as plain_inners
-use Rattle.ob_device.specs.contracts.device.DeviceSet as device
 use Rattle.ob_device.specs.contracts.device.DeviceKind as device_kind
 use Rattle.ob_device.specs.contracts.device.DeviceFace as device_face
 use Rattle.ob_device.specs.contracts.device.DeviceInner as device_inner
 use Rattle.ob_device.specs.contracts.device.DeviceKindPartialEq.TheImpl as device_equal
-use Rattle.ob_device.proofs.device.DeviceSet.TheSendSync as devices
 use Rattle.ob_device.proofs.device.DeviceKind.TheSendSync as device_kinds
 use Rattle.ob_device.proofs.device.DeviceFace.TheSendSync as device_faces
 use Rattle.ob_device.proofs.device.DeviceInner.TheSendSync as device_inners
-use Rattle.ob_key.specs.contracts.key.KeySet as key
 use Rattle.ob_key.specs.contracts.key.KeyKind as key_kind
 use Rattle.ob_key.specs.contracts.face.KeyFace as key_face
 use Rattle.ob_key.specs.contracts.key.KeyInner as key_inner
 use Rattle.ob_key.specs.contracts.key.KeyKindPartialEq.TheImpl as key_equal
-use Rattle.ob_key.proofs.key.KeySet.TheSendSync as keys
 use Rattle.ob_key.proofs.key.KeyKind.TheSendSync as key_kinds
 use Rattle.ob_key.proofs.face.KeyFace.TheSendSync as key_faces
 use Rattle.ob_key.proofs.key.KeyInner.TheSendSync as key_inners
+use Rattle.ob_standard.specs.contracts.set.Standard as standard
+use Rattle.ob_standard.proofs.set.Standard.TheSendSync as standards
 use Rattle.ob_handles.specs.contracts.open_table.OpenTable as table
 use Rattle.ob_handles.specs.contracts.open_table.OpenTableHandleTable.TheImpl as handles
 use Rattle.ob_handles.proofs.open_table.OpenTable.TheSendSync as tables
 use Rattle.ob_shared.proofs.Lent.{shared_sync}
 use Rattle.ob_threads.specs.contracts.lent.Lent as lent
 
--- the set, and the types of its kinds, faces and inner values
-abbrev pair : RattleType
-pair = both.the_row device.the_row key.the_row
-
-abbrev set : RattleType
-set = counting.the_row (both.the_row plain.the_row pair)
-
+-- the types of the set's kinds, faces and inner values
 abbrev kind : RattleType
 kind = either.the_row plain_kind.the_row (either.the_row device_kind.the_row key_kind.the_row)
 
@@ -61,10 +47,6 @@ face = either.the_row plain_face.the_row (either.the_row device_face.the_row key
 
 abbrev inner : RattleType
 inner = either.the_row plain_inner.the_row (either.the_row device_inner.the_row key_inner.the_row)
-
-set_send : IsSend set
-set_send = countings.the_send (both.the_row plain.the_row pair)
-    (boths.the_send plain.the_row pair plains.the_send (boths.the_send device.the_row key.the_row devices.the_send keys.the_send))
 
 kind_send : IsSend kind
 kind_send = eithers.the_send plain_kind.the_row (either.the_row device_kind.the_row key_kind.the_row) plain_kinds.the_send
@@ -92,6 +74,6 @@ module _ (a : NamedLft) (H L : RattleType) (l : Ledger.Ghosts L.Denot) where
   lent_sync runtime =
       recorded_sync (lent.the_field a H L l).row _ _ (lent.the_type a H L l).to_one
       (struct_sync (shape (lent.the_type a H L l)) (
-        shr_sync _ _ _ (shared_sync set table.the_row L kind face inner _ equal handles.ghosts l set_send tables.the_send kind_send face_send inner_send face_sync),
+        shr_sync _ _ _ (shared_sync standard.the_row table.the_row L kind face inner _ equal handles.ghosts l standards.the_send tables.the_send kind_send face_send inner_send face_sync),
         (shr_sync _ _ _ runtime, (heap.the_field_sync, tt)),
       ))

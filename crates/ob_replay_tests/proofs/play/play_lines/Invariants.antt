@@ -3,5 +3,5 @@ use Rattle.ob_begun.specs.Begun.{AreAwaited}
 use Rattle.ob_begun.specs.Repeated.{AreAllKept}
 use Rattle.ob_replay_tests.proofs.play.play_lines.Given as goal
 
-abbrev pub invariant-loop : goal.invariant-loop
-invariant-loop g l = AreAwaited l.core l.waits × AreAllKept l.core l.waits
+abbrev pub invariant-loop-number : goal.invariant-loop-number
+invariant-loop-number l = AreAwaited l.core l.waits × AreAllKept l.core l.waits

@@ -3,5 +3,5 @@ use Rattle.ob_begun.specs.Begun.{AreAwaited}
 use Rattle.ob_begun.specs.Repeated.{AreAllKept}
 use Rattle.ob_replay_tests.proofs.run.play_all.Given as goal
 
-abbrev pub invariant-loop : goal.invariant-loop
-invariant-loop g l = AreAwaited l.core l.waits × AreAllKept l.core l.waits
+abbrev pub invariant-loop-tried : goal.invariant-loop-tried
+invariant-loop-tried l = AreAwaited l.core l.waits × AreAllKept l.core l.waits
