@@ -49,7 +49,11 @@ fn says(attrs: Attrs, flags: &str) -> bool {
 fn is_so(line: &str) -> Option<bool> {
     let [what, number, wanted, ..] = fields(line);
     if what == "key" {
-        return Some(Handle(number.parse().ok()?).key() == wanted.parse().ok());
+        let key = match wanted {
+            "none" => None,
+            _ => Some(wanted.parse().ok()?),
+        };
+        return Some(Handle(number.parse().ok()?).key() == key);
     }
     let bits = u32::from_str_radix(number, 16).ok()?;
     Some(match Attrs::check(bits) {

@@ -61,6 +61,14 @@ fn unparsed<T: TypeSet<Face = PlainFace>>(alloc: Global, rest: &[u8]) -> Option<
     }
 }
 
+// The number that a field says, where it doesn't say that there is none.
+fn number(field: &str) -> Option<Option<u16>> {
+    match field {
+        "none" | "made" => Some(None),
+        _ => Some(Some(field.parse().ok()?)),
+    }
+}
+
 // Whether a line of the table is so in a set.
 fn is_so<T: TypeSet<Kind = PlainKind, Face = PlainFace>>(
     alloc: Global,
@@ -68,11 +76,11 @@ fn is_so<T: TypeSet<Kind = PlainKind, Face = PlainFace>>(
 ) -> Option<bool> {
     let [what, text, wanted, ..] = fields(line);
     match what {
-        "limit" => Some(limit_of(text.as_bytes()) == wanted.parse().ok()),
+        "limit" => Some(limit_of(text.as_bytes()) == number(wanted)?),
         "kind" => Some(is_named::<T>(kind(text)?, text)),
         "event" => {
             let refused = refusal::<T>(alloc, PlainKind::Event, text.as_bytes())?;
-            Some(refused == wanted.parse().ok())
+            Some(refused == number(wanted)?)
         }
         "parse" => Some(unparsed::<T>(alloc, text.as_bytes())? == wanted.parse().ok()?),
         _ => None,
