@@ -1,4 +1,4 @@
-//! The use of a namespace from code that the README shows, whole.
+//! A directory is made and its handle closed, by the steps of a core.
 
 use ob_base::{Fault, Handle, Proc, Status};
 use ob_core::{Brought, Bytes, Command, Core, Given, OpenTable, Place, Reply, Started};
