@@ -1,7 +1,7 @@
 //! Arguments: which can be read, where they are cut, and paths.
 
 use crate::tables::fields;
-use ob_arguments::{LONGEST_ARGUMENTS, Path, cut, is_readable, split};
+use ob_plain::{LONGEST_ARGUMENTS, Path, cut, is_readable, split};
 use std::alloc::Global;
 
 // Bytes, and whether they can be read.

@@ -1,8 +1,8 @@
 //! The entries of keys: what arguments say, and which entries may stand in one table.
 
 use crate::tables::fields;
-use ob_arguments::is_readable;
 use ob_key::{KeyEntry, KeyTable, KeyTarget};
+use ob_plain::is_readable;
 use std::alloc::Global;
 
 // - `piece`: a piece of arguments, its path, what stands from its first `>` on, and whether the entry may stand in a table.

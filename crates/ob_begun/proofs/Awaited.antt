@@ -21,7 +21,7 @@ use Rattle.ob_model.specs.Step.{Step}
 use Rattle.ob_model.proofs.SoundPaths.{find_of, of_some}
 use Rattle.ob_model.proofs.Soundness.{stands_drawn, stands_from_is_directory}
 use Rattle.ob_model.proofs.Steps.{step_sound}
-use Rattle.ob_parsing.specs.Parse.{ToRun}
+use Rattle.ob_types.specs.Parse.{ToRun}
 use Rattle.ob_waiting.specs.Waiting.{IsParseOf}
 use Rattle.ob_complete.specs.Completes.{Made, Leads, HasRun, Completes, GivesUp, Falters}
 use Rattle.ob_begun.specs.Begun.{AreAwaited, tickets_of}

@@ -15,10 +15,10 @@ use Rattle.ob_model.specs.Sound.{IsSound}
 use Rattle.ob_model.specs.State.{State}
 use Rattle.ob_model.specs.Step.{Step}
 use Rattle.ob_model.proofs.SoundPaths.{find_of, of_some}
-use Rattle.ob_parsing.specs.Brought.{run_of, run_of_end, brought as end_of}
-use Rattle.ob_parsing.specs.declared.brought.Brought.{Brought}
-use Rattle.ob_parsing.specs.declared.brought.Brought.TheVariants.{Unrun, Run}
-use Rattle.ob_parsing.specs.Parse.{ToRun, HasRun as HasRunOf, asked_of}
+use Rattle.ob_types.specs.Brought.{run_of, run_of_end, brought as end_of}
+use Rattle.ob_types.specs.declared.brought.Brought.{Brought}
+use Rattle.ob_types.specs.declared.brought.Brought.TheVariants.{Unrun, Run}
+use Rattle.ob_types.specs.Parse.{ToRun, HasRun as HasRunOf, asked_of}
 use Rattle.ob_waiting.specs.Waiting.{IsParseOf}
 use Rattle.ob_complete.specs.Completes.{Made, GivesUp, HasRun}
 use Rattle.ob_begun.specs.declared.begun.Begun.{Begun}

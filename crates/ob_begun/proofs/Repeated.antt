@@ -12,7 +12,7 @@ use Rattle.ob_model.specs.PendingOpens.{pending_of}
 use Rattle.ob_model.specs.Refusals.{answers}
 use Rattle.ob_model.specs.State.{State}
 use Rattle.ob_choices.specs.Waiting.{others, WaitBehind}
-use Rattle.ob_parsing.specs.Parse.{ToRun}
+use Rattle.ob_types.specs.Parse.{ToRun}
 use Rattle.ob_begun.specs.declared.begun.Begun.{Begun}
 use Rattle.ob_begun.specs.declared.begun.Begun.TheVariants.{Replied, Waits}
 use Rattle.ob_begun.specs.Begun.{answer_in, tickets_of, with_begun, without}

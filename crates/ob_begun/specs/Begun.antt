@@ -12,7 +12,7 @@ use Rattle.ob_model.specs.Procedures.{Procedures}
 use Rattle.ob_model.specs.Refusals.{answers}
 use Rattle.ob_model.specs.State.{State}
 use Rattle.ob_model.specs.Step.{Step}
-use Rattle.ob_parsing.specs.Parse.{ToRun}
+use Rattle.ob_types.specs.Parse.{ToRun}
 use Rattle.ob_waiting.specs.Waiting.{IsParseOf}
 use Rattle.ob_begun.specs.declared.begun.Begun.{Begun}
 use Rattle.ob_begun.specs.declared.begun.Begun.TheVariants.{Replied, Waits}

@@ -5,7 +5,7 @@ use Rattle.std.specs.Prelude.{◌≡◌, ℕ, List, All}
 use Rattle.std.specs.List.Sorted.{IsStrictlySortedBy}
 use Rattle.std.specs.Map.{keys_of}
 use Rattle.std.specs.Ordering.{nat_cmp}
-use Rattle.ob_parsing.specs.Parse.{ToRun}
+use Rattle.ob_types.specs.Parse.{ToRun}
 
 -- each parse stands under its own ticket, and the tickets rise
 pub record AreKept {F : Type 0} (entries : List (ℕ × ToRun F)) : Type 0 where

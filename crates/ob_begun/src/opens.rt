@@ -8,8 +8,8 @@ ghost use Rattle.ob_model.specs.declared.reply.ParseRun.{ParseRun};
 ghost use Rattle.ob_model.specs.declared.reply.ParseRun.TheVariants.{Unrun};
 ghost use Rattle.ob_model.specs.Refusals.{answers};
 ghost use Rattle.ob_model.specs.Step.{Step};
-ghost use Rattle.ob_parsing.specs.Brought.{run_of, run_of_end, brought as end_of};
-ghost use Rattle.ob_parsing.specs.Parse.{asked_of};
+ghost use Rattle.ob_types.specs.Brought.{run_of, run_of_end, brought as end_of};
+ghost use Rattle.ob_types.specs.Parse.{asked_of};
 ghost use Rattle.ob_waiting.specs.Waiting.{IsParseOf};
 ghost use Rattle.ob_complete.specs.Completes.{Made, HasRun, GivesUp, Falters};
 ghost use Rattle.ob_begun.specs.declared.begun.Begun.TheVariants as begun;
@@ -20,9 +20,8 @@ use ob_base::Proc;
 use ob_complete::{Core, Started};
 use ob_handles::HandleTable;
 use ob_model::Command;
-use ob_parsing::{Brought, Parsed, Parsing};
-use ob_types::TypeSet;
 use ob_types::laws::own_face;
+use ob_types::{Brought, Parsed, Parsing, TypeSet};
 use std::alloc::{AllocError, Global};
 
 /// Starts a command of a process, and keeps its parse where it is an open that waits for one. Until that open is ended or

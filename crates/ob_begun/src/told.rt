@@ -7,8 +7,8 @@ ghost use Rattle.ob_model.specs.declared.reply.Event.TheVariants.{Resume, Abando
 ghost use Rattle.ob_model.specs.declared.reply.ParseRun.TheVariants.{NoMemory, Ran};
 ghost use Rattle.ob_model.specs.Refusals.{answers};
 ghost use Rattle.ob_model.specs.Step.{Step};
-ghost use Rattle.ob_parsing.specs.Brought.{run_of, run_of_end, brought as end_of};
-ghost use Rattle.ob_parsing.specs.Parse.{asked_of};
+ghost use Rattle.ob_types.specs.Brought.{run_of, run_of_end, brought as end_of};
+ghost use Rattle.ob_types.specs.Parse.{asked_of};
 ghost use Rattle.ob_complete.specs.Completes.{Made, HasRun, GivesUp};
 ghost use Rattle.ob_begun.specs.Begun.{answer_in, AreAwaited, IfWaits, tickets_of, with_begun, without};
 
@@ -17,8 +17,7 @@ use crate::{Begun, Waits};
 use ob_complete::Core;
 use ob_handles::HandleTable;
 use ob_model::ParseRun;
-use ob_parsing::{Brought, Parsed, Parsing};
-use ob_types::TypeSet;
+use ob_types::{Brought, Parsed, Parsing, TypeSet};
 use std::alloc::{AllocError, Global};
 
 /// Ends an open that waits, as is told of its parse: where that `Ran`, it is run, and where it found `NoMemory`, it isn't

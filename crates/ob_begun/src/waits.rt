@@ -5,8 +5,7 @@ ghost use Rattle.std.specs.Prelude.{filter, map, All, AllPairs, IfErr, IfNone, I
 ghost use Rattle.std.specs.List.{find, list_any};
 ghost use Rattle.ob_begun.specs.Begun.{tickets_of, without};
 
-use ob_parsing::Parsing;
-use ob_types::TypeSet;
+use ob_types::{Parsing, TypeSet};
 use std::alloc::Global;
 use std::collections::BTreeMap;
 use std::marker::Model;
@@ -25,7 +24,7 @@ pub struct Waits<T: TypeSet> {
 impl<T: TypeSet> Model for Waits<T> {
     ghost use Rattle.std.specs.Prelude.{List};
     ghost use Rattle.std.specs.Map.{values_of};
-    ghost use Rattle.ob_parsing.specs.Parse.{ToRun};
+    ghost use Rattle.ob_types.specs.Parse.{ToRun};
     ghost use Rattle.ob_begun.specs.Kept.{AreKept};
 
     ghost Value = { List (ToRun T.Face) };

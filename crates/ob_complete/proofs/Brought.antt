@@ -11,8 +11,8 @@ use Rattle.ob_model.specs.Refusals.{answers}
 use Rattle.ob_model.specs.State.{State}
 use Rattle.ob_model.specs.Step.{Step}
 use Rattle.ob_parses.proofs.Resumed.{its_ticket}
-use Rattle.ob_parsing.specs.Brought.{run_of_end}
-use Rattle.ob_parsing.specs.Parse.{ToRun, HasRun as HasRunOf, asked_of, IsFor}
+use Rattle.ob_types.specs.Brought.{run_of_end}
+use Rattle.ob_types.specs.Parse.{ToRun, HasRun as HasRunOf, asked_of, IsFor}
 use Rattle.ob_waiting.specs.Waiting.{answer_of, IsParseOf, IsAwaited}
 use Rattle.ob_waiting.specs.declared.started.Started.{Started}
 use Rattle.ob_complete.specs.Completes.{Made, HasRun, GivesUp}

@@ -10,9 +10,8 @@ use ob_base::Proc;
 use ob_core::{Core, Started};
 use ob_handles::HandleTable;
 use ob_model::{Command, Reply};
-use ob_parsing::{Brought, Parsing};
-use ob_types::TypeSet;
 use ob_types::laws::own_face;
+use ob_types::{Brought, Parsing, TypeSet};
 use std::alloc::{AllocError, Global};
 
 /// Runs a command of a process to its reply. Where an open reaches an object whose kind parses, the parse is run and

@@ -18,5 +18,5 @@ pub use ob_handles::{HandleTable, OpenTable};
 pub use ob_model::{
     Bytes, Command, Entries, Given, Handles, Listed, Place, Reply, TypeName, Wanted,
 };
-pub use ob_parsing::{Brought, Parsed, Parsing};
+pub use ob_types::{Brought, Parsed, Parsing};
 pub use ob_waiting::Started;

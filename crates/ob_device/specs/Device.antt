@@ -5,7 +5,7 @@
 use Rattle.std.specs.Prelude.{◌≡◌, ℕ, ◌+◌, ◌^◌, ◌-◌, Bool, ◌||◌, not, true, false, if◌then◌else◌, List, [], ◌∷◌, Option, None, Some, codes, length, drop, min}
 use Rattle.ob_model.specs.Names.{begins_with_separator}
 use Rattle.ob_model.specs.Procedures.{Procedures, ParseAnswer, Front, Refused}
-use Rattle.ob_arguments.specs.Arguments.{is_readable, pieces, same_path}
+use Rattle.ob_plain.specs.Arguments.{is_readable, pieces, same_path}
 use Rattle.ob_device.specs.Paths.{has_path, has_empty_path, same_tables}
 use Rattle.ob_device.specs.declared.device.DeviceSet.{DeviceSet}
 use Rattle.ob_device.specs.declared.device.DeviceKind.{DeviceKind}

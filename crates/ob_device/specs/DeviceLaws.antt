@@ -2,7 +2,7 @@
 use Rattle.std.proofs.Common.{◌≡◌, ◌≢◌, ℕ, ◌<◌, Bool, true, false, if◌then◌else◌, List, [], ◌∷◌, length, refl, ap, arith}
 use Rattle.std.specs.Cmp.Lexicographic.{bytes_decides, pointwise_decides}
 use Rattle.ob_model.specs.Procedures.{Itself, Front, Refused, FrontIsUsed, ItselfIsAtEnd, ParsedIsIdle, OwnFaceIsSame, SameFacesAnswerAlike}
-use Rattle.ob_arguments.specs.Arguments.{same_path}
+use Rattle.ob_plain.specs.Arguments.{same_path}
 use Rattle.ob_device.specs.Paths.{has_path, same_tables}
 use Rattle.ob_device.specs.Device.{device_procedures, device_answer, answer_to, path_named, unopened, IsIdle}
 use Rattle.ob_device.specs.declared.device.DeviceFace.{DeviceFace}

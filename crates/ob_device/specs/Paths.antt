@@ -4,7 +4,7 @@
 use Rattle.std.specs.Prelude.{ℕ, Bool, ◌==◌, List, length}
 use Rattle.std.specs.Cmp.Lexicographic.{pointwise}
 use Rattle.std.specs.List.{list_any}
-use Rattle.ob_arguments.specs.Arguments.{same_path}
+use Rattle.ob_plain.specs.Arguments.{same_path}
 
 -- the table has the path
 abbrev pub has_path : List (List ℕ) → List ℕ → Bool

@@ -8,7 +8,7 @@ ghost use Rattle.ob_device.specs.DeviceLaws.{device_front, device_itself, device
 ghost use Rattle.ob_device.specs.declared.device.DeviceKind.TheVariants.{Device, File};
 
 use crate::PathTable;
-use ob_arguments::{Path, is_readable};
+use ob_plain::{Path, is_readable};
 use ob_types::{ParseAnswer, Reason, Refusal, TypeSet};
 use std::alloc::{AllocError, Global};
 

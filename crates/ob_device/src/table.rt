@@ -3,10 +3,10 @@
 ghost use Rattle.std.specs.Prelude.{◌≡◌, ◌==◌, IfOk, length};
 ghost use Rattle.std.specs.Cmp.{partial_equiv_from_equiv};
 ghost use Rattle.std.specs.Cmp.Lexicographic.{lists_equiv, nat_list_eq_equiv};
-ghost use Rattle.ob_arguments.specs.Arguments.{pieces};
+ghost use Rattle.ob_plain.specs.Arguments.{pieces};
 ghost use Rattle.ob_device.specs.Paths.{has_path, has_empty_path, same_tables};
 
-use ob_arguments::{Path, split};
+use ob_plain::{Path, split};
 use std::alloc::{AllocError, Global};
 use std::marker::Model;
 

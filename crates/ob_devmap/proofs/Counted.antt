@@ -10,7 +10,7 @@ use Rattle.std.specs.List.Sorted.{IsStrictlySortedBy}
 use Rattle.std.specs.Map.{keys_of, values_of, remove_entry}
 use Rattle.std.specs.Option.{unwrap_or}
 use Rattle.std.specs.Ordering.{nat_cmp}
-use Rattle.ob_counts.specs.Counts.{Numbers, count_of, one_if, CountsOneMore, CountsOneLess}
+use Rattle.ob_handles.specs.Counts.{Numbers, count_of, one_if, CountsOneMore, CountsOneLess}
 use Rattle.ob_devmap.specs.Maps.{Directories, map_in, IsMapped, AreMaps}
 use Rattle.ob_model.proofs.Finds.{find_none}
 use Rattle.ob_model.proofs.Ids.{Differ, Differ-from_rising, is_at-id, lookup-id}

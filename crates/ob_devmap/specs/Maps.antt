@@ -7,7 +7,7 @@ use Rattle.std.specs.BTreeMap.{is_at}
 use Rattle.std.specs.List.Sorted.{IsStrictlySortedBy}
 use Rattle.std.specs.Map.{keys_of, values_of, lookup}
 use Rattle.std.specs.Ordering.{nat_cmp}
-use Rattle.ob_counts.specs.Counts.{Numbers, count_of}
+use Rattle.ob_handles.specs.Counts.{Numbers, count_of}
 
 -- the directories of maps, under the numbers of the processes that have them
 abbrev pub Directories : Type 0

@@ -6,7 +6,7 @@ ghost use Rattle.ob_devmap.specs.Maps.{map_in, MapChanges, IsMapped};
 
 use crate::View;
 use ob_base::{ObjId, Proc};
-use ob_counts::Counts;
+use ob_handles::Counts;
 use std::alloc::{AllocError, Global};
 use std::collections::BTreeMap;
 use std::marker::Model;

@@ -30,7 +30,7 @@ use Rattle.ob_begun.proofs.Pending.{IsNoEnd, step_pending}
 use Rattle.ob_complete.specs.Completes.{Leads, HasRun, Completes, GivesUp, Falters}
 use Rattle.ob_complete.proofs.Chains.{falters_sound, gives_up_sound}
 use Rattle.ob_complete.proofs.Fewer.{BeginsFor, WaitsFor, start_begins, step_begins}
-use Rattle.ob_parsing.specs.Parse.{ToRun}
+use Rattle.ob_types.specs.Parse.{ToRun}
 use Rattle.ob_standard.specs.Standard.{StandardKind, StandardFace, standard}
 use Rattle.ob_parts.specs.declared.kind.KindForm.{KindForm}
 use Rattle.ob_lines.specs.Changes.{change_of}

@@ -1,3 +1,4 @@
 pub mod Table
 pub mod Indexed
 pub mod Laws
+pub mod Counts

@@ -7,7 +7,7 @@ use Rattle.std.specs.Cmp.Lexicographic.{pointwise}
 use Rattle.std.specs.List.{list_any, list_all, find, starts_with, slice_split, before_first, after_first}
 use Rattle.std.specs.Option.{option_eq, option_and_then}
 use Rattle.ob_model.specs.Names.{separator, begins_with_separator}
-use Rattle.ob_arguments.specs.Arguments.{has_byte, pieces, same_path}
+use Rattle.ob_plain.specs.Arguments.{has_byte, pieces, same_path}
 use Rattle.ob_key.specs.declared.entry.KeyEntry.{KeyEntry}
 
 -- the byte that stands before a target, `>`

@@ -3,7 +3,7 @@ use Rattle.std.proofs.Common.{◌≡◌, ◌∙◌, ℕ, Bool, true, false, ◌&
 use Rattle.std.specs.Cmp.{IsEquivalence, decided}
 use Rattle.std.specs.Cmp.Lexicographic.{bytes_decides, lists_equiv, pointwise_decides}
 use Rattle.std.specs.Option.{option_eq}
-use Rattle.ob_arguments.specs.Arguments.{same_path}
+use Rattle.ob_plain.specs.Arguments.{same_path}
 use Rattle.ob_key.specs.declared.entry.KeyEntry.{KeyEntry}
 use Rattle.ob_key.specs.Entries.{same_entry, same_tables}
 

@@ -5,7 +5,7 @@
 use Rattle.std.specs.Prelude.{◌≡◌, ℕ, ◌+◌, ◌^◌, ◌-◌, Bool, ◌&&◌, not, true, if◌then◌else◌, nat_le, List, [], ◌∷◌, Option, None, Some, codes, length, drop, min}
 use Rattle.ob_model.specs.Names.{separator, begins_with_separator, next_component, after_component, is_profile_text, longest_name, substituted}
 use Rattle.ob_model.specs.Procedures.{Procedures, ParseAnswer, Itself, Front, Reparse, Refused}
-use Rattle.ob_arguments.specs.Arguments.{is_readable, same_path}
+use Rattle.ob_plain.specs.Arguments.{is_readable, same_path}
 use Rattle.ob_key.specs.Entries.{KeyPlace, entries_of, is_table, is_there, target_of, path_below, same_tables}
 use Rattle.ob_key.specs.declared.entry.KeyEntry.{KeyEntry}
 use Rattle.ob_key.specs.declared.key.KeySet.{KeySet}

@@ -3,7 +3,7 @@ use Rattle.std.proofs.Common.{◌≡◌, ◌≢◌, ℕ, ◌+◌, ◌-◌, ◌<�
 use Rattle.std.specs.Cmp.Lexicographic.{bytes_decides}
 use Rattle.ob_model.specs.Names.{separator, begins_with_separator, next_component, after_component, is_profile_text, longest_name, substituted}
 use Rattle.ob_model.specs.Procedures.{ParseAnswer, Itself, Front, Reparse, Refused, FrontIsUsed, ItselfIsAtEnd, ParsedIsIdle, OwnFaceIsSame, SameFacesAnswerAlike}
-use Rattle.ob_arguments.specs.Arguments.{same_path}
+use Rattle.ob_plain.specs.Arguments.{same_path}
 use Rattle.ob_key.specs.Entries.{KeyPlace, is_there, target_of, path_below, same_tables}
 use Rattle.ob_key.specs.Equality.{first_true, second_true, tables_are_one, table_is_same}
 use Rattle.ob_key.specs.Key.{key_procedures, key_answer, answer_to, answer_at, behind_separator, unopened, IsIdle}

@@ -4,10 +4,10 @@ ghost use Rattle.std.specs.Prelude.{◌≡◌, IfOk, IsTrue, is_some};
 ghost use Rattle.std.specs.Cmp.{partial_equiv_from_equiv};
 ghost use Rattle.std.specs.Cmp.Lexicographic.{nat_list_eq_equiv};
 ghost use Rattle.ob_model.specs.Names.{is_profile_text, begins_with_separator};
-ghost use Rattle.ob_arguments.specs.Arguments.{same_path};
+ghost use Rattle.ob_plain.specs.Arguments.{same_path};
 ghost use Rattle.ob_key.specs.Entries as entries;
 
-use ob_arguments::{Path, cut};
+use ob_plain::{Path, cut};
 use std::alloc::{AllocError, Global};
 use std::marker::Model;
 

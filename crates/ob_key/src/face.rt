@@ -4,7 +4,7 @@ ghost use Rattle.std.specs.Prelude.{◌≡◌, IfOk, [], List};
 ghost use Rattle.ob_key.specs.Entries as entries;
 
 use crate::KeyTable;
-use ob_arguments::Path;
+use ob_plain::Path;
 use std::alloc::{AllocError, Global};
 use std::marker::Model;
 use std::sync::Arc;

@@ -9,9 +9,9 @@ ghost use Rattle.ob_key.specs.KeyLaws.{key_front, key_itself, key_parsed_idle, k
 ghost use Rattle.ob_key.specs.declared.key.KeyKind.TheVariants.{Key};
 
 use crate::{KeyFace, KeyTable, KeyTarget};
-use ob_arguments::is_readable;
 use ob_base::Fault;
 use ob_names::{Component, first, substitute};
+use ob_plain::is_readable;
 use ob_types::{ParseAnswer, Reason, Refusal, TypeSet};
 use std::alloc::{AllocError, Global};
 

@@ -9,7 +9,7 @@ ghost use Rattle.ob_key.specs.Entries as entries;
 ghost use Rattle.ob_key.specs.Equality.{tables_equiv};
 
 use crate::{KeyEntry, KeyTarget};
-use ob_arguments::split;
+use ob_plain::split;
 use std::alloc::{AllocError, Global};
 use std::marker::Model;
 

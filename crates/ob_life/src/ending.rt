@@ -1,7 +1,7 @@
 //! The end of a process.
 
 ghost use Rattle.std.specs.Prelude.{◌≡◌, true, false, IfSome, MatchOption};
-ghost use Rattle.ob_counts.specs.Counts.{is_listed};
+ghost use Rattle.ob_handles.specs.Counts.{is_listed};
 ghost use Rattle.ob_model.specs.State.{is_live};
 ghost use Rattle.ob_model.specs.Processes.{ended};
 ghost use Rattle.ob_model.specs.Settle.{IsSettled};
@@ -11,8 +11,7 @@ ghost use Rattle.ob_space.specs.Orderly.{IsOrderly};
 ghost use Rattle.ob_space.specs.Settling.{StaysBut};
 
 use ob_base::{ObjId, Proc};
-use ob_counts::Touched;
-use ob_handles::HandleTable;
+use ob_handles::{HandleTable, Touched};
 use ob_space::Space;
 use ob_types::TypeSet;
 

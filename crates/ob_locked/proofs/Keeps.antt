@@ -16,7 +16,7 @@ use Rattle.ob_model.proofs.Runs.{run_sound}
 use Rattle.ob_parses.proofs.BegunAgain.{last_found}
 use Rattle.ob_locked.specs.Entered.{entered, HasFew, PendingAfter, EndedAfter}
 use Rattle.ob_locked.specs.Locked.{History, IsKept}
-use Rattle.ob_parsing.specs.Parse.{ToRun}
+use Rattle.ob_types.specs.Parse.{ToRun}
 use Rattle.ob_waiting.specs.Waiting.{IsNotTaken}
 use Rattle.ob_locked.specs.Passed.{Passed, IsKnown}
 use Rattle.ob_locked.specs.Steps.{IsMade, IsNotResumed}

@@ -2,7 +2,7 @@
 
 ghost use Rattle.std.specs.Prelude.{◌≡◌, None};
 ghost use Rattle.std.specs.Option.{is_some};
-ghost use Rattle.ob_parsing.specs.Brought.{brought, run_of};
+ghost use Rattle.ob_types.specs.Brought.{brought, run_of};
 ghost use Rattle.ob_locked.specs.Answers.{brought_in, run_in};
 
 use crate::place::ReceiptPlace;
@@ -22,7 +22,7 @@ pub struct Parsing<T: TypeSet> {
 }
 
 impl<T: TypeSet> Model for Parsing<T> {
-    ghost use Rattle.ob_parsing.specs.Parse.{ToRun};
+    ghost use Rattle.ob_types.specs.Parse.{ToRun};
 
     ghost Value = { ToRun T.Face };
 
@@ -39,7 +39,7 @@ pub struct Parsed<T: TypeSet> {
 }
 
 impl<T: TypeSet> Model for Parsed<T> {
-    ghost use Rattle.ob_parsing.specs.Parse.{HasRun};
+    ghost use Rattle.ob_types.specs.Parse.{HasRun};
 
     ghost Value = { HasRun T.Face T.Inner };
 

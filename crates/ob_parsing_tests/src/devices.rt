@@ -1,8 +1,8 @@
 //! Devices and files, and the ends of their parses, as texts tell them.
 
 use crate::tables::{refused, word};
-use ob_arguments::Path;
 use ob_device::{DeviceFace, DeviceInner, DeviceKind, DeviceSet};
+use ob_plain::Path;
 use ob_types::{Outcome, TypeSet};
 use std::alloc::Global;
 

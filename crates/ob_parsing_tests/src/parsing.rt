@@ -5,7 +5,7 @@ use crate::tables::fields;
 use ob_base::{ObjId, Proc};
 use ob_device::DeviceSet;
 use ob_model::{Bytes, ParseRun, Pending, Wanted};
-use ob_parsing::{Brought, Parsed, Parsing};
+use ob_types::{Brought, Parsed, Parsing};
 use std::alloc::Global;
 use std::sync::Arc;
 

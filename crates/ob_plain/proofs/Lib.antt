@@ -1,3 +1,5 @@
 pub mod Digits
 pub mod Decimals
 pub mod FirstCalls
+pub mod Cuts
+pub mod Profile

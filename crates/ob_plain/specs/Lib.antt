@@ -4,3 +4,4 @@ pub mod Counting
 pub mod Calls
 pub mod Recorder
 pub mod Fronts
+pub mod Arguments

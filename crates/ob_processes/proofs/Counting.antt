@@ -7,7 +7,7 @@ use Rattle.std.proofs.lemmas.List.Sums.{length-filter, count_by-le-length}
 use Rattle.std.proofs.lemmas.List.Filters.{sum_by-filter_both}
 use Rattle.std.specs.List.{AllPairs, list_any}
 use Rattle.std.specs.Option.{is_some}
-use Rattle.ob_counts.specs.Counts.{Numbers, count_of, one_if, CountsOneMore, CountsOneLess}
+use Rattle.ob_handles.specs.Counts.{Numbers, count_of, one_if, CountsOneMore, CountsOneLess}
 use Rattle.ob_model.specs.declared.state.Held.{Held}
 use Rattle.ob_model.proofs.Finds.{filter_none}
 use Rattle.ob_handles.proofs.Lists.{new_handle_is_taken_back}

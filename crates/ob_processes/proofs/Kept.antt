@@ -11,7 +11,7 @@ use Rattle.ob_model.specs.Closing.{is_handle}
 use Rattle.ob_model.proofs.Ids.{Differ-from_rising}
 use Rattle.ob_handles.proofs.Lists.{new_handle_is_taken_back}
 use Rattle.ob_handles.specs.Table.{IsUnused, without}
-use Rattle.ob_counts.specs.Counts.{Numbers, count_of, CountsOneMore, CountsOneLess}
+use Rattle.ob_handles.specs.Counts.{Numbers, count_of, CountsOneMore, CountsOneLess}
 use Rattle.ob_devmap.specs.Maps.{Directories, MapChanges}
 use Rattle.ob_processes.specs.Counts.{Counts, AreKept}
 use Rattle.ob_processes.specs.Running.{Running, Entries, handles_of, processes_of, seen}

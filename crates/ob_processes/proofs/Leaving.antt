@@ -9,7 +9,7 @@ use Rattle.std.specs.Option.{is_some, unwrap_or}
 use Rattle.std.specs.Ordering.{nat_cmp}
 use Rattle.ob_model.specs.declared.state.Held.{Held}
 use Rattle.ob_model.proofs.Finds.{filter_all}
-use Rattle.ob_counts.specs.Counts.{Numbers, count_of, is_listed}
+use Rattle.ob_handles.specs.Counts.{Numbers, count_of, is_listed}
 use Rattle.ob_handles.specs.Table.{without}
 use Rattle.ob_processes.specs.Counts.{Counts}
 use Rattle.ob_processes.proofs.Seen.{none_passes}

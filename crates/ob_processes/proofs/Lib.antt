@@ -9,3 +9,4 @@ pub mod Written
 pub mod Kept
 pub mod Mapped
 pub mod Leaving
+pub mod Pinned

@@ -2,7 +2,7 @@
 --
 -- Source: this profile.
 use Rattle.std.specs.Prelude.{◌≡◌, ℕ, ◌==◌, List, count_by}
-use Rattle.ob_counts.specs.Counts.{Numbers, count_of}
+use Rattle.ob_handles.specs.Counts.{Numbers, count_of}
 use Rattle.ob_devmap.specs.Maps.{Directories}
 use Rattle.ob_handles.specs.Table.{IsTable}
 use Rattle.ob_model.specs.declared.state.Held.{Held}

@@ -2,7 +2,7 @@
 --
 -- Source: this profile.
 use Rattle.std.specs.Prelude.{List}
-use Rattle.ob_counts.specs.Counts.{Numbers}
+use Rattle.ob_handles.specs.Counts.{Numbers}
 use Rattle.ob_model.specs.declared.state.Held.{Held}
 
 -- Its handles that are still to be closed, in the order in which they were opened, and how many of them lead

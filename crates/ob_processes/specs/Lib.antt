@@ -3,3 +3,4 @@ pub mod Running
 pub mod Counts
 pub mod Handed
 pub mod Ending
+pub mod Pending

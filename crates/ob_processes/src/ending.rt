@@ -1,11 +1,10 @@
 //! What is left of a process that is live no longer.
 
 ghost use Rattle.std.specs.Prelude.{◌≡◌, ℕ, ◌-◌, ◌==◌, [], ◌∷◌, count_by, MatchOption};
-ghost use Rattle.ob_counts.specs.Counts.{count_of, ListsTheSame};
+ghost use Rattle.ob_handles.specs.Counts.{count_of, ListsTheSame};
 
 use ob_base::ObjId;
-use ob_counts::{Counts, Touched};
-use ob_handles::HandleTable;
+use ob_handles::{Counts, HandleTable, Touched};
 use ob_model::Held;
 use std::marker::Model;
 

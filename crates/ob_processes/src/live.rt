@@ -9,12 +9,11 @@ ghost use Rattle.ob_base.specs.declared.status.Status.TheVariants.{InsufficientR
 ghost use Rattle.ob_model.specs.State.{greatest_number, most_handles};
 ghost use Rattle.ob_model.specs.Grants.{IsHandleValue};
 ghost use Rattle.ob_handles.specs.Table.{IsUnused, without};
-ghost use Rattle.ob_counts.specs.Counts.{is_listed};
+ghost use Rattle.ob_handles.specs.Counts.{is_listed};
 
 use crate::ending::Ending;
 use ob_base::{Fault, Handle, ObjId, Proc};
-use ob_counts::Counts;
-use ob_handles::HandleTable;
+use ob_handles::{Counts, HandleTable};
 use ob_model::Held;
 use std::alloc::{AllocError, Global};
 use std::marker::Model;

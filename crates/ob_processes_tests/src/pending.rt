@@ -5,7 +5,7 @@ ghost use Rattle.std.specs.Prelude.{◌≡◌, []};
 use crate::tables::{object, words};
 use ob_base::{ObjId, Proc};
 use ob_model::{Bytes, Pending, Wanted};
-use ob_pending::PendingOpens;
+use ob_processes::PendingOpens;
 use std::alloc::{AllocError, Global};
 
 // An open that is pending at an object, with nothing behind it in the name.

@@ -12,7 +12,7 @@ use Rattle.ob_model.specs.Alike.{handle_given}
 use Rattle.ob_model.specs.Grants.{IsFreeValue}
 use Rattle.ob_model.specs.Run.{Entry}
 use Rattle.ob_model.specs.Step.{Step}
-use Rattle.ob_parsing.specs.Parse.{ToRun}
+use Rattle.ob_types.specs.Parse.{ToRun}
 use Rattle.ob_begun.specs.Begun.{AreAwaited}
 use Rattle.ob_begun.specs.Repeated.{AreAllKept}
 use Rattle.ob_choices.specs.Choice.{answer_under, receiver_of}

@@ -2,8 +2,8 @@
 
 use crate::objects::{Told, hand_over_laws, is_so, made};
 use crate::tables::{fields, word};
-use ob_arguments::Path;
 use ob_device::{DeviceFace, DeviceInner, DeviceKind, DeviceSet, PathTable};
+use ob_plain::Path;
 use std::alloc::Global;
 
 /// A file stands for itself, by its path, since it can't be made.

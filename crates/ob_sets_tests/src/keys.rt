@@ -2,8 +2,8 @@
 
 use crate::objects::{Told, hand_over_laws, is_so, made};
 use crate::tables::{fields, refused, word};
-use ob_arguments::{Path, is_readable};
 use ob_key::{KeyFace, KeyInner, KeyKind, KeySet, KeyTable};
+use ob_plain::{Path, is_readable};
 use ob_types::{ParseAnswer, TypeSet};
 use std::alloc::Global;
 use std::process::Abort;

@@ -17,7 +17,7 @@ use Rattle.ob_model.specs.Refusals.{answers}
 use Rattle.ob_model.specs.Run.{Entry}
 use Rattle.ob_model.specs.State.{State}
 use Rattle.ob_model.specs.Step.{Step}
-use Rattle.ob_parsing.specs.Parse.{HasRun, ToRun}
+use Rattle.ob_types.specs.Parse.{HasRun, ToRun}
 use Rattle.ob_locked.specs.declared.compared.Mismatch.{Mismatch}
 use Rattle.ob_locked.specs.declared.started.Pending.{Pending}
 use Rattle.ob_locked.specs.declared.started.Pending.TheVariants as pending

@@ -2,8 +2,8 @@
 
 ghost use Rattle.std.specs.Prelude.{◌≡◌, IfOk, IfErr, OnErr};
 ghost use Rattle.ob_model.specs.declared.reply.Event.TheVariants.{Start, Resume};
-ghost use Rattle.ob_parsing.specs.Brought.{run_of_end};
-ghost use Rattle.ob_parsing.specs.Parse.{asked_of};
+ghost use Rattle.ob_types.specs.Brought.{run_of_end};
+ghost use Rattle.ob_types.specs.Parse.{asked_of};
 ghost use Rattle.ob_shared.specs.Told.{IsGivenUp, IsMismatchOfRun, IsNotBrought, IsNotStarted, IsTold};
 
 use ob_base::{Fault, Proc};

@@ -5,17 +5,15 @@ ghost use Rattle.ob_model.specs.Settle.{settle, IsSettled, is_permanent, has_han
 ghost use Rattle.ob_objects.specs.Store.{objects_of, rows_of, body_of_stored, stored_at};
 ghost use Rattle.ob_space.specs.Namespace.{state_of, listed, with_opens, none_running, running_alone, handles_alone};
 ghost use Rattle.ob_space.specs.Orderly.{IsOrderly, IsIdleBody, IsIdleUnheld};
-ghost use Rattle.ob_counts.specs.Counts.{is_listed};
+ghost use Rattle.ob_handles.specs.Counts.{is_listed};
 ghost use Rattle.ob_model.specs.Sound.{IsSound};
 ghost use Rattle.ob_space.specs.Settling.{is_held_up, settled_one, settled_unless, AreSettled, StaysBut, with_handle_to, without_names, without_object};
 
 use crate::space::{GLOBAL, ROOT, Space};
 use ob_base::ObjId;
-use ob_counts::Touched;
-use ob_handles::HandleTable;
+use ob_handles::{HandleTable, Touched};
 use ob_objects::{Store, StoredBody};
-use ob_pending::PendingOpens;
-use ob_processes::Processes;
+use ob_processes::{PendingOpens, Processes};
 use ob_types::TypeSet;
 
 /// Settles after an object has lost a handle, or is a process's map directory no longer: an object that

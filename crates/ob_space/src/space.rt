@@ -13,8 +13,7 @@ use ob_base::{Handle, ObjId, Proc};
 use ob_handles::{HandleTable, MOST_HANDLES};
 use ob_model::Held;
 use ob_objects::Store;
-use ob_pending::PendingOpens;
-use ob_processes::Processes;
+use ob_processes::{PendingOpens, Processes};
 use ob_types::TypeSet;
 use std::alloc::Global;
 

@@ -34,7 +34,7 @@ pub struct StandardWaits {
 
 impl Model for StandardWaits {
     ghost use Rattle.std.specs.Prelude.{List};
-    ghost use Rattle.ob_parsing.specs.Parse.{ToRun};
+    ghost use Rattle.ob_types.specs.Parse.{ToRun};
     ghost use Rattle.ob_standard.specs.Standard.{StandardFace};
 
     ghost Value = { List (ToRun StandardFace) };

@@ -3,3 +3,5 @@ pub mod Parsing
 pub mod Runs
 pub mod Both
 pub mod BothLaws
+pub mod Parse
+pub mod Brought

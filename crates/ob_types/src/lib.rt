@@ -3,11 +3,20 @@
 //!
 //! A set of types is a value whose type has an `impl` of [`TypeSet`]. What its procedures mean is
 //! one record of functions, of `ob_model`'s `Procedures`, by which each method has its contract.
+//!
+//! Parses that callers run: taken out of the namespace, and brought back with their ends.
+//!
+//! An open that reaches an object whose kind parses is pending until the parse is brought. Whoever asked takes
+//! the parse as a [`Parsing`], runs it between two steps, and brings its end as a [`Parsed`].
 #![tactic(auto)]
 
 mod answer;
+mod asked;
 mod both;
+mod brought;
 pub mod laws;
+mod parsed;
+mod parsing;
 mod reason;
 mod refusal;
 mod run;
@@ -16,6 +25,9 @@ mod uses;
 
 pub use answer::ParseAnswer;
 pub use both::{Both, calls_go_to_their_part};
+pub use brought::Brought;
+pub use parsed::Parsed;
+pub use parsing::Parsing;
 pub use reason::Reason;
 pub use refusal::Refusal;
 pub use run::{Outcome, a_parse_run_has_one_end, run_parse, same_faces_end_alike};

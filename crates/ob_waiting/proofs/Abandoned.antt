@@ -20,7 +20,7 @@ use Rattle.ob_objects.specs.declared.object.StoredBody.TheVariants as stored
 use Rattle.ob_objects.specs.declared.object.StoredObject.{StoredObject}
 use Rattle.ob_objects.specs.Store.{Entries, Shows, stored_at}
 use Rattle.ob_parses.proofs.Refused.{has_ticket}
-use Rattle.ob_parsing.specs.Parse.{ToRun, IsFor}
+use Rattle.ob_types.specs.Parse.{ToRun, IsFor}
 use Rattle.ob_waiting.specs.Waiting.{IsAwaited, made_in}
 use Rattle.ob_waiting.proofs.Begun.{face_shown, face_of_set}
 

@@ -13,7 +13,7 @@ use Rattle.ob_model.specs.Procedures.{Procedures, ParseOutcome, EndsReparse}
 use Rattle.ob_model.specs.State.{State, is_live}
 use Rattle.ob_parses.specs.Again.{OpensAgain}
 use Rattle.ob_parses.proofs.OpensAgain.{resumes_again}
-use Rattle.ob_parsing.specs.Brought.{run_of_end}
+use Rattle.ob_types.specs.Brought.{run_of_end}
 use Rattle.ob_space.specs.Looking.{IsUsable}
 use Rattle.ob_waiting.specs.Waiting.{IsParseOf}
 

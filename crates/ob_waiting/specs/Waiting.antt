@@ -12,7 +12,7 @@ use Rattle.ob_model.specs.declared.reply.Answer.TheVariants.{Done, Ticket}
 use Rattle.ob_model.specs.State.{State}
 use Rattle.ob_model.specs.PendingOpens.{face_of, pending_of}
 use Rattle.ob_model.specs.Procedures.{Procedures, ParseOutcome, EndsItself, EndsMade, EndsReparse, EndsRefused}
-use Rattle.ob_parsing.specs.Parse.{ToRun, IsFor}
+use Rattle.ob_types.specs.Parse.{ToRun, IsFor}
 use Rattle.ob_waiting.specs.declared.started.Started.{Started}
 use Rattle.ob_waiting.specs.declared.started.Started.TheVariants as started
 

@@ -7,8 +7,8 @@ ghost use Rattle.ob_model.specs.Refusals.{answers};
 ghost use Rattle.ob_model.specs.Settle.{IsSettled};
 ghost use Rattle.ob_model.specs.Sound.{IsSound};
 ghost use Rattle.ob_model.specs.Step.{Step};
-ghost use Rattle.ob_parsing.specs.Brought.{run_of, brought as end_of};
-ghost use Rattle.ob_parsing.specs.Parse.{asked_of};
+ghost use Rattle.ob_types.specs.Brought.{run_of, brought as end_of};
+ghost use Rattle.ob_types.specs.Parse.{asked_of};
 ghost use Rattle.ob_space.specs.Namespace.{state_of};
 ghost use Rattle.ob_space.specs.Orderly.{IsOrderly};
 ghost use Rattle.ob_types.specs.Parsing.{outcome_of};
@@ -17,9 +17,8 @@ ghost use Rattle.ob_waiting.specs.Waiting.{IsAwaited, made_in};
 use crate::awaited::is_awaited;
 use ob_handles::HandleTable;
 use ob_parses::{end_parse, give_up_made};
-use ob_parsing::Brought;
 use ob_space::Space;
-use ob_types::{Outcome, TypeSet};
+use ob_types::{Brought, Outcome, TypeSet};
 
 /// Gives up the open that waits for a parse, and tells whether one does: what the parse made is deleted, and what
 /// the open alone held goes. A stranger's parse is let go, and nothing changes. No memory is taken.

@@ -23,9 +23,8 @@ use ob_lookup::Look;
 use ob_model::{Answer, Bytes};
 use ob_names::Name;
 use ob_parses::{begin_again, end_parse, mode_of_open, open_found, refuse_open};
-use ob_parsing::Parsing;
 use ob_space::{Space, is_live, look_up_again};
-use ob_types::TypeSet;
+use ob_types::{Parsing, TypeSet};
 use std::alloc::AllocError;
 
 /// Looks up the text that the parse of a pending open ended with, in the state as it is now, and does what that leads

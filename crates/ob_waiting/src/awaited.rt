@@ -4,16 +4,15 @@ ghost use Rattle.std.specs.Prelude.{◌≡◌, ◌↔◌, IsTrue, IsSome};
 ghost use Rattle.ob_model.specs.declared.reply.Event.TheVariants.{Abandon};
 ghost use Rattle.ob_model.specs.Parses.{IsBrought};
 ghost use Rattle.ob_model.specs.PendingOpens.{pending_of};
-ghost use Rattle.ob_parsing.specs.Brought.{run_of, brought as end_of};
-ghost use Rattle.ob_parsing.specs.Parse.{asked_of};
+ghost use Rattle.ob_types.specs.Brought.{run_of, brought as end_of};
+ghost use Rattle.ob_types.specs.Parse.{asked_of};
 ghost use Rattle.ob_space.specs.Namespace.{state_of};
 ghost use Rattle.ob_waiting.specs.Waiting.{IsAwaited};
 
 use ob_handles::HandleTable;
 use ob_objects::StoredBody;
-use ob_parsing::Brought;
 use ob_space::Space;
-use ob_types::TypeSet;
+use ob_types::{Brought, TypeSet};
 
 /// Whether an open waits for a parse: one is pending under its ticket, over its rest, and the object that it pins
 /// has a face that is found the same.

@@ -17,9 +17,8 @@ use ob_handles::HandleTable;
 use ob_model::{Answer, Bytes};
 use ob_objects::StoredBody;
 use ob_parses::{Asking, begin_parse};
-use ob_parsing::Parsing;
 use ob_space::Space;
-use ob_types::TypeSet;
+use ob_types::{Parsing, TypeSet};
 use std::alloc::{AllocError, Global};
 use std::sync::Arc;
 

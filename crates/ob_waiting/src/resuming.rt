@@ -9,8 +9,8 @@ ghost use Rattle.ob_model.specs.Settle.{IsSettled};
 ghost use Rattle.ob_model.specs.Sound.{IsSound};
 ghost use Rattle.ob_model.specs.Step.{Step};
 ghost use Rattle.ob_parses.specs.Refused.{refusal_of};
-ghost use Rattle.ob_parsing.specs.Brought.{run_of_end};
-ghost use Rattle.ob_parsing.specs.Parse.{asked_of, IfMadeNew};
+ghost use Rattle.ob_types.specs.Brought.{run_of_end};
+ghost use Rattle.ob_types.specs.Parse.{asked_of, IfMadeNew};
 ghost use Rattle.ob_space.specs.Namespace.{state_of};
 ghost use Rattle.ob_space.specs.Orderly.{IsOrderly};
 ghost use Rattle.ob_types.specs.Parsing.{outcome_of};
@@ -23,9 +23,8 @@ use crate::replies::reply_in;
 use ob_base::{Fault, Status};
 use ob_handles::HandleTable;
 use ob_parses::{open_made, open_pinned, refuse_parse};
-use ob_parsing::{Brought, Parsed};
 use ob_space::Space;
-use ob_types::{Outcome, TypeSet};
+use ob_types::{Brought, Outcome, Parsed, TypeSet};
 
 /// Brings a parse to the open that waits for it, in the state as it is now. That open is pending no longer:
 ///

@@ -1,8 +1,7 @@
 //! How the start of a command ends.
 
 use ob_model::Reply;
-use ob_parsing::Parsing;
-use ob_types::TypeSet;
+use ob_types::{Parsing, TypeSet};
 
 /// How the start of a command ends, and how a pending open that is resumed does. A parse that is to be run can't be
 /// let go.

@@ -2,7 +2,7 @@
 use Rattle.std.proofs.Common.{◌∙◌, refl, ap, subst}
 use Rattle.ob_model.specs.declared.reply.Event.TheVariants.{Resume}
 use Rattle.ob_model.specs.Step.{Step}
-use Rattle.ob_parsing.specs.Brought.{run_of_end}
+use Rattle.ob_types.specs.Brought.{run_of_end}
 use Rattle.ob_complete.specs.Completes.{GivesUp}
 use Rattle.ob_complete.proofs.Brought.{brought_has_run, ok_more, err_more}
 use Rattle.ob_begun.specs.Begun.{answer_in, with_begun}

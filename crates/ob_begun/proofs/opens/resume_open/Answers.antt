@@ -6,8 +6,8 @@ use Rattle.ob_model.specs.declared.reply.Event.TheVariants.{Resume, Abandon}
 use Rattle.ob_model.specs.declared.reply.ParseRun.TheVariants.{Unrun}
 use Rattle.ob_model.specs.Refusals.{answers}
 use Rattle.ob_model.specs.Step.{Step}
-use Rattle.ob_parsing.specs.Brought.{run_of_end}
-use Rattle.ob_parsing.specs.Parse.{asked_of}
+use Rattle.ob_types.specs.Brought.{run_of_end}
+use Rattle.ob_types.specs.Parse.{asked_of}
 use Rattle.ob_waiting.specs.Waiting.{IsParseOf}
 use Rattle.ob_complete.proofs.Brought.{its_step, brought_has_run, err_more}
 use Rattle.ob_begun.specs.Begun.{tickets_of}

@@ -4,8 +4,8 @@ use Rattle.ob_base.specs.declared.status.Status.TheVariants.{Success}
 use Rattle.ob_model.specs.declared.reply.Event.TheVariants.{Resume, Abandon}
 use Rattle.ob_model.specs.Refusals.{answers}
 use Rattle.ob_model.specs.Step.{Step}
-use Rattle.ob_parsing.specs.Brought.{run_of_end}
-use Rattle.ob_parsing.specs.Parse.{asked_of}
+use Rattle.ob_types.specs.Brought.{run_of_end}
+use Rattle.ob_types.specs.Parse.{asked_of}
 use Rattle.ob_complete.specs.Completes.{GivesUp}
 use Rattle.ob_complete.proofs.Brought.{ok_more, err_more}
 use Rattle.ob_begun.specs.Begun.{answer_in, with_begun}

@@ -3,7 +3,7 @@ use Rattle.std.proofs.Common.{◌≡◌, ◌∙◌, ◌+◌, [], true, All, get_
 use Rattle.std.specs.Option.{is_some}
 use Rattle.std.specs.Prelude.{MatchOption, false}
 use Rattle.ob_model.specs.State.{is_live}
-use Rattle.ob_counts.specs.Counts.{Numbers, is_listed}
+use Rattle.ob_handles.specs.Counts.{Numbers, is_listed}
 use Rattle.ob_model.specs.Processes.{handles_in}
 use Rattle.ob_space.specs.Namespace.{state_of}
 use Rattle.ob_space.specs.Orderly.{IsOrderly}

@@ -1,6 +1,6 @@
 -- What is still to be closed makes of the state what all was to make of it.
 use Rattle.std.proofs.Common.{◌≡◌, ◌+◌, ◌<◌, ◌^◌, true, All, length}
-use Rattle.ob_counts.specs.Counts.{is_listed}
+use Rattle.ob_handles.specs.Counts.{is_listed}
 use Rattle.ob_model.specs.Processes.{handles_in, ended}
 use Rattle.ob_space.specs.Namespace.{state_of}
 use Rattle.ob_life.proofs.Endings.{closing}

@@ -1,6 +1,6 @@
 -- One object further back has its turn.
 use Rattle.std.proofs.Common.{◌∙◌, ap, sym, subst, refl}
-use Rattle.ob_counts.specs.Counts.{is_listed}
+use Rattle.ob_handles.specs.Counts.{is_listed}
 use Rattle.ob_space.specs.Namespace.{state_of}
 use Rattle.ob_space.proofs.Judged.{Judged, unheld_left}
 use Rattle.ob_space.proofs.Turns.{had_turn, no_map, map_settled, one_turn, all_turned}

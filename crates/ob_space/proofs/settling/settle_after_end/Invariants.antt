@@ -1,5 +1,5 @@
 -- From the last one back, each object had its turn.
-use Rattle.ob_counts.specs.Counts.{is_listed}
+use Rattle.ob_handles.specs.Counts.{is_listed}
 use Rattle.ob_space.specs.Namespace.{state_of}
 use Rattle.ob_space.proofs.Judged.{Judged}
 use Rattle.ob_space.proofs.Turns.{had_turn}

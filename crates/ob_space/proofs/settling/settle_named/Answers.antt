@@ -1,6 +1,6 @@
 -- The object is settled, and then the directory in which all its names lie.
 use Rattle.std.proofs.Common.{◌∙◌, sym}
-use Rattle.ob_counts.specs.Counts.{is_listed}
+use Rattle.ob_handles.specs.Counts.{is_listed}
 use Rattle.ob_space.specs.Namespace.{state_of}
 use Rattle.ob_space.proofs.Walked.{settled_unheld, named_settled, unnamed_settled}
 use Rattle.ob_space.proofs.settling.settle_named.Goals as goal

@@ -5,7 +5,7 @@ use Rattle.ob_model.specs.Parses.{Abandons}
 use Rattle.ob_model.specs.PendingOpens.{pending_of, without_pending}
 use Rattle.ob_model.specs.Procedures.{EndsMade}
 use Rattle.ob_model.specs.Settle.{settle}
-use Rattle.ob_parsing.specs.Brought.{brought as end_of}
+use Rattle.ob_types.specs.Brought.{brought as end_of}
 use Rattle.ob_space.specs.Namespace.{state_of}
 use Rattle.ob_waiting.specs.Waiting.{made_in}
 use Rattle.ob_waiting.proofs.Abandoned.{with_inner, nothing_made_there, instance_made}

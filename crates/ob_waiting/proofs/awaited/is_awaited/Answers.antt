@@ -2,8 +2,8 @@
 use Rattle.std.proofs.Common.{◌∙◌, Some, ap, refl, sym, subst, false, IsTrue}
 use Rattle.std.specs.Option.{option_copied}
 use Rattle.ob_model.specs.PendingOpens.{pending_of}
-use Rattle.ob_parsing.specs.Parse.{asked_of, IsFor}
-use Rattle.ob_parsing.specs.Brought.{run_of, brought as end_of}
+use Rattle.ob_types.specs.Parse.{asked_of, IsFor}
+use Rattle.ob_types.specs.Brought.{run_of, brought as end_of}
 use Rattle.ob_space.specs.Namespace.{state_of}
 use Rattle.ob_waiting.proofs.Abandoned.{none_pending, none_stored, none_of_set, awaits_it, is_for, faced, comes}
 use Rattle.ob_waiting.proofs.awaited.is_awaited.Goals as goal

@@ -6,7 +6,7 @@ use Rattle.ob_model.specs.Refusals.{answers}
 use Rattle.ob_model.specs.Settle.{IsSettled}
 use Rattle.ob_model.proofs.Steps.{step_sound}
 use Rattle.ob_model.proofs.Staying.{step_settled}
-use Rattle.ob_parsing.specs.Brought.{run_of, brought as end_of}
+use Rattle.ob_types.specs.Brought.{run_of, brought as end_of}
 use Rattle.ob_space.specs.Namespace.{state_of}
 use Rattle.ob_space.proofs.Looked.{same_sound}
 use Rattle.ob_waiting.proofs.Abandoned.{either_way}

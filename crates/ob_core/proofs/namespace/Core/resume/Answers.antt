@@ -4,7 +4,7 @@ use Rattle.ob_model.specs.declared.reply.Event.TheVariants.{Resume}
 use Rattle.ob_model.specs.Settle.{IsSettled}
 use Rattle.ob_model.proofs.Steps.{step_sound}
 use Rattle.ob_model.proofs.Staying.{step_settled}
-use Rattle.ob_parsing.specs.Brought.{run_of_end}
+use Rattle.ob_types.specs.Brought.{run_of_end}
 use Rattle.ob_space.specs.Namespace.{state_of}
 use Rattle.ob_space.proofs.Results.{from_result}
 use Rattle.ob_space.proofs.Looked.{same_sound}

@@ -2,7 +2,7 @@
 use Rattle.std.proofs.Common.{◌∙◌, ap, sym, subst, arith}
 use Rattle.std.specs.BTreeMap.{insert_entry}
 use Rattle.std.specs.Ordering.{nat_cmp}
-use Rattle.ob_counts.specs.Counts.{CountsOneLess}
+use Rattle.ob_handles.specs.Counts.{CountsOneLess}
 use Rattle.ob_devmap.proofs.Counted.{room, map_more, map_replaced}
 use Rattle.ob_devmap.proofs.maps.Maps.set.Goals as goal
 

@@ -1,7 +1,7 @@
 -- The entries are those of the pieces, and the pieces those of the arguments.
 use Rattle.std.proofs.Common.{◌≡◌, ◌∙◌, ◌≤◌, ℕ, List, [], ◌∷◌, Bor, map, length, rules, refl, ap}
 use Rattle.std.proofs.lemmas.List.{take_all}
-use Rattle.ob_arguments.specs.Arguments.{pieces}
+use Rattle.ob_plain.specs.Arguments.{pieces}
 use Rattle.ob_key.specs.Entries.{entry_of}
 use Rattle.ob_key.proofs.table.KeyTable.read.Goals as goal
 

@@ -3,7 +3,7 @@ use Rattle.std.proofs.Common.{◌∙◌, ◌-◌, ℕ, [], ◌∷◌, ◌++◌, 
 use Rattle.ob_base.specs.declared.status.Status.TheVariants.{Success}
 use Rattle.ob_model.specs.declared.reply.Event.TheVariants.{Abandon}
 use Rattle.ob_model.specs.Refusals.{answers}
-use Rattle.ob_parsing.specs.Brought.{brought, run_of}
+use Rattle.ob_types.specs.Brought.{brought, run_of}
 use Rattle.ob_locked.specs.Places.{places_of}
 use Rattle.ob_locked.proofs.Placed.{found_places}
 use Rattle.ob_locked.proofs.Keeps.{kept_behind_end, place_behind_end}

@@ -1,6 +1,6 @@
 -- An object that a handle leads to is counted, and so it is listed.
 use Rattle.std.proofs.Common.{◌≡◌, true, sym, subst, All}
-use Rattle.ob_counts.specs.Counts.{Numbers, is_listed}
+use Rattle.ob_handles.specs.Counts.{Numbers, is_listed}
 use Rattle.ob_processes.proofs.Leaving.{all_listed}
 use Rattle.ob_processes.proofs.live.Live.into_ending.Goals as goal
 

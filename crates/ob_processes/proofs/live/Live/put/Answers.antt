@@ -3,7 +3,7 @@ use Rattle.std.proofs.Common.{◌∙◌, ◌<◌, ◌≤◌, List, All, sym, sub
 use Rattle.ob_model.specs.declared.state.Held.{Held}
 use Rattle.ob_model.specs.State.{greatest_number}
 use Rattle.ob_handles.specs.Table.{IsUnused}
-use Rattle.ob_counts.specs.Counts.{count_of}
+use Rattle.ob_handles.specs.Counts.{count_of}
 use Rattle.ob_processes.proofs.Counting.{counted_more, counted_back, taken_back, counts_room}
 use Rattle.ob_processes.proofs.live.Live.put.Goals as goal
 

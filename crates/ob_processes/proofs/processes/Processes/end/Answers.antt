@@ -1,7 +1,7 @@
 -- A process goes with its map and its handles, which are counted no longer.
 use Rattle.std.proofs.Common.{◌∙◌, ◌-◌, ◌==◌, count_by, None, Some, ap, sym, subst, arith}
 use Rattle.std.specs.Option.{is_some}
-use Rattle.ob_counts.specs.Counts.{count_of}
+use Rattle.ob_handles.specs.Counts.{count_of}
 use Rattle.ob_devmap.specs.Maps.{MapChanges}
 use Rattle.ob_processes.proofs.Entries.{handles_in}
 use Rattle.ob_processes.proofs.Kept.{processes_left, handles_left, enough_ended, counted_ended}

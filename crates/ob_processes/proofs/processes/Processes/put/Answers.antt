@@ -3,7 +3,7 @@ use Rattle.std.proofs.Common.{◌∙◌, ◌<◌, ◌≤◌, refl, ap, sym, arit
 use Rattle.std.proofs.lemmas.Result.{err_from_is_err_and}
 use Rattle.std.specs.Option.{option_copied_mut}
 use Rattle.ob_model.specs.State.{greatest_number}
-use Rattle.ob_counts.specs.Counts.{count_of}
+use Rattle.ob_handles.specs.Counts.{count_of}
 use Rattle.ob_processes.proofs.Kept.{own_back, room, counted_same, counted_more}
 use Rattle.ob_processes.proofs.Seen.{not_live, few}
 use Rattle.ob_processes.proofs.Written.{all_of, get_of, seen_same, seen_more, processes_more}

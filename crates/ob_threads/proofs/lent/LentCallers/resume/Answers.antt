@@ -5,7 +5,7 @@ use Rattle.ob_model.specs.declared.reply.Answer.TheVariants.{Done, Ticket}
 use Rattle.ob_model.specs.declared.reply.Event.TheVariants.{Resume, Abandon}
 use Rattle.ob_model.specs.declared.reply.ParseRun.{ParseRun}
 use Rattle.ob_model.specs.Refusals.{answers}
-use Rattle.ob_parsing.specs.Brought.{run_of_end}
+use Rattle.ob_types.specs.Brought.{run_of_end}
 use Rattle.ob_standard.specs.Standard.{StandardKind, standard}
 use Rattle.ob_locked.specs.Answers.{answer_in}
 use Rattle.ob_locked.specs.Passed.{Passed}

@@ -1,3 +1,0 @@
-mod Found
-mod Listed
-mod Lowered

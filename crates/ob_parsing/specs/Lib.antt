@@ -1,2 +1,0 @@
-pub mod Parse
-pub mod Brought
