@@ -24,18 +24,10 @@ from pathlib import Path
 import build
 import records
 from crates import QUICK_RT, folder_of, listed, rewrite, workshop
-from edits import Unfit, file_of, functions_of
+from edits import Unfit, file_of, functions_named
 from verdicts import verdicts
 
 FOLDER = "definitions"
-
-
-def functions_named(crate, name):
-    """The paths of a crate's functions of this name."""
-    home = folder_of(crate)
-    files = [path.relative_to(home) for path in sorted((home / "src").rglob("*.rt"))]
-    found = [it for file in files for it in functions_of(crate, str(file), (home / file).read_text())]
-    return [it for it in found if it.name == name]
 
 
 def fault_of(crate, path, folder):
@@ -78,24 +70,24 @@ def main():
     parser.add_argument("--all", action="store_true", help="try all, also what a record covers")
     words = parser.parse_args()
     asked = words.crates or records.with_edits_in(FOLDER)
-    left = [crate for crate in asked if words.all or not records.covers(crate, FOLDER)]
-    edits = [(crate, path) for crate in left for path in records.edits_in(crate, FOLDER)]
-    edits = [it for it in edits if words.all or not records.is_kept(*it)]
-    known = sum(len(records.edits_in(crate, FOLDER)) for crate in asked) - len(edits)
+    there = [(crate, path) for crate in asked for path in records.edits_in(crate, FOLDER)]
+    edits = [it for it in there if words.all or not records.is_kept(*it)]
+    known, left = len(there) - len(edits), {crate for crate, _ in edits}
     print(f"definitions: {known} were refused before, {len(edits)} are to be tried", flush=True)
     if edits and not build.make(left, max(1, words.jobs)):
         sys.exit("definitions: not tried, since what they go over isn't proved\n0 passed, 1 failed")
-    faults = {crate: 0 for crate in left}
+    failed = 0
     with tempfile.TemporaryDirectory(prefix="definitions-") as name, ThreadPoolExecutor(max(1, words.jobs)) as pool:
         runs = [pool.submit(tried, crate, path, Path(name) / str(at)) for at, (crate, path) in enumerate(edits)]
         for (crate, path), run in zip(edits, runs):
-            faults[crate] += bool(run.result())
-            if not run.result():
+            failed += bool(run.result())
+            if run.result():
+                records.forget(crate, FOLDER, [path.stem])
+            else:
                 records.keep(crate, path)
             print(f"definitions: {crate}/{path.stem} ... {run.result() or 'refused'}", flush=True)
-    for crate, failed in faults.items():
-        (records.remove if failed else records.write)(crate, FOLDER)
-    failed = sum(faults.values())
+    for crate in asked:
+        records.forget(crate, FOLDER, [])
     print(f"{known + len(edits) - failed} passed, {failed} failed")
     return 1 if failed else 0
 

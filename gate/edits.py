@@ -164,6 +164,14 @@ def functions_of(crate, file, text):
     return found
 
 
+def functions_named(crate, name):
+    """The paths of a crate's functions of this name."""
+    home = folder_of(crate)
+    files = [path.relative_to(home) for path in sorted((home / "src").rglob("*.rt"))]
+    found = [it for file in files for it in functions_of(crate, str(file), (home / file).read_text())]
+    return [it for it in found if it.name == name]
+
+
 def without_bodies(text):
     """A source file's text without its functions' bodies, its comments and its layout: what others can rest on."""
     plain = blanked(text)

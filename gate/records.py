@@ -1,86 +1,48 @@
 #!/usr/bin/env python3
 """The records of what was refused, and the part of the gate that holds the crates to them.
 
-An edit in crates/NAME/wrong/ or crates/NAME/definitions/ that was refused is refused for as long as the crate, the contracts
-that it stands on and the prover's logic are the same. So these edits are tried when a crate changes, by `make wrong` and
-`make definitions`, and each of the two folders has a file RECORD of five lines:
+An edit in crates/NAME/wrong/ or crates/NAME/definitions/ that was refused is refused for as long as all that this rests on is the
+same (rests.py). So these edits are tried when that changes, by `make wrong` and `make definitions`, and each of the two folders
+has a file RECORD with a line for each edit that was refused: its name and two sums,
 
-    own: the sum of the crate's sources, specs and proofs, and of the edits
-    below: the sum of the contracts that it stands on: the sources of all crates below without their bodies, and their specs
-    logic: the prover's logic, as `rt version` tells it
-    judge: by which rules a refusal was told (JUDGE, below)
-    refused: how many edits were refused, which is all of them
+- own: the edit, the source files of the function that refuses it, its proof, and what these rest on in the crate;
+- below: what they rest on in the crates below, the prover's logic as `rt version` tells it, and by which rules a refusal was told (JUDGE).
 
-Where the first isn't today's, nothing is known of some edit, and the gate fails. Where only what lies below, the logic or the
-judge has changed, that is told in a line. The edits of a folder that has no record yet are tried by the gate itself, which takes it much longer.
+Where the first isn't today's, nothing is known of the edit, and the gate fails. Where only the second isn't, that is told in a
+line. Edits that have no line yet are tried by the gate itself, which takes it much longer.
 
-    gate/records.py [--lacking wrong|definitions]    with a word: the crates that have edits there and no record
+    gate/records.py [--lacking wrong|definitions]    with a word: the crates that have edits there without a line
+    gate/records.py --carry TREE    takes lines over from another work tree, of edits of which nothing but places and imports changed
+    gate/records.py --essences      what the other work tree tells for that
 
-The last line is 'N passed, M failed', a record each. The exit status is 0 where none failed, else 1.
+The last line is 'N passed, M failed', an edit each. The exit status is 0 where none failed, else 1.
 """
 
-import hashlib
+import re
 import subprocess
 import sys
 from functools import cache
+from pathlib import Path
 
-from crates import ROOT, below, folder_of, listed
-from edits import without_bodies
+from crates import folder_of, listed
+from edits import Unfit, file_of, functions_named, read_edit
+from rests import rests_on, sum_of
 
-READ = ("src", "specs", "proofs")
 NAME = "RECORD"
 
 # the rules by which a refusal is told. By the first an answer that no longer fits counted as one, and of an edit that `rt ci` tried
 # any function's refusal; by the second only the function's own goals do, tried once more without such answers
 JUDGE = "2"
 
-# what was refused in folders that have no record yet
-REFUSED = ROOT / "out" / f"refused-{JUDGE}"
-
 # the folders of edits that have a record, and the command that makes it
 COMMANDS = {"wrong": "make wrong", "definitions": "make definitions"}
 
-
-def sum_of(*texts):
-    """The sum of some texts, in which the end of each is told."""
-    made = hashlib.sha256()
-    for text in texts:
-        made.update(b"%d:" % len(text) + text)
-    return made.hexdigest()
+IMPORT = re.compile(r"(?:pub )?(?:ghost )?use \w[^;{}\n]*(?:\{[^}]*\})?[^;{}\n]*(?:;|\n|$)")
 
 
 def edits_in(crate, folder):
     """The edits that one of a crate's folders holds."""
     return sorted((folder_of(crate) / folder).glob("*.edit"))
-
-
-@cache
-def files_of(crate):
-    """The names and texts of all that a check of the crate reads of its own."""
-    home = folder_of(crate)
-    files = sorted(path for part in READ for path in (home / part).rglob("*") if path.is_file())
-    return [text for path in files for text in (str(path.relative_to(home)).encode(), path.read_bytes())]
-
-
-def own_sum(crate, edits):
-    """The sum of a crate's own files and of these edits."""
-    return sum_of(*files_of(crate), *(text for path in edits for text in (path.name.encode(), path.read_bytes())))
-
-
-@cache
-def contracts_of(crate):
-    """The sum of what others can rest on of a crate."""
-    home = folder_of(crate)
-    specs = sorted(path for path in (home / "specs").rglob("*") if path.is_file())
-    sources = sorted((home / "src").rglob("*.rt"))
-    texts = [(path, path.read_bytes()) for path in specs]
-    texts += [(path, without_bodies(path.read_text()).encode()) for path in sources]
-    return sum_of(*(text for path, read in texts for text in (str(path.relative_to(home)).encode(), read)))
-
-
-def below_sum(crate):
-    """The sum of the contracts that a crate stands on."""
-    return sum_of(*(text.encode() for name in sorted(below(crate)) for text in (name, contracts_of(name))))
 
 
 @cache
@@ -90,52 +52,61 @@ def logic():
     return words[words.index("logic") + 1]
 
 
-def record_of(crate, folder):
-    """What the record of all edits in this folder says, where each was refused today."""
-    edits = edits_in(crate, folder)
-    lines = {"own": own_sum(crate, edits), "below": below_sum(crate), "logic": logic()}
-    lines |= {"judge": JUDGE, "refused": str(len(edits))}
-    return lines
+def rests_of(crate, path):
+    """What an edit rests on: its own text, and each file with what counts of it; nothing where it can't be tried."""
+    try:
+        if path.parent.name == "wrong":
+            edit = read_edit(crate, path)
+            return rests_on(crate, edit.file, [edit.function.path])
+        named = functions_named(crate, path.stem.split("-")[0])
+        return rests_on(crate, file_of(crate, path)[0], [it.path for it in named])
+    except Unfit:
+        return None
 
 
-def kept_as(crate, path):
-    """The file that says that an edit was refused, named by the sum of all that this rests on."""
-    return REFUSED / sum_of(*(part.encode() for part in (own_sum(crate, [path]), below_sum(crate), logic())))
-
-
-def is_kept(crate, path):
-    """Whether an edit was refused, in a folder that may have no record yet."""
-    return kept_as(crate, path).is_file()
-
-
-def keep(crate, path):
-    """Keeps that an edit was refused."""
-    REFUSED.mkdir(parents=True, exist_ok=True)
-    kept_as(crate, path).touch()
+@cache
+def sums_of(crate, path):
+    """The two sums of an edit as they stand in a record; nothing where it can't be tried."""
+    rests = rests_of(crate, path)
+    if rests is None:
+        return None
+    own = [part for home, file, text in rests if home == crate for part in (file, text)]
+    below = [part for home, file, text in rests if home != crate for part in (home, file, text)]
+    return f"{sum_of(path.read_text(), *own)} {sum_of(logic(), JUDGE, *below)}"
 
 
 def read(crate, folder):
-    """What the record in this folder says; empty where there is none."""
+    """What the record in this folder says, by the edits' names; empty where there is none."""
     path = folder_of(crate) / folder / NAME
     if not path.is_file():
         return {}
     return dict(line.partition(": ")[::2] for line in path.read_text().splitlines())
 
 
-def write(crate, folder):
-    """Writes that each edit in this folder was refused."""
-    lines = [f"{key}: {value}\n" for key, value in record_of(crate, folder).items()]
-    (folder_of(crate) / folder / NAME).write_text("".join(lines))
+def write(crate, folder, lines):
+    """Writes a record, which goes where it says nothing."""
+    path = folder_of(crate) / folder / NAME
+    if lines:
+        path.write_text("".join(f"{name}: {sums}\n" for name, sums in sorted(lines.items())))
+    else:
+        path.unlink(missing_ok=True)
 
 
-def remove(crate, folder):
-    """Takes a record away, since an edit in this folder was not refused."""
-    (folder_of(crate) / folder / NAME).unlink(missing_ok=True)
+def keep(crate, path):
+    """Writes that an edit was refused."""
+    write(crate, path.parent.name, read(crate, path.parent.name) | {path.stem: sums_of(crate, path)})
 
 
-def covers(crate, folder):
-    """Whether the record says of today's files, own and below, and of today's logic, that all was refused."""
-    return read(crate, folder) == record_of(crate, folder)
+def forget(crate, folder, names):
+    """Takes away what is said of edits that were not refused, and of edits that are no longer there."""
+    stand = {path.stem for path in edits_in(crate, folder)} - set(names)
+    write(crate, folder, {name: sums for name, sums in read(crate, folder).items() if name in stand})
+
+
+def is_kept(crate, path):
+    """Whether the record says of today's files, own and below, and of today's logic, that an edit was refused."""
+    said = read(crate, path.parent.name).get(path.stem)
+    return said is not None and said == sums_of(crate, path)
 
 
 def with_edits_in(folder):
@@ -144,39 +115,76 @@ def with_edits_in(folder):
 
 
 def held():
-    """How many records there are that hold, those that are older than what lies below, the logic or the judge, and the faults."""
-    passed, older, faults = 0, [], []
+    """How many lines there are that hold, by folder those that are older than what lies below, the logic or the judge, and the faults."""
+    passed, older, faults = 0, {}, []
     for folder, command in COMMANDS.items():
-        for crate in with_edits_in(folder):
-            said, wanted = read(crate, folder), record_of(crate, folder)
-            if not said:
-                continue
-            if any(said.get(key) != wanted[key] for key in ("own", "refused")):
-                faults.append(f"records: error: {crate}/{folder} is not what its record was made of: run {command} CRATE={crate}")
-                continue
-            passed += 1
-            if said != wanted:
-                older.append(f"{crate}/{folder}")
+        for crate in listed():
+            said, there = read(crate, folder), {path.stem: path for path in edits_in(crate, folder)}
+            changed = [name for name in said if name not in there or said[name].split()[0] != (sums_of(crate, there[name]) or "-").split()[0]]
+            passed += len(said) - len(changed)
+            if changed:
+                faults.append(f"records: error: {crate}/{folder}: {', '.join(changed)}: not what the record was made of: run {command} CRATE={crate}")
+            old = [name for name in said if name not in changed and said[name] != sums_of(crate, there[name])]
+            if old:
+                older[f"{crate}/{folder}"] = len(old)
     return passed, older, faults
 
 
 def lacking(folder):
-    """The crates that have edits in such a folder, and no record of them."""
-    return [crate for crate in with_edits_in(folder) if not read(crate, folder)]
+    """The crates that have edits in such a folder of which the record says nothing, and how many."""
+    left = {crate: sum(path.stem not in read(crate, folder) for path in edits_in(crate, folder)) for crate in with_edits_in(folder)}
+    return {crate: count for crate, count in left.items() if count}
+
+
+def essences(folder):
+    """The edits in such folders of which the record holds, each by what stays the same where files are moved."""
+    for crate in with_edits_in(folder):
+        for path in edits_in(crate, folder):
+            if is_kept(crate, path):
+                yield essence_of(crate, path)
+
+
+def essence_of(crate, path):
+    """The sum of an edit and of what it rests on, without places, imports and layout."""
+    texts = {" ".join(IMPORT.sub("", text).split()) for _, _, text in rests_of(crate, path)}
+    return sum_of(path.stem, re.sub(r"(?m)^file: .*$", "", path.read_text()), *sorted(texts))
+
+
+def carry(tree):
+    """Takes lines over from another work tree; gives their number."""
+    words = [Path(tree) / "gate" / "records.py", "--essences"]
+    known = set(subprocess.run(words, capture_output=True, text=True, check=True).stdout.split())
+    taken = 0
+    for folder in COMMANDS:
+        for crate in with_edits_in(folder):
+            forget(crate, folder, [])
+            left = [path for path in edits_in(crate, folder) if not is_kept(crate, path) and rests_of(crate, path)]
+            for path in (it for it in left if essence_of(crate, it) in known):
+                keep(crate, path)
+                taken += 1
+    return taken
 
 
 def main():
-    if sys.argv[1:2] == ["--lacking"] and sys.argv[2:] in ([it] for it in COMMANDS):
-        print(*lacking(sys.argv[2]))
+    words = sys.argv[1:]
+    if words[:1] == ["--lacking"] and words[1:] in ([it] for it in COMMANDS):
+        print(*lacking(words[1]))
         return 0
-    if sys.argv[1:]:
-        sys.exit("usage: gate/records.py [--lacking wrong|definitions]")
+    if words == ["--essences"]:
+        print(*(it for folder in COMMANDS for it in essences(folder)), sep="\n")
+        return 0
+    if words[:1] == ["--carry"] and len(words) == 2:
+        print(f"records: {carry(words[1])} lines taken over")
+        return 0
+    if words:
+        sys.exit("usage: gate/records.py [--lacking wrong|definitions | --carry TREE | --essences]")
     passed, older, faults = held()
     for folder, command in COMMANDS.items():
-        for crate in lacking(folder):
-            print(f"records: {crate}/{folder} has no record yet, so the gate tries its edits; {command} CRATE={crate} makes one")
+        for crate, count in lacking(folder).items():
+            print(f"records: {crate}/{folder}: {count} edits have no line yet, so the gate tries them; {command} CRATE={crate} makes them")
     if older:
-        print(f"records: older than what lies below, the logic or the judge, and to be renewed: {' '.join(older)}")
+        told = ", ".join(f"{place} {count}" for place, count in older.items())
+        print(f"records: older than what lies below, the logic or the judge, and to be renewed: {told}")
     print(*faults, f"{passed} passed, {len(faults)} failed", sep="\n")
     return 1 if faults else 0
 

@@ -9,6 +9,7 @@ The last line is 'N passed, M failed'. The exit status is 0 where none failed, e
 
 import contextlib
 import io
+import shutil
 import sys
 import tempfile
 from pathlib import Path
@@ -16,6 +17,7 @@ from pathlib import Path
 import crates
 import edits
 import records
+import rests
 import wrong_bodies
 from verdicts import judge, verdicts, without_answers
 
@@ -90,37 +92,71 @@ def faults_of_documents(root):
 
 def again():
     """Has the sums of the small repository formed anew."""
-    for known in (records.files_of, records.contracts_of, crates.listed, crates.with_dependencies, edits.homes):
-        known.cache_clear()
+    for module in (crates, edits, records, rests):
+        for known in vars(module).values():
+            if hasattr(known, "cache_clear") and known is not records.logic:
+                known.cache_clear()
 
 
 def faults_of_records(folder):
     """What is on record otherwise than it should be."""
-    home = folder / "crates" / "ob_small"
-    (home / "wrong" / "one-is_two.edit").write_text("file: src/lib.rt\nold:     1\nnew:     2\n")
-    records.write("ob_small", "wrong")
-    yield "records: what was refused is covered", records.covers("ob_small", "wrong") and not records.held()[2]
-    (home / "src" / "lib.rt").write_text(SOURCE + "// more\n")
-    again()
-    yield "records: a changed comment asks for a new one", not records.covers("ob_small", "wrong") and len(records.held()[2]) == 1
-    records.write("ob_small", "wrong")
-    (folder / "crates" / "ob_low" / "src" / "lib.rt").write_text(SOURCE.replace("    1\n", "    0 + 1\n"))
-    again()
-    yield "records: a body below changes nothing", records.covers("ob_small", "wrong")
-    (folder / "crates" / "ob_low" / "src" / "lib.rt").write_text(SOURCE.replace("≡ 1", "≡ 2"))
-    again()
-    yield "records: a contract below is told, and passes", not records.covers("ob_small", "wrong") and not records.held()[2]
+    home, low = folder / "crates" / "ob_small", folder / "crates" / "ob_low" / "src" / "lib.rt"
+    source, path = home / "src" / "lib.rt", home / "wrong" / "one-is_two.edit"
+    for edit in path.parent.glob("*"):
+        edit.unlink()
+    path.write_text("file: src/lib.rt\nold:     1\nnew:     2\n")
+    uses = SOURCE.replace("{\n    1\n", "{\n    1\n").replace("-> u8 {\n    2", "-> u8 {\n    ob_low::one() + 1")
+
+    def told():
+        again()
+        return records.is_kept("ob_small", path), len(records.held()[2])
+
+    source.write_text(uses)
+    yield "records: an edit that was not tried lacks a line", told() == (False, 0) and records.lacking("wrong") == {"ob_small": 1}
+    records.keep("ob_small", path)
+    yield "records: what was refused is told, and stands", told() == (True, 0) and not records.lacking("wrong")
+    source.write_text(uses + "// more\n")
+    yield "records: a changed comment asks for a new line", told() == (False, 1)
+    records.keep("ob_small", path)
+    low.write_text(SOURCE.replace("    1\n", "    0 + 1\n"))
+    yield "records: a body below changes nothing", told() == (True, 0)
+    (low.parent / "more.rt").write_text("fn four() -> u8 ensures { result ≡ 4 } { 4 }\n")
+    yield "records: what can't be reached changes nothing", told() == (True, 0)
+    low.write_text(SOURCE.replace("≡ 1", "≡ 2"))
+    yield "records: a contract below is told, and passes", told() == (False, 0) and bool(records.held()[1])
     text = (home / "wrong" / "RECORD").read_text()
-    (home / "wrong" / "RECORD").write_text(text.replace("own: ", "own: 0"))
-    yield "records: a made-up sum fails", len(records.held()[2]) == 1
-    (home / "wrong" / "RECORD").write_text(text.replace("refused: ", "refused: 1"))
-    yield "records: a made-up count fails", len(records.held()[2]) == 1
-    work = wrong_bodies.Work({"ob_small": [edits.read_edit("ob_small", home / "wrong" / "one-is_two.edit")]}, folder)
+    (home / "wrong" / "RECORD").write_text(text.replace(": ", ": 0"))
+    yield "records: a made-up sum fails", told()[1] == 1
+    (home / "wrong" / "RECORD").write_text(text + text.replace("is_two", "is_three"))
+    yield "records: a made-up line fails", told()[1] == 1
+    work = wrong_bodies.Work({"ob_small": [edits.read_edit("ob_small", path)]}, folder)
     tries = work.next()[1]
     with contextlib.redirect_stdout(io.StringIO()):
         work.after(tries, "fn ob_small::one: proved\n")
-    wrong_bodies.settle("ob_small", work)
-    yield "records: a right body is named, and leaves none", bool(work.faults) and not (home / "wrong" / "RECORD").exists()
+    yield "records: a right body is named, and leaves no line", bool(work.faults) and not (home / "wrong" / "RECORD").exists()
+
+
+def faults_of_carried(folder):
+    """Which lines are taken over otherwise than they should be, where a file went to another crate."""
+    low, small = (folder / "crates" / name for name in ("ob_low", "ob_small"))
+    records.keep("ob_small", small / "wrong" / "one-is_two.edit")
+    known = set(records.essences("wrong"))
+    (low / "wrong").mkdir()
+    shutil.copy(small / "wrong" / "one-is_two.edit", low / "wrong")
+    shutil.copy(small / "src" / "lib.rt", low / "src" / "lib.rt")
+    again()
+    moved = records.essence_of("ob_low", low / "wrong" / "one-is_two.edit")
+    yield "records: what rests on less than it did isn't taken over", moved not in known
+    (low / "src" / "lib.rt").write_text(SOURCE)
+    (small / "src" / "lib.rt").write_text(SOURCE)
+    again()
+    known = {records.essence_of("ob_small", small / "wrong" / "one-is_two.edit")}
+    (low / "src" / "lib.rt").write_text("use ob_base::Status;\n" + SOURCE)
+    again()
+    yield "records: where nothing but imports and places changed, it is", records.essence_of("ob_low", low / "wrong" / "one-is_two.edit") in known
+    (low / "src" / "lib.rt").write_text(SOURCE.replace("≡ 1", "≡ 3"))
+    again()
+    yield "records: where a contract changed, it isn't", records.essence_of("ob_low", low / "wrong" / "one-is_two.edit") not in known
 
 
 def main():
@@ -133,7 +169,7 @@ def main():
         (folder / "crates.txt").write_text("ob_low:\nob_small: ob_low\n")
         root, crates.ROOT = crates.ROOT, folder
         again()
-        for part in (faults_of_verdicts(), faults_of_edits(folder), faults_of_records(folder), faults_of_documents(root)):
+        for part in (faults_of_verdicts(), faults_of_edits(folder), faults_of_records(folder), faults_of_carried(folder), faults_of_documents(root)):
             for shows, is_well in part:
                 passed, failed = passed + is_well, failed + (not is_well)
                 if not is_well:

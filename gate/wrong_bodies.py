@@ -17,8 +17,8 @@ turns, and by no other; such an edit is tried alone. Not a refusal, and reported
 - an invariant of its loops doesn't fit any more: then nothing is said of the body's meaning;
 - there is no verdict, since the edit does not compile, or does not apply.
 
-A crate whose edits were all refused gets a record (records.py); of one with an edit that was not, the record goes. What was
-refused in a crate that has no record yet is kept in out/ at the top, and not tried again while all that it rests on stays.
+Each edit that is refused gets a line in its crate's record (records.py), and is not tried again while all that this rests on stays; of
+one that is not, the line goes.
 
     gate/wrong_bodies.py [--jobs N] [--all] [--list] [CRATE | CRATE/EDIT ..]
 
@@ -108,7 +108,6 @@ class Work:
 
     def __init__(self, edits, folder):
         self.folder, self.begun, self.faults, self.left = folder, 0, {}, []
-        self.open = {crate: {edit.label for edit in own} for crate, own in edits.items()}
         self.again = {crate: [] for crate in edits}
         self.under_way = dict.fromkeys(edits, 0)
         for own in filter(None, edits.values()):
@@ -137,9 +136,9 @@ class Work:
 
     def close(self, edit, fault):
         """Notes what became of an edit."""
-        self.open[edit.crate].discard(edit.label)
         if fault:
             self.faults[edit.label] = fault
+            records.forget(edit.crate, FOLDER, [edit.name])
             print(f"wrong bodies: {edit.label}: not refused: {fault}", flush=True)
         else:
             records.keep(edit.crate, path_of(edit.crate, edit.name))
@@ -215,17 +214,6 @@ def run_all(work, jobs):
             for ended in wait(running, return_when=FIRST_COMPLETED).done:
                 tries = running.pop(ended)
                 work.after(tries, ended.result())
-                settle(tries[0].edit.crate, work)
-
-
-def settle(crate, work):
-    """Writes or takes away the record of a crate that has no edit left to try."""
-    if work.open[crate]:
-        return
-    if any(label.split("/")[0] == crate for label in work.faults):
-        records.remove(crate, FOLDER)
-    elif all(records.is_kept(crate, path) for path in records.edits_in(crate, FOLDER)):
-        records.write(crate, FOLDER)
 
 
 def gather(asked):
@@ -249,9 +237,9 @@ def left_to_try(edits, asked, anew):
     for crate, own in edits.items():
         if crate not in asked or anew:
             left[crate] = own
-        elif not records.covers(crate, FOLDER):
+        else:
             left[crate] = [edit for edit in own if not records.is_kept(crate, path_of(crate, edit.name))]
-    return left
+    return {crate: own for crate, own in left.items() if own}
 
 
 def main():
@@ -266,8 +254,8 @@ def main():
         parser.error(f"no crate of crates.txt: {' '.join(unknown)}")
     asked = words.asked or records.with_edits_in(FOLDER)
     edits, faults = gather(asked)
-    for label in faults:
-        records.remove(label.split("/")[0], FOLDER)
+    for crate in {label.split("/")[0] for label in asked}:
+        records.forget(crate, FOLDER, [label.split("/")[1] for label in faults if label.startswith(f"{crate}/")])
     count = sum(len(own) for own in edits.values()) + len(faults)
     if words.list:
         print(*(f"{edit.label}: {edit.function.path}" for own in edits.values() for edit in own), sep="\n")
@@ -280,8 +268,6 @@ def main():
             work = Work(edits, Path(name))
             run_all(work, max(1, words.jobs))
             faults.update(work.faults)
-        for crate in edits:
-            settle(crate, work)
     for label, fault in sorted(faults.items()):
         print(f"wrong bodies: {label}: not refused: {fault}")
     print(f"{count - len(faults)} passed, {len(faults)} failed")
