@@ -141,6 +141,7 @@ def body_of(plain, place):
         place = closing(plain, match.start()) + 1
 
 
+@cache
 def functions_of(crate, file, text):
     """The functions with a body of a source file. A type's own functions have the path of the module that declares it,
     wherever they stand; those of a trait have that of their file."""
@@ -172,17 +173,25 @@ def functions_named(crate, name):
     return [it for it in found if it.name == name]
 
 
-def without_bodies(text):
-    """A source file's text without its functions' bodies, its comments and its layout: what others can rest on."""
+def without_bodies(text, with_private=False):
+    """A source file's text without bodies, comments and layout, and without private functions: what other files can rest on."""
     plain = blanked(text)
-    bodies, last = [], 0
+    traits = [(match.end(), closing(plain, match.end() - 1)) for match in re.finditer(r"\b(?:trait\s|impl\b[^{;]*\bfor\s)[^{;]*\{", plain)]
+    gone, last = [], 0
     for match in re.finditer(r"\bfn\s+\w+", plain):
         open_at = body_of(plain, match.end()) if match.start() >= last else None
         if open_at is not None:
             last = closing(plain, open_at)
-            bodies.append((open_at + 1, last))
-    for start, end in reversed(bodies):
+            begin = max(plain.rfind(mark, 0, match.start()) for mark in "{};") + 1
+            shown = re.search(r"\bpub\b", plain[begin : match.start()]) or any(start < match.start() < end for start, end in traits)
+            gone.append((open_at + 1, last) if shown or with_private else (begin, last + 1))
+    for start, end in reversed(gone):
         text = text[:start] + text[end:]
+    return without_comments(text)
+
+
+def without_comments(text):
+    """A source file's text without comments and layout."""
     return " ".join(re.sub(r'("(?:\\.|[^"\\])*")|//[^\n]*', lambda match: match.group(1) or " ", text).split())
 
 

@@ -12,8 +12,11 @@ Where the first isn't today's, nothing is known of the edit, and the gate fails.
 line. Edits that have no line yet are tried by the gate itself, which takes it much longer.
 
     gate/records.py [--lacking wrong|definitions]    with a word: the crates that have edits there without a line
-    gate/records.py --carry TREE    takes lines over from another work tree, of edits of which nothing but places and imports changed
-    gate/records.py --essences      what the other work tree tells for that
+    gate/records.py --carry TREE    takes lines over from another work tree, of edits of which nothing but places, imports and comments changed in
+                                    the crate; where that is so below too they hold, else they are older
+    gate/records.py --owe TREE      where a crate took another form: takes over, as older, the lines of edits of the same text that another work
+                                    tree has on record. They were refused of the form before, and are to be renewed
+    gate/records.py --essences      what the other work tree tells for both
 
 The last line is 'N passed, M failed', an edit each. The exit status is 0 where none failed, else 1.
 """
@@ -25,7 +28,7 @@ from functools import cache
 from pathlib import Path
 
 from crates import folder_of, listed
-from edits import Unfit, file_of, functions_named, read_edit
+from edits import Unfit, file_of, functions_named, read_edit, without_comments
 from rests import rests_on, sum_of
 
 NAME = "RECORD"
@@ -109,6 +112,11 @@ def is_kept(crate, path):
     return said is not None and said == sums_of(crate, path)
 
 
+def is_own_kept(crate, path):
+    """Whether the record says of today's own files that an edit was refused."""
+    return read(crate, path.parent.name).get(path.stem, "-").split()[0] == (sums_of(crate, path) or "+").split()[0]
+
+
 def with_edits_in(folder):
     """The crates that have edits in such a folder."""
     return [crate for crate in listed() if edits_in(crate, folder)]
@@ -136,33 +144,72 @@ def lacking(folder):
     return {crate: count for crate, count in left.items() if count}
 
 
-def essences(folder):
-    """The edits in such folders of which the record holds, each by what stays the same where files are moved."""
-    for crate in with_edits_in(folder):
-        for path in edits_in(crate, folder):
-            if is_kept(crate, path):
-                yield essence_of(crate, path)
+@cache
+def bare(text):
+    """The sum of a text without imports, comments and layout, and without whose own a function is."""
+    words = without_comments(IMPORT.sub("", text).replace("pub(crate) fn", "pub fn"))
+    return sum_of(words.replace("; }", " }").replace("[ | ", "[ "))
 
 
 def essence_of(crate, path):
-    """The sum of an edit and of what it rests on, without places, imports and layout."""
-    texts = {" ".join(IMPORT.sub("", text).split()) for _, _, text in rests_of(crate, path)}
-    return sum_of(path.stem, re.sub(r"(?m)^file: .*$", "", path.read_text()), *sorted(texts))
+    """What an edit is and rests on, without places, imports and layout: the sum of the edit, and those of the texts in its crate and below."""
+    rests = rests_of(crate, path)
+    own, below = ({bare(text) for home, _, text in rests if (home == crate) == inside} for inside in (True, False))
+    return sum_of(path.stem, re.sub(r"(?m)^file: .*$", "", path.read_text())), own, below
 
 
-def carry(tree):
-    """Takes lines over from another work tree; gives their number."""
+def essences():
+    """A line for each edit of which the record holds, and of which it holds but for what lies below: its essence."""
+    for folder in COMMANDS:
+        for crate in with_edits_in(folder):
+            said = read(crate, folder)
+            for path in edits_in(crate, folder):
+                if path.stem in said and said[path.stem].split()[0] == (sums_of(crate, path) or "-").split()[0]:
+                    edit, own, below = essence_of(crate, path)
+                    yield " ".join([edit, "whole" if is_kept(crate, path) else "older", *sorted(own | below)])
+
+
+def told_by(tree):
+    """What another work tree tells: by the sum of each edit on record there whether it holds or is older, and the sums of all that it rests on."""
     words = [Path(tree) / "gate" / "records.py", "--essences"]
-    known = set(subprocess.run(words, capture_output=True, text=True, check=True).stdout.split())
-    taken = 0
+    lines = [line.split() for line in subprocess.run(words, capture_output=True, text=True, check=True).stdout.splitlines()]
+    return {edit: (kind, set(texts)) for edit, kind, *texts in lines}
+
+
+def untold():
+    """The edits of which the records don't hold, each with its crate, that can be tried; lines without an edit are forgotten."""
     for folder in COMMANDS:
         for crate in with_edits_in(folder):
             forget(crate, folder, [])
-            left = [path for path in edits_in(crate, folder) if not is_kept(crate, path) and rests_of(crate, path)]
-            for path in (it for it in left if essence_of(crate, it) in known):
-                keep(crate, path)
-                taken += 1
+            yield from ((crate, path) for path in edits_in(crate, folder) if not is_kept(crate, path) and rests_of(crate, path))
+
+
+def put(crate, path, kind):
+    """Writes that an edit was refused: of all that it rests on today, or of what is older."""
+    said = sums_of(crate, path) if kind == "whole" else f"{sums_of(crate, path).split()[0]} older"
+    write(crate, path.parent.name, read(crate, path.parent.name) | {path.stem: said})
+
+
+def carry(tree):
+    """Takes lines over from another work tree; gives the numbers of those that hold, and of those that are older than what lies below."""
+    known, taken = told_by(tree), {"whole": 0, "older": 0}
+    for crate, path in untold():
+        edit, own, below = essence_of(crate, path)
+        kind, texts = known.get(edit, ("", set()))
+        if kind and own <= texts:
+            kind = "older" if texts != own | below else kind
+            taken[kind] += 1
+            put(crate, path, kind)
     return taken
+
+
+def owe(tree):
+    """Takes over as older the lines of edits of the same text that another work tree has on record; gives how many."""
+    known = told_by(tree)
+    owed = [(crate, path) for crate, path in untold() if essence_of(crate, path)[0] in known and not is_own_kept(crate, path)]
+    for crate, path in owed:
+        put(crate, path, "older")
+    return len(owed)
 
 
 def main():
@@ -171,13 +218,17 @@ def main():
         print(*lacking(words[1]))
         return 0
     if words == ["--essences"]:
-        print(*(it for folder in COMMANDS for it in essences(folder)), sep="\n")
+        print(*essences(), sep="\n")
         return 0
     if words[:1] == ["--carry"] and len(words) == 2:
-        print(f"records: {carry(words[1])} lines taken over")
+        taken = carry(words[1])
+        print(f"records: {taken['whole']} lines taken over, and {taken['older']} that are older than what lies below")
+        return 0
+    if words[:1] == ["--owe"] and len(words) == 2:
+        print(f"records: {owe(words[1])} lines of edits of the same text taken over, to be renewed")
         return 0
     if words:
-        sys.exit("usage: gate/records.py [--lacking wrong|definitions | --carry TREE | --essences]")
+        sys.exit("usage: gate/records.py [--lacking wrong|definitions | --carry TREE | --owe TREE | --essences]")
     passed, older, faults = held()
     for folder, command in COMMANDS.items():
         for crate, count in lacking(folder).items():

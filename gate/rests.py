@@ -2,7 +2,7 @@
 
 From a source file lead the items that it names and what its contracts import; from a file of specs or proofs its imports. Of the
 files in which the function stands, and of its proof, the whole text counts; of all others what can be rested on, which
-leaves the bodies out. What comes with the kit counts by the prover's logic.
+leaves bodies and private functions out. What comes with the kit counts by the prover's logic.
 """
 
 import hashlib
@@ -34,9 +34,9 @@ def text_of(crate, file):
 
 @cache
 def told_of(crate, file):
-    """What can be rested on of a file."""
+    """What can be rested on of a file. What is private in a crate's first file the others can name."""
     text = text_of(crate, file)
-    return without_bodies(text) if file.endswith(".rt") else text
+    return without_bodies(text, file in ("src/lib.rt", "src/main.rt")) if file.endswith(".rt") else text
 
 
 @cache

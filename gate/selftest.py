@@ -42,7 +42,7 @@ JUDGED = [
 
 ANSWERS = "use a.b\n\npub first : goal.first\nfirst c =\n    one\n\npub second : goal.second\nsecond c = two\n"
 
-SOURCE = "fn one() -> u8\n    ensures { result ≡ 1 }\n{\n    1\n}\n\nfn two() -> u8 {\n    2 // \"}\"\n}\n\nfn three() -> [u8; 2] {\n    [3, 3]\n}\n"
+SOURCE = "pub fn one() -> u8\n    ensures { result ≡ 1 }\n{\n    1\n}\n\nfn two() -> u8 {\n    2 // \"}\"\n}\n\nfn three() -> [u8; 2] {\n    [3, 3]\n}\n"
 
 
 def faults_of_verdicts():
@@ -81,7 +81,10 @@ def faults_of_edits(folder):
         yield f"edits: {shows}", read(folder, "ob_small", name, text) == wanted
     paths = {edits.owner_of(header) for header in (" Shelf<T> ", "<T: Drop> From<Failed<T>> for a::Shelf<T> ", " Find for Shelf where T: Drop")}
     yield "edits: the owners of functions", paths == {"Shelf", "ShelfFromFailed", "ShelfFind"}
-    yield "edits: contracts alone are left of a source", edits.without_bodies(SOURCE) == "fn one() -> u8 ensures { result ≡ 1 } {} fn two() -> u8 {} fn three() -> [u8; 2] {}"
+    shown = SOURCE.replace("fn three", "pub(crate) fn three")
+    yield "edits: contracts alone are left of a source", edits.without_bodies(shown) == "pub fn one() -> u8 ensures { result ≡ 1 } {} pub(crate) fn three() -> [u8; 2] {}"
+    inside = "impl Find for Shelf {\n    fn find(&self) -> u8 {\n        one()\n    }\n}\nimpl Shelf {\n    fn own(&self) -> u8 {\n        2\n    }\n}\n"
+    yield "edits: what a trait asks is shown", edits.without_bodies(inside) == "impl Find for Shelf { fn find(&self) -> u8 {} } impl Shelf { }"
 
 
 def faults_of_documents(root):
@@ -137,26 +140,27 @@ def faults_of_records(folder):
 
 
 def faults_of_carried(folder):
-    """Which lines are taken over otherwise than they should be, where a file went to another crate."""
+    """What is taken for the same edit otherwise than it should be, where a file went to another crate."""
     low, small = (folder / "crates" / name for name in ("ob_low", "ob_small"))
-    records.keep("ob_small", small / "wrong" / "one-is_two.edit")
-    known = set(records.essences("wrong"))
+    edit = "wrong/one-is_two.edit"
+
+    def essence(home, source):
+        (home / "src" / "lib.rt").write_text(source)
+        again()
+        return records.essence_of(home.name, home / edit)
+
     (low / "wrong").mkdir()
-    shutil.copy(small / "wrong" / "one-is_two.edit", low / "wrong")
-    shutil.copy(small / "src" / "lib.rt", low / "src" / "lib.rt")
+    shutil.copy(small / edit, low / "wrong")
+    known, own, below = essence(small, SOURCE)
+    yield "records: an edit alone rests on its own crate", bool(own) and not below
+    yield "records: imports, places and layout change nothing", essence(low, "use ob_base::Status;\n" + SOURCE.replace("    2 ", "        2 ")) == (known, own, below)
+    yield "records: a contract does", essence(low, SOURCE.replace("≡ 1", "≡ 3"))[1] != own
+    essence(low, SOURCE)
+    yield "records: what is used of another crate lies below", bool(essence(small, SOURCE.replace("-> u8 {\n    2", "-> u8 {\n    ob_low::one() + 1"))[2])
+    records.told_by = lambda tree: {known: ("whole", set())}
     again()
-    moved = records.essence_of("ob_low", low / "wrong" / "one-is_two.edit")
-    yield "records: what rests on less than it did isn't taken over", moved not in known
-    (low / "src" / "lib.rt").write_text(SOURCE)
-    (small / "src" / "lib.rt").write_text(SOURCE)
-    again()
-    known = {records.essence_of("ob_small", small / "wrong" / "one-is_two.edit")}
-    (low / "src" / "lib.rt").write_text("use ob_base::Status;\n" + SOURCE)
-    again()
-    yield "records: where nothing but imports and places changed, it is", records.essence_of("ob_low", low / "wrong" / "one-is_two.edit") in known
-    (low / "src" / "lib.rt").write_text(SOURCE.replace("≡ 1", "≡ 3"))
-    again()
-    yield "records: where a contract changed, it isn't", records.essence_of("ob_low", low / "wrong" / "one-is_two.edit") not in known
+    yield "records: an edit of the same text is owed, as older", records.owe(None) == 2 and (small / "wrong" / "RECORD").read_text().endswith(" older\n")
+    yield "records: and passes so", records.owe(None) == 0 and bool(records.held()[1]) and not records.held()[2]
 
 
 def main():
