@@ -68,7 +68,7 @@ module _ {K T F I : Type 0} (g : Procedures K T F I) where
       let parts = and_parts (h.process == p) (h.value == value) (found_passes (is_handle p value) s.handles h found) in
       let process : h.process ≡ p = eqb-true h.process p parts.0 in
       let valued : h.value ≡ value = eqb-true h.value value parts.1 in
-      count_without h.process h.value h test s.handles sound.distinct ((λ i. find (is_handle (process i) (valued i)) s.handles) ∙ found)
+      count_without h.process h.value h test s.handles sound.handles.distinct ((λ i. find (is_handle (process i) (valued i)) s.handles) ∙ found)
 
   -- a handle that is closed
   pub closed_tells : (s : State K T F I) (p value : ℕ) (h : Held) (o : ℕ) → IsSound s → held_of s p value ≡ Some h
@@ -119,7 +119,7 @@ module _ {K T F I : Type 0} (g : Procedures K T F I) (p : ℕ) where
       apart x false e other = refl
 
   -- and which objects are of the set does
-  of_set-closed_all : (s : State K T F I) (hs : List Held) (o : ℕ) → is_of_set (closed_in_turn g s hs) o ≡ is_of_set s o
+  pub of_set-closed_all : (s : State K T F I) (hs : List Held) (o : ℕ) → is_of_set (closed_in_turn g s hs) o ≡ is_of_set s o
   of_set-closed_all s [] o = refl
   of_set-closed_all s (h ∷ hs) o = of_set-closed_all (closed_handle g s h) hs o ∙ of_set-closed g s h o
 

@@ -13,9 +13,12 @@ use Rattle.ob_model.specs.declared.state.Body.{Body}
 use Rattle.ob_model.specs.declared.state.Pending.{Pending}
 use Rattle.ob_model.specs.declared.state.Wanted.{Wanted}
 use Rattle.ob_model.specs.State.{State, is_live, handle_count}
-use Rattle.ob_model.specs.Procedures.{Procedures, ParseOutcome, Reason, Created}
+use Rattle.ob_model.specs.declared.terms.Reason.{Reason}
+use Rattle.ob_model.specs.declared.terms.Reason.TheVariants.{Created}
+use Rattle.ob_model.specs.Procedures.{Procedures, ParseOutcome}
 use Rattle.ob_model.specs.Settle.{settle}
-use Rattle.ob_model.specs.Grants.{Asked, IsFreeValue, opened_body, with_open, with_handle}
+use Rattle.ob_model.specs.declared.terms.GrantOptions.{GrantOptions}
+use Rattle.ob_model.specs.Grants.{IsFreeValue, open_refusal_of, open_refusal, opened_body, with_open, with_handle}
 use Rattle.ob_model.specs.Refusals.{gives, answers, Unless}
 use Rattle.ob_model.specs.PendingOpens.{with_pending}
 use Rattle.ob_model.specs.Parses.{parsed_state, EndsOpen, Resumes}
@@ -39,7 +42,7 @@ module _ {K T F I : Type 0} (g : Procedures K T F I) (s : State K T F I) (p o : 
   nothing_tells : (t : State K T F I) → set_count s o ≡ set_count t o → Tells (set_count s o) (calls_of_grant reason t p None o) (set_count t o)
   nothing_tells t same = subst (λ calls. Tells (set_count s o) calls (set_count t o)) (sym (ungranted reason t p o)) same
 
-  grant_tells : (value m : ℕ) (asked : Asked) (why : Reason) → IsFreeValue s p value
+  grant_tells : (value m : ℕ) (asked : GrantOptions) (why : Reason) → IsFreeValue s p value
       → let t = settle g (with_handle (with_open g s m why) p value m asked.inherit) in Tells (set_count s o) (calls_of_grant reason t p (Some value) o) (set_count t o)
   grant_tells value m asked why free =
       given_tells g s (with_handle (with_open g s m why) p value m asked.inherit) (record { process = p; value = value; object = m; inherit = asked.inherit; order = s.next_order }) refl
@@ -55,25 +58,26 @@ module _ {K T F I : Type 0} (g : Procedures K T F I) (s : State K T F I) (p o : 
 
   pub create_tells : (t : State K T F I) (where_to : Place) (attrs : ℕ) (making : Making K) (answer : Answer) → CreatesAt g s p where_to attrs making answer t → GrantTells answer t
   create_tells t where_to attrs making answer h =
-      creates_at_lands g s p GrantTells (λ status. nothing_tells s refl) (λ status body. nothing_tells (dropped g s body) refl)
-      (λ status value m asked why free. grant_tells value m asked why free) make_tells t where_to attrs making answer h
+      creates_at_lands g s p GrantTells (λ why. Unit {0}) (λ body. Unit {0}) (λ status. nothing_tells s refl) (λ status body made. nothing_tells (dropped g s body) refl)
+      (λ status value m asked why fits free taken. grant_tells value m asked why free) (λ spot body attrs value made free taken. make_tells spot body attrs value free) t where_to attrs making answer tt tt h
 
   pub duplicate_tells : (t : State K T F I) (from handle : ℕ) (inherit : Bool) (answer : Answer) → Duplicates g s from handle p inherit answer t → GrantTells answer t
   duplicate_tells t from handle inherit answer h =
-      duplicates_lands g s p GrantTells (λ status. nothing_tells s refl) (λ status body. nothing_tells (dropped g s body) refl)
-      (λ status value m asked why free. grant_tells value m asked why free) make_tells t from handle inherit answer h
+      duplicates_lands g s p GrantTells (λ why. Unit {0}) (λ body. Unit {0}) (λ status. nothing_tells s refl) (λ status body made. nothing_tells (dropped g s body) refl)
+      (λ status value m asked why fits free taken. grant_tells value m asked why free) (λ spot body attrs value made free taken. make_tells spot body attrs value free) t from handle inherit answer tt h
 
   pub open_tells : (t : State K T F I) (root : Option ℕ) (name : List ℕ) (attrs : ℕ) (wanted : Wanted K) (answer : Answer) → OpensName g s p root name attrs wanted answer t → GrantTells answer t
   open_tells t root name attrs wanted answer h =
-      opens_name_lands g s p GrantTells (λ status. nothing_tells s refl) (λ status body. nothing_tells (dropped g s body) refl)
-      (λ status value m asked why free. grant_tells value m asked why free) make_tells
-      (λ attrs wanted m rest n. nothing_tells (settle g (with_pending s p attrs wanted m rest n)) (sym (count-settle g (with_pending s p attrs wanted m rest n) o))) t root name attrs wanted answer h
+      opens_name_lands g s p GrantTells (λ why. Unit {0}) (λ body. Unit {0}) (λ status. nothing_tells s refl) (λ status body made. nothing_tells (dropped g s body) refl)
+      (λ status value m asked why fits free taken. grant_tells value m asked why free) (λ spot body attrs value made free taken. make_tells spot body attrs value free)
+      (λ attrs wanted m rest n. nothing_tells (settle g (with_pending s p attrs wanted m rest n)) (sym (count-settle g (with_pending s p attrs wanted m rest n) o))) t root name attrs wanted answer tt h
 
   -- what a parse leads to, where it settles again
   pub judged_tells : (v : State K T F I) (refusals : List (Bool × Status)) (x : Pending K) (outcome : Option (ParseOutcome F I)) (answer : Answer)
       → x.process ≡ p → Unless refusals s answer v (EndsOpen g s x outcome answer v) → GrantTells answer (settle g v)
   judged_tells v refusals x outcome answer owner h =
-      unless_lands g s p Settled refuses drops grants makes refusals v answer (EndsOpen g s x outcome answer v) (ends_open_lands g s p Settled refuses drops grants makes waits v x outcome answer owner) h
+      unless_lands g s p Settled (λ why. Unit {0}) (λ body. Unit {0}) refuses drops grants makes refusals v answer (EndsOpen g s x outcome answer v)
+      (ends_open_lands g s p Settled (λ why. Unit {0}) (λ body. Unit {0}) refuses drops grants makes waits v x outcome answer tt owner) h
     where
       Settled : Answer → State K T F I → Type 0
       Settled answer v = GrantTells answer (settle g v)
@@ -81,16 +85,16 @@ module _ {K T F I : Type 0} (g : Procedures K T F I) (s : State K T F I) (p o : 
       refuses : (status : Status) → Settled (answers status) s
       refuses status = nothing_tells (settle g s) (sym (count-settle g s o))
 
-      drops : (status : Status) (body : Body F I) → Settled (answers status) (dropped g s body)
-      drops status body = nothing_tells (settle g (dropped g s body)) (sym (count-settle g (dropped g s body) o))
+      drops : (status : Status) (body : Body F I) → Unit {0} → Settled (answers status) (dropped g s body)
+      drops status body made = nothing_tells (settle g (dropped g s body)) (sym (count-settle g (dropped g s body) o))
 
-      grants : (status : Status) (value m : ℕ) (asked : Asked) (why : Reason) → IsFreeValue s p value
+      grants : (status : Status) (value m : ℕ) (asked : GrantOptions) (why : Reason) → Unit {0} → IsFreeValue s p value → open_refusal g s m why ≡ None
           → Settled (gives status (Handle value)) (settle g (with_handle (with_open g s m why) p value m asked.inherit))
-      grants status value m asked why free =
+      grants status value m asked why fits free taken =
           subst (GrantTells (gives status (Handle value))) (sym (settle-settle g (with_handle (with_open g s m why) p value m asked.inherit))) (grant_tells value m asked why free)
 
-      makes : (spot : Spot) (body : Body F I) (attrs value : ℕ) → IsFreeValue s p value → Settled (gives Success (Handle value)) (settle g (created g s p spot body attrs value))
-      makes spot body attrs value free =
+      makes : (spot : Spot) (body : Body F I) (attrs value : ℕ) → Unit {0} → IsFreeValue s p value → open_refusal_of g s.set body Created ≡ None → Settled (gives Success (Handle value)) (settle g (created g s p spot body attrs value))
+      makes spot body attrs value made free taken =
           subst (GrantTells (gives Success (Handle value))) (sym (settle-settle g (created g s p spot body attrs value))) (make_tells spot body attrs value free)
 
       waits : (attrs : ℕ) (wanted : Wanted K) (m : ℕ) (rest : List ℕ) (n : ℕ) → Settled (Ticket s.next_id) (settle g (with_pending s p attrs wanted m rest n))
@@ -112,8 +116,8 @@ module _ {K T F I : Type 0} (g : Procedures K T F I) where
   pub create_unawaited : (s t : State K T F I) (p : ℕ) (where_to : Place) (attrs : ℕ) (making : Making K) (answer : Answer)
       → IsSound s → CreatesAt g s p where_to attrs making answer t → All (λ x. x.ticket ≢ s.next_id) t.pending
   create_unawaited s t p where_to attrs making answer sound h =
-      creates_at_lands g s p (λ a u. All (λ x. x.ticket ≢ s.next_id) u.pending) (λ status. others) (λ status body. others) (λ status value m asked why free. others) (λ spot body attrs value free. others)
-      t where_to attrs making answer h
+      creates_at_lands g s p (λ a u. All (λ x. x.ticket ≢ s.next_id) u.pending) (λ why. Unit {0}) (λ body. Unit {0}) (λ status. others) (λ status body made. others) (λ status value m asked why fits free taken. others)
+      (λ spot body attrs value made free taken. others) t where_to attrs making answer tt tt h
     where
       others : All (λ x. x.ticket ≢ s.next_id) s.pending
-      others = All-weaker (λ x. x.ticket < s.next_id) (λ x. x.ticket ≢ s.next_id) (λ x less same. omega (arith, less, same)) s.pending sound.ticketed
+      others = All-weaker (λ x. x.ticket < s.next_id) (λ x. x.ticket ≢ s.next_id) (λ x less same. omega (arith, less, same)) s.pending sound.pending.ticketed

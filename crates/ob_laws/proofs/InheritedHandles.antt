@@ -7,7 +7,9 @@ use Rattle.std.proofs.lemmas.List.Elements.{All-nil, All-cons, All-append, filte
 use Rattle.std.proofs.lemmas.List.Sums.{sum_by-append, length-filter}
 use Rattle.ob_model.specs.declared.state.Held.{Held}
 use Rattle.ob_model.specs.State.{State, handle_count}
-use Rattle.ob_model.specs.Procedures.{Procedures, Reason, Inherited}
+use Rattle.ob_model.specs.declared.terms.Reason.{Reason}
+use Rattle.ob_model.specs.declared.terms.Reason.TheVariants.{Inherited}
+use Rattle.ob_model.specs.Procedures.{Procedures}
 use Rattle.ob_model.specs.Settle.{has_handle, settle}
 use Rattle.ob_model.specs.Grants.{open_refusal, with_open, with_handle}
 use Rattle.ob_model.specs.Processes.{inherited_from, with_child, inherits_one, inherits, begun}
@@ -48,7 +50,7 @@ several_tell reason n m before more false false xs first last many either = omeg
 
 module _ {K T F I : Type 0} (g : Procedures K T F I) (child : ℕ) where
   -- what a child inherits leaves which objects are of the set
-  of_set-inherits : (s : State K T F I) (hs : List Held) (o : ℕ) → is_of_set (inherits g s child hs) o ≡ is_of_set s o
+  pub of_set-inherits : (s : State K T F I) (hs : List Held) (o : ℕ) → is_of_set (inherits g s child hs) o ≡ is_of_set s o
   of_set-inherits s [] o = refl
   of_set-inherits s (h ∷ hs) o = of_set-inherits (inherits_one g s child h) hs o ∙ go (open_refusal g s h.object Inherited)
     where
@@ -112,7 +114,7 @@ module _ {K T F I : Type 0} (g : Procedures K T F I) where
       others =
           filter_none (λ h. h.process == s.next_process) s.handles
           (λ k d within.
-          let less = live_numbered s.processes s.next_process (get_or s.handles k d).process sound.numbered (sound.live k d within) in
+          let less = live_numbered s.processes s.next_process (get_or s.handles k d).process sound.processes.numbered (sound.handles.live k d within) in
           ne_eqb (get_or s.handles k d).process s.next_process (λ same. omega (arith, less, same)))
 
       mine : filter (λ h. h.process == s.next_process) u.handles ≡ news

@@ -11,3 +11,15 @@ pub mod GrantSteps
 pub mod GrantCalls
 pub mod StepCalls
 pub mod WholeLives
+pub mod Follows
+pub mod DeletedObjects
+pub mod NewValues
+pub mod RisingNumbers
+pub mod MovedSteps
+pub mod GrantMoves
+pub mod HandleMoves
+pub mod StepMoves
+pub mod TakenCalls
+pub mod CallsOfRun
+pub mod Serials
+pub mod RecordedCalls

@@ -90,5 +90,5 @@ module _ {K T F I : Type 0} where
       → StepTells s x.after o (handle_count_in x.after (maker_of s x.entry.event) o) (calls_in s x o) → StepKeepsCount o s x
   step_keeps_count s x o sound step = record {
     process_left = closes_leave (handle_count_in x.after (maker_of s x.entry.event) o) (calls_in s x o) step.leaves;
-    unpinned = λ before behind e. none_pinned x.after o (step.gone (ap has_delete e ∙ has_delete-split before behind)).absent x.after.pending sound.pending;
+    unpinned = λ before behind e. none_pinned x.after o (step.gone (ap has_delete e ∙ has_delete-split before behind)).absent x.after.pending sound.pending.standing;
   }

@@ -79,7 +79,7 @@ module _ {K T F I : Type 0} (g : Procedures K T F I) where
 
   left_climbs : (s : State K T F I) (d context : ℕ) → IsSound s → Climbs context (entries_left g s d context)
   left_climbs s d context sound =
-      rows_climb (shown_row g s) (λ r. refl) context (filter (is_left d context) s.rows) (AllPairs-filter (λ a b. a.stamp < b.stamp) (is_left d context) s.rows sound.rising)
+      rows_climb (shown_row g s) (λ r. refl) context (filter (is_left d context) s.rows) (AllPairs-filter (λ a b. a.stamp < b.stamp) (is_left d context) s.rows sound.rows.rising)
       (λ k e within. less_by_test context _ (right_of_both _ _ (filter_passes (is_left d context) s.rows k e within)))
 
   left_stands : (s : State K T F I) (d context : ℕ) → All (StandsAt g s d) (entries_left g s d context)

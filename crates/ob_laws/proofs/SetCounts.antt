@@ -12,7 +12,8 @@ use Rattle.ob_model.specs.declared.state.Body.TheVariants.{Directory, Link, Othe
 use Rattle.ob_model.specs.declared.state.Held.{Held}
 use Rattle.ob_model.specs.declared.state.Object.{Object}
 use Rattle.ob_model.specs.State.{State, object_of, held_of, handle_count, handle_count_in, insert_object}
-use Rattle.ob_model.specs.Procedures.{Procedures, Reason, ParseOutcome, EndsItself, EndsMade, EndsReparse, EndsRefused}
+use Rattle.ob_model.specs.declared.terms.Reason.{Reason}
+use Rattle.ob_model.specs.Procedures.{Procedures, ParseOutcome, EndsItself, EndsMade, EndsReparse, EndsRefused}
 use Rattle.ob_model.specs.Settle.{is_alive, has_handle, settle}
 use Rattle.ob_model.specs.Grants.{opened_body, opened_object, with_open}
 use Rattle.ob_model.specs.Closing.{is_handle, without_handle, closed_body, closed_object, closed_handle}
@@ -115,7 +116,7 @@ module _ {K T F I : Type 0} where
   count-inserted s x o sound free = go (x.id == o) refl
     where
       go : (b : Bool) → (x.id == o) ≡ b → cond (is_set_found (find (λ y. y.id == o) (insert_object x s.objects))) (handle_count s o) 0 ≡ set_count s o
-      go true e = none_either _ (is_of_set s o) (handle_count s o) (none_held s o (subst (λ n. object_of s n ≡ None) (eqb-true x.id o e) free) s.handles sound.handles)
+      go true e = none_either _ (is_of_set s o) (handle_count s o) (none_held s o (subst (λ n. object_of s n ≡ None) (eqb-true x.id o e) free) s.handles sound.handles.standing)
       go false e = ap (λ found. cond (is_set_found found) (handle_count s o) 0) (in_order-others (λ y. y.id) (λ y. y.id == o) x s.objects e)
 
   -- no object is under a number that wasn't drawn, nor under one that none has
@@ -124,7 +125,7 @@ module _ {K T F I : Type 0} where
     where
       go : (found : Option (Object F I)) → object_of s o ≡ found → found ≡ None
       go None e = refl
-      go (Some x) e = let less = stands_drawn s.next_id s.objects o sound.drawn (ap is_some e) in absurd (omega (arith, less, above))
+      go (Some x) e = let less = stands_drawn s.next_id s.objects o sound.objects.drawn (ap is_some e) in absurd (omega (arith, less, above))
 
 -- an object is under no number that none has
 pub none_numbered : {F I : Type 0} (n : ℕ) (xs : List (Object F I)) → All (λ y. y.id ≢ n) xs → find (λ x. x.id == n) xs ≡ None
@@ -145,7 +146,7 @@ module _ {K T F I : Type 0} where
 
 -- ---- the calls of a grant
 
-last_passes : (a b : Bool) → b ≡ true → (a || (b || false)) ≡ true
+pub last_passes : (a b : Bool) → b ≡ true → (a || (b || false)) ≡ true
 last_passes true b e = refl
 last_passes false b e = ap (λ c. c || false) e
 

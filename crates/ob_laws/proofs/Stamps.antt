@@ -12,7 +12,8 @@ use Rattle.ob_model.specs.declared.state.Held.{Held}
 use Rattle.ob_model.specs.declared.state.Pending.{Pending}
 use Rattle.ob_model.specs.State.{State, is_live}
 use Rattle.ob_model.specs.Opening.{opening}
-use Rattle.ob_model.specs.Procedures.{Procedures, ParseOutcome, EndsItself, EndsMade, EndsReparse, EndsRefused, Inherited}
+use Rattle.ob_model.specs.declared.terms.Reason.TheVariants.{Inherited}
+use Rattle.ob_model.specs.Procedures.{Procedures, ParseOutcome, EndsItself, EndsMade, EndsReparse, EndsRefused}
 use Rattle.ob_model.specs.Settle.{is_kept, settle}
 use Rattle.ob_model.specs.Grants.{open_refusal, with_open, with_handle}
 use Rattle.ob_model.specs.Closing.{closed_handle}

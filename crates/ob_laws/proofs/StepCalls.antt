@@ -19,8 +19,9 @@ use Rattle.ob_model.specs.declared.state.Object.{Object}
 use Rattle.ob_model.specs.declared.state.Pending.{Pending}
 use Rattle.ob_model.specs.declared.state.Wanted.TheVariants as wanted
 use Rattle.ob_model.specs.State.{State, object_of, is_live, is_directory, held_of, handle_count, handle_count_in}
-use Rattle.ob_model.specs.Procedures.{Procedures, Reason, ParseOutcome}
-use Rattle.ob_model.specs.Procedures.{Opened as ForOpen, Duplicated as ForDuplicate, Inherited as ForChild}
+use Rattle.ob_model.specs.declared.terms.Reason.{Reason}
+use Rattle.ob_model.specs.Procedures.{Procedures, ParseOutcome}
+use Rattle.ob_model.specs.declared.terms.Reason.TheVariants.{Opened as ForOpen, Duplicated as ForDuplicate, Inherited as ForChild}
 use Rattle.ob_model.specs.Settle.{settle}
 use Rattle.ob_model.specs.Grants.{first_refusal}
 use Rattle.ob_model.specs.Closing.{closed_handle}
@@ -53,15 +54,15 @@ use Rattle.ob_laws.proofs.GrantCalls.{create_tells, open_tells, duplicate_tells,
 
 module _ {K T F I : Type 0} (s t : State K T F I) (o left : ℕ) (sound : IsSound s) (on : GoesOn o s t) where
   -- the number of an object that stands is taken
-  standing_is_taken : Stands s o → IsTaken s o
+  pub standing_is_taken : Stands s o → IsTaken s o
   standing_is_taken stands = record {
-    drawn = stands_drawn s.next_id s.objects o sound.drawn stands;
+    drawn = stands_drawn s.next_id s.objects o sound.objects.drawn stands;
     unawaited = λ k d within same.
-        let none = none_numbered (get_or s.pending k d).ticket s.objects (sound.reserved k d within) in
+        let none = none_numbered (get_or s.pending k d).ticket s.objects (sound.pending.reserved k d within) in
         false≢true (sym (ap is_some (subst (λ n. object_of s n ≡ None) same none)) ∙ stands);
   }
 
-  stands_of_set : is_of_set s o ≡ true → Stands s o
+  pub stands_of_set : is_of_set s o ≡ true → Stands s o
   stands_of_set e = go (object_of s o) e
     where
       go : (found : Option (Object F I)) → is_set_found found ≡ true → is_some found ≡ true
@@ -152,14 +153,14 @@ module _ {K T F I : Type 0} where
   still_step s t o left came sound on same comes none = step_of_moves s t o left sound on [] came same tt refl comes (λ gone. (refl, none gone))
 
   -- what holds of a step that is refused, or else of what it does
-  unless_holds : (Q : Type 0) (refusals : List (Bool × Status)) (s t : State K T F I) (answer : Answer) (Does : Type 0) → (t ≡ s → Q) → (Does → Q) → Unless refusals s answer t Does → Q
+  pub unless_holds : (Q : Type 0) (refusals : List (Bool × Status)) (s t : State K T F I) (answer : Answer) (Does : Type 0) → (t ≡ s → Q) → (Does → Q) → Unless refusals s answer t Does → Q
   unless_holds Q refusals s t answer Does same does h = go (first_refusal refusals) h
     where
       go : (refusal : Option Status) → MatchOption refusal Does (λ status. IsRefused s status answer t) → Q
       go None h = does h
       go (Some status) h = same h.1
 
-  handle_holds : (Q : Type 0) (s t : State K T F I) (p handle : ℕ) (answer : Answer) (Does : Held → Type 0) → (t ≡ s → Q) → ((h : Held) → Does h → Q)
+  pub handle_holds : (Q : Type 0) (s t : State K T F I) (p handle : ℕ) (answer : Answer) (Does : Held → Type 0) → (t ≡ s → Q) → ((h : Held) → Does h → Q)
       → MatchOption (option_and_then (held_of s p) (key_of handle)) (IsRefused s InvalidHandle answer t) Does → Q
   handle_holds Q s t p handle answer Does same does h = go (option_and_then (held_of s p) (key_of handle)) h
     where
@@ -167,7 +168,7 @@ module _ {K T F I : Type 0} where
       go None h = same h.1
       go (Some x) h = does x h
 
-  with_handle_holds : (Q : Type 0) (s t : State K T F I) (p handle : ℕ) (answer : Answer) (Does : Held → Type 0) → (t ≡ s → Q) → ((h : Held) → Does h → Q) → WithHandle s p handle answer t Does → Q
+  pub with_handle_holds : (Q : Type 0) (s t : State K T F I) (p handle : ℕ) (answer : Answer) (Does : Held → Type 0) → (t ≡ s → Q) → ((h : Held) → Does h → Q) → WithHandle s p handle answer t Does → Q
   with_handle_holds Q s t p handle answer Does same does h =
       unless_holds Q ((not (is_live s p), ProcessGone) ∷ []) s t answer (MatchOption (option_and_then (held_of s p) (key_of handle)) (IsRefused s InvalidHandle answer t) Does) same
       (handle_holds Q s t p handle answer Does same does) h
@@ -285,7 +286,7 @@ module _ {K T F I : Type 0} (g : Procedures K T F I) (s t : State K T F I) (o : 
   unended p gone = ap (λ b. if b then closes_at_end s p o else []) (last_fails (is_live s p) (is_of_set s o) (ap is_set_found gone.absent))
 
   -- nobody has a handle under the next number
-  unborn : calls_of_child s s.next_process o ≡ []
+  pub unborn : calls_of_child s s.next_process o ≡ []
   unborn = go (is_of_set s o)
     where
       none : filter (λ h. h.process == s.next_process) (handles_to s o) ≡ []
@@ -293,7 +294,7 @@ module _ {K T F I : Type 0} (g : Procedures K T F I) (s t : State K T F I) (o : 
           filter_none (λ h. h.process == s.next_process) (handles_to s o)
           (All-filter (λ h. h.object == o) (λ h. (h.process == s.next_process) ≡ false) s.handles
           (λ k d within.
-          let less = live_numbered s.processes s.next_process (get_or s.handles k d).process sound.numbered (sound.live k d within) in
+          let less = live_numbered s.processes s.next_process (get_or s.handles k d).process sound.processes.numbered (sound.handles.live k d within) in
           ne_eqb (get_or s.handles k d).process s.next_process (λ same. omega (arith, less, same))))
 
       go : (b : Bool) → (if b then map (λ _. Opened ForChild) (filter (λ h. h.process == s.next_process) (handles_to s o)) else []) ≡ []
@@ -315,7 +316,7 @@ module _ {K T F I : Type 0} (g : Procedures K T F I) (s t : State K T F I) (o : 
 
   -- ---- a create
 
-  drawn_is_taken : (p : ℕ) (where_to : Place) (attrs : ℕ) (kind : K) (args : List ℕ) (answer : Answer) → CreatesAt g s p where_to attrs (MakesObject kind args) answer t
+  pub drawn_is_taken : (p : ℕ) (where_to : Place) (attrs : ℕ) (kind : K) (args : List ℕ) (answer : Answer) → CreatesAt g s p where_to attrs (MakesObject kind args) answer t
       → is_drawn s t (CreateObject where_to attrs kind args) o ≡ true → IsTaken t o
   drawn_is_taken p where_to attrs kind args answer h e =
       let parts = and_parts (o == s.next_id) (nat_lt s.next_id t.next_id) e in
@@ -333,10 +334,10 @@ module _ {K T F I : Type 0} (g : Procedures K T F I) (s t : State K T F I) (o : 
     other_ticket : IsTaken s o → x.ticket ≢ o
     other_ticket taken = subst (λ f. MatchOption f (Unit {0}) (λ y. y.ticket ≢ o)) found (find_of (λ y. y.ticket ≢ o) (λ y. y.ticket == ticket) s.pending taken.unawaited)
 
-    pending_on : GoesOn o s t
+    pub pending_on : GoesOn o s t
     pending_on = goes_further o s (parsed_state s x.ticket outcome) t (parsed_on g o s x.ticket outcome other_ticket) then_on
 
-    made_is_taken : (made : Bool) → (made && (o == ticket)) ≡ true → IsTaken t o
+    pub made_is_taken : (made : Bool) → (made && (o == ticket)) ≡ true → IsTaken t o
     made_is_taken made e =
         let same : o ≡ x.ticket = eqb-true o ticket (and_parts made (o == ticket) e).1 ∙ sym of_ticket in
         then_on.taken (subst (λ n. IsTaken (parsed_state s n outcome) o) same (ticket_is_taken g o s outcome (subst (λ n. n < s.next_id) (sym same) has.1)))

@@ -12,7 +12,9 @@ use Rattle.ob_model.specs.declared.state.Held.{Held}
 use Rattle.ob_model.specs.declared.state.Pending.{Pending}
 use Rattle.ob_model.specs.declared.state.Wanted.{Wanted}
 use Rattle.ob_model.specs.State.{State, is_live, object_of}
-use Rattle.ob_model.specs.Procedures.{Procedures, Reason, Inherited, ParseOutcome, EndsItself, EndsMade, EndsReparse, EndsRefused}
+use Rattle.ob_model.specs.declared.terms.Reason.{Reason}
+use Rattle.ob_model.specs.declared.terms.Reason.TheVariants.{Inherited}
+use Rattle.ob_model.specs.Procedures.{Procedures, ParseOutcome, EndsItself, EndsMade, EndsReparse, EndsRefused}
 use Rattle.ob_model.specs.Settle.{is_alive, settle}
 use Rattle.ob_model.specs.Grants.{open_refusal, opened_object, with_open, with_handle}
 use Rattle.ob_model.specs.Closing.{closed_object, closed_handle}

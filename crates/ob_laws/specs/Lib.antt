@@ -1,1 +1,3 @@
+pub mod CallsMade
+pub mod Recorded
 pub mod WholeRuns
