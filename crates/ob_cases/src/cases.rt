@@ -222,6 +222,7 @@ stat
 p1 dir "\T" - =t
 p1 make Event "\T\E" - "" =e
 p1 close t
+p1 opendir "\T" - =x
 p1 name e
 stat
 p1 close e
@@ -230,10 +231,11 @@ stat
 1: SUCCESS
 2: SUCCESS
 3: SUCCESS
-4: SUCCESS ""
-5: objects 8 handles 1 opens 1 closes 0 deletes 0
-6: SUCCESS
-7: objects 6 handles 0 opens 1 closes 1 deletes 1
+4: OBJECT_NAME_NOT_FOUND
+5: SUCCESS ""
+6: objects 8 handles 1 opens 1 closes 0 deletes 0
+7: SUCCESS
+8: objects 6 handles 0 opens 1 closes 1 deletes 1
 == a quote and a percent sign of a name are printed as a script spells them
 p1 make Event "\%22a%25 %5B" - "" =a
 p1 name a

@@ -24,10 +24,14 @@ use Rattle.ob_model.specs.declared.state.Wanted.{Wanted}
 use Rattle.ob_model.specs.declared.state.Wanted.TheVariants as wanted
 use Rattle.ob_model.specs.Names.{longest_name}
 use Rattle.ob_model.specs.State.{State, body_of, is_live, is_directory, is_store_full, held_of}
-use Rattle.ob_model.specs.Looks.{Mode, Look, At, Vacant, Parse, Refused, LooksUp, most_reparses}
-use Rattle.ob_model.specs.Procedures.{Procedures, ParseOutcome, EndsItself, EndsMade, EndsReparse, EndsRefused, Reason, Opened, Created, Duplicated}
+use Rattle.ob_model.specs.declared.terms.Mode.{Mode}
+use Rattle.ob_model.specs.Looks.{Look, At, Vacant, Parse, Refused, LooksUp, most_reparses}
+use Rattle.ob_model.specs.declared.terms.Reason.{Reason}
+use Rattle.ob_model.specs.declared.terms.Reason.TheVariants.{Opened, Created, Duplicated}
+use Rattle.ob_model.specs.Procedures.{Procedures, ParseOutcome, EndsItself, EndsMade, EndsReparse, EndsRefused}
 use Rattle.ob_model.specs.Settle.{settle}
-use Rattle.ob_model.specs.Grants.{Asked, first_refusal, Grants, IsFreeValue, open_refusal_of, with_open, with_handle}
+use Rattle.ob_model.specs.declared.terms.GrantOptions.{GrantOptions}
+use Rattle.ob_model.specs.Grants.{first_refusal, Grants, IsFreeValue, open_refusal_of, with_open, with_handle}
 use Rattle.ob_model.specs.Closing.{closed_handle}
 use Rattle.ob_model.specs.Permanence.{turned}
 use Rattle.ob_model.specs.Maps.{with_map}
@@ -35,7 +39,7 @@ use Rattle.ob_model.specs.Types.{is_wanted_at}
 use Rattle.ob_model.specs.Refusals.{gives, answers, IsRefused, Unless, create_refusals, open_refusals}
 use Rattle.ob_model.specs.PendingOpens.{with_pending}
 use Rattle.ob_model.specs.Parses.{LooksAgain, EndsOpen}
-use Rattle.ob_model.specs.Opens.{GivesHandle, OpensAt, Opens, asked_by, type_wanted, open_mode}
+use Rattle.ob_model.specs.Opens.{GivesHandle, OpensAt, Opens, options_by, type_wanted, open_mode}
 use Rattle.ob_model.specs.Creates.{Making, MakesDirectory, MakesLink, MakesObject, is_fit, create_mode, type_made, Spot, room_refusals, make_refusal, body_made, created, dropped, Makes, Creates}
 use Rattle.ob_model.specs.Naming.{path_text, target_of, TellsName, TellsTarget}
 use Rattle.ob_model.specs.Enumeration.{enumerated, context_used, page_answer}
@@ -60,7 +64,7 @@ HandsFew Few (Refused status) = Unit {0}
 module _ {K T F I : Type 0} (g : Procedures K T F I) (s : State K T F I) (P : Answer → State K T F I → Type 0) (Few : ℕ → Type 0)
     (refused : (status : Status) → P (answers status) s)
     (drops : (k : ℕ) (body : Body F I) → P (answers (TypeRefused k)) (dropped g s body))
-    (grants : (status : Status) (p value o : ℕ) (asked : Asked) (reason : Reason) → P (gives status (Handle value)) (settle g (with_handle (with_open g s o reason) p value o asked.inherit)))
+    (grants : (status : Status) (p value o : ℕ) (asked : GrantOptions) (reason : Reason) → P (gives status (Handle value)) (settle g (with_handle (with_open g s o reason) p value o asked.inherit)))
     (makes : (p : ℕ) (spot : Spot) (body : Body F I) (attrs value : ℕ) → P (gives Success (Handle value)) (settle g (created g s p spot body attrs value)))
     (closes : (h : Held) → P (answers Success) (settle g (closed_handle g s h)))
     (turns : (o : ℕ) (permanent : Bool) → P (answers Success) (settle g (turned s o permanent)))
@@ -98,7 +102,7 @@ module _ {K T F I : Type 0} (g : Procedures K T F I) (s : State K T F I) (P : An
   with_root_told t p (Some handle) answer Does does h =
       held_told t (option_and_then (held_of s p) (key_of handle)) answer (λ x. Does (Some x.object)) (λ x. does (Some x.object)) h
 
-  granted_told : (t u : State K T F I) (p o : ℕ) (asked : Asked) (reason : Reason) (status : Status) (answer : Answer) (result : Result ℕ Status) → Grants g s p o asked reason result u
+  granted_told : (t u : State K T F I) (p o : ℕ) (asked : GrantOptions) (reason : Reason) (status : Status) (answer : Answer) (result : Result ℕ Status) → Grants g s p o asked reason result u
       → MatchResult result (λ value. (answer ≡ gives status (Handle value)) × (t ≡ settle g u)) (λ refusal. IsRefused s refusal answer t) → P answer t
   granted_told t u p o asked reason status answer (Ok value) granted h =
       lands h.0 (h.1 ∙ ap (settle g) granted.2) (grants status p value o asked reason)
@@ -107,8 +111,8 @@ module _ {K T F I : Type 0} (g : Procedures K T F I) (s : State K T F I) (P : An
   opens_at_told : (t : State K T F I) (p attrs : ℕ) (wanted : Wanted K) (status : Status) (o : ℕ) (answer : Answer) → OpensAt g s p attrs wanted status o answer t → P answer t
   opens_at_told t p attrs wanted status o answer h =
       unless_told ((not (is_wanted_at g s o wanted), ObjectTypeMismatch) ∷ []) t answer
-      (GivesHandle g s p o (asked_by attrs) Opened status answer t)
-      (λ e does. granted_told t does.1 p o (asked_by attrs) Opened status answer does.0 does.2 does.3) h
+      (GivesHandle g s p o (options_by attrs) Opened status answer t)
+      (λ e does. granted_told t does.1 p o (options_by attrs) Opened status answer does.0 does.2 does.3) h
 
   opens_told : (t : State K T F I) (p attrs : ℕ) (wanted : Wanted K) (look : Look) (answer : Answer) → HandsFew Few look → Opens g s p attrs wanted look answer t → P answer t
   opens_told t p attrs wanted (Refused status) answer few h = refused_told t status answer h

@@ -17,14 +17,17 @@ use Rattle.ob_model.specs.declared.state.Pending.{Pending}
 use Rattle.ob_model.specs.declared.state.Wanted.{Wanted}
 use Rattle.ob_model.specs.State.{State, is_live, is_store_full, held_of}
 use Rattle.ob_model.specs.Looks.{Look, At, Vacant, Parse, Refused, LooksUp, most_reparses}
-use Rattle.ob_model.specs.Procedures.{Procedures, ParseOutcome, EndsItself, EndsMade, EndsReparse, EndsRefused, Reason, Opened, Created, Duplicated}
+use Rattle.ob_model.specs.declared.terms.Reason.{Reason}
+use Rattle.ob_model.specs.declared.terms.Reason.TheVariants.{Opened, Created, Duplicated}
+use Rattle.ob_model.specs.Procedures.{Procedures, ParseOutcome, EndsItself, EndsMade, EndsReparse, EndsRefused}
 use Rattle.ob_model.specs.Settle.{settle}
-use Rattle.ob_model.specs.Grants.{Asked, first_refusal, Grants, IsFreeValue, open_refusal_of, opened_body, opened_set, with_open, with_handle}
+use Rattle.ob_model.specs.declared.terms.GrantOptions.{GrantOptions}
+use Rattle.ob_model.specs.Grants.{first_refusal, Grants, IsFreeValue, open_refusal_of, opened_body, opened_set, with_open, with_handle}
 use Rattle.ob_model.specs.Types.{is_wanted_at}
 use Rattle.ob_model.specs.Refusals.{gives, answers, IsRefused, Unless, create_refusals, open_refusals}
 use Rattle.ob_model.specs.PendingOpens.{with_pending}
 use Rattle.ob_model.specs.Parses.{EndsOpen}
-use Rattle.ob_model.specs.Opens.{GivesHandle, OpensAt, Opens, asked_by, open_mode}
+use Rattle.ob_model.specs.Opens.{GivesHandle, OpensAt, Opens, options_by, open_mode}
 use Rattle.ob_model.specs.Creates.{Making, is_fit, create_mode, type_made, Spot, room_refusals, make_refusal, body_made, with_object, with_row, created, dropped, MakesInRoom, Makes, Creates}
 use Rattle.ob_model.specs.Processes.{Duplicates}
 use Rattle.ob_model.specs.Step.{WithRoot, CreatesIn, CreatesAt, OpensName}
@@ -110,7 +113,7 @@ module _ {K T F I : Type 0} (g : Procedures K T F I) (s : State K T F I) (p : �
       is : (chosen : ℕ) → handle_given a ≡ Some chosen → value ≡ chosen
       is chosen given = let both : Some value ≡ Some chosen = sym (ap handle_given answer) ∙ given in cc
 
-  gives_handle_chooses : (o : ℕ) (asked : Asked) (reason : Reason) (status : Status) (a : Answer) (u : State K T F I)
+  gives_handle_chooses : (o : ℕ) (asked : GrantOptions) (reason : Reason) (status : Status) (a : Answer) (u : State K T F I)
       → GivesHandle g s p o asked reason status a u → Chooses s p Sole (GivesHandle g s p o asked reason status) a u
   gives_handle_chooses o asked reason status a u h = go h.0 h.1 h.2 h.3
     where
@@ -125,8 +128,8 @@ module _ {K T F I : Type 0} (g : Procedures K T F I) (s : State K T F I) (p : �
   opens_at_chooses : (attrs : ℕ) (wanted : Wanted K) (status : Status) (o : ℕ) (a : Answer) (u : State K T F I)
       → OpensAt g s p attrs wanted status o a u → Chooses s p Sole (OpensAt g s p attrs wanted status o) a u
   opens_at_chooses attrs wanted status o a u h =
-      unless_chooses s p Sole ((not (is_wanted_at g s o wanted), ObjectTypeMismatch) ∷ []) (GivesHandle g s p o (asked_by attrs) Opened status) a u
-      (gives_handle_chooses o (asked_by attrs) Opened status a u) h
+      unless_chooses s p Sole ((not (is_wanted_at g s o wanted), ObjectTypeMismatch) ∷ []) (GivesHandle g s p o (options_by attrs) Opened status) a u
+      (gives_handle_chooses o (options_by attrs) Opened status a u) h
 
   -- what is made stands in a state, where its handle is still to come
   abbrev placed : ℕ → Making K → Spot → State K T F I

@@ -11,7 +11,8 @@ use Rattle.ob_model.specs.declared.state.Pending.{Pending}
 use Rattle.ob_model.specs.State.{State, is_live}
 use Rattle.ob_model.specs.Looks.{Look, At, Vacant, Parse, Refused}
 use Rattle.ob_model.specs.PendingOpens.{pending_of}
-use Rattle.ob_model.specs.Procedures.{Procedures, Inherited, ParseOutcome, EndsItself, EndsMade, EndsReparse, EndsRefused}
+use Rattle.ob_model.specs.declared.terms.Reason.TheVariants.{Inherited}
+use Rattle.ob_model.specs.Procedures.{Procedures, ParseOutcome, EndsItself, EndsMade, EndsReparse, EndsRefused}
 use Rattle.ob_model.specs.Parses.{parsed_state, Resumes, Abandons}
 use Rattle.ob_model.specs.Grants.{open_refusal, with_open, with_handle}
 use Rattle.ob_model.specs.Closing.{closed_handle}

@@ -15,8 +15,8 @@ use Rattle.ob_model.specs.Sound.{IsSound}
 use Rattle.ob_model.specs.Procedures.{Procedures}
 use Rattle.ob_model.specs.Closing.{is_handle, without_handle, closed_body, closed_object, closed_handle}
 use Rattle.ob_model.proofs.Soundness.{find_id-map, closed_object-id, closed_object-is_directory}
-use Rattle.ob_space.specs.Settling.{with_handle_to}
-use Rattle.ob_space.proofs.Closed.{held_alone}
+use Rattle.ob_life.specs.Settling.{with_handle_to}
+use Rattle.ob_life.proofs.HandleClosed.{held_alone}
 use Rattle.ob_space.proofs.Handles.{found_passes}
 use Rattle.ob_space.proofs.Orders.{any_stays}
 

@@ -1,9 +1,6 @@
 pub mod Closed
-pub mod Judged
 pub mod Listings
 pub mod Made
 pub mod Mapped
 pub mod Queries
-pub mod Stepping
-pub mod Turned
 pub mod WaysUp

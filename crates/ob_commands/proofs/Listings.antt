@@ -1,7 +1,7 @@
 -- A page of a directory: what is asked for past the refusals is answered by the page, or by its type.
-use Rattle.std.proofs.Common.{◌≡◌, ℕ, Bool, true, false, not, nat_lt, [], ◌∷◌, refl, sym, subst}
+use Rattle.std.proofs.Common.{◌≡◌, ℕ, Bool, true, false, not, nat_lt, ◌||◌, [], ◌∷◌, refl, ap, ◌∙◌, sym, subst}
 use Rattle.std.specs.Prelude.{Option, Some, MatchOption}
-use Rattle.std.specs.Option.{option_and_then}
+use Rattle.std.specs.Option.{option_and_then, option_map_or, is_some}
 use Rattle.ob_base.specs.declared.status.Status.TheVariants.{ObjectTypeMismatch, InvalidParameter, InvalidHandle, ProcessGone}
 use Rattle.ob_base.specs.Handle.{key_of}
 use Rattle.ob_model.specs.declared.reply.Answer.{Answer}
@@ -11,6 +11,7 @@ use Rattle.ob_model.specs.Enumeration.{enumerated, largest_room, context_used, p
 use Rattle.ob_model.specs.Procedures.{Procedures}
 use Rattle.ob_model.specs.Refusals.{answers, IsRefused, Unless}
 use Rattle.ob_model.specs.Step.{TellsPage, QueriesDirectory}
+use Rattle.ob_space.specs.Early.{is_page_refused, lacks_handle, lacks_directory}
 
 module _ {K T F I : Type 0} (g : Procedures K T F I) (s : State K T F I) (p handle context room : ℕ) (single restart : Bool) (answer : Answer) (held : Held)
     (live : is_live s p ≡ true) (fits : nat_lt largest_room room ≡ false) (found : Some held ≡ option_and_then (held_of s p) (key_of handle)) where
@@ -35,3 +36,12 @@ module _ {K T F I : Type 0} (g : Procedures K T F I) (s : State K T F I) (p hand
   no_page_told isnt told =
       let Does = (answer ≡ page_answer (enumerated g s held.object (context_used restart context) room single)) × (s ≡ s) in
       tells (subst (λ (b : Bool). Unless ((not b, ObjectTypeMismatch) ∷ []) s answer s Does) (sym isnt) (told, refl))
+
+-- what is asked of a directory, with a room that fits, isn't refused early
+pub not_refused : {K T F I : Type 0} (s : State K T F I) (p handle room : ℕ) (held : Held) → is_live s p ≡ true → nat_lt largest_room room ≡ false
+    → Some held ≡ option_and_then (held_of s p) (key_of handle) → is_directory s held.object ≡ true → is_page_refused s p handle room ≡ false
+not_refused s p handle room held live fits found is =
+    ap (λ (b : Bool). not b || nat_lt largest_room room || lacks_handle s p handle || lacks_directory s p handle) live
+    ∙ ap (λ (b : Bool). b || lacks_handle s p handle || lacks_directory s p handle) fits
+    ∙ ap (λ (o : Option Held). not (is_some o) || option_map_or (λ h. not (is_directory s h.object)) o false) (sym found)
+    ∙ ap (λ (b : Bool). not b) is

@@ -8,7 +8,8 @@ use Rattle.ob_model.specs.declared.reply.Answer.{Answer}
 use Rattle.ob_model.specs.declared.reply.Given.TheVariants.{Handle}
 use Rattle.ob_model.specs.declared.state.Body.{Body}
 use Rattle.ob_model.specs.State.{State}
-use Rattle.ob_model.specs.Procedures.{Procedures, Created}
+use Rattle.ob_model.specs.declared.terms.Reason.TheVariants.{Created}
+use Rattle.ob_model.specs.Procedures.{Procedures}
 use Rattle.ob_model.specs.Settle.{IsSettled, settle}
 use Rattle.ob_model.specs.Grants.{IsFreeValue, open_refusal_of}
 use Rattle.ob_model.specs.Refusals.{gives, answers, IsRefused}

@@ -24,8 +24,8 @@ use Rattle.ob_model.proofs.Finds.{find_none}
 use Rattle.ob_processes.specs.Running.{Running}
 use Rattle.ob_space.specs.Namespace.{Parts, state_of}
 use Rattle.ob_space.specs.Orderly.{IsOrderly}
-use Rattle.ob_space.specs.Settling.{with_handle_to}
-use Rattle.ob_commands.proofs.Stepping.{is_done}
+use Rattle.ob_life.specs.Settling.{with_handle_to}
+use Rattle.ob_space.proofs.Stepping.{is_done}
 
 -- ---- lists of processes
 
@@ -184,6 +184,18 @@ pub stored_mapped : (K : Type 0) {T F I : Type 0} (a : Parts K T F I) (now : Run
     → now.handles ≡ a.processes.handles → state_of K (record a { processes = now }) ≡ with_map (state_of K a) p d
 stored_mapped K a now p d processes handles = λ i. record (state_of K a) { processes = processes i; handles = handles i }
 
+-- so they are of a state that these parts stand for
+pub set_shown : (K : Type 0) {T F I : Type 0} (a : Parts K T F I) {s : State K T F I} → state_of K a ≡ s → (now : Running) (p d : ℕ)
+    → now.processes ≡ map (with_own_map p (Some d)) a.processes.processes → now.handles ≡ a.processes.handles → state_of K (record a { processes = now }) ≡ with_map s p d
+set_shown K a is now p d processes handles = stored_mapped K a now p d processes handles ∙ ap (λ (u : State _ _ _ _). with_map u p d) is
+
+-- its processes have rising numbers, and a process the map that the parts have for it
+pub rising_shown : {K T F I : Type 0} {s t : State K T F I} → s ≡ t → AllPairs (λ a b. a.number < b.number) s.processes → AllPairs (λ a b. a.number < b.number) t.processes
+rising_shown is rising = subst (λ (u : State _ _ _ _). AllPairs (λ a b. a.number < b.number) u.processes) is rising
+
+pub map_shown : {K T F I : Type 0} {s t : State K T F I} → s ≡ t → (p : ℕ) (m : Option ℕ) → map_of s p ≡ m → map_of t p ≡ m
+map_shown is p m had = sym (ap (λ (u : State _ _ _ _). map_of u p) is) ∙ had
+
 -- an object is a directory where it is found to be one
 pub directory_found : {K T F I : Type 0} (s : State K T F I) (o : ℕ) → option_map_or (λ x. is_directory_body x.body) (object_of s o) false ≡ is_directory s o
 directory_found {K} {T} {F} {I} s o = go (object_of s o)
@@ -191,6 +203,10 @@ directory_found {K} {T} {F} {I} s o = go (object_of s o)
     go : (x : Option (Object F I)) → option_map_or (λ y. is_directory_body y.body) x false ≡ option_map_or is_directory_body (option_map (λ y. y.body) x) false
     go None = refl
     go (Some x) = refl
+
+-- so it is with the objects of a state that is this one, as the parts of a namespace show it
+pub directory_shown : {K T F I : Type 0} {s t : State K T F I} → s ≡ t → (o : ℕ) (b : Bool) → b ≡ option_map_or (λ x. is_directory_body x.body) (object_of s o) false → is_directory t o ≡ b
+directory_shown {s} {t} is o b found = sym (directory_found t o) ∙ sym (found ∙ ap (λ (u : State _ _ _ _). option_map_or (λ x. is_directory_body x.body) (object_of u o) false) is)
 
 -- ---- the step
 

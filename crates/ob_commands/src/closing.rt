@@ -2,18 +2,15 @@
 
 ghost use Rattle.std.specs.Prelude.{◌≡◌};
 ghost use Rattle.ob_model.specs.declared.reply.Answer.TheVariants.{Done};
-ghost use Rattle.ob_model.specs.Settle.{IsSettled};
-ghost use Rattle.ob_model.specs.Sound.{IsSound};
 ghost use Rattle.ob_model.specs.Step.{Closes};
-ghost use Rattle.ob_space.specs.Namespace.{state_of};
-ghost use Rattle.ob_space.specs.Orderly.{IsOrderly};
+ghost use Rattle.ob_space.specs.Orderly.{IsBetweenSteps, IsOrderly};
 
 use ob_base::{Handle, Proc, Status};
 use ob_handles::HandleTable;
+use ob_life::{close_handle, settle_after_loss};
 use ob_model::Reply;
-use ob_space::{Space, close_handle, held_of, is_live, settle_after_loss};
+use ob_space::{Space, held_of, is_live, status_alone};
 use ob_types::TypeSet;
-use ob_waiting::status_alone;
 
 /// Closes a handle of the caller: the set's close is called for its object, and told how many handles to it are left
 /// in the process and in all. The object goes where nothing else holds it, and what it alone held goes with it. No
@@ -31,11 +28,9 @@ pub fn close<T: TypeSet, H: HandleTable>(
     process: Proc,
     handle: Handle,
 ) -> Reply
-    requires orderly { IsOrderly T.idle (state_of T.Kind space.old) }
-    requires settled { IsSettled (state_of T.Kind space.old) }
-    requires sound { IsSound (state_of T.Kind space.old) }
-    ensures orderly { IsOrderly T.idle (state_of T.Kind space.new) }
-    ensures step { Closes T.procedures (state_of T.Kind space.old) process handle (Done result) (state_of T.Kind space.new) }
+    requires between { IsBetweenSteps T.idle space.old }
+    ensures orderly { IsOrderly T.idle space.new }
+    ensures step { Closes T.procedures space.old process handle (Done result) space.new }
 {
     if !is_live(space, process) {
         return status_alone(Status::ProcessGone);

@@ -1,7 +1,6 @@
 //! Creates.
 
 ghost use Rattle.std.specs.Prelude.{◌≡◌, Some, true, IsOk, IfOk, IfErr, OnErr};
-ghost use Rattle.ob_base.specs.declared.Fault.TheVariants.{Memory};
 ghost use Rattle.ob_model.specs.declared.command.Place.TheVariants.{At};
 ghost use Rattle.ob_model.specs.declared.reply.Answer.TheVariants.{Done};
 ghost use Rattle.ob_model.specs.Creates as machine;
@@ -9,24 +8,20 @@ ghost use Rattle.ob_model.specs.Creates.{create_mode};
 ghost use Rattle.ob_model.specs.Looks as looks;
 ghost use Rattle.ob_model.specs.State.{is_live};
 ghost use Rattle.ob_model.specs.Settle.{IsSettled};
-ghost use Rattle.ob_model.specs.Sound.{IsSound};
 ghost use Rattle.ob_model.specs.Step.{CreatesAt, CreatesIn};
-ghost use Rattle.ob_lookup.specs.Look.{mode_of};
-ghost use Rattle.ob_commands.specs.Early.{is_create_refused, lacks_root};
+ghost use Rattle.ob_space.specs.Early.{is_create_refused, lacks_root};
 ghost use Rattle.ob_commands.specs.Making.{making_of};
-ghost use Rattle.ob_space.specs.Namespace.{state_of};
-ghost use Rattle.ob_space.specs.Orderly.{IsOrderly};
+ghost use Rattle.ob_space.specs.Orderly.{IsBetweenSteps, IsOrderly};
 
 use crate::making::{Making, is_fit, make_named, make_unnamed, type_made};
-use crate::opens::open_at;
-use ob_base::{Attrs, Fault, Handle, ObjId, Proc, Status};
+use ob_base::{Attrs, Handle, ObjId, Proc, Status};
 use ob_handles::HandleTable;
-use ob_lookup::{Look, Mode};
-use ob_model::{Place, Reply};
+use ob_lookup::Look;
+use ob_model::{Mode, Place, Reply};
 use ob_names::Name;
-use ob_space::{Space, Spot, is_live, judge_create, look_up, root_object};
+use ob_space::{Space, Spot, is_live, judge_create, look_up, open_at, root_object, status_alone};
 use ob_types::TypeSet;
-use ob_waiting::status_alone;
+use std::alloc::AllocError;
 
 /// Makes an object at a place, and opens a handle to it. At a name that is taken it opens, with OPENIF, what is there
 /// already, where that has the type of what would be made: the status is then `ObjectNameExists`. A link that the last
@@ -40,7 +35,7 @@ use ob_waiting::status_alone;
 /// `TypeRefused` with the set's number where the set refuses to make the object, or to open it.
 ///
 /// A refusal changes nothing, but for the last: a new object that the set refuses to open is deleted, and its number
-/// stays drawn. The only fault is want of memory, and then nothing has changed; what is refused before the lookup takes none.
+/// stays drawn. The only fault is out of memory, and then nothing has changed; what is refused before the lookup takes none.
 ///
 /// It asks that the state is orderly, settled and sound, and leaves it orderly.
 ///
@@ -53,16 +48,15 @@ pub fn create<T: TypeSet, H: HandleTable>(
     place: &Place,
     attrs: u32,
     making: Making<'_, T::Kind>,
-) -> Result<Reply, Fault>
-    requires orderly { IsOrderly T.idle (state_of T.Kind space.old) }
-    requires settled { IsSettled (state_of T.Kind space.old) }
-    requires sound { IsSound (state_of T.Kind space.old) }
-    ensures orderly { IsOrderly T.idle (state_of T.Kind space.new) }
+) -> Result<Reply, AllocError>
+    requires between { IsBetweenSteps T.idle space.old }
+    ensures orderly { IsOrderly T.idle space.new }
     ensures step { IfOk result (λ reply.
-        CreatesAt T.procedures (state_of T.Kind space.old) process place.now attrs (making_of making.entry) (Done reply) (state_of T.Kind space.new)) }
-    ensures early { is_create_refused (state_of T.Kind space.old) process place.now attrs (making_of making.entry) ≡ true → IsOk result }
-    ensures err { OnErr result (state_of T.Kind space.new ≡ state_of T.Kind space.old) }
-    ensures memory { IfErr result (λ fault. fault ≡ Memory) }
+        CreatesAt T.procedures space.old process place.now attrs (making_of making.entry)
+        (Done reply) space.new) }
+    ensures early { is_create_refused space.old process place.now attrs (making_of making.entry)
+        ≡ true → IsOk result }
+    ensures err { OnErr result (space.new ≡ space.old) }
 {
     let live = is_live(space, process);
     let attrs = match judge_create(live, is_fit(&making), place, attrs) {
@@ -86,19 +80,17 @@ fn create_at_name<T: TypeSet, H: HandleTable>(
     name: Name<'_>,
     attrs: Attrs,
     making: Making<'_, T::Kind>,
-) -> Result<Reply, Fault>
-    requires orderly { IsOrderly T.idle (state_of T.Kind space.old) }
-    requires settled { IsSettled (state_of T.Kind space.old) }
-    requires sound { IsSound (state_of T.Kind space.old) }
-    requires live { is_live (state_of T.Kind space.old) process ≡ true }
+) -> Result<Reply, AllocError>
+    requires between { IsBetweenSteps T.idle space.old }
+    requires live { is_live space.old process ≡ true }
     requires fit { machine.is_fit (making_of making) ≡ true }
-    ensures orderly { IsOrderly T.idle (state_of T.Kind space.new) }
+    ensures orderly { IsOrderly T.idle space.new }
     ensures step { IfOk result (λ reply.
-        CreatesIn T.procedures (state_of T.Kind space.old) process (At root name.entry) attrs (making_of making.entry) (Done reply)
-        (state_of T.Kind space.new)) }
-    ensures early { lacks_root (state_of T.Kind space.old) process root ≡ true → IsOk result }
-    ensures err { OnErr result (state_of T.Kind space.new ≡ state_of T.Kind space.old) }
-    ensures memory { IfErr result (λ fault. fault ≡ Memory) }
+        CreatesIn T.procedures space.old process (At root name.entry) attrs (making_of making.entry)
+        (Done reply)
+        space.new) }
+    ensures early { lacks_root space.old process root ≡ true → IsOk result }
+    ensures err { OnErr result (space.new ≡ space.old) }
 {
     let root = match root_object(space, process, root) {
         Ok(root) => root,
@@ -123,7 +115,7 @@ fn create_at_name<T: TypeSet, H: HandleTable>(
 
 /// How the name of a create is looked up.
 fn create_mode(attrs: Attrs) -> Mode
-    ensures { mode_of result ≡ create_mode attrs }
+    ensures { result ≡ create_mode attrs }
 {
     Mode {
         create: true,
@@ -139,16 +131,16 @@ fn open_there<T: TypeSet, H: HandleTable>(
     object: ObjId,
     attrs: Attrs,
     making: Making<'_, T::Kind>,
-) -> Result<Reply, Fault>
-    requires orderly { IsOrderly T.idle (state_of T.Kind space.old) }
-    requires settled { IsSettled (state_of T.Kind space.old) }
-    requires live { is_live (state_of T.Kind space.old) process ≡ true }
-    ensures orderly { IsOrderly T.idle (state_of T.Kind space.new) }
+) -> Result<Reply, AllocError>
+    requires orderly { IsOrderly T.idle space.old }
+    requires settled { IsSettled space.old }
+    requires live { is_live space.old process ≡ true }
+    ensures orderly { IsOrderly T.idle space.new }
     ensures step { IfOk result (λ reply.
-        machine.Creates T.procedures (state_of T.Kind space.old) process attrs (making_of making.entry) (looks.At object) (Done reply)
-        (state_of T.Kind space.new)) }
-    ensures err { OnErr result (state_of T.Kind space.new ≡ state_of T.Kind space.old) }
-    ensures memory { IfErr result (λ fault. fault ≡ Memory) }
+        machine.Creates T.procedures space.old process attrs (making_of making.entry)
+        (looks.At object) (Done reply)
+        space.new) }
+    ensures err { OnErr result (space.new ≡ space.old) }
 {
     if !attrs.is_open_if() {
         return Ok(status_alone(Status::ObjectNameCollision));

@@ -1,20 +1,19 @@
 //! Device maps of processes.
 
 ghost use Rattle.std.specs.Prelude.{◌≡◌, true, IsOk, IfOk, IfErr, OnErr};
-ghost use Rattle.ob_base.specs.declared.Fault.TheVariants.{Memory};
 ghost use Rattle.ob_model.specs.declared.reply.Answer.TheVariants.{Done};
 ghost use Rattle.ob_model.specs.Settle.{IsSettled};
 ghost use Rattle.ob_model.specs.Step.{SetsMap};
-ghost use Rattle.ob_commands.specs.Early.{is_use_refused};
-ghost use Rattle.ob_space.specs.Namespace.{state_of};
+ghost use Rattle.ob_space.specs.Early.{is_use_refused};
 ghost use Rattle.ob_space.specs.Orderly.{IsOrderly};
 
-use ob_base::{Fault, Handle, Proc, Status};
+use ob_base::{Handle, Proc, Status};
 use ob_handles::HandleTable;
+use ob_life::settle_after_loss;
 use ob_model::Reply;
-use ob_space::{Space, held_of, is_live, settle_after_loss};
+use ob_space::{Space, held_of, is_live, status_alone};
 use ob_types::TypeSet;
-use ob_waiting::status_alone;
+use std::alloc::AllocError;
 
 /// Makes the directory of a handle of the caller its device map, in place of the one that it had: what
 /// `\??` stands for is then that directory, and behind it `\GLOBAL??`. The directory of the old map goes
@@ -22,7 +21,7 @@ use ob_waiting::status_alone;
 ///
 /// Refusals, in their order, which change nothing: `ProcessGone` for a process that isn't live,
 /// `InvalidHandle` where the process has no such handle, and `ObjectTypeMismatch` where its object is no
-/// directory. The only fault is want of memory, and then nothing has changed; the first two refusals take none.
+/// directory. The only fault is out of memory, and then nothing has changed; the first two refusals take none.
 ///
 /// It asks that the state is orderly and settled, and leaves it orderly.
 ///
@@ -32,15 +31,14 @@ pub fn set_device_map<T: TypeSet, H: HandleTable>(
     space: &mut Space<T, H>,
     process: Proc,
     handle: Handle,
-) -> Result<Reply, Fault>
-    requires orderly { IsOrderly T.idle (state_of T.Kind space.old) }
-    requires settled { IsSettled (state_of T.Kind space.old) }
-    ensures orderly { IsOrderly T.idle (state_of T.Kind space.new) }
+) -> Result<Reply, AllocError>
+    requires orderly { IsOrderly T.idle space.old }
+    requires settled { IsSettled space.old }
+    ensures orderly { IsOrderly T.idle space.new }
     ensures step { IfOk result (λ reply.
-        SetsMap T.procedures (state_of T.Kind space.old) process handle (Done reply) (state_of T.Kind space.new)) }
-    ensures early { is_use_refused (state_of T.Kind space.old) process handle ≡ true → IsOk result }
-    ensures err { OnErr result (state_of T.Kind space.new ≡ state_of T.Kind space.old) }
-    ensures memory { IfErr result (λ fault. fault ≡ Memory) }
+        SetsMap T.procedures space.old process handle (Done reply) space.new) }
+    ensures early { is_use_refused space.old process handle ≡ true → IsOk result }
+    ensures err { OnErr result (space.new ≡ space.old) }
 {
     if !is_live(space, process) {
         return Ok(status_alone(Status::ProcessGone));

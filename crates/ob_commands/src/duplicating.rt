@@ -1,21 +1,18 @@
 //! Duplicates of handles.
 
 ghost use Rattle.std.specs.Prelude.{◌≡◌, true, IsOk, IfOk, IfErr, OnErr};
-ghost use Rattle.ob_base.specs.declared.Fault.TheVariants.{Memory};
 ghost use Rattle.ob_model.specs.declared.reply.Answer.TheVariants.{Done};
 ghost use Rattle.ob_model.specs.Processes.{Duplicates};
 ghost use Rattle.ob_model.specs.Settle.{IsSettled};
-ghost use Rattle.ob_commands.specs.Early.{is_duplicate_refused};
-ghost use Rattle.ob_space.specs.Namespace.{state_of};
+ghost use Rattle.ob_space.specs.Early.{is_duplicate_refused};
 ghost use Rattle.ob_space.specs.Orderly.{IsOrderly};
 
-use crate::opens::give_handle;
-use ob_base::{Fault, Handle, Proc, Status};
+use ob_base::{Handle, Proc, Status};
 use ob_handles::HandleTable;
-use ob_model::Reply;
-use ob_space::{Asked, Space, held_of, is_live};
+use ob_model::{GrantOptions, Reply};
+use ob_space::{Space, give_handle, held_of, is_live, status_alone};
 use ob_types::{Reason, TypeSet};
-use ob_waiting::status_alone;
+use std::alloc::AllocError;
 
 /// Duplicates a handle of the caller into a process, which may be the caller itself: the new handle
 /// leads to the same object, and is one that children inherit where that is asked, whatever the first
@@ -34,15 +31,14 @@ pub fn duplicate<T: TypeSet, H: HandleTable>(
     handle: Handle,
     to: Proc,
     inherit: bool,
-) -> Result<Reply, Fault>
-    requires orderly { IsOrderly T.idle (state_of T.Kind space.old) }
-    requires settled { IsSettled (state_of T.Kind space.old) }
-    ensures orderly { IsOrderly T.idle (state_of T.Kind space.new) }
+) -> Result<Reply, AllocError>
+    requires orderly { IsOrderly T.idle space.old }
+    requires settled { IsSettled space.old }
+    ensures orderly { IsOrderly T.idle space.new }
     ensures step { IfOk result (λ reply.
-        Duplicates T.procedures (state_of T.Kind space.old) process handle to inherit (Done reply) (state_of T.Kind space.new)) }
-    ensures early { is_duplicate_refused (state_of T.Kind space.old) process handle to ≡ true → IsOk result }
-    ensures err { OnErr result (state_of T.Kind space.new ≡ state_of T.Kind space.old) }
-    ensures memory { IfErr result (λ fault. fault ≡ Memory) }
+        Duplicates T.procedures space.old process handle to inherit (Done reply) space.new) }
+    ensures early { is_duplicate_refused space.old process handle to ≡ true → IsOk result }
+    ensures err { OnErr result (space.new ≡ space.old) }
 {
     if !is_live(space, process) || !is_live(space, to) {
         return Ok(status_alone(Status::ProcessGone));
@@ -50,7 +46,7 @@ pub fn duplicate<T: TypeSet, H: HandleTable>(
     let Some(held) = held_of(space, process, handle) else {
         return Ok(status_alone(Status::InvalidHandle));
     };
-    let asked = Asked {
+    let asked = GrantOptions {
         inherit,
         exclusive: false,
     };

@@ -1,10 +1,9 @@
-//! What each command of a process does: one step of the abstract machine, a file a command.
+//! What each command of a process does but opens by name: one step of the abstract machine, a file a command.
 //!
 //! A command is a short text over the parts of a namespace, `ob_space`: its refusals in their order, then the change, and
-//! the reply. [`create`] makes an object, [`Making`], or opens the one that is there; [`open_name`] opens one, or begins to,
-//! as `ob_waiting` has it; [`duplicate`] gives a handle on, and [`close`] takes one away. [`turn`] makes an object permanent
+//! the reply. [`create`] makes an object, [`Making`], or opens the one that is there; [`duplicate`] gives a handle on, and [`close`] takes one away. [`turn`] makes an object permanent
 //! or temporary, and [`set_device_map`] sets the caller's device map. [`query_name`], [`query_link`] and [`query_directory`],
-//! a page of what is [`Asked`], tell something and change nothing. [`new_process`] and [`exit_process`] begin and end a
+//! a page of what is [`PageRequest`], tell something and change nothing. [`new_process`] and [`exit_process`] begin and end a
 //! process, over `ob_life`.
 //!
 //! Each is told by the state of the abstract machine that the namespace stands for, asks that it is orderly, most also that
@@ -20,17 +19,13 @@ mod listing;
 mod lives;
 mod making;
 mod naming;
-mod opens;
-mod permanence;
 mod replies;
 
 pub use closing::close;
 pub use creating::create;
 pub use device_maps::set_device_map;
 pub use duplicating::duplicate;
-pub use listing::{Asked, query_directory};
+pub use listing::{PageRequest, query_directory};
 pub use lives::{exit_process, new_process};
 pub use making::{Making, link_to, object_of};
 pub use naming::{query_link, query_name};
-pub use opens::{open_name, type_wanted};
-pub use permanence::turn;

@@ -4,16 +4,14 @@ ghost use Rattle.std.specs.Prelude.{◌≡◌, true, IsOk, IfOk};
 ghost use Rattle.ob_model.specs.declared.reply.Answer.TheVariants.{Done};
 ghost use Rattle.ob_model.specs.Enumeration.{context_used};
 ghost use Rattle.ob_model.specs.Step.{QueriesDirectory};
-ghost use Rattle.ob_space.specs.Namespace.{state_of};
-ghost use Rattle.ob_commands.specs.Early.{is_page_refused};
+ghost use Rattle.ob_space.specs.Early.{is_page_refused};
 
 use crate::replies::with_page;
 use ob_base::{Handle, Proc, Status};
 use ob_handles::HandleTable;
 use ob_model::Reply;
-use ob_space::{Space, held_of, is_live};
+use ob_space::{Space, held_of, is_live, status_alone};
 use ob_types::TypeSet;
-use ob_waiting::status_alone;
 use std::alloc::AllocError;
 
 /// The greatest room that may be asked for, in bytes.
@@ -23,7 +21,7 @@ const LARGEST_ROOM: u32 = 1_048_576;
 ///
 /// Source: ZwQueryDirectoryObject (Windows Driver Kit).
 #[derive(Clone, Copy)]
-pub struct Asked {
+pub struct PageRequest {
     /// The stamp behind which it begins, any number.
     pub context: u64,
     /// The room, in bytes; any number.
@@ -41,7 +39,7 @@ pub struct Asked {
 /// above 1,048,576 bytes, `InvalidHandle` where the process has no such handle, and `ObjectTypeMismatch`
 /// where its object is no directory. Past them a page is given with each of its statuses: `NoMoreEntries`
 /// where no entry is left, `BufferTooSmall` where the first doesn't fit, `MoreEntries` where more are left
-/// than are shown and not one alone was asked for, else `Success`. The only fault is want of memory, which no
+/// than are shown and not one alone was asked for, else `Success`. The only fault is out of memory, which no
 /// refusal takes.
 ///
 /// Source: ZwQueryDirectoryObject (Windows Driver Kit); the greatest room, and the order of refusals, are this
@@ -50,16 +48,17 @@ pub fn query_directory<T: TypeSet, H: HandleTable>(
     space: &Space<T, H>,
     process: Proc,
     handle: Handle,
-    asked: Asked,
+    request: PageRequest,
 ) -> Result<Reply, AllocError>
     ensures step { IfOk result (λ reply.
-        QueriesDirectory T.procedures (state_of T.Kind space.now) process handle asked.context asked.room asked.single asked.restart (Done reply) (state_of T.Kind space.now)) }
-    ensures early { is_page_refused (state_of T.Kind space.now) process handle asked.room ≡ true → IsOk result }
+        QueriesDirectory T.procedures space.now process handle request.context request.room
+        request.single request.restart (Done reply) space.now) }
+    ensures early { is_page_refused space.now process handle request.room ≡ true → IsOk result }
 {
     if !is_live(space, process) {
         return Ok(status_alone(Status::ProcessGone));
     }
-    if asked.room > LARGEST_ROOM {
+    if request.room > LARGEST_ROOM {
         return Ok(status_alone(Status::InvalidParameter));
     }
     let Some(held) = held_of(space, process, handle) else {
@@ -69,10 +68,14 @@ pub fn query_directory<T: TypeSet, H: HandleTable>(
     if !space.store.is_directory(directory) {
         return Ok(status_alone(Status::ObjectTypeMismatch));
     }
-    let context = context_used(asked.restart, asked.context);
-    let page = space
-        .store
-        .page(space.alloc, directory, context, asked.room, asked.single)?;
+    let context = context_used(request.restart, request.context);
+    let page = space.store.page(
+        space.alloc,
+        directory,
+        context,
+        request.room,
+        request.single,
+    )?;
     Ok(with_page(page))
 }
 

@@ -3,20 +3,16 @@
 ghost use Rattle.std.specs.Prelude.{◌≡◌, true, IsOk, IfOk, OnErr};
 ghost use Rattle.ob_model.specs.declared.reply.Answer.TheVariants.{Done};
 ghost use Rattle.ob_model.specs.Processes.{MakesChild, Exits};
-ghost use Rattle.ob_model.specs.Settle.{IsSettled};
-ghost use Rattle.ob_model.specs.Sound.{IsSound};
-ghost use Rattle.ob_commands.specs.Early.{is_child_refused};
-ghost use Rattle.ob_space.specs.Namespace.{state_of};
-ghost use Rattle.ob_space.specs.Orderly.{IsOrderly};
+ghost use Rattle.ob_space.specs.Early.{is_child_refused};
+ghost use Rattle.ob_space.specs.Orderly.{IsBetweenSteps, IsOrderly};
 
 use crate::replies::with_process;
 use ob_base::{Proc, Status};
 use ob_handles::HandleTable;
-use ob_life::{begin_child, end_process};
+use ob_life::{begin_child, end_process, settle_after_end};
 use ob_model::Reply;
-use ob_space::{Space, is_live, settle_after_end};
+use ob_space::{Space, is_live, status_alone};
 use ob_types::TypeSet;
-use ob_waiting::status_alone;
 use std::alloc::AllocError;
 
 /// Makes a child of the caller, which inherits handles or none, and gives its number and the values
@@ -24,7 +20,7 @@ use std::alloc::AllocError;
 ///
 /// Refusals, in their order, which change nothing: `ProcessGone` where the caller isn't live, and
 /// `InsufficientResources` where 1,024 processes live, or no number or too few orders of opening are left. The
-/// only fault is want of memory, and then nothing has changed; none is taken where no process more may live, or no
+/// only fault is out of memory, and then nothing has changed; none is taken where no process more may live, or no
 /// number is left for one.
 ///
 /// It asks that the state is orderly, settled and sound, and leaves it orderly.
@@ -35,14 +31,12 @@ pub fn new_process<T: TypeSet, H: HandleTable>(
     process: Proc,
     inherit: bool,
 ) -> Result<Reply, AllocError>
-    requires orderly { IsOrderly T.idle (state_of T.Kind space.old) }
-    requires settled { IsSettled (state_of T.Kind space.old) }
-    requires sound { IsSound (state_of T.Kind space.old) }
-    ensures orderly { IsOrderly T.idle (state_of T.Kind space.new) }
+    requires between { IsBetweenSteps T.idle space.old }
+    ensures orderly { IsOrderly T.idle space.new }
     ensures step { IfOk result (λ reply.
-        MakesChild T.procedures (state_of T.Kind space.old) process inherit (Done reply) (state_of T.Kind space.new)) }
-    ensures early { is_child_refused (state_of T.Kind space.old) process ≡ true → IsOk result }
-    ensures err { OnErr result (state_of T.Kind space.new ≡ state_of T.Kind space.old) }
+        MakesChild T.procedures space.old process inherit (Done reply) space.new) }
+    ensures early { is_child_refused space.old process ≡ true → IsOk result }
+    ensures err { OnErr result (space.new ≡ space.old) }
 {
     if !is_live(space, process) {
         return Ok(status_alone(Status::ProcessGone));
@@ -62,11 +56,9 @@ pub fn new_process<T: TypeSet, H: HandleTable>(
 /// Source: Windows Internals, Processes (what the end of a process closes); the order of the closes is
 /// this profile.
 pub fn exit_process<T: TypeSet, H: HandleTable>(space: &mut Space<T, H>, process: Proc) -> Reply
-    requires orderly { IsOrderly T.idle (state_of T.Kind space.old) }
-    requires settled { IsSettled (state_of T.Kind space.old) }
-    requires sound { IsSound (state_of T.Kind space.old) }
-    ensures orderly { IsOrderly T.idle (state_of T.Kind space.new) }
-    ensures step { Exits T.procedures (state_of T.Kind space.old) process (Done result) (state_of T.Kind space.new) }
+    requires between { IsBetweenSteps T.idle space.old }
+    ensures orderly { IsOrderly T.idle space.new }
+    ensures step { Exits T.procedures space.old process (Done result) space.new }
 {
     let Some(ended) = end_process(space, process) else {
         return status_alone(Status::ProcessGone);

@@ -2,7 +2,6 @@
 
 ghost use Rattle.std.specs.Prelude.{◌≡◌, ◌&&◌, ◌||◌, true, false, [], None, Some, IfOk, IfErr, OnErr};
 ghost use Rattle.std.specs.Option.{is_some};
-ghost use Rattle.ob_base.specs.declared.Fault.TheVariants.{Memory};
 ghost use Rattle.ob_base.specs.Attrs.{has_flag, permanent_flag, exclusive_flag};
 ghost use Rattle.ob_types.specs.Told.{IsTold};
 ghost use Rattle.ob_model.specs.declared.reply.Answer.TheVariants.{Done};
@@ -14,19 +13,16 @@ ghost use Rattle.ob_model.specs.Creates.{is_stampless};
 ghost use Rattle.ob_objects.specs.Store.{body_of_stored, entries_in};
 ghost use Rattle.ob_space.specs.Placing.{spot_of, IsVacantSpot, IsVacant};
 ghost use Rattle.ob_commands.specs.Making.{making_of};
-ghost use Rattle.ob_space.specs.Namespace.{state_of};
 ghost use Rattle.ob_space.specs.Orderly.{IsOrderly, IsIdleBody};
 
-use crate::replies::with_handle;
-use ob_base::{Attrs, Fault, Proc, Status};
+use ob_base::{Attrs, Proc, Status};
 use ob_handles::HandleTable;
 use ob_model::{Bytes, Reply, Wanted};
 use ob_names::{Name, NameBuf};
 use ob_objects::{StoredBody, StoredObject};
-use ob_space::{Space, Spot, is_full, is_stampless, place_new};
+use ob_space::{Space, Spot, is_full, is_stampless, place_new, status_alone, with_handle};
 use ob_types::{Refusal, TypeSet, laws};
-use ob_waiting::status_alone;
-use std::alloc::Global;
+use std::alloc::{AllocError, Global};
 use std::sync::Arc;
 
 /// What a create makes.
@@ -89,18 +85,18 @@ pub(crate) fn make_named<T: TypeSet, H: HandleTable>(
     spot: Spot,
     attrs: Attrs,
     making: Making<'_, T::Kind>,
-) -> Result<Reply, Fault>
-    requires orderly { IsOrderly T.idle (state_of T.Kind space.old) }
-    requires settled { IsSettled (state_of T.Kind space.old) }
-    requires live { is_live (state_of T.Kind space.old) process ≡ true }
+) -> Result<Reply, AllocError>
+    requires orderly { IsOrderly T.idle space.old }
+    requires settled { IsSettled space.old }
+    requires live { is_live space.old process ≡ true }
     requires fit { machine.is_fit (making_of making) ≡ true }
-    requires vacant { IsVacant (state_of T.Kind space.old) spot.directory spot.name }
-    ensures orderly { IsOrderly T.idle (state_of T.Kind space.new) }
+    requires vacant { IsVacant space.old spot.directory spot.name }
+    ensures orderly { IsOrderly T.idle space.new }
     ensures step { IfOk result (λ reply.
-        machine.Makes T.procedures (state_of T.Kind space.old) process attrs (making_of making.entry) (Some (spot.directory, spot.name))
-        (Done reply) (state_of T.Kind space.new)) }
-    ensures err { OnErr result (state_of T.Kind space.new ≡ state_of T.Kind space.old) }
-    ensures memory { IfErr result (λ fault. fault ≡ Memory) }
+        machine.Makes T.procedures space.old process attrs (making_of making.entry) (Some
+        (spot.directory, spot.name))
+        (Done reply) space.new) }
+    ensures err { OnErr result (space.new ≡ space.old) }
 {
     if is_full(space, process) || is_stampless(space) {
         return Ok(status_alone(Status::InsufficientResources));
@@ -114,16 +110,16 @@ pub(crate) fn make_unnamed<T: TypeSet, H: HandleTable>(
     process: Proc,
     attrs: Attrs,
     making: Making<'_, T::Kind>,
-) -> Result<Reply, Fault>
-    requires orderly { IsOrderly T.idle (state_of T.Kind space.old) }
-    requires settled { IsSettled (state_of T.Kind space.old) }
-    requires live { is_live (state_of T.Kind space.old) process ≡ true }
+) -> Result<Reply, AllocError>
+    requires orderly { IsOrderly T.idle space.old }
+    requires settled { IsSettled space.old }
+    requires live { is_live space.old process ≡ true }
     requires fit { machine.is_fit (making_of making) ≡ true }
-    ensures orderly { IsOrderly T.idle (state_of T.Kind space.new) }
+    ensures orderly { IsOrderly T.idle space.new }
     ensures step { IfOk result (λ reply.
-        machine.Makes T.procedures (state_of T.Kind space.old) process attrs (making_of making.entry) None (Done reply) (state_of T.Kind space.new)) }
-    ensures err { OnErr result (state_of T.Kind space.new ≡ state_of T.Kind space.old) }
-    ensures memory { IfErr result (λ fault. fault ≡ Memory) }
+        machine.Makes T.procedures space.old process attrs (making_of making.entry) None
+        (Done reply) space.new) }
+    ensures err { OnErr result (space.new ≡ space.old) }
 {
     if is_full(space, process) {
         return Ok(status_alone(Status::InsufficientResources));
@@ -140,25 +136,25 @@ fn make_in_room<T: TypeSet, H: HandleTable>(
     spot: Option<Spot>,
     attrs: Attrs,
     making: Making<'_, T::Kind>,
-) -> Result<Reply, Fault>
-    requires orderly { IsOrderly T.idle (state_of T.Kind space.old) }
-    requires settled { IsSettled (state_of T.Kind space.old) }
-    requires live { is_live (state_of T.Kind space.old) process ≡ true }
+) -> Result<Reply, AllocError>
+    requires orderly { IsOrderly T.idle space.old }
+    requires settled { IsSettled space.old }
+    requires live { is_live space.old process ≡ true }
     requires fit { machine.is_fit (making_of making) ≡ true }
-    requires room { (is_table_full (state_of T.Kind space.old) process || is_store_full (state_of T.Kind space.old)) ≡ false }
-    requires stamp { is_some spot ≡ true → is_stampless (state_of T.Kind space.old) ≡ false }
-    requires vacant { IsVacantSpot (state_of T.Kind space.old) spot }
-    ensures orderly { IsOrderly T.idle (state_of T.Kind space.new) }
+    requires room { (is_table_full space.old process || is_store_full space.old) ≡ false }
+    requires stamp { is_some spot ≡ true → is_stampless space.old ≡ false }
+    requires vacant { IsVacantSpot space.old spot }
+    ensures orderly { IsOrderly T.idle space.new }
     ensures step { IfOk result (λ reply.
-        machine.MakesInRoom T.procedures (state_of T.Kind space.old) process attrs (making_of making.entry) (spot_of spot) (Done reply)
-        (state_of T.Kind space.new)) }
-    ensures err { OnErr result (state_of T.Kind space.new ≡ state_of T.Kind space.old) }
-    ensures memory { IfErr result (λ fault. fault ≡ Memory) }
+        machine.MakesInRoom T.procedures space.old process attrs (making_of making.entry)
+        (spot_of spot) (Done reply)
+        space.new) }
+    ensures err { OnErr result (space.new ≡ space.old) }
 {
     let body = match make_body::<T>(space.alloc, making) {
         Ok(body) => body,
         Err(Refusal::Code(code)) => return Ok(status_alone(Status::TypeRefused(code))),
-        Err(Refusal::Memory) => return Err(Fault::Memory),
+        Err(Refusal::Memory) => return Err(AllocError),
     };
     let object = object_made(body, attrs, spot.is_some());
     match place_new(space, process, spot, object, attrs.is_inherit())? {
@@ -173,11 +169,14 @@ fn make_body<T: TypeSet>(
     making: Making<'_, T::Kind>,
 ) -> Result<StoredBody<T::Face, T::Inner>, Refusal>
     requires fit { machine.is_fit (making_of making) ≡ true }
-    ensures accepted { IfOk result (λ _. machine.make_refusal T.procedures (making_of making.entry) ≡ None) }
-    ensures made { IfOk result (λ body. body_of_stored body ≡ machine.body_made T.procedures (making_of making.entry)) }
+    ensures accepted { IfOk result (λ _. machine.make_refusal T.procedures (making_of making.entry)
+        ≡ None) }
+    ensures made { IfOk result (λ body. body_of_stored body
+        ≡ machine.body_made T.procedures (making_of making.entry)) }
     ensures empty { IfOk result (λ body. entries_in body ≡ []) }
     ensures idle { IfOk result (λ body. IsIdleBody T.idle (body_of_stored body)) }
-    ensures refused { IfErr result (λ refusal. IsTold refusal (machine.make_refusal T.procedures (making_of making.entry))) }
+    ensures refused { IfErr result (λ refusal.
+        IsTold refusal (machine.make_refusal T.procedures (making_of making.entry))) }
 {
     match making {
         Making::Directory => Ok(StoredBody::directory(alloc)),

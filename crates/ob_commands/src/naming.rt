@@ -7,18 +7,17 @@ ghost use Rattle.ob_model.specs.Naming.{row_of, IsWayUp, path_text};
 ghost use Rattle.ob_model.specs.Step.{QueriesName, QueriesLink};
 ghost use Rattle.ob_objects.specs.Named.{row_of_named};
 ghost use Rattle.ob_objects.specs.Store.{rows_of};
-ghost use Rattle.ob_space.specs.Namespace.{state_of, rows_alone};
-ghost use Rattle.ob_commands.specs.Early.{is_use_refused};
+ghost use Rattle.ob_space.specs.Namespace.{rows_alone};
+ghost use Rattle.ob_space.specs.Early.{is_use_refused};
 
 use crate::replies::with_text;
 use ob_base::{Handle, ObjId, Proc, Status};
 use ob_handles::HandleTable;
 use ob_model::{Bytes, Reply};
 use ob_names::LONGEST_NAME;
-use ob_objects::{Store, StoredBody, laws};
-use ob_space::{ROOT, Space, held_of, is_live};
+use ob_objects::{Store, StoredBody, stored_is_the_object};
+use ob_space::{ROOT, Space, held_of, is_live, status_alone};
 use ob_types::TypeSet;
-use ob_waiting::status_alone;
 use std::alloc::{AllocError, Global};
 
 /// Tells the path of the object of a handle of the caller: the names on the way from the root to it,
@@ -27,7 +26,7 @@ use std::alloc::{AllocError, Global};
 ///
 /// Refusals, in their order: `ProcessGone` for a process that isn't live, `InvalidHandle` where the
 /// process has no such handle, and `NameTooLong` where the path has more than 32,767 bytes. The only
-/// fault is want of memory, which the first two refusals don't take.
+/// fault is out of memory, which the first two refusals don't take.
 ///
 /// It asks that each name lies in a directory of a lesser id than that of its object, as in every orderly state.
 ///
@@ -37,10 +36,10 @@ pub fn query_name<T: TypeSet, H: HandleTable>(
     process: Proc,
     handle: Handle,
 ) -> Result<Reply, AllocError>
-    requires { All (λ r. r.directory < r.object) (rows_of space.now.store) }
+    requires { All (λ r. r.directory < r.object) space.now.rows }
     ensures step { IfOk result (λ reply.
-        QueriesName (state_of T.Kind space.now) process handle (Done reply) (state_of T.Kind space.now)) }
-    ensures early { is_use_refused (state_of T.Kind space.now) process handle ≡ true → IsOk result }
+        QueriesName space.now process handle (Done reply) space.now) }
+    ensures early { is_use_refused space.now process handle ≡ true → IsOk result }
 {
     if !is_live(space, process) {
         return Ok(status_alone(Status::ProcessGone));
@@ -68,7 +67,8 @@ fn way_up<T: TypeSet>(
     requires { All (λ r. r.directory < r.object) (rows_of store.now) }
     ensures { IfOk result (λ way. MatchOption way
         ((names : List (List ℕ)) → IsWayUp (rows_alone (rows_of store.now)) object names → ⊥)
-        (λ way. IsWayUp (rows_alone (rows_of store.now)) object (map (λ name. name.now) way.items))) }
+        (λ way. IsWayUp (rows_alone (rows_of store.now)) object (map (λ name.
+        name.now) way.items))) }
 {
     let mut way = Vec::new(alloc);
     let mut current = object;
@@ -102,7 +102,7 @@ fn path_text(alloc: Global, way: &[&[u8]]) -> Result<Vec<u8>, AllocError>
 ///
 /// Refusals, in their order: `ProcessGone` for a process that isn't live, `InvalidHandle` where the
 /// process has no such handle, and `ObjectTypeMismatch` where its object is no link. The only fault is
-/// want of memory, which the first two refusals don't take.
+/// out of memory, which the first two refusals don't take.
 ///
 /// Source: ZwQuerySymbolicLinkObject (Windows Driver Kit).
 pub fn query_link<T: TypeSet, H: HandleTable>(
@@ -111,8 +111,8 @@ pub fn query_link<T: TypeSet, H: HandleTable>(
     handle: Handle,
 ) -> Result<Reply, AllocError>
     ensures step { IfOk result (λ reply.
-        QueriesLink (state_of T.Kind space.now) process handle (Done reply) (state_of T.Kind space.now)) }
-    ensures early { is_use_refused (state_of T.Kind space.now) process handle ≡ true → IsOk result }
+        QueriesLink space.now process handle (Done reply) space.now) }
+    ensures early { is_use_refused space.now process handle ≡ true → IsOk result }
 {
     if !is_live(space, process) {
         return Ok(status_alone(Status::ProcessGone));
@@ -120,7 +120,7 @@ pub fn query_link<T: TypeSet, H: HandleTable>(
     let Some(held) = held_of(space, process, handle) else {
         return Ok(status_alone(Status::InvalidHandle));
     };
-    laws::stored_is_the_object::<T::Kind, T, T::Face, T::Inner>();
+    stored_is_the_object::<T::Kind, T, T::Face, T::Inner>();
     let Some(stored) = space.store.get(held.object) else {
         return Ok(status_alone(Status::ObjectTypeMismatch));
     };

@@ -8,16 +8,6 @@ use ob_life::Child;
 use ob_model::{Bytes, Given, Reply};
 use ob_objects::Page;
 
-/// The reply of a status that gives a handle.
-pub(crate) fn with_handle(status: Status, value: Handle) -> Reply
-    ensures { result ≡ record { status = status; given = given.Handle value } }
-{
-    Reply {
-        status,
-        given: Given::Handle(value),
-    }
-}
-
 /// The reply of a success that gives a text.
 pub(crate) fn with_text(text: Bytes) -> Reply
     ensures { result ≡ record { status = Status.Success; given = given.Text text } }
@@ -30,7 +20,8 @@ pub(crate) fn with_text(text: Bytes) -> Reply
 
 /// The reply of a success that gives a new process, with the values that it inherited.
 pub(crate) fn with_process(child: Child) -> Reply
-    ensures { result ≡ record { status = Status.Success; given = given.Process child.process child.values } }
+    ensures { result
+        ≡ record { status = Status.Success; given = given.Process child.process child.values } }
 {
     let Child { process, values } = child;
     Reply {
@@ -41,7 +32,8 @@ pub(crate) fn with_process(child: Child) -> Reply
 
 /// The reply that gives a page, with its status.
 pub(crate) fn with_page(page: Page) -> Reply
-    ensures { result ≡ record { status = page.status; given = given.Page page.entries page.context } }
+    ensures { result
+        ≡ record { status = page.status; given = given.Page page.entries page.context } }
 {
     let Page {
         status,

@@ -1,2 +1,4 @@
 pub mod Opened
 pub mod Revalued
+pub mod Stepped
+pub mod Reached

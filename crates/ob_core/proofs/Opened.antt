@@ -9,8 +9,7 @@ use Rattle.ob_model.specs.Opening.{opening}
 use Rattle.ob_model.specs.State.{State}
 use Rattle.ob_model.proofs.Soundness.{opening_sound}
 use Rattle.ob_model.proofs.Staying.{opening_settled}
-use Rattle.ob_space.specs.Orderly.{IsIdleUnheld, IsOrderly}
-use Rattle.ob_core.specs.Kept.{IsCore}
+use Rattle.ob_space.specs.Orderly.{IsBetweenSteps, IsIdleUnheld, IsOrderly}
 
 -- objects of which each has a greater number than the one before it
 Rise : {F I : Type 0} → ℕ → List (Object F I) → Type 0
@@ -39,18 +38,18 @@ module _ {K T F I : Type 0} (idle : I → Type 0) (set : T) where
       record {
         root = refl;
         rising = ids_rise 0 s.objects (omega arith, (omega arith, (omega arith, (omega arith, (omega arith, (omega arith, tt))))));
-        drawn = sound.drawn;
-        standing = sound.rows;
-        descending = sound.descending;
-        stamped = sound.stamped;
+        drawn = sound.objects.drawn;
+        standing = sound.rows.standing;
+        descending = sound.rows.descending;
+        stamped = sound.rows.stamped;
         unheld = All-from_recursion (IsIdleUnheld idle s.handles) s.objects ((λ h. tt), ((λ h. tt), ((λ h. tt), ((λ h. tt), ((λ h. tt), ((λ h. tt), tt))))));
         opened = All-nil (λ (h : Held). h.order < 1);
-        numbered = sound.numbered;
+        numbered = sound.processes.numbered;
         few_handles = λ p. omega arith;
         few_processes = omega arith;
       }
 
-  pub opening_core : IsCore idle (opening {K = K} {F = F} {I = I} set)
+  pub opening_core : IsBetweenSteps idle (opening {K = K} {F = F} {I = I} set)
   opening_core = record {
     orderly = opening_orderly;
     sound = opening_sound set;

@@ -21,9 +21,11 @@ use Rattle.ob_choices.proofs.Revalued.{appended, any_revalued}
 use Rattle.ob_processes.specs.ByOrder.{OrdersRise}
 use Rattle.ob_processes.specs.Running.{Running}
 use Rattle.ob_space.specs.Namespace.{Parts, state_of}
-use Rattle.ob_space.specs.Orderly.{IsOrderly}
-use Rattle.ob_core.specs.Kept.{IsCore}
-use Rattle.ob_core.specs.Revaluing.{IsLastHandle}
+use Rattle.ob_space.specs.Orderly.{IsBetweenSteps, IsOrderly}
+
+-- the handle that was opened last is one of this process, under this value
+abbrev pub IsLastHandle : {K T F I : Type 0} → State K T F I → ℕ → ℕ → Type 0
+IsLastHandle s p value = (hs : List Held) × (h : Held) × (s.handles ≡ hs ++ h ∷ []) × (h.process ≡ p) × (h.value ≡ value)
 
 -- ---- the last of a list
 
@@ -137,7 +139,7 @@ module _ {K T F I : Type 0} (s : State K T F I) (p from to : ℕ) (last : IsLast
       subst (λ v. is_handle p v (get_or before k d) ≡ false) last.4
       (subst (λ q. is_handle q newest.value (get_or before k d) ≡ false) last.3
       (same_pair newest.process (get_or before k d).process newest.value (get_or before k d).value
-      (last_pairs (λ a b. is_handle a.process a.value b ≡ false) before newest (subst (AllPairs (λ a b. is_handle a.process a.value b ≡ false)) last.2 sound.distinct) k d within)))
+      (last_pairs (λ a b. is_handle a.process a.value b ≡ false) before newest (subst (AllPairs (λ a b. is_handle a.process a.value b ≡ false)) last.2 sound.handles.distinct) k d within)))
 
   -- it is the one that its process has under its value
   pub it_is_found : find (is_handle p from) s.handles ≡ Some newest
@@ -158,7 +160,7 @@ module _ {K T F I : Type 0} (s : State K T F I) (p from to : ℕ) (last : IsLast
     its_process = ap (λ k. k.process) (sym it_is) ∙ last.3
 
     pub process_is_live : is_live s h.process ≡ true
-    process_is_live = of_some (λ k. is_live s k.process ≡ true) (find (is_handle p from) s.handles) h found (find_of (λ k. is_live s k.process ≡ true) (is_handle p from) s.handles sound.live)
+    process_is_live = of_some (λ k. is_live s k.process ≡ true) (find (is_handle p from) s.handles) h found (find_of (λ k. is_live s k.process ≡ true) (is_handle p from) s.handles sound.handles.live)
 
     pub order_was_drawn : All (λ k. k.order < s.next_order) s.handles → h.order < s.next_order
     order_was_drawn opened = of_some (λ k. k.order < s.next_order) (find (is_handle p from) s.handles) h found (find_of (λ k. k.order < s.next_order) (is_handle p from) s.handles opened)
@@ -184,38 +186,26 @@ module _ {K T F I : Type 0} (s : State K T F I) (p from to : ℕ) (last : IsLast
 
     sound_revalued : IsSound (revalued to s)
     sound_revalued = record {
-      root = sound.root;
-      global = sound.global;
-      maps = sound.maps;
+      objects = sound.objects;
+      processes = sound.processes;
       rows = sound.rows;
-      handles = all_revalued to (λ h. Stands s h.object) (λ h stands. stands) s.handles sound.handles;
-      drawn = sound.drawn;
-      descending = sound.descending;
+      handles = record {
+        standing = all_revalued to (λ h. Stands s h.object) (λ h stands. stands) s.handles sound.handles.standing;
+        live = all_revalued to (λ h. is_live s h.process ≡ true) (λ h live. live) s.handles sound.handles.live;
+        distinct =
+            let rest = filter (λ k. not (is_handle p from k)) s.handles in
+            let process = its_process newest it_is_found in
+            subst (AllPairs (λ a b. is_handle a.process a.value b ≡ false)) (last_is_revalued newest it_is_found)
+            (all_pairs_push (λ a b. is_handle a.process a.value b ≡ false) rest (record newest { value = to })
+            (AllPairs-filter (λ a b. is_handle a.process a.value b ≡ false) (λ k. not (is_handle p from k)) s.handles sound.handles.distinct)
+            (λ k d within.
+            subst (λ q. ((q == (get_or rest k d).process) && (to == (get_or rest k d).value)) ≡ false) (sym process)
+            (same_pair (get_or rest k d).process p (get_or rest k d).value to (unused_by_all k d within))));
+      };
       pending = sound.pending;
-      ticketed = sound.ticketed;
-      later = sound.later;
-      reserved = sound.reserved;
-      awaited = sound.awaited;
-      rising = sound.rising;
-      stamped = sound.stamped;
-      inside = sound.inside;
-      named = sound.named;
-      apart = sound.apart;
-      plain = sound.plain;
-      live = all_revalued to (λ h. is_live s h.process ≡ true) (λ h live. live) s.handles sound.live;
-      numbered = sound.numbered;
-      distinct =
-          let rest = filter (λ k. not (is_handle p from k)) s.handles in
-          let process = its_process newest it_is_found in
-          subst (AllPairs (λ a b. is_handle a.process a.value b ≡ false)) (last_is_revalued newest it_is_found)
-          (all_pairs_push (λ a b. is_handle a.process a.value b ≡ false) rest (record newest { value = to })
-          (AllPairs-filter (λ a b. is_handle a.process a.value b ≡ false) (λ k. not (is_handle p from k)) s.handles sound.distinct)
-          (λ k d within.
-          subst (λ q. ((q == (get_or rest k d).process) && (to == (get_or rest k d).value)) ≡ false) (sym process)
-          (same_pair (get_or rest k d).process p (get_or rest k d).value to (unused_by_all k d within))));
     }
 
-    pub core_revalued : (idle : I → Type 0) → IsCore idle s → IsCore idle (revalued to s)
+    pub core_revalued : (idle : I → Type 0) → IsBetweenSteps idle s → IsBetweenSteps idle (revalued to s)
     core_revalued idle core = record {
       orderly = orderly_revalued to s idle core.orderly;
       sound = sound_revalued;

@@ -2,7 +2,7 @@
 //!
 //! A [`Core`] is generic in its set of types, of which it knows nothing but that it is lawful, and in the
 //! handle table of its processes. Its state lies in the parts of `ob_space`. What a command does to them stands in
-//! `ob_commands`, what becomes of an open that waits for a parse in `ob_waiting`; here each command is given its step,
+//! `ob_commands`, what opens by name do, and those that wait for a parse, in `ob_opens`; here each command is given its step,
 //! and what holds between the steps is kept.
 //!
 //! What a command and its reply are made of is handed on: [`Command`], [`Place`] and [`Wanted`],
@@ -18,5 +18,5 @@ pub use ob_handles::{HandleTable, OpenTable};
 pub use ob_model::{
     Bytes, Command, Entries, Given, Handles, Listed, Place, Reply, TypeName, Wanted,
 };
+pub use ob_opens::Started;
 pub use ob_types::{Brought, Parsed, Parsing};
-pub use ob_waiting::Started;

@@ -8,25 +8,25 @@ ghost use Rattle.std.specs.Option.{is_some, option_map};
 ghost use Rattle.ob_model.specs.State.{held_of, table_size};
 ghost use Rattle.ob_model.specs.Grants.{IsFreeValue};
 ghost use Rattle.ob_choices.specs.Choice.{revalued};
-ghost use Rattle.ob_core.specs.Revaluing.{IsLastHandle};
+ghost use Rattle.ob_core.specs.Reached.{IsJustGiven, IsReached};
 ghost use Rattle.ob_model.specs.Opening.{opening};
 ghost use Rattle.ob_model.specs.Sound.{IsSound};
 ghost use Rattle.ob_model.specs.Step.{Step};
-ghost use Rattle.ob_commands.specs.Early.{TakesNoMemory, is_refused_early};
+ghost use Rattle.ob_space.specs.Early.{TakesNoMemory, is_refused_early};
 ghost use Rattle.ob_model.specs.Refusals.{answers};
 ghost use Rattle.ob_types.specs.Parse.{asked_of};
 ghost use Rattle.ob_model.specs.PendingOpens.{pending_of};
 ghost use Rattle.ob_types.specs.Brought.{run_of, run_of_end, brought as end_of};
-ghost use Rattle.ob_waiting.specs.Waiting.{answer_of, IfParsing, IsParseOf, IsAwaited, IsNotTaken, opens_nothing};
+ghost use Rattle.ob_opens.specs.Waiting.{answer_of, IfParsing, IsParseOf, IsAwaited, IsNotTaken, opens_nothing};
 
 use crate::steps::step_for;
 use ob_base::{Fault, Handle, Proc};
 use ob_handles::HandleTable;
 use ob_model::{Command, Held};
+use ob_opens::{Started, abandon, resume};
 use ob_processes::{PendingOpens, Processes};
-use ob_space::{Namespace, Space, opening_store};
+use ob_space::{Space, opening_store};
 use ob_types::{Brought, Parsed, TypeSet};
-use ob_waiting::{Started, abandon, resume};
 use std::alloc::{AllocError, Global};
 use std::marker::Model;
 
@@ -43,20 +43,20 @@ pub struct Core<T: TypeSet, H: HandleTable> {
 
 impl<T: TypeSet, H: HandleTable> Model for Core<T, H> {
     ghost use Rattle.ob_model.specs.State.{State};
-    ghost use Rattle.ob_space.specs.Namespace.{state_of};
-    ghost use Rattle.ob_core.specs.Kept.{IsCore};
+    ghost use Rattle.ob_space.specs.Orderly.{IsBetweenSteps};
+    ghost use Rattle.ob_core.specs.Reached.{IsReached};
 
     ghost Value = { State T.Kind T T.Face T.Inner };
 
-    ghost view = { λ a. state_of T.Kind a.space };
+    ghost view = { λ a. a.space };
 
-    ghost invariant = { λ a. IsCore T.idle (state_of T.Kind a.space) };
+    ghost invariant = { λ a. IsBetweenSteps T.idle a.space × IsReached T.procedures a.space };
 }
 
 impl<T: TypeSet, H: HandleTable> Core<T, H> {
     /// The opening state, with a set of types: the root directory, `\GLOBAL??`, `\DosDevices` (a link
     /// to `\??`), `\Device`, `\BaseNamedObjects` and `\Sessions`, all permanent, and process 1 without a
-    /// handle. The only fault is want of memory, and then the set is let go.
+    /// handle. The only fault is out of memory, and then the set is let go.
     pub fn new(alloc: Global, types: T) -> Result<Core<T, H>, Fault>
         ensures opening { IfOk result (λ core. core ≡ opening types) }
         ensures memory { IfErr result (λ fault. fault ≡ Memory) }
@@ -64,7 +64,7 @@ impl<T: TypeSet, H: HandleTable> Core<T, H> {
         let mut processes = Processes::new(alloc);
         processes.start(Proc(1), None)?;
         Ok(Core {
-            space: Namespace {
+            space: Space {
                 alloc,
                 set: types,
                 store: opening_store(alloc)?,
@@ -80,7 +80,7 @@ impl<T: TypeSet, H: HandleTable> Core<T, H> {
 
     /// Starts a command of a process: makes one step of the machine, and answers what it answers.
     ///
-    /// Every refusal is a reply; docs/namespace.md has their order. The only fault is want of memory,
+    /// Every refusal is a reply; docs/namespace.md has their order. The only fault is out of memory,
     /// which is told only where a growth was refused, and then nothing has changed. A close, the end of a
     /// process, and making an object permanent or temporary take no memory, nor does a command that is
     /// refused before its lookup, so these never fail: where the process is gone, the flags, the other
@@ -95,7 +95,7 @@ impl<T: TypeSet, H: HandleTable> Core<T, H> {
         ensures err { OnErr result (self.new ≡ self.old) }
         ensures memory { IfErr result (λ fault. fault ≡ Memory) }
     {
-        step_for(&mut self.space, process, command)
+        Ok(step_for(&mut self.space, process, command)?)
     }
 
     /// Brings a parse to the open that waits for it: makes one step of the machine, and answers what it answers. The
@@ -113,12 +113,15 @@ impl<T: TypeSet, H: HandleTable> Core<T, H> {
     /// brought, and the order of refusals, are this profile.
     pub fn resume(&mut self, parsed: Parsed<T>) -> Result<Started<T>, (Fault, Parsed<T>)>
         ensures step { IfOk result (λ started.
-            Step T.procedures self.old (Resume parsed.ticket (run_of_end parsed.outcome)) (answer_of started) self.new) }
+            Step T.procedures self.old (Resume parsed.ticket (run_of_end parsed.outcome))
+            (answer_of started) self.new) }
         ensures awaited { IfOk result (λ _. IsAwaited T.procedures self.old (asked_of parsed)) }
         ensures parse { IfOk result (λ started. IfParsing started (IsParseOf self.new)) }
-        ensures without_memory { opens_nothing parsed.outcome ≡ true → IsAwaited T.procedures self.old (asked_of parsed) → IsOk result }
+        ensures without_memory { opens_nothing parsed.outcome ≡ true
+            → IsAwaited T.procedures self.old (asked_of parsed) → IsOk result }
         ensures err { OnErr result (self.new ≡ self.old) }
-        ensures fault { IfErr result (λ back. IsNotTaken T.procedures self.old (asked_of parsed) (back.0)) }
+        ensures fault { IfErr result (λ back.
+            IsNotTaken T.procedures self.old (asked_of parsed) (back.0)) }
         ensures back { IfErr result (λ back. back.1 ≡ parsed) }
     {
         resume(&mut self.space, parsed)
@@ -134,8 +137,11 @@ impl<T: TypeSet, H: HandleTable> Core<T, H> {
     /// Source: Windows Internals, Object Manager (parse methods; object retention); that an open is given up by its
     /// ticket is this profile.
     pub fn abandon(&mut self, brought: Brought<T>) -> bool
-        ensures exact { IsTrue result ↔ IsAwaited T.procedures self.old (asked_of (end_of brought)) }
-        ensures step { IsTrue result → Step T.procedures self.old (Abandon (end_of brought).ticket (run_of brought)) (answers Success) self.new }
+        ensures exact { IsTrue result
+            ↔ IsAwaited T.procedures self.old (asked_of (end_of brought)) }
+        ensures step { IsTrue result
+            → Step T.procedures self.old (Abandon (end_of brought).ticket (run_of brought))
+            (answers Success) self.new }
         ensures stranger { result ≡ false → self.new ≡ self.old }
     {
         abandon(&mut self.space, brought)
@@ -160,15 +166,15 @@ impl<T: TypeSet, H: HandleTable> Core<T, H> {
             .map(|pending| pending.process)
     }
 
-    /// The namespace in which the handle that was opened last, which is one of this process under the value `from`, has
-    /// the value `to` instead; nothing else differs. The process must not use that value: it may be any multiple of four
-    /// from 4 to 262,140 under which it has no handle.
+    /// The namespace in which the handle that the last step gave to this process, under the value `from`, has the value
+    /// `to` instead; nothing else differs. The process must not use that value: it may be any multiple of four from 4 to
+    /// 262,140 under which it has no handle.
     ///
-    /// The only error is want of memory, and then the namespace is let go.
+    /// The only error is out of memory, and then the namespace is let go.
     ///
     /// Source: handles are values of the system's choice (Windows Driver Kit); that a choice may be changed is this profile.
     pub fn revalue(self, process: Proc, from: Handle, to: Handle) -> Result<Core<T, H>, AllocError>
-        requires last { IsLastHandle self process from }
+        requires given { IsJustGiven T.procedures self process from }
         requires free { IsFreeValue self process to }
         ensures { IfOk result (λ core. core ≡ revalued to self) }
     {
@@ -235,6 +241,15 @@ impl<T: TypeSet, H: HandleTable> Core<T, H> {
     /// and each number is below the next one. The call does nothing; a caller makes it to have the fact. (this profile)
     pub fn state_is_sound(&self)
         ensures { IsSound self.now }
+    {
+        let _space = &self.space;
+    }
+
+    /// The law that a run of the abstract machine leads to the state of every core, from the opening state with some value
+    /// of the set. So what holds of all runs holds of each namespace. The call does nothing; a caller makes it to have the
+    /// fact. (this profile)
+    pub fn state_is_reached(&self)
+        ensures { IsReached T.procedures self.now }
     {
         let _space = &self.space;
     }

@@ -1,44 +1,39 @@
 //! The step of each command.
 
 ghost use Rattle.std.specs.Prelude.{◌≡◌, true, IsOk, IfOk, IfErr, OnErr};
-ghost use Rattle.ob_base.specs.declared.Fault.TheVariants.{Memory};
 ghost use Rattle.ob_model.specs.declared.reply.Event.TheVariants.{Start};
-ghost use Rattle.ob_model.specs.Settle.{IsSettled};
-ghost use Rattle.ob_model.specs.Sound.{IsSound};
 ghost use Rattle.ob_model.specs.Step.{Step};
-ghost use Rattle.ob_commands.specs.Early.{TakesNoMemory, is_refused_early};
-ghost use Rattle.ob_space.specs.Namespace.{state_of};
-ghost use Rattle.ob_space.specs.Orderly.{IsOrderly};
-ghost use Rattle.ob_waiting.specs.Waiting.{answer_of, IfParsing, IsParseOf};
+ghost use Rattle.ob_space.specs.Early.{TakesNoMemory, is_refused_early};
+ghost use Rattle.ob_space.specs.Orderly.{IsBetweenSteps, IsOrderly};
+ghost use Rattle.ob_opens.specs.Waiting.{answer_of, IfParsing, IsParseOf};
 
-use ob_base::{Fault, Proc};
+use ob_base::Proc;
 use ob_commands::{
-    Asked, Making, close, create, duplicate, exit_process, link_to, new_process, object_of,
-    open_name, query_directory, query_link, query_name, set_device_map, turn, type_wanted,
+    Making, PageRequest, close, create, duplicate, exit_process, link_to, new_process, object_of,
+    query_directory, query_link, query_name, set_device_map,
 };
 use ob_handles::HandleTable;
+use ob_life::set_permanence;
 use ob_model::{Command, Wanted};
+use ob_opens::{Started, open_name, type_wanted};
 use ob_space::Space;
 use ob_types::TypeSet;
-use ob_waiting::Started;
+use std::alloc::AllocError;
 
 /// Makes the step of a command, and tells how it ends.
 pub(crate) fn step_for<T: TypeSet, H: HandleTable>(
     space: &mut Space<T, H>,
     process: Proc,
     command: &Command<T::Kind>,
-) -> Result<Started<T>, Fault>
-    requires orderly { IsOrderly T.idle (state_of T.Kind space.old) }
-    requires settled { IsSettled (state_of T.Kind space.old) }
-    requires sound { IsSound (state_of T.Kind space.old) }
-    ensures orderly { IsOrderly T.idle (state_of T.Kind space.new) }
+) -> Result<Started<T>, AllocError>
+    requires between { IsBetweenSteps T.idle space.old }
+    ensures orderly { IsOrderly T.idle space.new }
     ensures step { IfOk result (λ started.
-        Step T.procedures (state_of T.Kind space.old) (Start process command.now) (answer_of started) (state_of T.Kind space.new)) }
-    ensures parse { IfOk result (λ started. IfParsing started (IsParseOf (state_of T.Kind space.new))) }
+        Step T.procedures space.old (Start process command.now) (answer_of started) space.new) }
+    ensures parse { IfOk result (λ started. IfParsing started (IsParseOf space.new)) }
     ensures without_memory { TakesNoMemory command.now → IsOk result }
-    ensures early { is_refused_early (state_of T.Kind space.old) process command.now ≡ true → IsOk result }
-    ensures err { OnErr result (state_of T.Kind space.new ≡ state_of T.Kind space.old) }
-    ensures memory { IfErr result (λ fault. fault ≡ Memory) }
+    ensures early { is_refused_early space.old process command.now ≡ true → IsOk result }
+    ensures err { OnErr result (space.new ≡ space.old) }
 {
     match command {
         Command::CreateDirectory { place, attrs } => {
@@ -89,23 +84,25 @@ pub(crate) fn step_for<T: TypeSet, H: HandleTable>(
             single,
             restart,
         } => {
-            let asked = Asked {
+            let request = PageRequest {
                 context: *context,
                 room: *room,
                 single: *single,
                 restart: *restart,
             };
-            Ok(Started::Done(query_directory(space, process, *handle, asked)?))
+            Ok(Started::Done(query_directory(space, process, *handle, request)?))
         }
         Command::Duplicate {
             handle,
             to,
             inherit,
         } => Ok(Started::Done(duplicate(space, process, *handle, *to, *inherit)?)),
-        Command::MakeTemporary { handle } => Ok(Started::Done(turn(
+        Command::MakeTemporary { handle } => Ok(Started::Done(set_permanence(
             space, process, *handle, false,
         ))),
-        Command::MakePermanent { handle } => Ok(Started::Done(turn(space, process, *handle, true))),
+        Command::MakePermanent { handle } => Ok(Started::Done(set_permanence(
+            space, process, *handle, true,
+        ))),
         Command::SetDeviceMap { handle } => Ok(Started::Done(set_device_map(
             space, process, *handle,
         )?)),

@@ -152,11 +152,17 @@ impl TypeSet for DeviceSet {
 
     ghost same_answers = { device_same_answers };
 
-    ghost one_kind = { elim [ Device ↦ elim [ Device ↦ λ _. refl | File ↦ λ e. Prim.search rules ] | File ↦ elim [ Device ↦ λ e. Prim.search rules | File ↦ λ _. refl ] ] };
+    ghost one_kind = { elim [
+      | Device ↦ elim [ Device ↦ λ _. refl | File ↦ λ e. Prim.search rules ]
+      | File ↦ elim [ Device ↦ λ e. Prim.search rules | File ↦ λ _. refl ]
+    ] };
 
     ghost own_kind = { elim [ Device ↦ refl | File ↦ refl ] };
 
-    ghost equal_kinds = { elim [ Device ↦ elim [ Device ↦ refl | File ↦ refl ] | File ↦ elim [ Device ↦ refl | File ↦ refl ] ] };
+    ghost equal_kinds = { elim [
+      | Device ↦ elim [ Device ↦ refl | File ↦ refl ]
+      | File ↦ elim [ Device ↦ refl | File ↦ refl ]
+    ] };
 }
 
 // The path that the rest of a name names on a device: the rest without one leading backslash.

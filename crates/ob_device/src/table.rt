@@ -29,8 +29,8 @@ impl Model for PathTable {
 
 impl PathTable {
     /// The paths that stand between the semicolons of arguments; empty arguments have none. A path may be
-    /// empty. The only error is want of memory. (this profile)
-    pub fn read(alloc: Global, args: &[u8]) -> Result<PathTable, AllocError>
+    /// empty. The only error is out of memory. (this profile)
+    pub(crate) fn read(alloc: Global, args: &[u8]) -> Result<PathTable, AllocError>
         ensures { IfOk result (λ table. table ≡ pieces args.now) }
     {
         let mut paths = Vec::new(alloc);
@@ -41,14 +41,14 @@ impl PathTable {
     }
 
     /// Whether the path is one of the table's, byte by byte.
-    pub fn has(&self, path: &[u8]) -> bool
+    pub(crate) fn has(&self, path: &[u8]) -> bool
         ensures { result ≡ has_path self.now path.now }
     {
         self.paths.iter().any(|other| other.as_slice() == path)
     }
 
     /// Whether one of the paths is empty.
-    pub fn has_empty(&self) -> bool
+    pub(crate) fn has_empty(&self) -> bool
         ensures { result ≡ has_empty_path self.now }
     {
         self.paths.iter().any(|path| path.as_slice().is_empty())

@@ -14,9 +14,9 @@ ghost use Rattle.ob_dirs.specs.Dir.{
 };
 
 use crate::DirEntry;
-use ob_base::{Fault, ObjId};
+use ob_base::ObjId;
 use ob_names::{NameBuf, same};
-use std::alloc::Global;
+use std::alloc::{AllocError, Global};
 use std::marker::Model;
 
 /// One object directory. A contract sees a `Dir` as the list of its entries, whose stamps rise
@@ -101,12 +101,11 @@ impl Dir {
     /// The only fault is `Memory`, and then nothing has changed.
     ///
     /// Source: Windows Internals, Object Manager: object directories; the stamps are this profile.
-    pub fn insert(&mut self, stamp: u64, name: NameBuf, object: ObjId) -> Result<(), Fault>
+    pub fn insert(&mut self, stamp: u64, name: NameBuf, object: ObjId) -> Result<(), AllocError>
         requires free { All (λ entry. entry.name ≢ name) self.old }
         requires newest { All (λ entry. entry.stamp < stamp) self.old }
         ensures last { IfOk result (λ _. self.new
             ≡ self.old ++ record { stamp = stamp; name = name; object = object } ∷ []) }
-        ensures memory { IfErr result (λ fault. fault ≡ Fault.Memory) }
         ensures unchanged { OnErr result (self.new ≡ self.old) }
     {
         self.entries.push(DirEntry {

@@ -53,8 +53,10 @@ impl Dir {
         len_of: F,
     ) -> Result<DirPage<'_>, Fault>
         requires { F.IsAlwaysCallable len_of }
-        ensures page { IfOk result (λ page. (type_name : ℕ → List ℕ) → TellsLengths (λ f id n g. F.step f id n g) len_of type_name
-            → IsPage (page_told type_name self.now context room single) (entries_behind self.now context) page) }
+        ensures page { IfOk result (λ page. (type_name : ℕ → List ℕ) → TellsLengths (λ f id n g.
+            F.step f id n g) len_of type_name
+            → IsPage (page_told type_name self.now context room single)
+            (entries_behind self.now context) page) }
         ensures no_memory { IsOk result }
     {
         let left = behind(self.as_slice(), context);
@@ -86,8 +88,10 @@ fn shown_of<'a, F: FnMut(ObjId) -> usize>(
     len_of: F,
 ) -> &'a [DirEntry]
     requires { F.IsAlwaysCallable len_of }
-    ensures shown { (type_name : ℕ → List ℕ) → TellsLengths (λ f id n g. F.step f id n g) len_of type_name
-        → map (shown_entry type_name) result.now ≡ shown_of (map (shown_entry type_name) left.now) room single }
+    ensures shown { (type_name : ℕ → List ℕ) → TellsLengths (λ f id n g.
+        F.step f id n g) len_of type_name
+        → map (shown_entry type_name) result.now
+        ≡ shown_of (map (shown_entry type_name) left.now) room single }
     ensures front { result.now ≡ take (length result.now) left.now }
 {
     let wanted = wanted(left, single);
@@ -108,7 +112,8 @@ fn wanted(left: &[DirEntry], single: bool) -> &[DirEntry]
 // How many of these entries fit into the room, from the first one on.
 fn count_fitting<F: FnMut(ObjId) -> usize>(left: &[DirEntry], room: usize, mut len_of: F) -> usize
     requires { F.IsAlwaysCallable len_of }
-    ensures count { (type_name : ℕ → List ℕ) → TellsLengths (λ f id n g. F.step f id n g) len_of type_name
+    ensures count { (type_name : ℕ → List ℕ) → TellsLengths (λ f id n g.
+        F.step f id n g) len_of type_name
         → result ≡ length (fitting room (map (shown_entry type_name) left.now)) }
     ensures within { result ≤ length left.now }
 {

@@ -8,12 +8,11 @@ use Rattle.ob_base.specs.declared.status.Status.{Status}
 use Rattle.ob_base.specs.declared.status.Status.TheVariants.{Success, ProcessGone, InsufficientResources}
 use Rattle.ob_model.specs.declared.command.Command.{Command}
 use Rattle.ob_model.specs.declared.command.Command.TheVariants as command
-use Rattle.ob_model.specs.declared.entries.Entries.{Entries}
 use Rattle.ob_model.specs.declared.reply.Reply.{Reply}
 use Rattle.ob_model.specs.declared.reply.Answer.TheVariants.{Done}
 use Rattle.ob_model.specs.declared.reply.Event.TheVariants.{Start}
 use Rattle.ob_model.specs.declared.reply.Given.{Given}
-use Rattle.ob_model.specs.declared.reply.Given.TheVariants.{Nothing, Page, Process}
+use Rattle.ob_model.specs.declared.reply.Given.TheVariants.{Nothing, Handle, Text, Process, Page}
 use Rattle.ob_model.specs.declared.state.Held.{Held}
 use Rattle.ob_model.specs.Grants.{first_refusal}
 use Rattle.ob_model.specs.Processes.{values_in, is_crowded, begun}
@@ -22,8 +21,8 @@ use Rattle.ob_model.specs.Settle.{settle}
 use Rattle.ob_model.specs.State.{held_of, is_live}
 use Rattle.ob_model.specs.Sound.{IsSound}
 use Rattle.ob_model.specs.Step.{Step}
-use Rattle.ob_complete.specs.Completes.{Completes}
-use Rattle.ob_complete.proofs.Chains.{completes_at_once}
+use Rattle.ob_runner.specs.Completes.{Completes}
+use Rattle.ob_runner.proofs.Chains.{completes_at_once}
 use Rattle.ob_standard.specs.Standard.{StandardKind, standard}
 use Rattle.ob_lines.specs.declared.change.Change.{Change}
 use Rattle.ob_lines.specs.declared.change.Change.TheVariants as change
@@ -31,12 +30,12 @@ use Rattle.ob_lines.specs.declared.form.Form.{Form}
 use Rattle.ob_lines.specs.declared.form.Form.TheVariants.{Asks}
 use Rattle.ob_lines.specs.declared.request.Request.{Request}
 use Rattle.ob_lines.specs.declared.request.Request.TheVariants as request
-use Rattle.ob_lines.specs.Changes.{change_of}
+use Rattle.ob_lines.specs.Changes.{change_of, change_seen}
 use Rattle.ob_lines.specs.Script.{found_seen}
 use Rattle.ob_lines.specs.Grammar.{form_seen, request_seen}
-use Rattle.ob_requests.specs.Words.{Words, handed_on, is_among, with_process, with_words, with_context}
+use Rattle.ob_requests.specs.Words.{Words, handed_on, is_among, with_process, with_words}
 use Rattle.ob_requests.specs.Tables.{IsKept}
-use Rattle.ob_requests.specs.Commands.{changed, with_child, with_page}
+use Rattle.ob_requests.specs.Commands.{applied, changed, given_process, with_child}
 use Rattle.ob_standard_core.specs.Machine.{Space}
 use Rattle.ob_effects.specs.Effects.{IsAsked, IsAnswered, IsUnanswered}
 
@@ -164,18 +163,25 @@ child_words old mid begun new p word inherit n hs hs' own handed given same is_o
     ∙ (ap (λ (x : List ℕ → ℕ). with_process (with_words old n x) word n) numbers ∙ sym (ap (with_child old p word inherit) is_given))))
 
 -- the words without one
-pub childless_words : (old mid new : Words) (p : ℕ) (word : List ℕ) (inherit : Bool) (given other : Given) → with_child old p word inherit other ≡ with_process old word 0
-    → mid ≡ old → given ≡ other → new ≡ with_process mid word 0 → new ≡ with_child old p word inherit given
-childless_words old mid new p word inherit given other none same is last =
-    last ∙ (ap (λ (x : Words). with_process x word 0) same ∙ (sym none ∙ sym (ap (with_child old p word inherit) is)))
+pub childless_words : (old mid new : Words) (p : ℕ) (word : List ℕ) (inherit : Bool) (thing : Given) → ((n : ℕ) (hs : List ℕ) → thing ≡ Process n hs → ⊥)
+    → mid ≡ old → new ≡ with_process mid word (given_process thing) → new ≡ with_child old p word inherit thing
+childless_words old mid new p word inherit thing none same last =
+    last ∙ (ap (λ (x : Words). with_process x word (given_process thing)) same ∙ go thing none)
+  where
+    go : (thing : Given) → ((n : ℕ) (hs : List ℕ) → thing ≡ Process n hs → ⊥) → with_process old word (given_process thing) ≡ with_child old p word inherit thing
+    go Nothing none = refl
+    go (Handle handle) none = refl
+    go (Text text) none = refl
+    go (Process n hs) none = absurd (none n hs refl)
+    go (Page entries context) none = refl
 
--- the words with the context of a page, where one is given
-pub page_words : (old mid new : Words) (p : ℕ) (word : List ℕ) (given : Given) (entries : Entries) (context : ℕ) → mid ≡ old → given ≡ Page entries context
-    → new ≡ with_context mid p word context → new ≡ with_page old p word given
-page_words old mid new p word given entries context same is last =
-    last ∙ (ap (λ (x : Words). with_context x p word context) same ∙ sym (ap (with_page old p word) is))
-
--- the words where none is
-pub pageless_words : (old mid : Words) (p : ℕ) (word : List ℕ) (given other : Given) → with_page old p word other ≡ old → mid ≡ old → given ≡ other
-    → mid ≡ with_page old p word given
-pageless_words old mid p word given other none same is = same ∙ (sym none ∙ sym (ap (with_page old p word) is))
+-- what a reply changes but for a child is applied whole
+pub applied_whole : (c : Change (Bor (List ℕ))) (p : ℕ) (reply : Reply) (words : Words) → ((word : Bor (List ℕ)) (inherit : Bool) → c ≡ change.SetsProcess word inherit → ⊥)
+    → applied (change_seen c) p reply words ≡ changed (change_seen c) p reply words
+applied_whole change.Nothing p reply words other = refl
+applied_whole (change.Sets word) p reply words other = refl
+applied_whole (change.SetsFor to word) p reply words other = refl
+applied_whole (change.GivesUp word) p reply words other = refl
+applied_whole (change.TurnsPage word) p reply words other = refl
+applied_whole change.GivesAllUp p reply words other = refl
+applied_whole (change.SetsProcess word inherit) p reply words other = absurd (other word inherit refl)

@@ -21,15 +21,15 @@ use Rattle.ob_model.specs.PendingOpens.{face_of, pending_of}
 use Rattle.ob_model.specs.Sound.{IsSound}
 use Rattle.ob_model.specs.Step.{Step}
 use Rattle.ob_model.proofs.Steps.{step_sound}
-use Rattle.ob_begun.specs.declared.begun.Begun.{Begun}
-use Rattle.ob_begun.specs.declared.begun.Begun.TheVariants as begun
-use Rattle.ob_begun.specs.Begun.{AreAwaited, answer_in, with_begun, without}
-use Rattle.ob_begun.proofs.Awaited.{falters_all_await}
-use Rattle.ob_begun.proofs.Numbers.{ticket_is_next}
-use Rattle.ob_begun.proofs.Pending.{IsNoEnd, step_pending}
-use Rattle.ob_complete.specs.Completes.{Leads, HasRun, Completes, GivesUp, Falters}
-use Rattle.ob_complete.proofs.Chains.{falters_sound, gives_up_sound}
-use Rattle.ob_complete.proofs.Fewer.{BeginsFor, WaitsFor, start_begins, step_begins}
+use Rattle.ob_runner.specs.declared.begun.Begun.{Begun}
+use Rattle.ob_runner.specs.declared.begun.Begun.TheVariants as begun
+use Rattle.ob_runner.specs.Begun.{AreAwaited, answer_in, with_begun, without}
+use Rattle.ob_runner.proofs.Awaited.{falters_all_await}
+use Rattle.ob_runner.proofs.Numbers.{ticket_is_next}
+use Rattle.ob_runner.proofs.Pending.{IsNoEnd, step_pending}
+use Rattle.ob_runner.specs.Completes.{Leads, HasRun, Completes, GivesUp, Falters}
+use Rattle.ob_runner.proofs.Chains.{falters_sound, gives_up_sound}
+use Rattle.ob_runner.proofs.Fewer.{BeginsFor, WaitsFor, start_begins, step_begins}
 use Rattle.ob_types.specs.Parse.{ToRun}
 use Rattle.ob_standard.specs.Standard.{StandardKind, StandardFace, standard}
 use Rattle.ob_parts.specs.declared.kind.KindForm.{KindForm}
@@ -73,12 +73,12 @@ found_ticket n (y ∷ ys) x e = go (y.ticket == n) refl e (found_ticket n ys x)
 
 pub is_drawn : (s : Space) (n p : ℕ) → IsSound s → WaitsUnder s n p → n < s.next_id
 is_drawn s n p sound (x, face, found, has, theirs, parses) =
-    subst (λ k. k < s.next_id) (found_ticket n s.pending x found) (found_all (λ y. y.ticket < s.next_id) (λ y. y.ticket == n) s.pending x sound.ticketed found)
+    subst (λ k. k < s.next_id) (found_ticket n s.pending x found) (found_all (λ y. y.ticket < s.next_id) (λ y. y.ticket == n) s.pending x sound.pending.ticketed found)
 
 -- the ticket of what waits is no object's number, and so none is 0
 pub is_some : (s : Space) (n p : ℕ) → IsSound s → WaitsUnder s n p → n ≢ 0
 is_some s n p sound (x, face, found, has, theirs, parses) none =
-    let above : x.object < x.ticket = found_all (λ y. y.object < y.ticket) (λ y. y.ticket == n) s.pending x sound.later found in
+    let above : x.object < x.ticket = found_all (λ y. y.object < y.ticket) (λ y. y.ticket == n) s.pending x sound.pending.later found in
     omega (arith, above, found_ticket n s.pending x found, none)
 
 -- what begins to wait

@@ -7,8 +7,8 @@ use Rattle.ob_model.specs.declared.reply.ParseRun.TheVariants as run
 use Rattle.ob_model.specs.Refusals.{answers}
 use Rattle.ob_model.specs.Sound.{IsSound}
 use Rattle.ob_model.specs.Step.{Step}
-use Rattle.ob_begun.specs.declared.begun.Begun.{Begun}
-use Rattle.ob_begun.specs.Begun.{answer_in, with_begun, without}
+use Rattle.ob_runner.specs.declared.begun.Begun.{Begun}
+use Rattle.ob_runner.specs.Begun.{answer_in, with_begun, without}
 use Rattle.ob_parts.specs.declared.kind.KindForm.{KindForm}
 use Rattle.ob_lines.specs.declared.pending.PendingForm.TheVariants as pending
 use Rattle.ob_parts.specs.declared.name.NameForm.{NameForm}

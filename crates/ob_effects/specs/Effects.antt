@@ -9,14 +9,14 @@ use Rattle.ob_model.specs.declared.reply.Event.{Event}
 use Rattle.ob_model.specs.declared.reply.Event.TheVariants.{Start}
 use Rattle.ob_model.specs.declared.reply.Reply.{Reply}
 use Rattle.ob_model.specs.Step.{Step}
-use Rattle.ob_complete.specs.Completes.{Completes, Falters}
+use Rattle.ob_runner.specs.Completes.{Completes, Falters}
 use Rattle.ob_standard.specs.Standard.{StandardKind, standard}
 use Rattle.ob_lines.specs.declared.form.Form.{Form}
 use Rattle.ob_lines.specs.declared.form.Form.TheVariants.{Nothing, Stat, Asks, Waits}
 use Rattle.ob_lines.specs.declared.pending.PendingForm.{PendingForm}
 use Rattle.ob_lines.specs.declared.request.Request.{Request}
-use Rattle.ob_effects.specs.declared.outcome.Outcome.{Outcome}
-use Rattle.ob_effects.specs.declared.outcome.Outcome.TheVariants as outcome
+use Rattle.ob_effects.specs.declared.outcome.LineOutcome.{LineOutcome}
+use Rattle.ob_effects.specs.declared.outcome.LineOutcome.TheVariants as outcome
 use Rattle.ob_effects.specs.declared.notice.Notice.{Notice}
 use Rattle.ob_effects.specs.declared.notice.Notice.TheVariants as notice
 use Rattle.ob_requests.specs.Words.{Words}
@@ -63,7 +63,7 @@ abbrev pub MakesStep : PendingForm (List ℕ) → ℕ → Words → Type 0
 MakesStep pending process words = told_instead pending (is_waiting words process (word_of pending)) ≡ None
 
 -- what became of a request of a process, and what it left: its reply, or that it found no memory
-abbrev pub IsRequestDone : Request (List ℕ) → ℕ → Words → Space → Outcome → Words → Space → Type 0
+abbrev pub IsRequestDone : Request (List ℕ) → ℕ → Words → Space → LineOutcome → Words → Space → Type 0
 IsRequestDone request process words s outcome.Idle words' s' = ⊥
 IsRequestDone request process words s (outcome.Counted counts) words' s' = ⊥
 IsRequestDone request process words s (outcome.Replied reply) words' s' = IsAnswered request process words s reply words' s'
@@ -74,7 +74,7 @@ IsRequestDone request process words s outcome.NoMemory words' s' = IsUnanswered 
 
 -- what became of a line of an open that waits: its reply, or that it waits, or what was told in place of a step, or that
 -- it found no memory
-abbrev pub IsWaitDone : PendingForm (List ℕ) → ℕ → Words → Space → Outcome → Words → Space → Type 0
+abbrev pub IsWaitDone : PendingForm (List ℕ) → ℕ → Words → Space → LineOutcome → Words → Space → Type 0
 IsWaitDone pending process words s outcome.Idle words' s' = ⊥
 IsWaitDone pending process words s (outcome.Counted counts) words' s' = ⊥
 IsWaitDone pending process words s (outcome.Replied reply) words' s' =
@@ -87,7 +87,7 @@ IsWaitDone pending process words s outcome.NoLine words' s' = ⊥
 IsWaitDone pending process words s outcome.NoMemory words' s' = MakesStep pending process words × IsStopped pending process words s words' s'
 
 -- what became of a line of this form, and what it left; none: a line that is no script line
-abbrev pub IsDone : Option (Form (List ℕ)) → Words → Space → Outcome → Words → Space → Type 0
+abbrev pub IsDone : Option (Form (List ℕ)) → Words → Space → LineOutcome → Words → Space → Type 0
 IsDone None words s o words' s' = (o ≡ outcome.NoLine) × (words' ≡ words) × (s' ≡ s)
 IsDone (Some Nothing) words s o words' s' = (o ≡ outcome.Idle) × (words' ≡ words) × (s' ≡ s)
 IsDone (Some Stat) words s o words' s' = (o ≡ outcome.Counted (counts_of s)) × (words' ≡ words) × (s' ≡ s)

@@ -7,12 +7,12 @@ use Rattle.ob_model.specs.declared.state.Pending.{Pending}
 use Rattle.ob_model.specs.PendingOpens.{face_of, pending_of}
 use Rattle.ob_standard.specs.Standard.{StandardKind, Standard, StandardFace, standard, IsFresh}
 use Rattle.ob_model.specs.Opening.{opening}
-use Rattle.ob_begun.specs.Begun.{AreAwaited, tickets_of}
-use Rattle.ob_begun.specs.declared.begun.Begun.{Begun}
-use Rattle.ob_begun.specs.declared.begun.Begun.TheVariants as begun
+use Rattle.ob_runner.specs.Begun.{AreAwaited, tickets_of}
+use Rattle.ob_runner.specs.declared.begun.Begun.{Begun}
+use Rattle.ob_runner.specs.declared.begun.Begun.TheVariants as begun
 use Rattle.ob_effects.specs.declared.session.Session.{Session}
-use Rattle.ob_effects.specs.declared.outcome.Outcome.{Outcome}
-use Rattle.ob_effects.specs.declared.outcome.Outcome.TheVariants as outcome
+use Rattle.ob_effects.specs.declared.outcome.LineOutcome.{LineOutcome}
+use Rattle.ob_effects.specs.declared.outcome.LineOutcome.TheVariants as outcome
 use Rattle.ob_requests.specs.Tables.{words_in}
 use Rattle.ob_requests.specs.Words.{Words, first_words}
 use Rattle.ob_standard_core.specs.Machine.{Space}
@@ -53,7 +53,7 @@ abbrev pub IsFirst : Session → Type 0
 IsFirst session = (words_of session ≡ first_words) × ((first : Standard) × IsFresh first × (space_of session ≡ opening first))
 
 -- what became of a line, told of what became of its open; an error: it found no memory
-abbrev pub outcome_of : {E : Type 0} → Result Begun E → Outcome
+abbrev pub outcome_of : {E : Type 0} → Result Begun E → LineOutcome
 outcome_of (Ok (begun.Replied reply)) = outcome.Replied reply
 outcome_of (Ok (begun.Waits n)) = outcome.Pending
 outcome_of (Err fault) = outcome.NoMemory

@@ -1,4 +1,4 @@
-pub use Rattle.ob_begun.specs.Begun
+pub use Rattle.ob_runner.specs.Begun
 pub use Rattle.ob_standard_core.specs.Machine
 pub mod Waiting
 pub mod Effects

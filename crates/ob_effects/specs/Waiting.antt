@@ -12,8 +12,8 @@ use Rattle.ob_model.specs.declared.reply.Event.TheVariants.{Start, Resume, Aband
 use Rattle.ob_model.specs.declared.reply.ParseRun.{ParseRun}
 use Rattle.ob_model.specs.declared.reply.ParseRun.TheVariants as run
 use Rattle.ob_model.specs.Refusals.{answers}
-use Rattle.ob_complete.specs.Completes.{Made, HasRun, GivesUp, Falters}
-use Rattle.ob_begun.specs.Begun.{GivesAllUp}
+use Rattle.ob_runner.specs.Completes.{Made, HasRun, GivesUp, Falters}
+use Rattle.ob_runner.specs.Begun.{GivesAllUp}
 use Rattle.ob_standard.specs.Standard.{StandardKind, standard}
 use Rattle.ob_lines.specs.declared.pending.PendingForm.{PendingForm}
 use Rattle.ob_lines.specs.declared.pending.PendingForm.TheVariants.{Begin, End, Drop}

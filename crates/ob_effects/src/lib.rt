@@ -8,5 +8,5 @@ mod session;
 mod waiting;
 
 pub use notice::Notice;
-pub use outcome::Outcome;
+pub use outcome::LineOutcome;
 pub use session::Session;

@@ -2,15 +2,15 @@
 
 use crate::notice::Notice;
 use ob_model::Reply;
-use ob_output::Counts;
+use ob_output::Totals;
 
 /// What became of a line of a script. (this profile)
 #[derive(Debug, Drop)]
-pub enum Outcome {
+pub enum LineOutcome {
     /// It does nothing.
     Idle,
     /// It told what the namespace counts.
-    Counted(Counts),
+    Counted(Totals),
     /// Its command was answered, or the open that waited.
     Replied(Reply),
     /// Its open waits for a parse.

@@ -8,8 +8,8 @@ ghost use Rattle.ob_effects.specs.Effects.{IsAnswered, IsUnanswered, IsRequestDo
 ghost use Rattle.ob_effects.specs.Kept.{IsFirst, IsSession, space_of, words_of};
 ghost use Rattle.ob_effects.specs.Waiting.{Steps, GiveAllUp};
 
-use crate::asking::{ask, begin_child, give_all_up, give_up, set_word, turn_page};
-use crate::outcome::Outcome;
+use crate::asking::{ask, begin_child};
+use crate::outcome::LineOutcome;
 use ob_base::Proc;
 use ob_lines::{Change, Form, Request, change_of};
 use ob_model::Reply;
@@ -43,16 +43,17 @@ impl Session {
 
     /// Does what a line of this form says; none: a line that is no script line, which does nothing. What wants memory
     /// comes before the first step, or its open is given up: so no reply is lost. (this profile)
-    pub fn perform(&mut self, form: Option<Form<&[u8]>>) -> Outcome
+    pub fn perform(&mut self, form: Option<Form<&[u8]>>) -> LineOutcome
         requires kept { IsSession self.old }
         requires texts { IfSome form (λ form. FormHasTexts (form_seen form)) }
         ensures kept { IsSession self.new }
-        ensures done { IsDone (found_seen form.entry) (words_of self.old) (space_of self.old) result (words_of self.new) (space_of self.new) }
+        ensures done { IsDone (found_seen form.entry) (words_of self.old) (space_of self.old) result
+            (words_of self.new) (space_of self.new) }
     {
         match form {
-            None => Outcome::NoLine,
-            Some(Form::Nothing) => Outcome::Idle,
-            Some(Form::Stat) => Outcome::Counted(self.core.counts()),
+            None => LineOutcome::NoLine,
+            Some(Form::Nothing) => LineOutcome::Idle,
+            Some(Form::Stat) => LineOutcome::Counted(self.core.counts()),
             Some(Form::Asks { process, request }) => {
                 let process = self.words.process_of(process);
                 self.answer(process, request)
@@ -79,16 +80,17 @@ impl Session {
     }
 
     // What became of the request of a process.
-    fn answer(&mut self, process: Proc, request: Request<&[u8]>) -> Outcome
+    fn answer(&mut self, process: Proc, request: Request<&[u8]>) -> LineOutcome
         requires kept { IsSession self.old }
         requires texts { HasTexts (request_seen request) }
         ensures kept { IsSession self.new }
-        ensures done { IsRequestDone (request_seen request.entry) process (words_of self.old) (space_of self.old) result (words_of self.new) (space_of self.new) }
+        ensures done { IsRequestDone (request_seen request.entry) process (words_of self.old)
+            (space_of self.old) result (words_of self.new) (space_of self.new) }
     {
         self.core.state_is_sound();
         match reply_to(&mut self.core, &mut self.words, process, request) {
-            Ok(reply) => Outcome::Replied(reply),
-            Err(_) => Outcome::NoMemory,
+            Ok(reply) => LineOutcome::Replied(reply),
+            Err(_) => LineOutcome::NoMemory,
         }
     }
 }
@@ -102,24 +104,23 @@ fn reply_to(
     request: Request<&[u8]>,
 ) -> Result<Reply, AllocError>
     requires { HasTexts (request_seen request) }
-    ensures answered { IfOk result (λ reply. IsAnswered (request_seen request.entry) process (words_in words.old) core.old
+    ensures answered { IfOk result (λ reply.
+        IsAnswered (request_seen request.entry) process (words_in words.old) core.old
         reply (words_in words.new) core.new) }
-    ensures wanting { OnErr result (IsUnanswered (request_seen request.entry) process (words_in words.old) core.old core.new) }
+    ensures wanting { OnErr result (IsUnanswered (request_seen request.entry) process
+        (words_in words.old) core.old core.new) }
     ensures kept { OnErr result (words_in words.new ≡ words_in words.old) }
 {
-    match change_of(request) {
-        Change::Nothing => ask(core, words, process, request),
-        Change::Sets(word) => set_word(core, words, process, request, process, word),
-        Change::SetsFor { process: to, word } => {
-            let to = words.process_of(to);
-            set_word(core, words, process, request, to, word)
-        }
-        Change::GivesUp(word) => give_up(core, words, process, request, word),
-        Change::GivesAllUp => give_all_up(core, words, process, request),
-        Change::TurnsPage(word) => turn_page(core, words, process, request, word),
-        Change::SetsProcess {
-            process: child,
-            inherit,
-        } => begin_child(core, words, process, request, child, inherit),
+    let change = change_of(request);
+    words.make_room(process, change)?;
+    if let Change::SetsProcess {
+        process: child,
+        inherit,
+    } = change
+    {
+        return begin_child(core, words, process, request, child, inherit);
     }
+    let reply = ask(core, words, process, request)?;
+    words.apply(process, change, &reply);
+    Ok(reply)
 }

@@ -2,7 +2,7 @@
 
 ghost use Rattle.std.specs.Prelude.{◌≡◌, ◌==◌, ◌⊎◌, true, IfOk, OnErr};
 ghost use Rattle.std.specs.List.{list_any};
-ghost use Rattle.ob_begun.specs.Begun.{AreAwaited, answer_in, tickets_of, with_begun, without};
+ghost use Rattle.ob_runner.specs.Begun.{AreAwaited, answer_in, tickets_of, with_begun, without};
 ghost use Rattle.ob_lines.specs.Grammar.{PendingHasTexts, pending_seen};
 ghost use Rattle.ob_parts.specs.Parts.{name_seen, text_of};
 ghost use Rattle.ob_parts.specs.Text.{IsText};
@@ -13,24 +13,24 @@ ghost use Rattle.ob_effects.specs.Kept.{IsSession, outcome_of, space_of, words_o
 ghost use Rattle.ob_requests.specs.Words.{with_ticket};
 ghost use Rattle.ob_effects.specs.Waiting.{words_answered};
 
-use crate::asking::given_handle;
 use crate::notice::Notice;
-use crate::outcome::Outcome;
+use crate::outcome::LineOutcome;
 use crate::session::Session;
 use ob_base::{Proc, Status};
 use ob_lines::{KindForm, NameForm, PendingForm, Request};
 use ob_model::{Given, Reply};
-use ob_requests::{Asker, Words, command_of};
+use ob_requests::{Asker, Words, command_of, given_handle};
 use ob_standard_core::{Begun, StandardCore, StandardWaits};
 use std::alloc::AllocError;
 
 impl Session {
     // What became of a line of a process for an open that waits.
-    pub(crate) fn carry_on(&mut self, process: Proc, pending: PendingForm<&[u8]>) -> Outcome
+    pub(crate) fn carry_on(&mut self, process: Proc, pending: PendingForm<&[u8]>) -> LineOutcome
         requires kept { IsSession self.old }
         requires texts { PendingHasTexts (pending_seen pending) }
         ensures kept { IsSession self.new }
-        ensures done { IsWaitDone (pending_seen pending.entry) process (words_of self.old) (space_of self.old) result (words_of self.new) (space_of self.new) }
+        ensures done { IsWaitDone (pending_seen pending.entry) process (words_of self.old)
+            (space_of self.old) result (words_of self.new) (space_of self.new) }
     {
         match pending {
             PendingForm::Begin {
@@ -45,14 +45,16 @@ impl Session {
     }
 
     // Begins an open under a word of a process, under which none waits.
-    fn begin(&mut self, process: Proc, asked: OpenForm<'_>, word: &[u8]) -> Outcome
+    fn begin(&mut self, process: Proc, asked: OpenForm<'_>, word: &[u8]) -> LineOutcome
         requires kept { IsSession self.old }
         requires text { IsText (text_of (name_seen (asked.1))) }
         ensures kept { IsSession self.new }
-        ensures done { IsWaitDone (Begin (asked.entry.0) (name_seen (asked.entry.1)) (asked.entry.2) word.now) process (words_of self.old) (space_of self.old) result (words_of self.new) (space_of self.new) }
+        ensures done { IsWaitDone (Begin (asked.entry.0) (name_seen (asked.entry.1))
+            (asked.entry.2) word.now) process (words_of self.old) (space_of self.old) result
+            (words_of self.new) (space_of self.new) }
     {
         if self.words.ticket_of(process, word) != 0 {
-            return Outcome::Told(Notice::Busy);
+            return LineOutcome::Told(Notice::Busy);
         }
         self.core.state_is_sound();
         outcome_of(begin_under(
@@ -66,14 +68,15 @@ impl Session {
     }
 
     // Ends the open that waits under a word of a process: its parse is run, and brought.
-    fn end_under(&mut self, process: Proc, word: &[u8]) -> Outcome
+    fn end_under(&mut self, process: Proc, word: &[u8]) -> LineOutcome
         requires kept { IsSession self.old }
         ensures kept { IsSession self.new }
-        ensures done { IsWaitDone (End word.now) process (words_of self.old) (space_of self.old) result (words_of self.new) (space_of self.new) }
+        ensures done { IsWaitDone (End word.now) process (words_of self.old)
+            (space_of self.old) result (words_of self.new) (space_of self.new) }
     {
         let ticket = self.words.ticket_of(process, word);
         if ticket == 0 {
-            return Outcome::Told(Notice::NoPending);
+            return LineOutcome::Told(Notice::NoPending);
         }
         self.core.state_is_sound();
         outcome_of(end_waiting(
@@ -88,20 +91,21 @@ impl Session {
 
     // Gives up the open that waits under a word of a process, whose parse isn't run. A handle that the word held stays
     // open, and is no longer named.
-    fn drop_under(&mut self, process: Proc, word: &[u8]) -> Outcome
+    fn drop_under(&mut self, process: Proc, word: &[u8]) -> LineOutcome
         requires kept { IsSession self.old }
         ensures kept { IsSession self.new }
-        ensures done { IsWaitDone (Drop word.now) process (words_of self.old) (space_of self.old) result (words_of self.new) (space_of self.new) }
+        ensures done { IsWaitDone (Drop word.now) process (words_of self.old)
+            (space_of self.old) result (words_of self.new) (space_of self.new) }
     {
         let ticket = self.words.ticket_of(process, word);
         if ticket == 0 {
-            return Outcome::Told(Notice::NoPending);
+            return LineOutcome::Told(Notice::NoPending);
         }
         self.core.state_is_sound();
         self.waits.abandon(&mut self.core, ticket);
         self.words.clear_ticket(process, word);
         self.words.give_up(process, word);
-        Outcome::Replied(Reply {
+        LineOutcome::Replied(Reply {
             status: Status::Success,
             given: Given::Nothing,
         })
@@ -112,13 +116,13 @@ impl Session {
 type OpenForm<'a> = (Option<KindForm>, NameForm<&'a [u8]>, u32);
 
 // What became of a line, told of what became of its open.
-fn outcome_of(begun: Result<Begun, AllocError>) -> Outcome
+fn outcome_of(begun: Result<Begun, AllocError>) -> LineOutcome
     ensures { result ≡ outcome_of begun }
 {
     match begun {
-        Ok(Begun::Replied(reply)) => Outcome::Replied(reply),
-        Ok(Begun::Waits(_)) => Outcome::Pending,
-        Err(_) => Outcome::NoMemory,
+        Ok(Begun::Replied(reply)) => LineOutcome::Replied(reply),
+        Ok(Begun::Waits(_)) => LineOutcome::Pending,
+        Err(_) => LineOutcome::NoMemory,
     }
 }
 
@@ -134,10 +138,14 @@ fn begin_under(
     requires awaited { AreAwaited core.old waits.old }
     requires text { IsText (text_of (name_seen (asked.1))) }
     ensures awaited { AreAwaited core.new waits.new }
-    ensures carried { IfOk result (λ begun. IsCarried (Begin (asked.entry.0) (name_seen (asked.entry.1)) (asked.entry.2) word.now) process (words_in words.old) core.old
+    ensures carried { IfOk result (λ begun.
+        IsCarried (Begin (asked.entry.0) (name_seen (asked.entry.1))
+        (asked.entry.2) word.now) process (words_in words.old) core.old
         (answer_in begun) (words_in words.new) core.new) }
-    ensures tickets { IfOk result (λ begun. tickets_of waits.new ≡ with_begun begun (tickets_of waits.old)) }
-    ensures stopped { OnErr result (IsStopped (Begin (asked.entry.0) (name_seen (asked.entry.1)) (asked.entry.2) word.now) process (words_in words.old) core.old
+    ensures tickets { IfOk result (λ begun. tickets_of waits.new
+        ≡ with_begun begun (tickets_of waits.old)) }
+    ensures stopped { OnErr result (IsStopped (Begin (asked.entry.0) (name_seen (asked.entry.1))
+        (asked.entry.2) word.now) process (words_in words.old) core.old
         (words_in words.new) core.new) }
     ensures kept { OnErr result (tickets_of waits.new ≡ tickets_of waits.old) }
 {
@@ -169,11 +177,17 @@ fn end_waiting(
     requires there { list_any (λ n. n == ticket) (tickets_of waits.old) ≡ true }
     requires under { (words_in words.old).tickets process word.now ≡ ticket }
     ensures awaited { AreAwaited core.new waits.new }
-    ensures carried { IfOk result (λ begun. IsCarried (End word.now) process (words_in words.old) core.old (answer_in begun) (words_in words.new) core.new) }
-    ensures tickets { IfOk result (λ begun. tickets_of waits.new ≡ with_begun begun (without ticket (tickets_of waits.old))) }
-    ensures stopped { OnErr result (IsStopped (End word.now) process (words_in words.old) core.old (words_in words.new) core.new) }
-    ensures kept { OnErr result (((words_in words.new ≡ words_in words.old) × (tickets_of waits.new ≡ tickets_of waits.old))
-        ⊎ ((words_in words.new ≡ with_ticket (words_in words.old) process word.now 0) × (tickets_of waits.new ≡ without ticket (tickets_of waits.old)))) }
+    ensures carried { IfOk result (λ begun.
+        IsCarried (End word.now) process (words_in words.old) core.old (answer_in begun)
+        (words_in words.new) core.new) }
+    ensures tickets { IfOk result (λ begun. tickets_of waits.new
+        ≡ with_begun begun (without ticket (tickets_of waits.old))) }
+    ensures stopped { OnErr result (IsStopped (End word.now) process (words_in words.old) core.old
+        (words_in words.new) core.new) }
+    ensures kept { OnErr result (((words_in words.new ≡ words_in words.old)
+        × (tickets_of waits.new ≡ tickets_of waits.old))
+        ⊎ ((words_in words.new ≡ with_ticket (words_in words.old) process word.now 0)
+        × (tickets_of waits.new ≡ without ticket (tickets_of waits.old)))) }
 {
     words.room_for_handle(process, word)?;
     words.room_for_ticket(process, word)?;
@@ -193,7 +207,8 @@ fn end_waiting(
 fn keep(words: &mut Words, process: Proc, word: &[u8], begun: &Begun)
     requires handle { HasRoom words.old.handles process word.now }
     requires ticket { HasRoom words.old.tickets process word.now }
-    ensures { words_in words.new ≡ words_answered (words_in words.old) process word.now (answer_in begun.now) }
+    ensures { words_in words.new
+        ≡ words_answered (words_in words.old) process word.now (answer_in begun.now) }
 {
     match begun {
         Begun::Replied(reply) => {

@@ -45,9 +45,19 @@ pub trait HandleTable: Sized + Drop + Send {
         requires newest { All (λ h. h.order < order) (handles self.old) }
         ensures unused { IfOk result (λ value. IsUnused (handles self.old) value) }
         ensures last { IfOk result (λ value. handles self.new
-            ≡ handles self.old ++ record { process = process; value = value; object = object; inherit = inherit; order = order } ∷ []) }
-        ensures full { most_handles ≤ length (handles self.old) → result ≡ Err (Refused InsufficientResources) }
-        ensures refused { IfErr result (λ fault. (fault ≡ Memory) ⊎ (most_handles ≤ length (handles self.old))) }
+            ≡ handles self.old
+            ++ record {
+              process = process;
+              value = value;
+              object = object;
+              inherit = inherit;
+              order
+                  = order;
+            } ∷ []) }
+        ensures full { most_handles ≤ length (handles self.old) → result
+            ≡ Err (Refused InsufficientResources) }
+        ensures refused { IfErr result (λ fault. (fault ≡ Memory)
+            ⊎ (most_handles ≤ length (handles self.old))) }
         ensures unchanged { OnErr result (handles self.new ≡ handles self.old) };
 
     /// Opens a handle under a value that is given, as a child does that inherits it. The value must be

@@ -25,7 +25,7 @@ fn copy_place(alloc: Global, place: &Place) -> Result<Place, AllocError>
     }
 }
 
-/// A copy of a command. The only error is want of memory. (this profile)
+/// A copy of a command. The only error is out of memory. (this profile)
 pub fn copy_command<K: Copy>(alloc: Global, command: &Command<K>) -> Result<Command<K>, AllocError>
     ensures { IfOk result (λ copy. copy ≡ command.now) }
 {
@@ -169,7 +169,7 @@ fn copy_given(alloc: Global, given: &Given) -> Result<Given, AllocError>
     }
 }
 
-/// A copy of a reply. The only error is want of memory. (this profile)
+/// A copy of a reply. The only error is out of memory. (this profile)
 pub fn copy_reply(alloc: Global, reply: &Reply) -> Result<Reply, AllocError>
     ensures { IfOk result (λ copy. copy ≡ reply.now) }
 {

@@ -24,5 +24,6 @@ impl<K> Model for Entry<K> {
 
     ghost Value = { run.Entry K };
 
-    ghost view = { λ e. record { number = e.number; seat = e.seat; event = e.step; answer = e.reply } };
+    ghost view = { λ e.
+        record { number = e.number; seat = e.seat; event = e.step; answer = e.reply } };
 }

@@ -13,7 +13,7 @@ use serde_json::{Value, json};
 use std::alloc::{AllocError, Global};
 
 /// The first line of a journal of version 1: `{"journal":1,"seats":S}` and LF, where S is the number of seats. A journal has 1
-/// to 1,024 seats, which isn't judged here. The only error is want of memory. (RFC 8259; the keys: this profile)
+/// to 1,024 seats, which isn't judged here. The only error is out of memory. (RFC 8259; the keys: this profile)
 pub fn write_header(alloc: Global, seats: u32) -> Result<Vec<u8>, AllocError>
     ensures { IfOk result (λ line. line.items ≡ header_line seats) }
 {
@@ -22,7 +22,7 @@ pub fn write_header(alloc: Global, seats: u32) -> Result<Vec<u8>, AllocError>
 }
 
 /// The line of an entry: a compact JSON object with its keys in rising order, and LF. The number and the seat are written as they
-/// are, and so is what was asked. The only error is want of memory. (RFC 8259; the keys: this profile)
+/// are, and so is what was asked. The only error is out of memory. (RFC 8259; the keys: this profile)
 pub fn write_line<T: TypeSet>(alloc: Global, entry: &Entry<T::Kind>) -> Result<Vec<u8>, AllocError>
     ensures { IfOk result (λ line. line.items ≡ entry_line (T.procedures).type_name entry.now) }
 {
@@ -48,7 +48,8 @@ fn make_entry<T: TypeSet>(alloc: Global, entry: &Entry<T::Kind>) -> Result<Value
 
 // The line of a value, which has no floats.
 fn write_value(alloc: Global, value: &Value) -> Result<Vec<u8>, AllocError>
-    ensures { IfOk result (λ line. has_float (view value.now) ≡ false → line.items ≡ line_of (view value.now)) }
+    ensures { IfOk result (λ line. has_float (view value.now) ≡ false → line.items
+        ≡ line_of (view value.now)) }
 {
     let mut line = value.to_vec(alloc)?;
     line.push(b'\n')?;

@@ -10,7 +10,7 @@ use ob_model::{Answer, Bytes, Given, Handles, Listed, Reply};
 use serde_json::{Value, json};
 use std::alloc::{AllocError, Global};
 
-/// The value of how an event ended, under the key `reply`. The only error is want of memory. (this profile)
+/// The value of how an event ended, under the key `reply`. The only error is out of memory. (this profile)
 pub(crate) fn make_answer(alloc: Global, answer: &Answer) -> Result<Value, AllocError>
     ensures { IfOk result (λ reply. view reply ≡ answer_value answer.now) }
 {
@@ -53,7 +53,8 @@ fn make_process(
     process: Proc,
     handles: &[Handle],
 ) -> Result<Value, AllocError>
-    ensures { IfOk result (λ reply. view reply ≡ reply_value status (Given.Process process handles.now)) }
+    ensures { IfOk result (λ reply. view reply
+        ≡ reply_value status (Given.Process process handles.now)) }
 {
     let handles = make_handles(alloc, handles)?;
     json!(in alloc; {"handles": handles, "process": process.0, "status": status})
@@ -66,7 +67,8 @@ fn make_page(
     entries: &[Listed],
     context: u64,
 ) -> Result<Value, AllocError>
-    ensures { IfOk result (λ reply. view reply ≡ reply_value status (Given.Page entries.now context)) }
+    ensures { IfOk result (λ reply. view reply
+        ≡ reply_value status (Given.Page entries.now context)) }
 {
     let entries = make_entries(alloc, entries)?;
     json!(in alloc; {"context": context, "entries": entries, "status": status})

@@ -14,7 +14,7 @@ use ob_types::TypeSet;
 use serde_json::{Value, json};
 use std::alloc::{AllocError, Global};
 
-/// The value of an event, under the key `step`. The only error is want of memory. (this profile)
+/// The value of an event, under the key `step`. The only error is out of memory. (this profile)
 pub(crate) fn make_step<T: TypeSet>(
     alloc: Global,
     event: &Event<T::Kind>,
@@ -38,7 +38,8 @@ fn make_command<T: TypeSet>(
     process: Proc,
     command: &Command<T::Kind>,
 ) -> Result<Value, AllocError>
-    ensures { IfOk result (λ step. view step ≡ command_step (T.procedures).type_name process command.now) }
+    ensures { IfOk result (λ step. view step
+        ≡ command_step (T.procedures).type_name process command.now) }
 {
     match command {
         Command::CreateDirectory { place, attrs } => {
@@ -132,7 +133,8 @@ fn make_link<T: TypeSet>(
     target: &Bytes,
 ) -> Result<Value, AllocError>
     ensures { IfOk result (λ step. view step
-        ≡ command_step (T.procedures).type_name process (Command.CreateLink place.now attrs target.now)) }
+        ≡ command_step (T.procedures).type_name process
+        (Command.CreateLink place.now attrs target.now)) }
 {
     let name = make_name(alloc, place)?;
     let target = escape(alloc, target.as_slice())?;
@@ -156,7 +158,8 @@ fn make_object<T: TypeSet>(
     args: &Bytes,
 ) -> Result<Value, AllocError>
     ensures { IfOk result (λ step. view step
-        ≡ command_step (T.procedures).type_name process (Command.CreateObject place.now attrs kind args.now)) }
+        ≡ command_step (T.procedures).type_name process
+        (Command.CreateObject place.now attrs kind args.now)) }
 {
     let name = make_name(alloc, place)?;
     let args = escape(alloc, args.as_slice())?;
@@ -180,7 +183,8 @@ fn make_open(
     name: &Bytes,
     attrs: u32,
 ) -> Result<Value, AllocError>
-    ensures { IfOk result (λ step. view step ≡ open_step (operation_word operation) process root name.now attrs) }
+    ensures { IfOk result (λ step. view step
+        ≡ open_step (operation_word operation) process root name.now attrs) }
 {
     let name = escape(alloc, name.as_slice())?;
     json!(in alloc; {
@@ -202,7 +206,8 @@ fn make_open_object<T: TypeSet>(
     want: Option<T::Kind>,
 ) -> Result<Value, AllocError>
     ensures { IfOk result (λ step. view step
-        ≡ command_step (T.procedures).type_name process (Command.OpenObject root name.now attrs want)) }
+        ≡ command_step (T.procedures).type_name process
+        (Command.OpenObject root name.now attrs want)) }
 {
     let name = escape(alloc, name.as_slice())?;
     let want = make_want::<T>(alloc, want)?;
@@ -223,7 +228,8 @@ fn make_handle(
     process: Proc,
     handle: Handle,
 ) -> Result<Value, AllocError>
-    ensures { IfOk result (λ step. view step ≡ handle_step (operation_word operation) process handle) }
+    ensures { IfOk result (λ step. view step
+        ≡ handle_step (operation_word operation) process handle) }
 {
     json!(in alloc; {"handle": handle.0, "op": operation.word(), "proc": process.0})
 }
@@ -239,7 +245,8 @@ fn make_query<T: TypeSet>(
     restart: bool,
 ) -> Result<Value, AllocError>
     ensures { IfOk result (λ step. view step
-        ≡ command_step (T.procedures).type_name process (Command.QueryDirectory handle context room single restart)) }
+        ≡ command_step (T.procedures).type_name process
+        (Command.QueryDirectory handle context room single restart)) }
 {
     json!(in alloc; {
         "context": context,
@@ -295,7 +302,8 @@ fn make_brought(
     ticket: u64,
     parse: ParseRun,
 ) -> Result<Value, AllocError>
-    ensures { IfOk result (λ step. view step ≡ brought_step (operation_word operation) ticket parse) }
+    ensures { IfOk result (λ step. view step
+        ≡ brought_step (operation_word operation) ticket parse) }
 {
     json!(in alloc; {"op": operation.word(), "parse": word_of_parse(parse), "ticket": ticket})
 }

@@ -30,8 +30,8 @@ impl Model for KeyTarget {
 }
 
 impl KeyTarget {
-    /// A target with a copy of these bytes. The only error is want of memory.
-    pub fn new(alloc: Global, bytes: &[u8]) -> Result<KeyTarget, AllocError>
+    /// A target with a copy of these bytes. The only error is out of memory.
+    pub(crate) fn new(alloc: Global, bytes: &[u8]) -> Result<KeyTarget, AllocError>
         requires { IsTrue (is_profile_text bytes.now) }
         ensures { IfOk result (λ target. target ≡ bytes.now) }
     {
@@ -41,7 +41,7 @@ impl KeyTarget {
     }
 
     /// The target's bytes.
-    pub fn as_slice(&self) -> &[u8]
+    pub(crate) fn as_slice(&self) -> &[u8]
         ensures bytes { result.now ≡ self.now }
         ensures profile { IsTrue (is_profile_text result.now) }
     {
@@ -75,8 +75,8 @@ pub struct KeyEntry {
 
 impl KeyEntry {
     /// The entry that a piece of arguments says: a path, or a path and a target behind the first `>`. Either may
-    /// be empty here. The only error is want of memory. (this profile)
-    pub fn read(alloc: Global, piece: &[u8]) -> Result<KeyEntry, AllocError>
+    /// be empty here. The only error is out of memory. (this profile)
+    pub(crate) fn read(alloc: Global, piece: &[u8]) -> Result<KeyEntry, AllocError>
         requires { IsTrue (is_profile_text piece.now) }
         ensures { IfOk result (λ entry. entry ≡ entries.entry_of piece.now) }
     {
@@ -92,7 +92,7 @@ impl KeyEntry {
     }
 
     /// Whether the entry is a link.
-    pub fn is_link(&self) -> bool
+    pub(crate) fn is_link(&self) -> bool
         ensures { result ≡ entries.is_link self.now }
     {
         self.target.is_some()
@@ -100,7 +100,7 @@ impl KeyEntry {
 
     /// Whether the entry may stand in a table: its path is components joined by single backslashes, none of them
     /// empty, and a target has at least one byte. (this profile)
-    pub fn is_fit(&self) -> bool
+    pub(crate) fn is_fit(&self) -> bool
         ensures { result ≡ entries.is_fit self.now }
     {
         is_path(self.path.as_slice()) && !has_empty_target(&self.target)
@@ -108,14 +108,14 @@ impl KeyEntry {
 
     /// Whether two entries may stand in one table: their paths differ, and neither goes on behind the path of
     /// the other and a backslash where the other is a link. (this profile)
-    pub fn is_apart(&self, other: &KeyEntry) -> bool
+    pub(crate) fn is_apart(&self, other: &KeyEntry) -> bool
         ensures { result ≡ entries.are_apart self.now other.now }
     {
         self.path != other.path && !self.is_below_link(other) && !other.is_below_link(self)
     }
 
     /// Whether the other entry is a link, and this one's path goes on behind its path and a backslash.
-    pub fn is_below_link(&self, other: &KeyEntry) -> bool
+    pub(crate) fn is_below_link(&self, other: &KeyEntry) -> bool
         ensures { result ≡ entries.is_below_link self.now other.now }
     {
         other.is_link() && goes_on(self.path.as_slice(), other.path.as_slice())
@@ -123,7 +123,7 @@ impl KeyEntry {
 
     /// Whether a key is there by this entry: the key's path is the entry's, which is no link, or a front of it that
     /// ends before a backslash. (this profile)
-    pub fn makes(&self, path: &[u8]) -> bool
+    pub(crate) fn makes(&self, path: &[u8]) -> bool
         ensures { result ≡ entries.makes self.now path.now }
     {
         (!self.is_link() && self.path.as_slice() == path) || goes_on(self.path.as_slice(), path)

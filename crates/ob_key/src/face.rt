@@ -27,8 +27,8 @@ impl Model for KeyFace {
 }
 
 impl KeyFace {
-    /// The root of a table. The only error is want of memory.
-    pub fn root(alloc: Global, table: KeyTable) -> Result<KeyFace, AllocError>
+    /// The root of a table. The only error is out of memory.
+    pub(crate) fn root(alloc: Global, table: KeyTable) -> Result<KeyFace, AllocError>
         ensures { IfOk result (λ face. face ≡ record { entries = table; path = [] }) }
     {
         Ok(KeyFace {
@@ -37,8 +37,8 @@ impl KeyFace {
         })
     }
 
-    /// Another key of the same table, which is shared and not copied. The only error is want of memory.
-    pub fn at(&self, path: Path) -> Result<KeyFace, AllocError>
+    /// Another key of the same table, which is shared and not copied. The only error is out of memory.
+    pub(crate) fn at(&self, path: Path) -> Result<KeyFace, AllocError>
         ensures { IfOk result (λ face. face ≡ record { entries = self.now.entries; path = path }) }
     {
         Ok(KeyFace {
@@ -48,7 +48,7 @@ impl KeyFace {
     }
 
     /// The table of the key's root.
-    pub fn table(&self) -> &KeyTable
+    pub(crate) fn table(&self) -> &KeyTable
         ensures { result.now ≡ self.now.entries }
     {
         &self.table
@@ -62,8 +62,8 @@ impl KeyFace {
     }
 
     /// The path of a name below the key: the key's path and the name, with a backslash between them, or the name
-    /// alone below the root. The only error is want of memory. (this profile)
-    pub fn path_of(&self, alloc: Global, name: &[u8]) -> Result<Path, AllocError>
+    /// alone below the root. The only error is out of memory. (this profile)
+    pub(crate) fn path_of(&self, alloc: Global, name: &[u8]) -> Result<Path, AllocError>
         ensures { IfOk result (λ path. path ≡ entries.path_below self.now.path name.now) }
     {
         let front = self.path.as_slice();

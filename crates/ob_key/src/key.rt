@@ -2,7 +2,7 @@
 
 ghost use Rattle.std.specs.Prelude.{◌≡◌, true, refl, drop, if◌then◌else◌, IfOk};
 ghost use Rattle.std.proofs.Common.{rules};
-ghost use Rattle.ob_model.specs.Names.{begins_with_separator, is_profile_text};
+ghost use Rattle.ob_model.specs.Names.{begins_with_separator};
 ghost use Rattle.ob_types.specs.Parsing.{answer_of};
 ghost use Rattle.ob_key.specs.Key.{key_procedures, IsIdle, behind_separator, link_answer};
 ghost use Rattle.ob_key.specs.KeyLaws.{key_front, key_itself, key_parsed_idle, key_own_face, key_same_answers};
@@ -10,7 +10,7 @@ ghost use Rattle.ob_key.specs.declared.key.KeyKind.TheVariants.{Key};
 
 use crate::{KeyFace, KeyTable, KeyTarget};
 use ob_base::Fault;
-use ob_names::{Component, first, substitute};
+use ob_names::{Component, first, is_profile_text, substitute};
 use ob_plain::is_readable;
 use ob_types::{ParseAnswer, Reason, Refusal, TypeSet};
 use std::alloc::{AllocError, Global};
@@ -170,11 +170,4 @@ fn behind_separator(rest: &[u8]) -> &[u8]
     ensures { result.now ≡ behind_separator rest.now }
 {
     rest.strip_prefix(b"\\").unwrap_or(rest)
-}
-
-// Whether each byte is from 0x20 to 0x7E.
-fn is_profile_text(bytes: &[u8]) -> bool
-    ensures { result ≡ is_profile_text bytes.now }
-{
-    bytes.iter().all(|byte| matches!(byte, 0x20..=0x7E))
 }

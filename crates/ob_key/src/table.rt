@@ -33,8 +33,8 @@ impl Model for KeyTable {
 
 impl KeyTable {
     /// The entries that stand between the semicolons of arguments; empty arguments have none. They need
-    /// not be fit to stand in one table. The only error is want of memory. (this profile)
-    pub fn read(alloc: Global, args: &[u8]) -> Result<KeyTable, AllocError>
+    /// not be fit to stand in one table. The only error is out of memory. (this profile)
+    pub(crate) fn read(alloc: Global, args: &[u8]) -> Result<KeyTable, AllocError>
         requires { IsTrue (is_profile_text args.now) }
         ensures { IfOk result (λ table. table ≡ entries.entries_of args.now) }
     {
@@ -47,7 +47,7 @@ impl KeyTable {
 
     /// Whether the entries may stand in one table: each is fit, and each two are apart. The time grows with
     /// the square of the number of the entries. (this profile)
-    pub fn is_fit(&self) -> bool
+    pub(crate) fn is_fit(&self) -> bool
         ensures { result ≡ entries.is_table self.now }
     {
         all_fit(self.entries.as_slice()) && all_apart(self.entries.as_slice())
@@ -55,14 +55,14 @@ impl KeyTable {
 
     /// Whether a key of this path is there: the path is that of an entry without a target, or a front of an entry's
     /// path that ends before a backslash. (this profile)
-    pub fn is_there(&self, path: &[u8]) -> bool
+    pub(crate) fn is_there(&self, path: &[u8]) -> bool
         ensures { result ≡ entries.is_there self.now path.now }
     {
         self.entries.iter().any(|entry| entry.makes(path))
     }
 
     /// The target of the link of this path; `None` where no link has it. (this profile)
-    pub fn target_of(&self, path: &[u8]) -> Option<&KeyTarget>
+    pub(crate) fn target_of(&self, path: &[u8]) -> Option<&KeyTarget>
         ensures { option_copied result ≡ entries.target_of self.now path.now }
     {
         link_of(self.entries.as_slice(), path)?.target.as_ref()

@@ -10,7 +10,8 @@ use Rattle.std.proofs.lemmas.List.Sums.{count_by-le-length, length-filter}
 use Rattle.ob_model.specs.declared.state.Held.{Held}
 use Rattle.ob_model.specs.declared.state.Process.{Process}
 use Rattle.ob_model.specs.State.{State, process_of, table_size, most_handles, greatest_process}
-use Rattle.ob_model.specs.Procedures.{Procedures, Inherited}
+use Rattle.ob_model.specs.declared.terms.Reason.TheVariants.{Inherited}
+use Rattle.ob_model.specs.Procedures.{Procedures}
 use Rattle.ob_model.specs.Grants.{open_refusal, with_open, with_handle}
 use Rattle.ob_model.specs.Closing.{is_handle}
 use Rattle.ob_model.specs.Processes.{most_processes, handles_in, values_in, inherited_from, with_child, without_process, inherits_one, inherits, begun}
@@ -144,7 +145,7 @@ all_inherited s p inherit e = same (handles_in s p) ∙ sym (ap (inherited_from 
 pub no_child : {K T F I : Type 0} (s : State K T F I) → IsSound s → All (λ h. (h.process == s.next_process) ≡ false) s.handles
 no_child s sound k d within =
     let h = get_or s.handles k d in
-    let less = live_numbered s.processes s.next_process h.process sound.numbered (sound.live k d within) in
+    let less = live_numbered s.processes s.next_process h.process sound.processes.numbered (sound.handles.live k d within) in
     ne_eqb h.process s.next_process (λ same. omega (arith, less, same))
 
 -- what is left of a list behind one of its elements, where any two differ

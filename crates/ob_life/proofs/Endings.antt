@@ -29,10 +29,10 @@ use Rattle.ob_processes.proofs.Entries.{filter_both, find_first}
 use Rattle.ob_processes.proofs.Seen.{none_passes}
 use Rattle.ob_space.specs.Namespace.{Parts, state_of}
 use Rattle.ob_space.specs.Orderly.{IsOrderly}
-use Rattle.ob_space.specs.Settling.{is_held_up, StaysBut}
-use Rattle.ob_space.proofs.Closed.{held_alone}
+use Rattle.ob_life.specs.Settling.{is_held_up, StaysBut}
+use Rattle.ob_life.proofs.HandleClosed.{held_alone}
 use Rattle.ob_space.proofs.Handles.{few_of_all}
-use Rattle.ob_space.proofs.Judged.{all_found}
+use Rattle.ob_life.proofs.Judged.{all_found}
 use Rattle.ob_space.proofs.Orders.{any_stays, closed_orderly}
 use Rattle.ob_life.proofs.Beginnings.{parted_orderly}
 
@@ -90,7 +90,7 @@ module _ {K T F I : Type 0} (g : Procedures K T F I) where
 
     apart : All (λ k. is_handle h.process h.value k ≡ false) hs
     apart k d below =
-        subst (AllPairs (λ a b. is_handle a.process a.value b ≡ false)) in_turn (AllPairs-filter (λ a b. is_handle a.process a.value b ≡ false) (λ k. k.process == p) s.handles sound.distinct)
+        subst (AllPairs (λ a b. is_handle a.process a.value b ≡ false)) in_turn (AllPairs-filter (λ a b. is_handle a.process a.value b ≡ false) (λ k. k.process == p) s.handles sound.handles.distinct)
         0 (suc k) d (omega arith) (omega (arith, below))
 
     itself : is_handle h.process h.value h ≡ true
@@ -140,7 +140,7 @@ module _ {K T F I : Type 0} (g : Procedures K T F I) where
     }
 
     first_held : held_of s h.process h.value ≡ Some h
-    first_held = found_itself s.handles sound.distinct (find_first (λ k. k.process == p) s.handles ∙ ap (λ xs. slice_get xs 0) in_turn)
+    first_held = found_itself s.handles sound.handles.distinct (find_first (λ k. k.process == p) s.handles ∙ ap (λ xs. slice_get xs 0) in_turn)
       where
         -- a handle that a process holds is found under its value
         found_itself : (hs : List Held) → AllPairs (λ a b. is_handle a.process a.value b ≡ false) hs → find (λ k. k.process == p) hs ≡ Some h → find (is_handle h.process h.value) hs ≡ Some h
@@ -294,7 +294,7 @@ module _ {K T F I : Type 0} (s : State K T F I) (p : ℕ) (sound : IsSound s) (s
 
       go : (o : Option Process) → process_of s p ≡ o → MatchOption (option_and_then (λ x. x.map) o) (Unit {0}) (IsDirectory s)
       go None e = tt
-      go (Some x) e = all_found (HasSoundMap s) (λ y. y.number == p) s.processes x sound.maps e
+      go (Some x) e = all_found (HasSoundMap s) (λ y. y.number == p) s.processes x sound.processes.maps e
 
 -- ---- a namespace
 
@@ -302,7 +302,7 @@ module _ {K T F I : Type 0} (s : State K T F I) (p : ℕ) (sound : IsSound s) (s
 pub no_handles : {K T F I : Type 0} (s : State K T F I) (p : ℕ) → IsSound s → is_live s p ≡ false → handles_in s p ≡ []
 no_handles s p sound dead =
     filter_none (λ h. h.process == p) s.handles
-    (λ k d below. is_false ((get_or s.handles k d).process == p) (λ own. false≢true (sym dead ∙ ap (is_live s) (sym (eqb-true (get_or s.handles k d).process p own)) ∙ sound.live k d below)))
+    (λ k d below. is_false ((get_or s.handles k d).process == p) (λ own. false≢true (sym dead ∙ ap (is_live s) (sym (eqb-true (get_or s.handles k d).process p own)) ∙ sound.handles.live k d below)))
 
 -- and nothing goes with it
 pub none_goes : (K : Type 0) {T F I : Type 0} (a : Parts K T F I) (p : ℕ) (running : Running) → IsSound (state_of K a) → is_live (state_of K a) p ≡ false
@@ -365,7 +365,7 @@ module _ (K : Type 0) {T F I : Type 0} (g : Procedures K T F I) (a : Parts K T F
 pub few_handles : {K T F I : Type 0} (idle : I → Type 0) (s : State K T F I) (p : ℕ) (hs others : List Held) → IsSound s → IsOrderly idle s → hs ≡ handles_in s p → others ≡ others_of s.handles p
     → length hs + length others < 2 ^ 32
 few_handles idle s p hs others sound orderly own rest =
-    let all : length s.handles ≤ length s.processes * 65535 = few_of_all s.processes s.handles sound.live orderly.few_handles in
+    let all : length s.handles ≤ length s.processes * 65535 = few_of_all s.processes s.handles sound.handles.live orderly.few_handles in
     let crowd : length s.processes ≤ 1024 = orderly.few_processes in
     let parts = length-filter_both (λ h. h.process == p) (λ h. not (h.process == p)) (λ h. refl) s.handles in
     let first : length hs ≡ length (handles_in s p) = ap length own in

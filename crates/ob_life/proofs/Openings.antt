@@ -2,7 +2,8 @@
 use Rattle.std.proofs.Common.{◌≡◌, ◌∙◌, ℕ, true, false, not, filter, None, Some, MatchOption, refl, ap, sym, subst}
 use Rattle.ob_model.specs.declared.state.Held.{Held}
 use Rattle.ob_model.specs.State.{State}
-use Rattle.ob_model.specs.Procedures.{Procedures, Inherited}
+use Rattle.ob_model.specs.declared.terms.Reason.TheVariants.{Inherited}
+use Rattle.ob_model.specs.Procedures.{Procedures}
 use Rattle.ob_model.specs.Grants.{open_refusal, with_open}
 use Rattle.ob_model.specs.Closing.{is_handle}
 use Rattle.ob_objects.specs.Store.{Entries, Shows, objects_of, rows_of}

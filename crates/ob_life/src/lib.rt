@@ -5,8 +5,14 @@
 //! that the namespace stands for. Nothing settles here: a command does so behind the change.
 #![tactic(auto)]
 
-mod beginning;
-mod ending;
+mod child;
+mod close;
+mod exit;
+mod permanence;
+mod settle;
 
-pub use beginning::{Child, begin_child};
-pub use ending::{Ended, end_process};
+pub use child::{Child, begin_child};
+pub use close::close_handle;
+pub use exit::{Ended, end_process};
+pub use permanence::set_permanence;
+pub use settle::{settle_after_end, settle_after_loss};

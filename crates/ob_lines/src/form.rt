@@ -58,8 +58,10 @@ pub fn form_of(line: &[u8]) -> Option<Form<&[u8]>>
 fn asking_of(line: &[u8]) -> Option<Form<&[u8]>>
     requires { length line.now ≤ 262144 }
     ensures found { IfSome result (λ form. IsLine line.now (form_seen form)) }
-    ensures none { IfNone result (((process : List ℕ) (request : Request (List ℕ)) → ¬ IsLine line.now (Form.Asks process request))
-        × ((process : List ℕ) (pending : PendingForm (List ℕ)) → ¬ IsLine line.now (Form.Waits process pending))) }
+    ensures none { IfNone result (((process : List ℕ) (request : Request (List ℕ))
+        → ¬ IsLine line.now (Form.Asks process request))
+        × ((process : List ℕ) (pending : PendingForm (List ℕ))
+        → ¬ IsLine line.now (Form.Waits process pending))) }
 {
     let (process, rest) = take_process(line)?;
     if let Some(pending) = pending_of(rest) {

@@ -37,7 +37,8 @@ pub enum PendingForm<T> {
 pub fn pending_of(bytes: &[u8]) -> Option<PendingForm<&[u8]>>
     requires { length bytes.now ≤ 262144 }
     ensures found { IfSome result (λ pending. IsPending bytes.now (pending_seen pending)) }
-    ensures none { IfNone result ((pending : PendingForm (List ℕ)) → ¬ IsPending bytes.now pending) }
+    ensures none { IfNone result ((pending : PendingForm (List ℕ))
+        → ¬ IsPending bytes.now pending) }
 {
     if let Some(operands) = behind(bytes, b"begin ") {
         let (want, name, attrs, word) = want_name_flags_and_word(operands)?;

@@ -162,7 +162,8 @@ pub fn request_of(bytes: &[u8]) -> Option<Request<&[u8]>>
 fn verb_and_operands_of(bytes: &[u8]) -> Option<Request<&[u8]>>
     requires { length bytes.now ≤ 262144 }
     ensures found { IfSome result (λ request. IsVerbAndOperands bytes.now (request_seen request)) }
-    ensures none { IfNone result ((request : Request (List ℕ)) → ¬ IsVerbAndOperands bytes.now request) }
+    ensures none { IfNone result ((request : Request (List ℕ))
+        → ¬ IsVerbAndOperands bytes.now request) }
 {
     let (word, operands) = split_at(bytes, b' ')?;
     let verb = verb_of(word)?;
@@ -174,7 +175,8 @@ fn operands_of(verb: Verb, operands: &[u8]) -> Option<Request<&[u8]>>
     requires { length operands.now ≤ 262144 }
     ensures verb { IfSome result (λ request. verb_of (request_seen request) ≡ verb) }
     ensures found { IfSome result (λ request. IsOperands operands.now (request_seen request)) }
-    ensures none { IfNone result ((request : Request (List ℕ)) → verb_of request ≡ verb → ¬ IsOperands operands.now request) }
+    ensures none { IfNone result ((request : Request (List ℕ)) → verb_of request ≡ verb
+        → ¬ IsOperands operands.now request) }
 {
     match verb {
         Verb::Dir => directory_of(operands),
@@ -183,14 +185,26 @@ fn operands_of(verb: Verb, operands: &[u8]) -> Option<Request<&[u8]>>
         Verb::OpenDir => open_directory_of(operands),
         Verb::OpenLink => open_link_of(operands),
         Verb::Open => open_object_of(operands),
-        Verb::Close => close_of(operands),
-        Verb::Target => link_query_of(operands),
-        Verb::Name => name_query_of(operands),
+        Verb::Close => Some(Request::Close {
+            handle: handle_of(operands)?,
+        }),
+        Verb::Target => Some(Request::QueryLink {
+            handle: handle_of(operands)?,
+        }),
+        Verb::Name => Some(Request::QueryName {
+            handle: handle_of(operands)?,
+        }),
         Verb::List => directory_query_of(operands),
         Verb::Dup => duplicate_of(operands),
-        Verb::Temp => temporary_of(operands),
-        Verb::Perm => permanent_of(operands),
-        Verb::Map => device_map_of(operands),
+        Verb::Temp => Some(Request::MakeTemporary {
+            handle: handle_of(operands)?,
+        }),
+        Verb::Perm => Some(Request::MakePermanent {
+            handle: handle_of(operands)?,
+        }),
+        Verb::Map => Some(Request::SetDeviceMap {
+            handle: handle_of(operands)?,
+        }),
         Verb::New => new_process_of(operands),
         Verb::Exit => None,
     }
@@ -231,7 +245,8 @@ fn object_of(operands: &[u8]) -> Option<Request<&[u8]>>
     requires { length operands.now ≤ 262144 }
     ensures verb { IfSome result (λ request. verb_of (request_seen request) ≡ Verb.Make) }
     ensures found { IfSome result (λ request. IsOperands operands.now (request_seen request)) }
-    ensures none { IfNone result ((kind : KindForm) (place : PlaceForm (List ℕ)) (attrs : ℕ) (args word : List ℕ)
+    ensures none { IfNone result ((kind : KindForm) (place : PlaceForm (List ℕ)) (attrs : ℕ)
+        (args word : List ℕ)
         → ¬ IsOperands operands.now (Request.CreateObject kind place attrs args word)) }
 {
     let (kind, rest) = take_kind(operands)?;
@@ -274,7 +289,8 @@ fn open_object_of(operands: &[u8]) -> Option<Request<&[u8]>>
     requires { length operands.now ≤ 262144 }
     ensures verb { IfSome result (λ request. verb_of (request_seen request) ≡ Verb.Open) }
     ensures found { IfSome result (λ request. IsOperands operands.now (request_seen request)) }
-    ensures none { IfNone result ((want : Option KindForm) (name : NameForm (List ℕ)) (attrs : ℕ) (word : List ℕ)
+    ensures none { IfNone result ((want : Option KindForm) (name : NameForm (List ℕ)) (attrs : ℕ)
+        (word : List ℕ)
         → ¬ IsOperands operands.now (Request.OpenObject want name attrs word)) }
 {
     let (want, name, attrs, word) = want_name_flags_and_word(operands)?;
@@ -284,36 +300,6 @@ fn open_object_of(operands: &[u8]) -> Option<Request<&[u8]>>
         attrs,
         word,
     })
-}
-
-// The close of a handle: `H`.
-fn close_of(operands: &[u8]) -> Option<Request<&[u8]>>
-    ensures verb { IfSome result (λ request. verb_of (request_seen request) ≡ Verb.Close) }
-    ensures found { IfSome result (λ request. IsOperands operands.now (request_seen request)) }
-    ensures none { IfNone result ((handle : HandleForm (List ℕ)) → ¬ IsOperands operands.now (Request.Close handle)) }
-{
-    let handle = handle_of(operands)?;
-    Some(Request::Close { handle })
-}
-
-// The query of a link's target: `H`.
-fn link_query_of(operands: &[u8]) -> Option<Request<&[u8]>>
-    ensures verb { IfSome result (λ request. verb_of (request_seen request) ≡ Verb.Target) }
-    ensures found { IfSome result (λ request. IsOperands operands.now (request_seen request)) }
-    ensures none { IfNone result ((handle : HandleForm (List ℕ)) → ¬ IsOperands operands.now (Request.QueryLink handle)) }
-{
-    let handle = handle_of(operands)?;
-    Some(Request::QueryLink { handle })
-}
-
-// The query of a path: `H`.
-fn name_query_of(operands: &[u8]) -> Option<Request<&[u8]>>
-    ensures verb { IfSome result (λ request. verb_of (request_seen request) ≡ Verb.Name) }
-    ensures found { IfSome result (λ request. IsOperands operands.now (request_seen request)) }
-    ensures none { IfNone result ((handle : HandleForm (List ℕ)) → ¬ IsOperands operands.now (Request.QueryName handle)) }
-{
-    let handle = handle_of(operands)?;
-    Some(Request::QueryName { handle })
 }
 
 // The query of a directory's entries: `H ROOM MODE`.
@@ -333,7 +319,8 @@ fn directory_query_of(operands: &[u8]) -> Option<Request<&[u8]>>
 fn duplicate_of(operands: &[u8]) -> Option<Request<&[u8]>>
     ensures verb { IfSome result (λ request. verb_of (request_seen request) ≡ Verb.Dup) }
     ensures found { IfSome result (λ request. IsOperands operands.now (request_seen request)) }
-    ensures none { IfNone result ((handle : HandleForm (List ℕ)) (to : List ℕ) (inherit : Bool) (word : List ℕ)
+    ensures none { IfNone result ((handle : HandleForm (List ℕ)) (to : List ℕ) (inherit : Bool)
+        (word : List ℕ)
         → ¬ IsOperands operands.now (Request.Duplicate handle to inherit word)) }
 {
     let (handle, rest) = take_handle(operands)?;
@@ -348,41 +335,12 @@ fn duplicate_of(operands: &[u8]) -> Option<Request<&[u8]>>
     })
 }
 
-// An object made temporary: `H`.
-fn temporary_of(operands: &[u8]) -> Option<Request<&[u8]>>
-    ensures verb { IfSome result (λ request. verb_of (request_seen request) ≡ Verb.Temp) }
-    ensures found { IfSome result (λ request. IsOperands operands.now (request_seen request)) }
-    ensures none { IfNone result ((handle : HandleForm (List ℕ)) → ¬ IsOperands operands.now (Request.MakeTemporary handle)) }
-{
-    let handle = handle_of(operands)?;
-    Some(Request::MakeTemporary { handle })
-}
-
-// An object made permanent: `H`.
-fn permanent_of(operands: &[u8]) -> Option<Request<&[u8]>>
-    ensures verb { IfSome result (λ request. verb_of (request_seen request) ≡ Verb.Perm) }
-    ensures found { IfSome result (λ request. IsOperands operands.now (request_seen request)) }
-    ensures none { IfNone result ((handle : HandleForm (List ℕ)) → ¬ IsOperands operands.now (Request.MakePermanent handle)) }
-{
-    let handle = handle_of(operands)?;
-    Some(Request::MakePermanent { handle })
-}
-
-// A directory made the device map: `H`.
-fn device_map_of(operands: &[u8]) -> Option<Request<&[u8]>>
-    ensures verb { IfSome result (λ request. verb_of (request_seen request) ≡ Verb.Map) }
-    ensures found { IfSome result (λ request. IsOperands operands.now (request_seen request)) }
-    ensures none { IfNone result ((handle : HandleForm (List ℕ)) → ¬ IsOperands operands.now (Request.SetDeviceMap handle)) }
-{
-    let handle = handle_of(operands)?;
-    Some(Request::SetDeviceMap { handle })
-}
-
 // A new process: `plain =Q` or `inherit =Q`.
 fn new_process_of(operands: &[u8]) -> Option<Request<&[u8]>>
     ensures verb { IfSome result (λ request. verb_of (request_seen request) ≡ Verb.New) }
     ensures found { IfSome result (λ request. IsOperands operands.now (request_seen request)) }
-    ensures none { IfNone result ((inherit : Bool) (child : List ℕ) → ¬ IsOperands operands.now (Request.NewProcess inherit child)) }
+    ensures none { IfNone result ((inherit : Bool) (child : List ℕ)
+        → ¬ IsOperands operands.now (Request.NewProcess inherit child)) }
 {
     let (inherit, rest) = take_inherit(operands)?;
     let child = process_set(rest)?;

@@ -15,7 +15,8 @@ use ob_parts::split_at;
 /// as one of more than 262,144 bytes. Takes no memory. Source: this profile.
 pub fn read_line(script: &[u8]) -> Option<(Option<Form<&[u8]>>, &[u8])>
     // The first line is of this form, and the rest stands behind it.
-    ensures found { IfSome result (λ read. BeginsWithLine script.now (found_seen read.0) read.1.now) }
+    ensures found { IfSome result (λ read.
+        BeginsWithLine script.now (found_seen read.0) read.1.now) }
     ensures shorter { IfSome result (λ read. length read.1.now < length script.now) }
 
     // What the form has for texts are texts, so that each can be decoded.

@@ -13,11 +13,11 @@ use Rattle.ob_model.specs.Run.{Entry, Run}
 use Rattle.ob_model.specs.State.{State}
 use Rattle.ob_model.specs.Step.{Step}
 use Rattle.ob_model.proofs.Runs.{run_sound}
-use Rattle.ob_parses.proofs.BegunAgain.{last_found}
+use Rattle.ob_opens.proofs.BegunAgain.{last_found}
 use Rattle.ob_locked.specs.Entered.{entered, HasFew, PendingAfter, EndedAfter}
 use Rattle.ob_locked.specs.Locked.{History, IsKept}
 use Rattle.ob_types.specs.Parse.{ToRun}
-use Rattle.ob_waiting.specs.Waiting.{IsNotTaken}
+use Rattle.ob_opens.specs.Waiting.{IsNotTaken}
 use Rattle.ob_locked.specs.Passed.{Passed, IsKnown}
 use Rattle.ob_locked.specs.Steps.{IsMade, IsNotResumed}
 use Rattle.ob_base.specs.declared.fault.Fault.{Fault}
@@ -97,7 +97,7 @@ module _ {K T F I : Type 0} (g : Procedures K T F I) (h : History K T F I) (plac
           go (Some x) e after = (
             x,
             ap (λ (o : Option (Pending K)). option_map_or (λ y. y.left + 1) o 0) e,
-            kept.reserved ∙ places-without ticket h.state.pending x (run_sound g h.first h.journal h.state kept.run).awaited e,
+            kept.reserved ∙ places-without ticket h.state.pending x (run_sound g h.first h.journal h.state kept.run).pending.awaited e,
             after,
           )
 

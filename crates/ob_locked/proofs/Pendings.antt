@@ -20,10 +20,12 @@ use Rattle.ob_model.specs.declared.state.Held.{Held}
 use Rattle.ob_model.specs.declared.state.Pending.{Pending}
 use Rattle.ob_model.specs.State.{State, is_live, body_of, table_size}
 use Rattle.ob_model.specs.Names.{begins_with_separator}
-use Rattle.ob_model.specs.Looks.{Mode, Look, At, Vacant, Parse, Refused, Looks, LooksFrom, LooksUp, most_reparses}
+use Rattle.ob_model.specs.declared.terms.Mode.{Mode}
+use Rattle.ob_model.specs.Looks.{Look, At, Vacant, Parse, Refused, Looks, LooksFrom, LooksUp, most_reparses}
 use Rattle.ob_model.specs.Paths.{origin_of, relative, Origin}
 use Rattle.ob_model.specs.PendingOpens.{pending_of}
-use Rattle.ob_model.specs.Procedures.{Procedures, Inherited, ParseOutcome, EndsItself, EndsMade, EndsReparse, EndsRefused}
+use Rattle.ob_model.specs.declared.terms.Reason.TheVariants.{Inherited}
+use Rattle.ob_model.specs.Procedures.{Procedures, ParseOutcome, EndsItself, EndsMade, EndsReparse, EndsRefused}
 use Rattle.ob_model.specs.Parses.{parsed_state, LooksAgain, Resumes, Abandons}
 use Rattle.ob_model.specs.Grants.{open_refusal, with_open, with_handle}
 use Rattle.ob_model.specs.Closing.{closed_handle}
@@ -35,7 +37,7 @@ use Rattle.ob_model.specs.Step.{Step}
 use Rattle.ob_model.proofs.Ended.{live_numbered}
 use Rattle.ob_model.proofs.Finds.{filter_none}
 use Rattle.ob_model.proofs.Turned.{turned_either}
-use Rattle.ob_complete.proofs.Fewer.{HandsOn, looks_hand_on, again_hands_on_fewer}
+use Rattle.ob_runner.proofs.Fewer.{HandsOn, looks_hand_on, again_hands_on_fewer}
 use Rattle.ob_locked.specs.Entered.{HasFew, PendingAfter, EndedAfter}
 use Rattle.ob_locked.specs.Rooms.{wants_memory, values_given, values_wanted, is_plain}
 use Rattle.ob_locked.proofs.Placed.{found_ticket}
@@ -110,7 +112,7 @@ module _ {K T F I : Type 0} (g : Procedures K T F I) where
       let unborn : filter (λ h. h.process == s.next_process) s.handles ≡ [] =
       filter_none (λ h. h.process == s.next_process) s.handles
       (λ k d within.
-      let less = live_numbered s.processes s.next_process (get_or s.handles k d).process sound.numbered (sound.live k d within) in
+      let less = live_numbered s.processes s.next_process (get_or s.handles k d).process sound.processes.numbered (sound.handles.live k d within) in
       ne_eqb (get_or s.handles k d).process s.next_process (λ same. omega (arith, less, same))) in
       omega (
         arith,
@@ -161,7 +163,7 @@ module _ {K T F I : Type 0} (g : Procedures K T F I) where
         (λ o permanent. (turned_either (λ u. u.pending ≡ s.pending) s o permanent refl refl, (omega arith, λ wants. cc)))
         (λ q d. (refl, (omega arith, λ wants. cc)))
         (λ q. (closes-pending s (handles_in s q), (omega arith, λ wants. cc)))
-        (λ q attrs wanted o rest n few. ((_, refl, refl, few, sound.ticketed), tt))
+        (λ q attrs wanted o rest n few. ((_, refl, refl, few, sound.pending.ticketed), tt))
         p command
         (λ inherit is. (
           inherits-pending (with_child s p) s.next_process (inherited_from s p inherit),
@@ -214,7 +216,7 @@ module _ {K T F I : Type 0} (g : Procedures K T F I) where
         u = parsed_state s x.ticket outcome
 
         left : All (λ z. z.ticket < s.next_id) (filter (λ y. not (y.ticket == x.ticket)) s.pending)
-        left = All-filter (λ y. not (y.ticket == x.ticket)) (λ z. z.ticket < s.next_id) s.pending sound.ticketed
+        left = All-filter (λ y. not (y.ticket == x.ticket)) (λ z. z.ticket < s.next_id) s.pending sound.pending.ticketed
 
         below : (outcome : Option (ParseOutcome F I)) → All (λ z. z.ticket < (parsed_state s x.ticket outcome).next_id) (parsed_state s x.ticket outcome).pending
         below None = left

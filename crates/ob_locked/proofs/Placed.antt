@@ -10,7 +10,7 @@ use Rattle.ob_model.specs.Run.{Entry, RunFrom}
 use Rattle.ob_model.specs.State.{State}
 use Rattle.ob_model.specs.Step.{Step}
 use Rattle.ob_model.proofs.Finds.{filter_all}
-use Rattle.ob_objects.proofs.ByStamp.{pairs_head, pairs_tail}
+use Rattle.ob_model.proofs.Sorted.{pairs_head, pairs_tail}
 use Rattle.ob_locked.specs.Places.{places_for}
 
 pub places-append : {K : Type 0} (xs ys : List (Pending K)) → places_for (xs ++ ys) ≡ places_for xs + places_for ys

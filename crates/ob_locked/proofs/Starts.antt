@@ -8,9 +8,9 @@ use Rattle.ob_model.specs.Procedures.{Procedures}
 use Rattle.ob_model.specs.Sound.{IsSound}
 use Rattle.ob_model.specs.State.{State, table_size}
 use Rattle.ob_model.specs.Step.{Step}
-use Rattle.ob_waiting.specs.declared.started.Started.{Started}
-use Rattle.ob_waiting.specs.declared.started.Started.TheVariants as started
-use Rattle.ob_waiting.specs.Waiting.{answer_of}
+use Rattle.ob_opens.specs.declared.started.Started.{Started}
+use Rattle.ob_opens.specs.declared.started.Started.TheVariants as started
+use Rattle.ob_opens.specs.Waiting.{answer_of}
 use Rattle.ob_locked.specs.Entered.{HasFew, PendingAfter, EndedAfter}
 use Rattle.ob_locked.specs.Rooms.{wants_memory, values_given, values_wanted, is_plain}
 use Rattle.ob_locked.proofs.Pendings.{Fits, IsPlain, started as led, resumed}

@@ -11,7 +11,7 @@ use Rattle.ob_model.specs.Procedures.{Procedures}
 use Rattle.ob_model.specs.Run.{Entry}
 use Rattle.ob_model.specs.Step.{Step}
 use Rattle.ob_types.specs.Parse.{ToRun}
-use Rattle.ob_waiting.specs.Waiting.{IsAwaited}
+use Rattle.ob_opens.specs.Waiting.{IsAwaited}
 use Rattle.ob_locked.specs.Entered.{entered}
 use Rattle.ob_locked.specs.Locked.{History}
 use Rattle.ob_locked.specs.Passed.{Passed, IsKnown}

@@ -27,7 +27,8 @@ pub struct Mismatch {
 
 /// How many entries each seat has.
 pub(crate) fn counts_of<K>(journal: &[Entry<K>]) -> [usize; 1024]
-    ensures { (seat : ℕ) → seat < most_seats → slice_index result seat ≡ length (entries_of seat journal.now) }
+    ensures { (seat : ℕ) → seat < most_seats → slice_index result seat
+        ≡ length (entries_of seat journal.now) }
 {
     let mut counts = [0; 1024];
     for entry in journal {
@@ -106,7 +107,8 @@ fn difference<T: TypeSet>(
     receipts: &LinkedList<Entry<T::Kind>>,
 ) -> Option<(u64, u64)>
     ensures none { IfNone result (receipts.now ≡ entries_of seat journal.now) }
-    ensures some { IfSome result (λ told. IsFirstDifference (entries_of seat journal.now) receipts.now (told.0) (told.1)) }
+    ensures some { IfSome result (λ told.
+        IsFirstDifference (entries_of seat journal.now) receipts.now (told.0) (told.1)) }
 {
     let mut rest = receipts.iter();
     for entry in journal {

@@ -31,7 +31,7 @@ pub(crate) struct StartRoom<K: Copy> {
 }
 
 /// Judges whether a start may be made with this pass, and makes the journal's room for it. The faults are `InvalidParameter`
-/// for a stranger's pass, then `JournalFull` where fewer than 34 places are neither used nor reserved, then want of memory.
+/// for a stranger's pass, then `JournalFull` where fewer than 34 places are neither used nor reserved, then out of memory.
 pub(crate) fn admit<T: TypeSet, L: Ledger>(
     journal: &mut Vec<Entry<T::Kind>>,
     reserved: usize,
@@ -42,13 +42,15 @@ pub(crate) fn admit<T: TypeSet, L: Ledger>(
     ensures items { journal.new.items ≡ journal.old.items }
     ensures len { vec_len journal.new ≡ vec_len journal.old }
     ensures capacity { vec_capacity journal.old ≤ vec_capacity journal.new }
-    ensures room { OnOk result (vec_len journal.old + reserved + places_of_start ≤ vec_capacity journal.new) }
+    ensures room { OnOk result
+        (vec_len journal.old + reserved + places_of_start ≤ vec_capacity journal.new) }
     ensures few { OnOk result (vec_len journal.old + reserved + places_of_start ≤ most_entries) }
     ensures number { IfOk result (λ room. room.writer.number ≡ vec_len journal.old + 1) }
     ensures seat { IfOk result (λ room. room.writer.seat ≡ pass.now.seat) }
     ensures known { OnOk result (IsKnown journal.old.items pass.now.receipts) }
     ensures spare { OnOk result (IsFull (length journal.old.items) reserved → ⊥) }
-    ensures fault { IfErr result (λ fault. IsNotAdmitted journal.old.items reserved pass.now.receipts fault) }
+    ensures fault { IfErr result (λ fault.
+        IsNotAdmitted journal.old.items reserved pass.now.receipts fault) }
 {
     if !is_known::<T, L>(pass, journal.as_slice()) {
         return Err(Fault::Refused(Status::InvalidParameter));
@@ -84,7 +86,11 @@ pub(crate) fn enter<K: Copy, L: Ledger>(
     ensures journal { journal.new.items ≡ journal.old.items ++ entry ∷ [] }
     ensures len { vec_len journal.new ≡ vec_len journal.old + 1 }
     ensures capacity { vec_capacity journal.old ≤ vec_capacity journal.new }
-    ensures pass { pass.new ≡ record { seat = pass.old.seat; receipts = pass.old.receipts ++ receipt ∷ [] } }
+    ensures pass { pass.new ≡ record {
+      seat = pass.old.seat;
+      receipts = pass.old.receipts ++ receipt
+          ∷ [];
+    } }
     ensures counted { book.new.total ≡ book.old.total + 1 }
 {
     pass.receive(book, place, receipt);

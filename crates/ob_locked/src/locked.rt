@@ -9,7 +9,7 @@ ghost use Rattle.ob_base.specs.declared.status.Status.TheVariants.{Success};
 ghost use Rattle.ob_model.specs.Refusals.{answers};
 ghost use Rattle.ob_types.specs.Brought.{run_of_end};
 ghost use Rattle.ob_types.specs.Parse.{asked_of};
-ghost use Rattle.ob_waiting.specs.Waiting.{IsAwaited, IsParseOf};
+ghost use Rattle.ob_opens.specs.Waiting.{IsAwaited, IsParseOf};
 ghost use Rattle.ob_locked.specs.Answers.{answer_in, brought_in, run_in, IfWaits};
 ghost use Rattle.ob_locked.specs.Passed.{IsKnown};
 ghost use Rattle.ob_locked.specs.Places.{most_entries, places_for, places_of};
@@ -50,9 +50,13 @@ impl<T: TypeSet, H: HandleTable, L: Ledger> Model for Locked<T, H, L> {
 
     ghost Value = { History T.Kind T T.Face T.Inner };
 
-    ghost view = { λ a. record { first = a.first.value; journal = a.journal.items; state = a.core } };
+    ghost view = { λ a.
+        record { first = a.first.value; journal = a.journal.items; state = a.core } };
 
-    ghost invariant = { λ a. IsKept T.procedures (record { first = a.first.value; journal = a.journal.items; state = a.core }) a.reserved (vec_capacity a.journal) a.book.total };
+    ghost invariant = { λ a.
+        IsKept T.procedures
+        (record { first = a.first.value; journal = a.journal.items; state = a.core }) a.reserved
+        (vec_capacity a.journal) a.book.total };
 }
 
 impl<T: TypeSet, H: HandleTable, L: Ledger> Locked<T, H, L> {
@@ -148,11 +152,16 @@ impl<T: TypeSet, H: HandleTable, L: Ledger> Locked<T, H, L> {
         process: Proc,
         command: &Command<T::Kind>,
     ) -> Result<Started<T>, Fault>
-        ensures made { IfOk result (λ started. IsMade T.procedures self.old pass.old (Start process command.now) (answer_in started) self.new pass.new) }
-        ensures admitted { OnOk result (IsKnown self.old.journal pass.old.receipts × (IsFull (length self.old.journal) (places_for self.old.state.pending) → ⊥)) }
+        ensures made { IfOk result (λ started.
+            IsMade T.procedures self.old pass.old (Start process command.now)
+            (answer_in started) self.new pass.new) }
+        ensures admitted { OnOk result (IsKnown self.old.journal pass.old.receipts
+            × (IsFull (length self.old.journal) (places_for self.old.state.pending) → ⊥)) }
         ensures waits { IfOk result (λ started. IfWaits started (IsParseOf self.new.state)) }
         ensures unmade { OnErr result ((self.new ≡ self.old) × (pass.new ≡ pass.old)) }
-        ensures fault { IfErr result (λ fault. IsNotAdmitted self.old.journal (places_for self.old.state.pending) pass.old.receipts fault) }
+        ensures fault { IfErr result (λ fault.
+            IsNotAdmitted self.old.journal
+            (places_for self.old.state.pending) pass.old.receipts fault) }
     {
         let room = admit::<T, L>(&mut self.journal, self.reserved, pass, alloc)?;
         let made = start_core(&mut self.core, alloc, room.writer, process, command)?;
@@ -195,12 +204,15 @@ impl<T: TypeSet, H: HandleTable, L: Ledger> Locked<T, H, L> {
         parsed: Parsed<T>,
     ) -> Result<Started<T>, (Fault, Parsed<T>)>
         ensures made { IfOk result (λ started.
-            IsMade T.procedures self.old pass.old (Resume parsed.ticket (run_of_end parsed.outcome)) (answer_in started) self.new pass.new) }
+            IsMade T.procedures self.old pass.old (Resume parsed.ticket (run_of_end parsed.outcome))
+            (answer_in started) self.new pass.new) }
         ensures known { OnOk result (IsKnown self.old.journal pass.old.receipts) }
-        ensures awaited { IfOk result (λ _. IsAwaited T.procedures self.old.state (asked_of parsed)) }
+        ensures awaited { IfOk result (λ _.
+            IsAwaited T.procedures self.old.state (asked_of parsed)) }
         ensures waits { IfOk result (λ started. IfWaits started (IsParseOf self.new.state)) }
         ensures unmade { OnErr result ((self.new ≡ self.old) × (pass.new ≡ pass.old)) }
-        ensures fault { IfErr result (λ back. IsNotResumed T.procedures self.old pass.old (asked_of parsed) (back.0)) }
+        ensures fault { IfErr result (λ back.
+            IsNotResumed T.procedures self.old pass.old (asked_of parsed) (back.0)) }
         ensures back { IfErr result (λ back. back.1 ≡ parsed) }
     {
         if !is_known::<T, L>(pass, self.journal.as_slice()) {
@@ -243,8 +255,11 @@ impl<T: TypeSet, H: HandleTable, L: Ledger> Locked<T, H, L> {
     /// of it. Takes no memory, and makes no test of the pass. It is false for a stranger's parse alone, which is let go, and then
     /// all is as it was. (this profile)
     pub(crate) fn abandon(&mut self, pass: &mut Pass<T::Kind, L>, pending: Pending<T>) -> bool
-        ensures exact { IsTrue result ↔ IsAwaited T.procedures self.old.state (asked_of (brought_in pending)) }
-        ensures made { IsTrue result → IsMade T.procedures self.old pass.old (Abandon (brought_in pending).ticket (run_in pending)) (answers Success) self.new pass.new }
+        ensures exact { IsTrue result
+            ↔ IsAwaited T.procedures self.old.state (asked_of (brought_in pending)) }
+        ensures made { IsTrue result
+            → IsMade T.procedures self.old pass.old (Abandon (brought_in pending).ticket
+            (run_in pending)) (answers Success) self.new pass.new }
         ensures stranger { result ≡ false → (self.new ≡ self.old) × (pass.new ≡ pass.old) }
     {
         let (brought, place) = pending.into_parts();

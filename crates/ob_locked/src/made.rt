@@ -8,7 +8,7 @@ ghost use Rattle.ob_model.specs.declared.reply.Event.TheVariants.{Start, Resume,
 ghost use Rattle.ob_model.specs.Step.{Step};
 ghost use Rattle.ob_types.specs.Brought.{run_of_end, brought as end_of, run_of as brought_run};
 ghost use Rattle.ob_types.specs.Parse.{asked_of};
-ghost use Rattle.ob_waiting.specs.Waiting.{answer_of, IfParsing, IsAwaited, IsNotTaken, IsParseOf};
+ghost use Rattle.ob_opens.specs.Waiting.{answer_of, IfParsing, IsAwaited, IsNotTaken, IsParseOf};
 ghost use Rattle.ob_locked.specs.Entered.{entered, EndedAfter, HasFew, PendingAfter};
 ghost use Rattle.ob_locked.specs.Rooms.{is_plain};
 
@@ -46,7 +46,7 @@ fn entry_of<K>(writer: Writer, step: Event<K>, reply: Answer) -> Entry<K>
     }
 }
 
-/// Starts a command, with copies of it and of its reply. The only fault is want of memory, and then the core is as it was.
+/// Starts a command, with copies of it and of its reply. The only fault is out of memory, and then the core is as it was.
 pub(crate) fn start_core<T: TypeSet, H: HandleTable>(
     core: &mut Core<T, H>,
     alloc: Global,
@@ -57,8 +57,10 @@ pub(crate) fn start_core<T: TypeSet, H: HandleTable>(
     ensures step { IfOk result (λ made.
         Step T.procedures core.old (Start process command.now) (answer_of made.started) core.new) }
     ensures parse { IfOk result (λ made. IfParsing made.started (IsParseOf core.new)) }
-    ensures pending { IfOk result (λ made. PendingAfter HasFew core.old.pending (answer_of made.started) core.new.pending) }
-    ensures entry { IfOk result (λ made. made.entry ≡ entered writer.number writer.seat (Start process command.now) (answer_of made.started)) }
+    ensures pending { IfOk result (λ made.
+        PendingAfter HasFew core.old.pending (answer_of made.started) core.new.pending) }
+    ensures entry { IfOk result (λ made. made.entry
+        ≡ entered writer.number writer.seat (Start process command.now) (answer_of made.started)) }
     ensures receipt { IfOk result (λ made. made.receipt ≡ made.entry) }
     ensures err { OnErr result (core.new ≡ core.old) }
     ensures memory { IfErr result (λ fault. fault ≡ Memory) }
@@ -123,14 +125,19 @@ pub(crate) fn resume_core<T: TypeSet, H: HandleTable>(
     parsed: Parsed<T>,
 ) -> Result<Made<T>, (Fault, Parsed<T>)>
     ensures step { IfOk result (λ made.
-        Step T.procedures core.old (Resume parsed.ticket (run_of_end parsed.outcome)) (answer_of made.started) core.new) }
+        Step T.procedures core.old (Resume parsed.ticket (run_of_end parsed.outcome))
+        (answer_of made.started) core.new) }
     ensures awaited { IfOk result (λ _. IsAwaited T.procedures core.old (asked_of parsed)) }
     ensures parse { IfOk result (λ made. IfParsing made.started (IsParseOf core.new)) }
-    ensures pending { IfOk result (λ made. EndedAfter core.old.pending parsed.ticket (answer_of made.started) core.new.pending) }
-    ensures entry { IfOk result (λ made. made.entry ≡ entered writer.number writer.seat (Resume parsed.ticket (run_of_end parsed.outcome)) (answer_of made.started)) }
+    ensures pending { IfOk result (λ made.
+        EndedAfter core.old.pending parsed.ticket (answer_of made.started) core.new.pending) }
+    ensures entry { IfOk result (λ made. made.entry
+        ≡ entered writer.number writer.seat (Resume parsed.ticket (run_of_end parsed.outcome))
+        (answer_of made.started)) }
     ensures receipt { IfOk result (λ made. made.receipt ≡ made.entry) }
     ensures err { OnErr result (core.new ≡ core.old) }
-    ensures fault { IfErr result (λ back. IsNotTaken T.procedures core.old (asked_of parsed) (back.0)) }
+    ensures fault { IfErr result (λ back.
+        IsNotTaken T.procedures core.old (asked_of parsed) (back.0)) }
     ensures back { IfErr result (λ back. back.1 ≡ parsed) }
 {
     let ticket = parsed.ticket();
@@ -192,9 +199,13 @@ pub(crate) fn abandon_core<T: TypeSet, H: HandleTable>(
     brought: Brought<T>,
 ) -> Option<Twice<T::Kind>>
     ensures exact { IsSome result ↔ IsAwaited T.procedures core.old (asked_of (end_of brought)) }
-    ensures step { OnSome result (Step T.procedures core.old (Abandon (end_of brought).ticket (brought_run brought)) (answers Success) core.new) }
-    ensures pending { OnSome result (EndedAfter core.old.pending (end_of brought).ticket (answers Success) core.new.pending) }
-    ensures entry { IfSome result (λ twice. twice.entry ≡ entered writer.number writer.seat (Abandon (end_of brought).ticket (brought_run brought)) (answers Success)) }
+    ensures step { OnSome result (Step T.procedures core.old (Abandon (end_of brought).ticket
+        (brought_run brought)) (answers Success) core.new) }
+    ensures pending { OnSome result (EndedAfter core.old.pending (end_of brought).ticket
+        (answers Success) core.new.pending) }
+    ensures entry { IfSome result (λ twice. twice.entry
+        ≡ entered writer.number writer.seat (Abandon (end_of brought).ticket (brought_run brought))
+        (answers Success)) }
     ensures receipt { IfSome result (λ twice. twice.receipt ≡ twice.entry) }
     ensures none { IfNone result (core.new ≡ core.old) }
 {

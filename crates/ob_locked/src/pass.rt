@@ -73,7 +73,11 @@ impl<K: Copy, L: Ledger> Pass<K, L> {
     /// Adds the receipt of a step, which is counted. Takes no memory.
     pub(crate) fn receive(&mut self, book: &mut Book<L>, place: ReceiptPlace<K>, receipt: Entry<K>)
         requires { book.old.total < 2 ^ 61 }
-        ensures receipts { self.new ≡ record { seat = self.old.seat; receipts = self.old.receipts ++ receipt ∷ [] } }
+        ensures receipts { self.new ≡ record {
+          seat = self.old.seat;
+          receipts = self.old.receipts
+              ++ receipt ∷ [];
+        } }
         ensures counted { book.new.total ≡ book.old.total + 1 }
     {
         book.audit(&mut self.share);

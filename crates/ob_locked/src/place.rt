@@ -25,7 +25,7 @@ impl<K> Model for ReceiptPlace<K> {
 }
 
 impl<K: Copy> ReceiptPlace<K> {
-    /// A place. The only error is want of memory.
+    /// A place. The only error is out of memory.
     pub(crate) fn new(alloc: Global) -> Result<ReceiptPlace<K>, AllocError> {
         let mut cell = LinkedList::new(alloc);
         let blank = Entry {

@@ -22,7 +22,8 @@ pub fn settle<T: TypeSet, H: HandleTable, L: Ledger>(
 ) -> Result<(), Mismatch>
     requires { seats ≤ most_seats }
     ensures ok { OnOk result (IsSettled locked.now.journal passes.now seats) }
-    ensures err { IfErr result (λ mismatch. IsMismatch locked.now.journal passes.now seats mismatch) }
+    ensures err { IfErr result (λ mismatch.
+        IsMismatch locked.now.journal passes.now seats mismatch) }
 {
     let journal = locked.journal();
     let counts = counts_of(journal);

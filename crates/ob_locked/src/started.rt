@@ -83,7 +83,8 @@ impl<T: TypeSet> Parsing<T> {
 
     /// Gives the parse up: as one that found no memory, without a run. Takes no memory.
     pub fn give_up(self) -> Parsed<T>
-        ensures { result ≡ record { ticket = self.ticket; face = self.face; rest = self.rest; outcome = None } }
+        ensures { result
+            ≡ record { ticket = self.ticket; face = self.face; rest = self.rest; outcome = None } }
     {
         let Parsing { parsing, place } = self;
         Parsed {

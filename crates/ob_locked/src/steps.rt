@@ -1,7 +1,7 @@
 //! The one way in which what lies under the lock changes.
 
 ghost use Rattle.std.specs.Prelude.{◌≡◌, IfOk, IfErr, OnErr, OnOk};
-ghost use Rattle.ob_waiting.specs.Waiting.{IsParseOf};
+ghost use Rattle.ob_opens.specs.Waiting.{IsParseOf};
 ghost use Rattle.ob_locked.specs.Answers.{answer_in, IfWaits};
 ghost use Rattle.ob_locked.specs.Asked.{event_of, handed_back, IsAdmitted, IsUnmade};
 ghost use Rattle.ob_locked.specs.Steps.{IsMade};
@@ -39,11 +39,14 @@ pub fn step<T: TypeSet, H: HandleTable, L: Ledger>(
     pass: &mut Pass<T::Kind, L>,
     asked: Asked<'_, T>,
 ) -> Result<Started<T>, (Fault, Option<Parsed<T>>)>
-    ensures made { IfOk result (λ started. IsMade T.procedures locked.old pass.old (event_of asked.entry) (answer_in started) locked.new pass.new) }
+    ensures made { IfOk result (λ started.
+        IsMade T.procedures locked.old pass.old (event_of asked.entry)
+        (answer_in started) locked.new pass.new) }
     ensures admitted { OnOk result (IsAdmitted T.procedures locked.old pass.old asked.entry) }
     ensures waits { IfOk result (λ started. IfWaits started (IsParseOf locked.new.state)) }
     ensures unmade { OnErr result ((locked.new ≡ locked.old) × (pass.new ≡ pass.old)) }
-    ensures fault { IfErr result (λ back. IsUnmade T.procedures locked.old pass.old asked.entry (back.0)) }
+    ensures fault { IfErr result (λ back.
+        IsUnmade T.procedures locked.old pass.old asked.entry (back.0)) }
     ensures back { IfErr result (λ back. back.1 ≡ handed_back asked.entry) }
 {
     match asked {

@@ -10,6 +10,7 @@ use Rattle.ob_model.specs.State.{State, body_of}
 use Rattle.ob_model.specs.Paths.{Origin, relative}
 use Rattle.ob_model.specs.Procedures.{Procedures}
 use Rattle.ob_model.specs.Looks as machine
+use Rattle.ob_model.specs.declared.terms.Mode.{Mode}
 use Rattle.ob_objects.specs.declared.object.StoredBody.{StoredBody}
 use Rattle.ob_objects.specs.declared.object.StoredBody.TheVariants.{Directory, Link, Other}
 use Rattle.ob_objects.specs.declared.object.StoredObject.{StoredObject}
@@ -23,7 +24,7 @@ asked_parts true parses e = cc
 asked_parts false parses e = (refl, e)
 
 module _ {K T F I : Type 0} (g : Procedures K T F I) (store : Entries F I) (id : ℕ) (name : List ℕ) (inner : begins_with_separator name ≡ false)
-    (s : State K T F I) (p : ℕ) (mode : machine.Mode) (n : ℕ) (shows : Shows s store) where
+    (s : State K T F I) (p : ℕ) (mode : Mode) (n : ℕ) (shows : Shows s store) where
   -- a relative name ends so where it does by the body of its root object
   from_body : (end : machine.Look) → MatchOption (option_map (λ x. body_of_stored x.body) (stored_at store id)) ⊥ (λ body. machine.LooksFrom g s p mode n id body name end)
       → machine.LooksUp g s p mode n (Some id) name end

@@ -10,7 +10,7 @@ use Rattle.ob_devmap.specs.declared.view.View.{View}
 use Rattle.ob_devmap.specs.View.{IsViewOf}
 use Rattle.ob_dirs.specs.declared.entry.DirEntry.{DirEntry}
 use Rattle.ob_objects.specs.Store.{Entries, IsStore, Shows, directory_at, entries_at}
-use Rattle.ob_lookup.specs.declared.start.Place.{Place}
+use Rattle.ob_lookup.specs.declared.start.Standpoint.{Standpoint}
 use Rattle.ob_lookup.specs.declared.start.Start.{Start}
 use Rattle.ob_lookup.specs.Walk.{rest_of, directory_of, origin_at, object_at, place_of, text_of}
 use Rattle.ob_lookup.proofs.Seen.{directory_is, entry_seen, place_seen, is_directory-from_body}
@@ -25,7 +25,7 @@ empty_text (x ∷ xs) = ne_eqb (length (x ∷ xs)) 0 (λ e. omega (arith, e))
 after_empty : (behind : List ℕ) → next_component (separator ∷ behind) ≡ [] → after_component (separator ∷ behind) ≡ behind
 after_empty behind none = ap (λ (c : List ℕ). drop (1 + length c) (separator ∷ behind)) none
 
-module _ {K T F I : Type 0} (store : Entries F I) (view : View) (start : Start) (fold : Bool) (place : Place) (dir : List DirEntry) (left : Option (List ℕ)) (behind text : List ℕ)
+module _ {K T F I : Type 0} (store : Entries F I) (view : View) (start : Start) (fold : Bool) (place : Standpoint) (dir : List DirEntry) (left : Option (List ℕ)) (behind text : List ℕ)
     (is : IsStore store) (leads : Leads K T F I store view start fold place (rest_of left)) (inside : directory_at store (directory_of view place) ≡ Some dir)
     (left_is : left ≡ Some behind) (text_is : text ≡ behind) where
   led_here : (s : State K T F I) (p : ℕ) → Shows s store → IsViewOf s p view → Led s p start fold (origin_at p place) (separator ∷ text)

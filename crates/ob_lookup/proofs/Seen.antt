@@ -23,8 +23,8 @@ use Rattle.ob_objects.specs.declared.object.StoredObject.{StoredObject}
 use Rattle.ob_objects.specs.Store as bodies
 use Rattle.ob_objects.specs.Store.{Entries, IsStore, Shows, stored_at, directory_at, entries_at, body_of_stored, object_of_stored, objects_of, rows_of}
 use Rattle.ob_objects.proofs.Shown.{stored_is_object, store_finds}
-use Rattle.ob_lookup.specs.declared.start.Place.{Place}
-use Rattle.ob_lookup.specs.declared.start.Place.TheVariants as place
+use Rattle.ob_lookup.specs.declared.start.Standpoint.{Standpoint}
+use Rattle.ob_lookup.specs.declared.start.Standpoint.TheVariants as place
 use Rattle.ob_lookup.specs.Closed.{IsClosed, IsViewThere, SoundIsClosed, SoundHasViews}
 use Rattle.ob_lookup.specs.Walk.{local_of, directory_of, origin_at, object_in, object_at}
 
@@ -87,12 +87,12 @@ module _ {K T F I : Type 0} (s : State K T F I) (p : ℕ) (view : View) (of : Is
   local_seen = ap (λ (o : Option ℕ). unwrap_or o global_id) (sym of.0) ∙ ap (λ (d : ℕ). unwrap_or view.local d) (sym of.1)
 
   -- so is the directory that a place is
-  pub place_seen : (at : Place) → paths.directory_at s (origin_at p at) ≡ directory_of view at
+  pub place_seen : (at : Standpoint) → paths.directory_at s (origin_at p at) ≡ directory_of view at
   place_seen (place.InDirectory id) = refl
   place_seen place.InView = local_seen
 
   -- what a component names at a place
-  pub entry_seen : (store : Entries F I) (at : Place) (entries : List DirEntry) (component : List ℕ) (fold : Bool) (named : Option ℕ)
+  pub entry_seen : (store : Entries F I) (at : Standpoint) (entries : List DirEntry) (component : List ℕ) (fold : Bool) (named : Option ℕ)
       → Shows s store → IsStore store → directory_at store (directory_of view at) ≡ Some entries → IsSome (directory_at store view.global)
       → named ≡ object_at at entries (entries_at store view.global) component fold → entry s (origin_at p at) component fold ≡ named
   entry_seen store (place.InDirectory id) entries component fold named shows is stored global found = entry_shown s store shows id entries component fold named is stored found
@@ -141,7 +141,7 @@ named_stands {F} {I} store id entries component fold object is closed stored nam
     go (Some r) h e = let same : r.object ≡ object = cc in subst (λ (k : ℕ). IsSome (stored_at store k)) same h
 
 -- also at a place
-pub named_at_stands : {F I : Type 0} (store : Entries F I) (view : View) (at : Place) (entries : List DirEntry) (component : List ℕ) (fold : Bool) (object : ℕ)
+pub named_at_stands : {F I : Type 0} (store : Entries F I) (view : View) (at : Standpoint) (entries : List DirEntry) (component : List ℕ) (fold : Bool) (object : ℕ)
     → IsStore store → IsClosed store → IsViewThere store view → directory_at store (directory_of view at) ≡ Some entries
     → Some object ≡ object_at at entries (entries_at store view.global) component fold → IsSome (stored_at store object)
 named_at_stands store view (place.InDirectory id) entries component fold object is closed there stored named = named_stands store id entries component fold object is closed stored named
@@ -167,9 +167,9 @@ directory_stored {F = F} {I = I} s store shows id dir = go (stored_at store id) 
 -- the store that a sound state shows is closed
 pub closed_from_sound : {K T F I : Type 0} → SoundIsClosed K T F I
 closed_from_sound {K} {T} {F} {I} s store shows sound = record {
-  root = directory_stored s store shows root_id sound.root;
+  root = directory_stored s store shows root_id sound.objects.root;
   rows = All-weaker (λ r. Stands s r.object) (λ r. IsSome (stored_at store r.object)) (λ r stands. stands_stored r.object stands) (rows_of store)
-      (subst (All (λ r. Stands s r.object)) shows.rows sound.rows);
+      (subst (All (λ r. Stands s r.object)) shows.rows sound.rows.standing);
 }
   where
     stands_stored : (id : ℕ) → Stands s id → IsSome (stored_at store id)
@@ -182,8 +182,8 @@ closed_from_sound {K} {T} {F} {I} s store shows sound = record {
 -- and the directories of a process's view are there
 pub views_from_sound : {K T F I : Type 0} → SoundHasViews K T F I
 views_from_sound {K} {T} {F} {I} s store p view shows sound of = record {
-  local = go view.local of.0 (map_of (process_of s p) (find_of (HasSoundMap s) (λ x. x.number == p) s.processes sound.maps));
-  global = subst (λ (d : ℕ). IsSome (directory_at store d)) (sym of.1) (directory_stored s store shows global_id sound.global);
+  local = go view.local of.0 (map_of (process_of s p) (find_of (HasSoundMap s) (λ x. x.number == p) s.processes sound.processes.maps));
+  global = subst (λ (d : ℕ). IsSome (directory_at store d)) (sym of.1) (directory_stored s store shows global_id sound.objects.global);
 }
   where
     map_of : (x : Option Process) → MatchOption x (Unit {0}) (HasSoundMap s) → MatchOption (option_and_then (λ y. y.map) x) (Unit {0}) (IsDirectory s)

@@ -7,8 +7,8 @@ use Rattle.ob_model.specs.State.{root_id}
 use Rattle.ob_model.specs.Paths.{Origin, InDirectory, ViewOf, is_one_component}
 use Rattle.ob_devmap.specs.declared.view.View.{View}
 use Rattle.ob_objects.specs.Store.{Entries, directory_at}
-use Rattle.ob_lookup.specs.declared.start.Place.{Place}
-use Rattle.ob_lookup.specs.declared.start.Place.TheVariants as place
+use Rattle.ob_lookup.specs.declared.start.Standpoint.{Standpoint}
+use Rattle.ob_lookup.specs.declared.start.Standpoint.TheVariants as place
 use Rattle.ob_lookup.specs.declared.start.Start.{Start}
 use Rattle.ob_lookup.specs.Closed.{IsClosed, IsViewThere}
 use Rattle.ob_lookup.specs.Walk.{local_of, directory_of, place_of, text_of, start_behind_view, absolute_origin}
@@ -58,7 +58,7 @@ module _ {F I : Type 0} (store : Entries F I) (view : View) (closed : IsClosed s
   start_there p create text start e =
       go start.place (subst (λ (o : Option (Origin × List ℕ)). MatchOption o (Unit {0}) (λ at. IsOriginThere at.0)) (sym e) (absolute_there p create text))
     where
-      go : (at : Place) → IsOriginThere (place_of p (record start { place = at })) → IsSome (directory_at store (directory_of view at))
+      go : (at : Standpoint) → IsOriginThere (place_of p (record start { place = at })) → IsSome (directory_at store (directory_of view at))
       go (place.InDirectory id) h = h
       go place.InView h = local_there
 

@@ -10,7 +10,7 @@ use Rattle.ob_model.proofs.Onward.{IsSplit-push, IsPath-push}
 use Rattle.ob_devmap.specs.declared.view.View.{View}
 use Rattle.ob_devmap.specs.View.{IsViewOf}
 use Rattle.ob_objects.specs.Store.{Entries, Shows}
-use Rattle.ob_lookup.specs.declared.start.Place.{Place}
+use Rattle.ob_lookup.specs.declared.start.Standpoint.{Standpoint}
 use Rattle.ob_lookup.specs.declared.start.Start.{Start}
 use Rattle.ob_lookup.specs.Walk.{rest_of, origin_at, place_of, text_of}
 
@@ -27,7 +27,7 @@ module _ {K T F I : Type 0} where
       × (place_behind (place_of p start) cs (paths.directory_at s place) ≡ place)
 
 -- and so they do in each state that shows the store, for each process of the view
-abbrev pub Leads : (K T F I : Type 0) → Entries F I → View → Start → Bool → Place → List ℕ → Type 0
+abbrev pub Leads : (K T F I : Type 0) → Entries F I → View → Start → Bool → Standpoint → List ℕ → Type 0
 Leads K T F I store view start fold place rest = (s : State K T F I) (p : ℕ) → Shows s store → IsViewOf s p view → Led s p start fold (origin_at p place) rest
 
 -- behind a component the place is a directory

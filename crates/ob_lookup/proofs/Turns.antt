@@ -7,6 +7,7 @@ use Rattle.ob_model.specs.State.{State}
 use Rattle.ob_model.specs.Paths.{Origin}
 use Rattle.ob_model.specs.Procedures.{Procedures}
 use Rattle.ob_model.specs.Looks as machine
+use Rattle.ob_model.specs.declared.terms.Mode.{Mode}
 use Rattle.ob_model.proofs.Lookup.{looks_up_unique}
 use Rattle.ob_lookup.specs.declared.next.Next.{Next}
 use Rattle.ob_lookup.specs.declared.next.Next.TheVariants as next
@@ -60,14 +61,14 @@ over_never (next.Again text) zero end P e = cc
 over_never (next.Again text) (suc n) end P e = cc
 
 -- with none left it would have been refused, whichever stop it is
-pub stop_wants : (found : Next) (mode : machine.Mode) (n : ℕ) (stop : Stop) → turn_of found ≡ turn_at n (next_at mode n stop) → IfAgain found (TurnMayWantMemory (turn_at 0 (next_at mode 0 stop)))
+pub stop_wants : (found : Next) (mode : Mode) (n : ℕ) (stop : Stop) → turn_of found ≡ turn_at n (next_at mode n stop) → IfAgain found (TurnMayWantMemory (turn_at 0 (next_at mode 0 stop)))
 stop_wants found mode n (Missed directory component last) e = again_wants found n (machine.at_miss mode directory component last) e
 stop_wants found mode n (Directory id) e = over_never found n (machine.At id) (TurnMayWantMemory (turn_at 0 (machine.Over (machine.At id)))) e
 stop_wants found mode n (Link id target rest) e = again_wants found n (machine.at_link mode id target rest) e
 stop_wants found mode n (Other id rest parses) e =
     over_never found n (other_at (parses && not mode.create) id rest n) (TurnMayWantMemory (turn_at 0 (machine.Over (other_at (parses && not mode.create) id rest 0)))) e
 
-module _ {K T F I : Type 0} (g : Procedures K T F I) (s : State K T F I) (p : ℕ) (mode : machine.Mode) where
+module _ {K T F I : Type 0} (g : Procedures K T F I) (s : State K T F I) (p : ℕ) (mode : Mode) where
   -- what is to be done at a stop
   next_is : (n : ℕ) (stop : Stop) → Meets g s stop → machine.IsNext g s mode n (stop_of stop) (next_at mode n stop)
   next_is n (Missed directory component last) meets = refl
@@ -114,6 +115,6 @@ module _ {K T F I : Type 0} (g : Procedures K T F I) (s : State K T F I) (p : �
       go (Restarted text) e wants = absurd wants
 
 -- the end of a name with no reparse left is its only one
-pub only_wants : {K T F I : Type 0} (g : Procedures K T F I) (s : State K T F I) (p : ℕ) (mode : machine.Mode) (root : Option ℕ) (name : List ℕ) (end found : machine.Look)
+pub only_wants : {K T F I : Type 0} (g : Procedures K T F I) (s : State K T F I) (p : ℕ) (mode : Mode) (root : Option ℕ) (name : List ℕ) (end found : machine.Look)
     → machine.LooksUp g s p mode 0 root name end → machine.LooksUp g s p mode 0 root name found → MayWantMemory found → MayWantMemory end
 only_wants g s p mode root name end found looks looked wants = subst MayWantMemory (looks_up_unique g s p mode 0 root name found end looked looks) wants

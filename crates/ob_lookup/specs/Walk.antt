@@ -21,8 +21,8 @@ use Rattle.ob_dirs.specs.Dir.{entry_found}
 use Rattle.ob_objects.specs.declared.object.StoredBody.{StoredBody}
 use Rattle.ob_objects.specs.declared.object.StoredBody.TheVariants as stored
 use Rattle.ob_objects.specs.Store.{Entries, stored_at}
-use Rattle.ob_lookup.specs.declared.start.Place.{Place}
-use Rattle.ob_lookup.specs.declared.start.Place.TheVariants.{InDirectory, InView}
+use Rattle.ob_lookup.specs.declared.start.Standpoint.{Standpoint}
+use Rattle.ob_lookup.specs.declared.start.Standpoint.TheVariants.{InDirectory, InView}
 use Rattle.ob_lookup.specs.declared.start.Start.{Start}
 use Rattle.ob_lookup.specs.declared.walk.Stop.{Stop}
 use Rattle.ob_lookup.specs.declared.walk.Stop.TheVariants.{Missed, Directory, Link, Other}
@@ -37,12 +37,12 @@ abbrev pub local_of : View → ℕ
 local_of view = unwrap_or view.local view.global
 
 -- the directory that a place is
-abbrev pub directory_of : View → Place → ℕ
+abbrev pub directory_of : View → Standpoint → ℕ
 directory_of view (InDirectory id) = id
 directory_of view InView = local_of view
 
 -- a place, where the view is that of this process
-abbrev pub origin_at : ℕ → Place → Origin
+abbrev pub origin_at : ℕ → Standpoint → Origin
 origin_at p (InDirectory id) = paths.InDirectory id
 origin_at p InView = paths.ViewOf p
 
@@ -79,7 +79,7 @@ object_in entries component fold = option_map (λ e. e.object) (entry_found entr
 
 -- the object that it names at a place whose directory has these entries, with those of the global
 -- directory: a view searches both
-abbrev pub object_at : Place → List DirEntry → List DirEntry → List ℕ → Bool → Option ℕ
+abbrev pub object_at : Standpoint → List DirEntry → List DirEntry → List ℕ → Bool → Option ℕ
 object_at (InDirectory id) entries global component fold = object_in entries component fold
 object_at InView entries global component fold = option_or (object_in entries component fold) (object_in global component fold)
 

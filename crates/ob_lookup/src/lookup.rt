@@ -7,18 +7,19 @@ ghost use Rattle.ob_devmap.specs.View.{IsViewOf};
 ghost use Rattle.ob_objects.specs.Store.{Shows, directory_at};
 ghost use Rattle.ob_lookup.specs.Closed.{IsClosed, IsRootThere, IsViewThere};
 ghost use Rattle.ob_lookup.specs.Walk.{directory_of, place_of, text_of};
-ghost use Rattle.ob_lookup.specs.Look.{mode_of, look_of, turn_of, IfAgain, LooksAgain, Goes, LooksUpIn, WalkMayWantMemory, NameMayWantMemory};
+ghost use Rattle.ob_lookup.specs.Look.{look_of, turn_of, IfAgain, LooksAgain, Goes, LooksUpIn, WalkMayWantMemory, NameMayWantMemory};
 
+use crate::Look;
 use crate::next::{Next, at_stop};
 use crate::start::{Beginning, Start, absolute, begin};
 use crate::walk::walk;
-use crate::{Look, Mode};
-use ob_base::{Fault, ObjId, Status};
+use ob_base::{ObjId, Status};
 use ob_devmap::View;
+use ob_model::Mode;
 use ob_names::Name;
 use ob_objects::Store;
 use ob_types::TypeSet;
-use std::alloc::Global;
+use std::alloc::{AllocError, Global};
 
 /// Looks a name up: an absolute one where `root` is none, else relative to the object `root`, which
 /// must be there. So must be the root directory, the directories of the view, and each object that an
@@ -63,14 +64,14 @@ pub fn look<T: TypeSet>(
     name: Name<'_>,
     mode: Mode,
     budget: u32,
-) -> Result<Look, Fault>
+) -> Result<Look, AllocError>
     requires closed { IsClosed store.now }
     requires view { IsViewThere store.now view }
     requires root { IsRootThere store.now root }
     ensures end { IfOk result (λ look.
-        LooksUpIn T.procedures store.now view (mode_of mode) budget root name.entry (look_of look)) }
-    ensures wants { OnErr result (NameMayWantMemory T.procedures store.now view (mode_of mode) root name.entry) }
-    ensures memory { IfErr result (λ fault. fault ≡ Fault.Memory) }
+        LooksUpIn T.procedures store.now view mode budget root name.entry (look_of look)) }
+    ensures wants { OnErr result
+        (NameMayWantMemory T.procedures store.now view mode root name.entry) }
 {
     let start = match begin(alloc, store, &view, root, name, mode, budget)? {
         Beginning::Walk(start) => start,
@@ -96,19 +97,21 @@ fn look_from<T: TypeSet>(
     start: Start<'_>,
     mode: Mode,
     left: u32,
-) -> Result<Next, Fault>
+) -> Result<Next, AllocError>
     requires closed { IsClosed store.now }
     requires view { IsViewThere store.now view.now }
     requires directory { IsSome (directory_at store.now (directory_of view.now start.place)) }
     ensures left { IfOk result (λ next. IfAgain next (0 < left)) }
     ensures goes { IfOk result (λ next.
-        (s : State T.Kind T T.Face T.Inner) (p : ℕ) (end : machine.Look) → Shows s store.now → IsViewOf s p view.now
-        → Goes T.procedures s p (mode_of mode) left (turn_of next) end
-        → machine.Looks T.procedures s p (mode_of mode) left (place_of p start.entry) (text_of start.entry) end) }
+        (s : State T.Kind T T.Face T.Inner) (p : ℕ) (end : machine.Look) → Shows s store.now
+        → IsViewOf s p view.now
+        → Goes T.procedures s p mode left (turn_of next) end
+        → machine.Looks T.procedures s p mode left (place_of p start.entry)
+        (text_of start.entry) end) }
     ensures again { IfOk result (λ next. IfAgain next
-        (WalkMayWantMemory T.procedures store.now view.now (mode_of mode) start.entry)) }
-    ensures wants { OnErr result (WalkMayWantMemory T.procedures store.now view.now (mode_of mode) start.entry) }
-    ensures memory { IfErr result (λ fault. fault ≡ Fault.Memory) }
+        (WalkMayWantMemory T.procedures store.now view.now mode start.entry)) }
+    ensures wants { OnErr result
+        (WalkMayWantMemory T.procedures store.now view.now mode start.entry) }
 {
     at_stop(alloc, walk(store, view, start, mode.fold), mode, left)
 }
@@ -121,15 +124,15 @@ fn look_again<T: TypeSet>(
     text: Name<'_>,
     mode: Mode,
     left: u32,
-) -> Result<Next, Fault>
+) -> Result<Next, AllocError>
     requires closed { IsClosed store.now }
     requires view { IsViewThere store.now view.now }
     ensures left { IfOk result (λ next. IfAgain next (0 < left)) }
     ensures goes { IfOk result (λ next.
-        (s : State T.Kind T T.Face T.Inner) (p : ℕ) (end : machine.Look) → Shows s store.now → IsViewOf s p view.now
-        → Goes T.procedures s p (mode_of mode) left (turn_of next) end
-        → LooksAgain T.procedures s p (mode_of mode) left text.entry end) }
-    ensures memory { IfErr result (λ fault. fault ≡ Fault.Memory) }
+        (s : State T.Kind T T.Face T.Inner) (p : ℕ) (end : machine.Look) → Shows s store.now
+        → IsViewOf s p view.now
+        → Goes T.procedures s p mode left (turn_of next) end
+        → LooksAgain T.procedures s p mode left text.entry end) }
 {
     match absolute(view, text, mode.create) {
         Some(start) => look_from(alloc, store, view, start, mode, left),

@@ -2,13 +2,13 @@
 
 ghost use Rattle.std.specs.Prelude.{◌≡◌, IfOk, IfErr, OnErr};
 ghost use Rattle.ob_model.specs.Looks as machine;
-ghost use Rattle.ob_lookup.specs.Look.{mode_of, look_of, other_at, next_at, turn_at, turn_of, MayWantMemory, TurnMayWantMemory};
+ghost use Rattle.ob_lookup.specs.Look.{look_of, other_at, next_at, turn_at, turn_of, MayWantMemory, TurnMayWantMemory};
 
+use crate::Look;
 use crate::start::ROOT;
 use crate::walk::Stop;
-use crate::{Look, Mode};
 use ob_base::{Fault, ObjId, Status};
-use ob_model::Bytes;
+use ob_model::{Bytes, Mode};
 use ob_names::{Name, NameBuf, substitute};
 use std::alloc::{AllocError, Global};
 
@@ -22,10 +22,15 @@ pub(crate) enum Next {
 }
 
 /// What is done at a stop, with so many reparses left.
-pub(crate) fn at_stop(alloc: Global, stop: Stop<'_>, mode: Mode, left: u32) -> Result<Next, Fault>
-    ensures turn { IfOk result (λ next. turn_of next ≡ turn_at left (next_at (mode_of mode) left stop.entry)) }
-    ensures wants { OnErr result (TurnMayWantMemory (turn_at 0 (next_at (mode_of mode) 0 stop.entry))) }
-    ensures memory { IfErr result (λ fault. fault ≡ Fault.Memory) }
+pub(crate) fn at_stop(
+    alloc: Global,
+    stop: Stop<'_>,
+    mode: Mode,
+    left: u32,
+) -> Result<Next, AllocError>
+    ensures turn { IfOk result (λ next. turn_of next
+        ≡ turn_at left (next_at mode left stop.entry)) }
+    ensures wants { OnErr result (TurnMayWantMemory (turn_at 0 (next_at mode 0 stop.entry))) }
 {
     match stop {
         Stop::Missed {
@@ -51,9 +56,9 @@ fn at_miss(
     last: bool,
 ) -> Result<Look, AllocError>
     ensures end { IfOk result (λ look.
-        machine.at_miss (mode_of mode) directory component.entry last ≡ machine.Over (look_of look)) }
+        machine.at_miss mode directory component.entry last ≡ machine.Over (look_of look)) }
     ensures wants { OnErr result
-        (machine.at_miss (mode_of mode) directory component.entry last
+        (machine.at_miss mode directory component.entry last
         ≡ machine.Over (machine.Vacant directory component.entry)) }
 {
     let bytes = component.as_slice();
@@ -82,12 +87,11 @@ fn at_link(
     id: ObjId,
     target: Name<'_>,
     rest: Name<'_>,
-) -> Result<Next, Fault>
+) -> Result<Next, AllocError>
     ensures turn { IfOk result (λ next. turn_of next
-        ≡ turn_at left (machine.at_link (mode_of mode) id target.entry rest.entry)) }
+        ≡ turn_at left (machine.at_link mode id target.entry rest.entry)) }
     ensures wants { OnErr result
-        (machine.at_link (mode_of mode) id target.entry rest.entry ≡ machine.Follow target.entry rest.entry) }
-    ensures memory { IfErr result (λ fault. fault ≡ Fault.Memory) }
+        (machine.at_link mode id target.entry rest.entry ≡ machine.Follow target.entry rest.entry) }
 {
     let follows = mode.follow && !mode.create;
     if rest.as_slice().is_empty() && !follows {
@@ -97,9 +101,9 @@ fn at_link(
 }
 
 /// What comes of a link that is followed.
-fn follow(alloc: Global, left: u32, target: Name<'_>, rest: Name<'_>) -> Result<Next, Fault>
-    ensures turn { IfOk result (λ next. turn_of next ≡ turn_at left (machine.Follow target.entry rest.entry)) }
-    ensures memory { IfErr result (λ fault. fault ≡ Fault.Memory) }
+fn follow(alloc: Global, left: u32, target: Name<'_>, rest: Name<'_>) -> Result<Next, AllocError>
+    ensures turn { IfOk result (λ next. turn_of next
+        ≡ turn_at left (machine.Follow target.entry rest.entry)) }
 {
     if left == 0 {
         return Ok(Next::Over(Look::Refused(Status::ReparseLimit)));
@@ -107,7 +111,7 @@ fn follow(alloc: Global, left: u32, target: Name<'_>, rest: Name<'_>) -> Result<
     match substitute(alloc, target.as_slice(), rest.as_slice()) {
         Ok(text) => Ok(Next::Again(text)),
         Err(Fault::Refused(status)) => Ok(Next::Over(Look::Refused(status))),
-        Err(Fault::Memory) => Err(Fault::Memory),
+        Err(Fault::Memory) => Err(AllocError),
     }
 }
 

@@ -6,13 +6,13 @@ ghost use Rattle.ob_model.specs.Names.{separator, begins_with_separator};
 ghost use Rattle.ob_model.specs.Paths as paths;
 ghost use Rattle.ob_objects.specs.Store.{directory_at};
 ghost use Rattle.ob_lookup.specs.Closed.{IsClosed, IsRootThere, IsViewThere};
-ghost use Rattle.ob_lookup.specs.Look.{mode_of, IfWalk, Begins, NameMayWantMemory};
+ghost use Rattle.ob_lookup.specs.Look.{IfWalk, Begins, NameMayWantMemory};
 ghost use Rattle.ob_lookup.specs.Walk.{local_of, directory_of, place_of, text_of, start_behind_view, root_origin, absolute_origin, parses_at};
 
-use crate::{Look, Mode};
+use crate::Look;
 use ob_base::{ObjId, Status};
 use ob_devmap::View;
-use ob_model::Bytes;
+use ob_model::{Bytes, Mode};
 use ob_names::{Component, Name, first};
 use ob_objects::{Store, StoredBody};
 use ob_types::TypeSet;
@@ -23,7 +23,7 @@ pub(crate) const ROOT: ObjId = ObjId(1);
 
 /// A place at which a walk searches for a component.
 #[derive(Clone, Copy)]
-pub(crate) enum Place {
+pub(crate) enum Standpoint {
     /// A directory.
     InDirectory(ObjId),
     /// The view of the DOS device names, which `\??` names: its local directory, and then its global
@@ -35,7 +35,7 @@ pub(crate) enum Place {
 #[derive(Drop)]
 pub(crate) struct Start<'a> {
     /// The place.
-    pub(crate) place: Place,
+    pub(crate) place: Standpoint,
     /// What stands behind the separator that the text begins with.
     pub(crate) behind: Option<Name<'a>>,
 }
@@ -57,12 +57,12 @@ fn local_of(view: &View) -> ObjId
 }
 
 /// The directory that a place is, a view being its local one.
-pub(crate) fn directory_of(view: &View, place: &Place) -> ObjId
+pub(crate) fn directory_of(view: &View, place: &Standpoint) -> ObjId
     ensures { result ≡ directory_of view.now place.now }
 {
     match place {
-        Place::InDirectory(id) => *id,
-        Place::InView => local_of(view),
+        Standpoint::InDirectory(id) => *id,
+        Standpoint::InView => local_of(view),
     }
 }
 
@@ -75,7 +75,7 @@ pub(crate) fn absolute<'a>(view: &View, text: Name<'a>, create: bool) -> Option<
     let bytes = text.as_slice();
     if bytes == b"\\??".as_slice() {
         return Some(Start {
-            place: Place::InView,
+            place: Standpoint::InView,
             behind: None,
         });
     }
@@ -92,9 +92,9 @@ fn behind_view<'a>(view: &View, behind: Name<'a>, create: bool) -> Start<'a>
         ≡ start_behind_view view.now p create (separator ∷ behind.entry) }
 {
     let place = if create && is_one_component(behind.as_slice()) {
-        Place::InDirectory(local_of(view))
+        Standpoint::InDirectory(local_of(view))
     } else {
-        Place::InView
+        Standpoint::InView
     };
     Start {
         place,
@@ -115,7 +115,8 @@ fn is_one_component(behind: &[u8]) -> bool
 /// Where a text begins that names nothing in a view: at the root; none where it begins with no
 /// separator.
 fn from_root<'a>(text: Name<'a>) -> Option<Start<'a>>
-    ensures { (p : ℕ) → option_map (λ start. (place_of p start, text_of start)) result ≡ root_origin text.entry }
+    ensures { (p : ℕ) → option_map (λ start. (place_of p start, text_of start)) result
+        ≡ root_origin text.entry }
 {
     let (byte, behind) = text.as_slice().split_first()?;
     if *byte != b'\\' {
@@ -127,7 +128,7 @@ fn from_root<'a>(text: Name<'a>) -> Option<Start<'a>>
         Some(Name::new(behind))
     };
     Some(Start {
-        place: Place::InDirectory(ROOT),
+        place: Standpoint::InDirectory(ROOT),
         behind,
     })
 }
@@ -148,8 +149,10 @@ pub(crate) fn begin<'a, T: TypeSet>(
     requires root { IsRootThere store.now root }
     ensures directory { IfOk result (λ beginning. IfWalk beginning (λ start.
         IsSome (directory_at store.now (directory_of view.now start.place)))) }
-    ensures begins { IfOk result (λ beginning. Begins T.procedures store.now view.now (mode_of mode) left root name.entry beginning) }
-    ensures wants { OnErr result (NameMayWantMemory T.procedures store.now view.now (mode_of mode) root name.entry) }
+    ensures begins { IfOk result (λ beginning.
+        Begins T.procedures store.now view.now mode left root name.entry beginning) }
+    ensures wants { OnErr result
+        (NameMayWantMemory T.procedures store.now view.now mode root name.entry) }
 {
     let Some(id) = root else {
         let Some(start) = absolute(view, name, mode.create) else {
@@ -203,8 +206,9 @@ fn begins_with_separator(text: &[u8]) -> bool
 
 /// Where a name relative to a directory begins.
 fn relative<'a>(directory: ObjId, name: Name<'a>) -> Start<'a>
-    ensures directory { result.place ≡ Place.InDirectory directory }
-    ensures begins { (p : ℕ) → (place_of p result, text_of result) ≡ paths.relative directory name.entry }
+    ensures directory { result.place ≡ Standpoint.InDirectory directory }
+    ensures begins { (p : ℕ) → (place_of p result, text_of result)
+        ≡ paths.relative directory name.entry }
 {
     let behind = if name.as_slice().is_empty() {
         None
@@ -212,7 +216,7 @@ fn relative<'a>(directory: ObjId, name: Name<'a>) -> Start<'a>
         Some(name)
     };
     Start {
-        place: Place::InDirectory(directory),
+        place: Standpoint::InDirectory(directory),
         behind,
     }
 }

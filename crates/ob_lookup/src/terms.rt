@@ -1,23 +1,8 @@
-//! How a lookup is asked for, and what it ends with.
+//! What a lookup ends with.
 
 use ob_base::{ObjId, Status};
 use ob_model::Bytes;
 use ob_names::NameBuf;
-
-/// How a name is looked up.
-///
-/// Source: OBJECT_ATTRIBUTES structure (Windows Driver Kit), OBJ_CASE_INSENSITIVE and OBJ_OPENLINK;
-/// what a create does is this profile.
-#[derive(Clone, Copy, PartialEq, Eq, Debug)]
-pub struct Mode {
-    /// Whether it is looked up to create an object of that name: then the last component may be
-    /// vacant, and is not followed.
-    pub create: bool,
-    /// Whether `a` to `z` are equal to `A` to `Z` in it.
-    pub fold: bool,
-    /// Whether a link that the last component names is followed, where nothing is created.
-    pub follow: bool,
-}
 
 /// What a lookup ends with. (this profile)
 #[derive(Debug, Drop)]

@@ -10,7 +10,7 @@ ghost use Rattle.ob_objects.specs.Store.{IsStore, Shows, stored_at, directory_at
 ghost use Rattle.ob_lookup.specs.Closed.{IsClosed, IsViewThere};
 ghost use Rattle.ob_lookup.specs.Walk.{rest_of, directory_of, object_in, object_at, place_of, text_of, stop_of, Meets};
 
-use crate::start::{Place, Start, directory_of};
+use crate::start::{Standpoint, Start, directory_of};
 use ob_base::ObjId;
 use ob_devmap::View;
 use ob_dirs::Dir;
@@ -61,9 +61,11 @@ pub(crate) fn walk<'a, T: TypeSet>(
     requires closed { IsClosed store.now }
     requires view { IsViewThere store.now view.now }
     requires directory { IsSome (directory_at store.now (directory_of view.now start.place)) }
-    ensures stop { (s : State T.Kind T T.Face T.Inner) (p : ℕ) → Shows s store.now → IsViewOf s p view.now
+    ensures stop { (s : State T.Kind T T.Face T.Inner) (p : ℕ) → Shows s store.now
+        → IsViewOf s p view.now
         → IsStop s (place_of p start.entry) (text_of start.entry) fold (stop_of result) }
-    ensures meets { (s : State T.Kind T T.Face T.Inner) → Shows s store.now → Meets T.procedures s result }
+    ensures meets { (s : State T.Kind T T.Face T.Inner) → Shows s store.now
+        → Meets T.procedures s result }
 {
     let mut place = start.place;
     let mut dir = directory(store, directory_of(view, &place));
@@ -85,7 +87,7 @@ pub(crate) fn walk<'a, T: TypeSet>(
         };
         match body(store, object) {
             StoredBody::Directory(next) => {
-                place = Place::InDirectory(object);
+                place = Standpoint::InDirectory(object);
                 dir = next;
                 left = behind_separator(Name::new(rest));
             }
@@ -113,17 +115,18 @@ pub(crate) fn walk<'a, T: TypeSet>(
 fn named_at<T: TypeSet>(
     store: &Store<T>,
     view: &View,
-    place: &Place,
+    place: &Standpoint,
     dir: &Dir,
     component: &[u8],
     fold: bool,
 ) -> Option<ObjId>
     requires { IsSome (directory_at store.now view.now.global) }
-    ensures { result ≡ object_at place.now dir.now (entries_at store.now view.now.global) component.now fold }
+    ensures { result
+        ≡ object_at place.now dir.now (entries_at store.now view.now.global) component.now fold }
 {
     let named = named_in(dir, component, fold);
     match place {
-        Place::InView if named.is_none() => {
+        Standpoint::InView if named.is_none() => {
             named_in(directory(store, view.global), component, fold)
         }
         _ => named,

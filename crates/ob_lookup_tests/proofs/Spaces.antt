@@ -32,6 +32,14 @@ module _ {F I : Type 0} where
   pub next_is_free : (store : Entries F I) (next : ℕ) → IsSpace store next → stored_at store next ≡ None
   next_is_free store next is = newest_is_free store next (ids_of_objects store next is)
 
+  -- without one
+  pub space_unchanged : (new store : Entries F I) (id : ℕ) → new ≡ store → IsSpace store id → IsSpace new (id + 1)
+  space_unchanged new store id same is = subst (λ (s : Entries F I). IsSpace s (id + 1)) (sym same) (record {
+    closed = is.closed;
+    ids = All-weaker (λ e. e.0 < id) (λ e. e.0 < id + 1) (λ e below. omega (arith, below)) store is.ids;
+    stamps = All-weaker (λ r. r.stamp < id) (λ r. r.stamp < id + 1) (λ r below. omega (arith, below)) (rows_of store) is.stamps;
+  })
+
   -- with an object
   pub space_with_object : (new store : Entries F I) (id : ℕ) (x : StoredObject F I) → new ≡ with_entry store id x → IsSpace store id → entries_in x.body ≡ [] → IsSpace new (id + 1)
   space_with_object new store id x put is none = subst (λ (s : Entries F I). IsSpace s (id + 1)) (sym put) (record {

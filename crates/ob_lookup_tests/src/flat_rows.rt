@@ -2,7 +2,7 @@
 //! byte long, so that nothing of the code under test is used.
 
 use ob_devmap::View;
-use ob_lookup::Mode;
+use ob_model::Mode;
 use std::alloc::Global;
 
 // What a lookup is wanted to end with; a refusal by the word of its status.

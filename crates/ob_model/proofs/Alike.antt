@@ -19,16 +19,20 @@ use Rattle.ob_model.specs.declared.state.Wanted.{Wanted}
 use Rattle.ob_model.specs.Names.{longest_name}
 use Rattle.ob_model.specs.State.{State, is_live, is_directory, is_store_full, held_of, body_of}
 use Rattle.ob_model.specs.PendingOpens.{with_pending}
-use Rattle.ob_model.specs.Looks.{Look, At, Vacant, Parse, Refused, Mode, LooksUp, most_reparses}
-use Rattle.ob_model.specs.Procedures.{Procedures, Reason, Opened, Created, Duplicated}
+use Rattle.ob_model.specs.declared.terms.Mode.{Mode}
+use Rattle.ob_model.specs.Looks.{Look, At, Vacant, Parse, Refused, LooksUp, most_reparses}
+use Rattle.ob_model.specs.declared.terms.Reason.{Reason}
+use Rattle.ob_model.specs.declared.terms.Reason.TheVariants.{Opened, Created, Duplicated}
+use Rattle.ob_model.specs.Procedures.{Procedures}
 use Rattle.ob_model.specs.Settle.{settle}
-use Rattle.ob_model.specs.Grants.{Asked, first_refusal, Grants, grant_refusal, IsFreeValue, open_refusal_of, opened_body, opened_set, with_open, with_handle}
+use Rattle.ob_model.specs.declared.terms.GrantOptions.{GrantOptions}
+use Rattle.ob_model.specs.Grants.{first_refusal, Grants, grant_refusal, IsFreeValue, open_refusal_of, opened_body, opened_set, with_open, with_handle}
 use Rattle.ob_model.specs.Closing.{is_handle, without_handle, with_close, closed_handle}
 use Rattle.ob_model.specs.Permanence.{turned}
 use Rattle.ob_model.specs.Maps.{with_map}
 use Rattle.ob_model.specs.Types.{is_wanted_at}
 use Rattle.ob_model.specs.Refusals.{gives, answers, IsRefused, Unless, create_refusals, open_refusals}
-use Rattle.ob_model.specs.Opens.{GivesHandle, OpensAt, Opens, asked_by, open_mode}
+use Rattle.ob_model.specs.Opens.{GivesHandle, OpensAt, Opens, options_by, open_mode}
 use Rattle.ob_model.specs.Creates.{Making, is_fit, create_mode, type_made, Spot, room_refusals, make_refusal, body_made, with_object, with_row, created, dropped, Makes, Creates}
 use Rattle.ob_model.specs.Naming.{IsWayUp, path_text, path_answer, target_of, TellsName, TellsTarget}
 use Rattle.ob_model.specs.Enumeration.{enumerated, context_used, page_answer}
@@ -228,7 +232,7 @@ module _ {K T F I : Type 0} (g : Procedures K T F I) (s t : State K T F I) (alik
       (λ x y one two same h k. does (Some x.object) h (subst (λ (z : Held). DoesT (Some z.object)) (sym same) k)) h k
 
   -- a handle that is granted
-  granted_alike : (o : ℕ) (asked : Asked) (reason : Reason) (status : Status) (one other : Result ℕ Status) (u_granted v_granted : State K T F I)
+  granted_alike : (o : ℕ) (asked : GrantOptions) (reason : Reason) (status : Status) (one other : Result ℕ Status) (u_granted v_granted : State K T F I)
       → Grants g s r o asked reason one u_granted
       → MatchResult one (λ value. (a ≡ gives status (Handle value)) × (u ≡ settle g u_granted)) (λ refusal. IsRefused s refusal a u)
       → Grants g t r o asked reason other v_granted
@@ -265,15 +269,15 @@ module _ {K T F I : Type 0} (g : Procedures K T F I) (s t : State K T F I) (alik
           let same : second ≡ refusal = cc in
           refused_alike refusal h (subst (λ status. IsRefused t status b v) same k)
 
-  gives_handle_alike : (o : ℕ) (asked : Asked) (reason : Reason) (status : Status)
+  gives_handle_alike : (o : ℕ) (asked : GrantOptions) (reason : Reason) (status : Status)
       → GivesHandle g s r o asked reason status a u → GivesHandle g t r o asked reason status b v → EndAlike
   gives_handle_alike o asked reason status h k = granted_alike o asked reason status h.0 k.0 h.1 k.1 h.2 h.3 k.2 k.3
 
   pub opens_at_alike : (attrs : ℕ) (wanted : Wanted K) (status : Status) (o : ℕ) → OpensAt g s r attrs wanted status o a u → OpensAt g t r attrs wanted status o b v → EndAlike
   opens_at_alike attrs wanted status o h k =
       unless_alike ((not (is_wanted_at g s o wanted), ObjectTypeMismatch) ∷ []) ((not (is_wanted_at g t o wanted), ObjectTypeMismatch) ∷ [])
-      (GivesHandle g s r o (asked_by attrs) Opened status a u) (GivesHandle g t r o (asked_by attrs) Opened status b v)
-      (ap (λ x. (not (is_wanted_at g x o wanted), ObjectTypeMismatch) ∷ []) alike) (gives_handle_alike o (asked_by attrs) Opened status) h k
+      (GivesHandle g s r o (options_by attrs) Opened status a u) (GivesHandle g t r o (options_by attrs) Opened status b v)
+      (ap (λ x. (not (is_wanted_at g x o wanted), ObjectTypeMismatch) ∷ []) alike) (gives_handle_alike o (options_by attrs) Opened status) h k
 
   pub opens_alike : (attrs : ℕ) (wanted : Wanted K) (look : Look) → Opens g s r attrs wanted look a u → Opens g t r attrs wanted look b v → EndAlike
   opens_alike attrs wanted (Refused status) h k = refused_alike status h k

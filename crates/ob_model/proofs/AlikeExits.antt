@@ -103,8 +103,8 @@ module _ {K T F I : Type 0} (g : Procedures K T F I) (p : ℕ) where
   closed_in_turn_alike (h ∷ hs) (i ∷ is) s t alike s_sound t_sound s_has t_has =
       let same : map unvalued_handle (h ∷ hs) ≡ map unvalued_handle (i ∷ is) = ap (map unvalued_handle) (sym s_has) ∙ handles_in_alike s t alike ∙ ap (map unvalued_handle) t_has in
       let heads : unvalued_handle h ≡ unvalued_handle i = cc in
-      let one = first_is p h hs s.handles s_sound.distinct s_has (first_owned p h hs s.handles s_has) in
-      let other = first_is p i is t.handles t_sound.distinct t_has (first_owned p i is t.handles t_has) in
+      let one = first_is p h hs s.handles s_sound.handles.distinct s_has (first_owned p h hs s.handles s_has) in
+      let other = first_is p i is t.handles t_sound.handles.distinct t_has (first_owned p i is t.handles t_has) in
       let places : at_first p s.handles ≡ at_first p t.handles = sym (at_first-unvalued p s.handles) ∙ ap (λ (x : State K T F I). at_first p x.handles) alike ∙ at_first-unvalued p t.handles in
       let tests : map (is_handle h.process h.value) s.handles ≡ map (is_handle i.process i.value) t.handles = one.0 ∙ places ∙ sym other.0 in
       let rest =

@@ -8,7 +8,8 @@ use Rattle.ob_model.specs.declared.reply.Answer.{Answer}
 use Rattle.ob_model.specs.declared.state.Held.{Held}
 use Rattle.ob_model.specs.State.{State}
 use Rattle.ob_model.specs.Settle.{has_name}
-use Rattle.ob_model.specs.Procedures.{Procedures, Inherited}
+use Rattle.ob_model.specs.declared.terms.Reason.TheVariants.{Inherited}
+use Rattle.ob_model.specs.Procedures.{Procedures}
 use Rattle.ob_model.specs.Grants.{IsFreeValue, open_refusal, with_open, with_handle}
 use Rattle.ob_model.specs.Permanence.{turned, with_permanence}
 use Rattle.ob_model.specs.Processes.{handles_in, inherited_from, with_child, inherits_one, inherits, begun}
@@ -118,7 +119,7 @@ module _ {K T F I : Type 0} where
   -- nobody has a handle under the next number
   unowned : (s : State K T F I) → IsSound s → All (λ h. (h.process == s.next_process) ≡ false) s.handles
   unowned s sound = λ k d within.
-      let less = live_numbered s.processes s.next_process (get_or s.handles k d).process sound.numbered (sound.live k d within) in
+      let less = live_numbered s.processes s.next_process (get_or s.handles k d).process sound.processes.numbered (sound.handles.live k d within) in
       ne_eqb (get_or s.handles k d).process s.next_process (λ same. omega (arith, less, same))
 
   unnamed : (s : State K T F I) (value : ℕ) → IsSound s → All (λ h. is_named s.next_process value h ≡ false) s.handles
@@ -157,7 +158,7 @@ module _ {K T F I : Type 0} where
           (λ k d within named.
           let owner : (get_or s.handles k d).process ≡ p = named_owner p value (get_or s.handles k d) named in
           let less : (get_or s.handles k d).process < s.next_process =
-          live_numbered s.processes s.next_process (get_or s.handles k d).process sound.numbered (sound.live k d within) in
+          live_numbered s.processes s.next_process (get_or s.handles k d).process sound.processes.numbered (sound.handles.live k d within) in
           ne_eqb s.next_process p (λ same. omega (arith, less, owner, same))) held
 
   pub begun_lead_child : (g : Procedures K T F I) (s t : State K T F I) → AreAlike s t → IsSound s → IsSound t → (q : ℕ) (inherit : Bool) (value other : ℕ) → LeadAlike s t q value other

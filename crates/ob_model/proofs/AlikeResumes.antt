@@ -14,7 +14,8 @@ use Rattle.ob_model.specs.Paths.{origin_of}
 use Rattle.ob_model.specs.PendingOpens.{face_of, pending_of, without_pending, with_instance}
 use Rattle.ob_model.specs.Parses.{IsParsed, LooksAgain, EndsOpen, Resumes, Abandons, parsed_state}
 use Rattle.ob_model.specs.Procedures.{Procedures, ParseOutcome, EndsItself, EndsMade, EndsReparse, EndsRefused, ParseEnds}
-use Rattle.ob_model.specs.Looks.{Look, Refused, Mode, Looks}
+use Rattle.ob_model.specs.declared.terms.Mode.{Mode}
+use Rattle.ob_model.specs.Looks.{Look, Refused, Looks}
 use Rattle.ob_model.specs.Opens.{OpensAt, Opens, open_mode}
 use Rattle.ob_model.specs.Refusals.{Unless}
 use Rattle.ob_model.specs.Settle.{settle}

@@ -18,9 +18,12 @@ use Rattle.ob_model.specs.declared.state.Held.{Held}
 use Rattle.ob_model.specs.declared.state.Object.{Object}
 use Rattle.ob_model.specs.State.{State, is_live, object_of, handle_count, handle_count_in}
 use Rattle.ob_model.specs.Opening.{opening}
-use Rattle.ob_model.specs.Procedures.{Procedures, ParseOutcome, EndsItself, EndsMade, EndsReparse, EndsRefused, Reason, Created, Inherited}
+use Rattle.ob_model.specs.declared.terms.Reason.{Reason}
+use Rattle.ob_model.specs.declared.terms.Reason.TheVariants.{Created, Inherited}
+use Rattle.ob_model.specs.Procedures.{Procedures, ParseOutcome, EndsItself, EndsMade, EndsReparse, EndsRefused}
 use Rattle.ob_model.specs.Settle.{settle}
-use Rattle.ob_model.specs.Grants.{Asked, first_refusal, is_exclusive, has_other_holder, is_table_full, grant_refusal, open_refusal, opened_object, opened_body, with_open, with_handle}
+use Rattle.ob_model.specs.declared.terms.GrantOptions.{GrantOptions}
+use Rattle.ob_model.specs.Grants.{first_refusal, is_exclusive, has_other_holder, is_table_full, grant_refusal, open_refusal, opened_object, opened_body, with_open, with_handle}
 use Rattle.ob_model.specs.Closing.{is_handle, without_handle, closed_body, closed_object, closed_handle}
 use Rattle.ob_model.specs.Permanence.{turned_object, with_permanence, turned}
 use Rattle.ob_model.specs.Maps.{with_map}
@@ -176,7 +179,7 @@ module _ {K T F I : Type 0} (g : Procedures K T F I) where
       (alive_from_handle s (get_or s.handles k d).object
       (list_any_at (λ h. h.object == (get_or s.handles k d).object) s.handles k d within (eq-eqb (get_or s.handles k d).object (get_or s.handles k d).object refl))))) is
 
-  granted_alone : (s : State K T F I) (p value o : ℕ) (asked : Asked) (reason : Reason)
+  granted_alone : (s : State K T F I) (p value o : ℕ) (asked : GrantOptions) (reason : Reason)
       → AreAlone s → grant_refusal g s p o asked reason ≡ None → AreAlone (with_handle (with_open g s o reason) p value o asked.inherit)
   granted_alone s p value o asked reason is e =
       let tests =
@@ -193,7 +196,7 @@ module _ {K T F I : Type 0} (g : Procedures K T F I) where
       one_more s t (record { process = p; value = value; object = s.next_id; inherit = has_flag inherit_flag attrs; order = s.next_order }) refl
       (λ k d within. ap exclusive_found (in_order-others (λ x. x.id) (λ x. x.id == (get_or s.handles k d).object) new s.objects (other_number (get_or s.handles k d).object s.next_id (below k d within))))
       (λ exclusive k d within same. absurd (let less = below k d within in omega (arith, less, same)))
-      (λ inherit. ap exclusive_found (in_order-find (λ x. x.id) new s.objects s.next_id (newest_is_free (λ x. x.id) new s.objects sound.drawn)) ∙ mine (object_of s s.next_id) absent inherit) is
+      (λ inherit. ap exclusive_found (in_order-find (λ x. x.id) new s.objects s.next_id (newest_is_free (λ x. x.id) new s.objects sound.objects.drawn)) ∙ mine (object_of s s.next_id) absent inherit) is
     where
       t : State K T F I
       t = created g s p spot body attrs value
@@ -202,10 +205,10 @@ module _ {K T F I : Type 0} (g : Procedures K T F I) where
       new = record { id = s.next_id; body = opened_body g s.set body Created; permanent = is_some spot && has_flag permanent_flag attrs; exclusive = has_flag exclusive_flag attrs }
 
       below : All (λ h. h.object < s.next_id) s.handles
-      below k d within = stands_drawn s.next_id s.objects (get_or s.handles k d).object sound.drawn (sound.handles k d within)
+      below k d within = stands_drawn s.next_id s.objects (get_or s.handles k d).object sound.objects.drawn (sound.handles.standing k d within)
 
       absent : is_some (object_of s s.next_id) ≡ true → ⊥
-      absent there = let less = stands_drawn s.next_id s.objects s.next_id sound.drawn there in omega (arith, less)
+      absent there = let less = stands_drawn s.next_id s.objects s.next_id sound.objects.drawn there in omega (arith, less)
 
       mine : (found : Option (Object F I)) → (is_some found ≡ true → ⊥) → has_flag inherit_flag attrs ≡ true → exclusive_found (option_or found (find (λ x. x.id == s.next_id) (new ∷ []))) ≡ false
       mine (Some x) none inherit = absurd (none refl)
@@ -307,7 +310,7 @@ module _ {K T F I : Type 0} (g : Procedures K T F I) where
   parsed_alone s x (Some (EndsReparse text)) sound ticket is = agreeing s (without_pending s x.ticket) refl (λ k d within. refl) is
   parsed_alone s x (Some (EndsRefused k)) sound ticket is = agreeing s (without_pending s x.ticket) refl (λ k d within. refl) is
   parsed_alone s x (Some (EndsMade face inner)) sound ticket is =
-      instance_alone (without_pending s x.ticket) x.ticket face inner ticket.0 sound.handles (agreeing s (without_pending s x.ticket) refl (λ k d within. refl) is)
+      instance_alone (without_pending s x.ticket) x.ticket face inner ticket.0 sound.handles.standing (agreeing s (without_pending s x.ticket) refl (λ k d within. refl) is)
 
   -- a step leaves it so, and so does a run
   step_alone : (s t : State K T F I) (event : Event K) (answer : Answer) → IsSound s → AreAlone s → Step g s event answer t → AreAlone t

@@ -9,7 +9,8 @@ use Rattle.std.proofs.lemmas.List.Sums.{AllPass-from_list_all}
 use Rattle.std.proofs.lemmas.List.Elements.{All-nil, All-weaker}
 use Rattle.ob_model.specs.State.{State, root_id, global_id, object_of, is_directory, is_live}
 use Rattle.ob_model.specs.Procedures.{Procedures}
-use Rattle.ob_model.specs.Looks.{Look, Mode, LooksUp}
+use Rattle.ob_model.specs.declared.terms.Mode.{Mode}
+use Rattle.ob_model.specs.Looks.{Look, LooksUp}
 use Rattle.ob_model.specs.declared.state.Row.{Row}
 use Rattle.ob_model.specs.declared.state.Held.{Held}
 use Rattle.ob_model.specs.declared.state.Pending.{Pending}
@@ -94,58 +95,54 @@ module _ {K T F I : Type 0} where
 
   pub IsSound-from_test : (s : State K T F I) → is_sound s ≡ true → IsSound s
   IsSound-from_test s h =
-      let maps = list_all (λ x. is_map_sound s x.map) s.processes in
-      let rows = list_all (λ r. is_some (object_of s r.object)) s.rows in
-      let handles = list_all (λ h. is_some (object_of s h.object)) s.handles in
-      let drawn = list_all (λ x. nat_lt x.id s.next_id) s.objects in
-      let descending = list_all (λ r. nat_lt r.directory r.object) s.rows in
-      let first = and_parts (is_directory s root_id) (is_directory s global_id && (maps && (rows && (handles && (drawn && (descending && is_orderly s)))))) h in
-      let second = and_parts (is_directory s global_id) (maps && (rows && (handles && (drawn && (descending && is_orderly s))))) first.1 in
-      let third = and_parts maps (rows && (handles && (drawn && (descending && is_orderly s)))) second.1 in
-      let fourth = and_parts rows (handles && (drawn && (descending && is_orderly s))) third.1 in
-      let fifth = and_parts handles (drawn && (descending && is_orderly s)) fourth.1 in
-      let sixth = and_parts drawn (descending && is_orderly s) fifth.1 in
-      let seventh = and_parts descending (is_orderly s) sixth.1 in
-      let pending = none_pending s.pending in
-      let rising = do_rise s.rows in
-      let stamped = list_all (λ r. nat_lt r.stamp s.next_stamp) s.rows in
-      let plain = list_all (λ r. not (is_barred r.directory r.name)) s.rows in
-      let live = list_all (λ h. is_live s h.process) s.handles in
-      let numbered = list_all (λ x. nat_lt x.number s.next_process) s.processes in
-      let distinct = do_differ s.handles && are_placed s in
-      let inside = list_all (λ r. is_directory s r.directory) s.rows in
-      let named = list_all (λ r. is_component r.name) s.rows in
-      let eighth = and_parts pending (rising && (stamped && (plain && (live && (numbered && distinct))))) seventh.1 in
-      let ninth = and_parts rising (stamped && (plain && (live && (numbered && distinct)))) eighth.1 in
-      let tenth = and_parts stamped (plain && (live && (numbered && distinct))) ninth.1 in
-      let eleventh = and_parts plain (live && (numbered && distinct)) tenth.1 in
-      let twelfth = and_parts live (numbered && distinct) eleventh.1 in
-      let thirteenth = and_parts numbered distinct twelfth.1 in
-      let fourteenth = and_parts (do_differ s.handles) (are_placed s) thirteenth.1 in
-      let fifteenth = and_parts inside (named && do_stand_apart s.rows) fourteenth.1 in
-      let sixteenth = and_parts named (do_stand_apart s.rows) fifteenth.1 in
+      let first = and_parts _ _ h in
+      let second = and_parts _ _ first.1 in
+      let third = and_parts _ _ second.1 in
+      let fourth = and_parts _ _ third.1 in
+      let fifth = and_parts _ _ fourth.1 in
+      let sixth = and_parts _ _ fifth.1 in
+      let seventh = and_parts _ _ sixth.1 in
+      let eighth = and_parts _ _ seventh.1 in
+      let ninth = and_parts _ _ eighth.1 in
+      let tenth = and_parts _ _ ninth.1 in
+      let eleventh = and_parts _ _ tenth.1 in
+      let twelfth = and_parts _ _ eleventh.1 in
+      let thirteenth = and_parts _ _ twelfth.1 in
+      let fourteenth = and_parts _ _ thirteenth.1 in
+      let fifteenth = and_parts _ _ fourteenth.1 in
+      let sixteenth = and_parts _ _ fifteenth.1 in
       record {
-        root = first.0;
-        global = second.0;
-        maps = All-weaker (λ x. is_map_sound s x.map ≡ true) (HasSoundMap s) (λ x e. map_sound s x.map e) s.processes (AllPass-from_list_all (λ x. is_map_sound s x.map) s.processes third.0);
-        rows = AllPass-from_list_all (λ r. is_some (object_of s r.object)) s.rows fourth.0;
-        handles = AllPass-from_list_all (λ h. is_some (object_of s h.object)) s.handles fifth.0;
-        drawn = All-weaker (λ x. nat_lt x.id s.next_id ≡ true) (λ x. x.id < s.next_id) (λ x e. less x.id s.next_id e) s.objects (AllPass-from_list_all (λ x. nat_lt x.id s.next_id) s.objects sixth.0);
-        descending = All-weaker (λ r. nat_lt r.directory r.object ≡ true) (λ r. r.directory < r.object) (λ r e. less r.directory r.object e) s.rows (AllPass-from_list_all (λ r. nat_lt r.directory r.object) s.rows seventh.0);
-        pending = all_of_none (λ x. Stands s x.object) s.pending eighth.0;
-        ticketed = all_of_none (λ x. x.ticket < s.next_id) s.pending eighth.0;
-        later = all_of_none (λ x. x.object < x.ticket) s.pending eighth.0;
-        reserved = all_of_none (λ x. All (λ y. y.id ≢ x.ticket) s.objects) s.pending eighth.0;
-        awaited = pairs_of_none (λ a b. a.ticket < b.ticket) s.pending eighth.0;
-        rising = pairs_rise s.rows (rise s.rows ninth.0);
-        stamped = All-weaker (λ r. nat_lt r.stamp s.next_stamp ≡ true) (λ r. r.stamp < s.next_stamp) (λ r e. less r.stamp s.next_stamp e) s.rows (AllPass-from_list_all (λ r. nat_lt r.stamp s.next_stamp) s.rows tenth.0);
-        inside = AllPass-from_list_all (λ r. is_directory s r.directory) s.rows fifteenth.0;
-        named = All-weaker (λ r. is_component r.name ≡ true) (λ r. IsComponent r.name) (λ r e. IsComponent-from_test r.name e) s.rows (AllPass-from_list_all (λ r. is_component r.name) s.rows sixteenth.0);
-        apart = stand_apart s.rows sixteenth.1;
-        plain = All-weaker (λ r. not (is_barred r.directory r.name) ≡ true) (λ r. is_barred r.directory r.name ≡ false) (λ r e. is_false (is_barred r.directory r.name) e) s.rows (AllPass-from_list_all (λ r. not (is_barred r.directory r.name)) s.rows eleventh.0);
-        live = AllPass-from_list_all (λ h. is_live s h.process) s.handles twelfth.0;
-        numbered = All-weaker (λ x. nat_lt x.number s.next_process ≡ true) (λ x. x.number < s.next_process) (λ x e. less x.number s.next_process e) s.processes (AllPass-from_list_all (λ x. nat_lt x.number s.next_process) s.processes thirteenth.0);
-        distinct = differ s.handles fourteenth.0;
+        objects = record {
+          root = first.0;
+          global = second.0;
+          drawn = All-weaker (λ x. nat_lt x.id s.next_id ≡ true) (λ x. x.id < s.next_id) (λ x e. less x.id s.next_id e) s.objects (AllPass-from_list_all (λ x. nat_lt x.id s.next_id) s.objects sixth.0);
+        };
+        processes = record {
+          maps = All-weaker (λ x. is_map_sound s x.map ≡ true) (HasSoundMap s) (λ x e. map_sound s x.map e) s.processes (AllPass-from_list_all (λ x. is_map_sound s x.map) s.processes third.0);
+          numbered = All-weaker (λ x. nat_lt x.number s.next_process ≡ true) (λ x. x.number < s.next_process) (λ x e. less x.number s.next_process e) s.processes (AllPass-from_list_all (λ x. nat_lt x.number s.next_process) s.processes thirteenth.0);
+        };
+        rows = record {
+          standing = AllPass-from_list_all (λ r. is_some (object_of s r.object)) s.rows fourth.0;
+          descending = All-weaker (λ r. nat_lt r.directory r.object ≡ true) (λ r. r.directory < r.object) (λ r e. less r.directory r.object e) s.rows (AllPass-from_list_all (λ r. nat_lt r.directory r.object) s.rows seventh.0);
+          rising = pairs_rise s.rows (rise s.rows ninth.0);
+          stamped = All-weaker (λ r. nat_lt r.stamp s.next_stamp ≡ true) (λ r. r.stamp < s.next_stamp) (λ r e. less r.stamp s.next_stamp e) s.rows (AllPass-from_list_all (λ r. nat_lt r.stamp s.next_stamp) s.rows tenth.0);
+          inside = AllPass-from_list_all (λ r. is_directory s r.directory) s.rows fifteenth.0;
+          named = All-weaker (λ r. is_component r.name ≡ true) (λ r. IsComponent r.name) (λ r e. IsComponent-from_test r.name e) s.rows (AllPass-from_list_all (λ r. is_component r.name) s.rows sixteenth.0);
+          apart = stand_apart s.rows sixteenth.1;
+          plain = All-weaker (λ r. not (is_barred r.directory r.name) ≡ true) (λ r. is_barred r.directory r.name ≡ false) (λ r e. is_false (is_barred r.directory r.name) e) s.rows (AllPass-from_list_all (λ r. not (is_barred r.directory r.name)) s.rows eleventh.0);
+        };
+        handles = record {
+          standing = AllPass-from_list_all (λ h. is_some (object_of s h.object)) s.handles fifth.0;
+          live = AllPass-from_list_all (λ h. is_live s h.process) s.handles twelfth.0;
+          distinct = differ s.handles fourteenth.0;
+        };
+        pending = record {
+          standing = all_of_none (λ x. Stands s x.object) s.pending eighth.0;
+          ticketed = all_of_none (λ x. x.ticket < s.next_id) s.pending eighth.0;
+          later = all_of_none (λ x. x.object < x.ticket) s.pending eighth.0;
+          reserved = all_of_none (λ x. All (λ y. y.id ≢ x.ticket) s.objects) s.pending eighth.0;
+          awaited = pairs_of_none (λ a b. a.ticket < b.ticket) s.pending eighth.0;
+        };
       }
 
 module _ {K T F I : Type 0} (g : Procedures K T F I) (s : State K T F I) (sound : is_sound s ≡ true) (p : ℕ) (mode : Mode) (n : ℕ) where

@@ -16,7 +16,8 @@ use Rattle.ob_model.specs.declared.reply.Answer.{Answer}
 use Rattle.ob_model.specs.declared.state.Held.{Held}
 use Rattle.ob_model.specs.declared.state.Process.{Process}
 use Rattle.ob_model.specs.State.{State, is_live, process_of, held_of}
-use Rattle.ob_model.specs.Procedures.{Procedures, Duplicated, Inherited}
+use Rattle.ob_model.specs.declared.terms.Reason.TheVariants.{Duplicated, Inherited}
+use Rattle.ob_model.specs.Procedures.{Procedures}
 use Rattle.ob_model.specs.Grants.{first_refusal, open_refusal, with_open, with_handle}
 use Rattle.ob_model.specs.Closing.{is_handle, closed_handle}
 use Rattle.ob_model.specs.Refusals.{IsRefused}
@@ -27,7 +28,7 @@ use Rattle.ob_model.specs.Sound.{IsSound, Stands, HasSoundMap, IsDirectory}
 use Rattle.ob_model.proofs.Finds.{find-filter, All-kept, filter_none}
 use Rattle.ob_model.proofs.Finds.{find_none}
 use Rattle.ob_model.proofs.SoundPaths.{find_of}
-use Rattle.ob_model.proofs.Soundness.{granted_sound, gives_handle_sound, closed_sound, stands-opened}
+use Rattle.ob_model.proofs.Soundness.{with_processes_sound, granted_sound, gives_handle_sound, closed_sound, stands-opened}
 
 -- a test of what another test leaves
 pub any_filter : {X : Type 0} (kept test : X → Bool) (xs : List X) → list_any (λ x. kept x && test x) xs ≡ true → list_any test (filter kept xs) ≡ true
@@ -99,36 +100,18 @@ module _ {K T F I : Type 0} where
   child_is_empty s value sound =
       find_none (λ h. h.process == s.next_process && h.value == value) s.handles
       (λ k d within.
-      let less = live_numbered s.processes s.next_process (get_or s.handles k d).process sound.numbered (sound.live k d within) in
+      let less = live_numbered s.processes s.next_process (get_or s.handles k d).process sound.processes.numbered (sound.handles.live k d within) in
       ap (λ (b : Bool). b && ((get_or s.handles k d).value == value)) (ne_eqb (get_or s.handles k d).process s.next_process (λ same. omega (arith, less, same))))
 
   -- a child's map is its parent's
   child_sound : (s : State K T F I) (p : ℕ) → IsSound s → IsSound (with_child s p)
-  child_sound s p sound = record {
-    root = sound.root;
-    global = sound.global;
-    maps = All-push (HasSoundMap s) s.processes (record { number = s.next_process; map = option_and_then (λ x. x.map) (process_of s p) }) sound.maps
-        (go (process_of s p) (find_of (HasSoundMap s) (λ x. x.number == p) s.processes sound.maps));
-    rows = sound.rows;
-    handles = sound.handles;
-    drawn = sound.drawn;
-    descending = sound.descending;
-    pending = sound.pending;
-    ticketed = sound.ticketed;
-    later = sound.later;
-    reserved = sound.reserved;
-    awaited = sound.awaited;
-    rising = sound.rising;
-    stamped = sound.stamped;
-    inside = sound.inside;
-    named = sound.named;
-    apart = sound.apart;
-    plain = sound.plain;
-    live = All-weaker (λ h. is_live s h.process ≡ true) (λ h. is_live (with_child s p) h.process ≡ true) (λ h live. live_with_child s p h.process live) s.handles sound.live;
-    numbered = All-push (λ x. x.number < s.next_process + 1) s.processes _
-        (All-weaker (λ x. x.number < s.next_process) (λ x. x.number < s.next_process + 1) (λ x less. omega (arith, less)) s.processes sound.numbered) (omega arith);
-    distinct = sound.distinct;
-  }
+  child_sound s p sound =
+      with_processes_sound s (with_child s p).processes (s.next_process + 1)
+      (All-push (HasSoundMap s) s.processes (record { number = s.next_process; map = option_and_then (λ x. x.map) (process_of s p) }) sound.processes.maps
+      (go (process_of s p) (find_of (HasSoundMap s) (λ x. x.number == p) s.processes sound.processes.maps)))
+      (All-push (λ x. x.number < s.next_process + 1) s.processes _
+      (All-weaker (λ x. x.number < s.next_process) (λ x. x.number < s.next_process + 1) (λ x less. omega (arith, less)) s.processes sound.processes.numbered) (omega arith))
+      (All-weaker (λ h. is_live s h.process ≡ true) (λ h. is_live (with_child s p) h.process ≡ true) (λ h live. live_with_child s p h.process live) s.handles sound.handles.live) sound
     where
       go : (o : Option Process) → MatchOption o (Unit {0}) (HasSoundMap s) → MatchOption (option_and_then (λ x. x.map) o) (Unit {0}) (IsDirectory s)
       go None h = tt
@@ -136,55 +119,14 @@ module _ {K T F I : Type 0} where
 
   -- an order that is drawn for no handle changes nothing else
   order_drawn_sound : (s : State K T F I) → IsSound s → IsSound (record s { next_order = s.next_order + 1 })
-  order_drawn_sound s sound = record {
-    root = sound.root;
-    global = sound.global;
-    maps = sound.maps;
-    rows = sound.rows;
-    handles = sound.handles;
-    drawn = sound.drawn;
-    descending = sound.descending;
-    pending = sound.pending;
-    ticketed = sound.ticketed;
-    later = sound.later;
-    reserved = sound.reserved;
-    awaited = sound.awaited;
-    rising = sound.rising;
-    stamped = sound.stamped;
-    inside = sound.inside;
-    named = sound.named;
-    apart = sound.apart;
-    plain = sound.plain;
-    live = sound.live;
-    numbered = sound.numbered;
-    distinct = sound.distinct;
-  }
+  order_drawn_sound s sound = record { objects = sound.objects; processes = sound.processes; rows = sound.rows; handles = sound.handles; pending = sound.pending }
 
   -- the state without a process that has no handle is sound
   parted_sound : (s : State K T F I) (p : ℕ) → IsSound s → All (λ h. (h.process == p) ≡ false) s.handles → IsSound (without_process s p)
-  parted_sound s p sound apart = record {
-    root = sound.root;
-    global = sound.global;
-    maps = All-filter (λ x. not (x.number == p)) (HasSoundMap s) s.processes sound.maps;
-    rows = sound.rows;
-    handles = sound.handles;
-    drawn = sound.drawn;
-    descending = sound.descending;
-    pending = sound.pending;
-    ticketed = sound.ticketed;
-    later = sound.later;
-    reserved = sound.reserved;
-    awaited = sound.awaited;
-    rising = sound.rising;
-    stamped = sound.stamped;
-    inside = sound.inside;
-    named = sound.named;
-    apart = sound.apart;
-    plain = sound.plain;
-    live = λ k d within. stays (get_or s.handles k d).process (apart k d within) (sound.live k d within);
-    numbered = All-filter (λ x. not (x.number == p)) (λ x. x.number < s.next_process) s.processes sound.numbered;
-    distinct = sound.distinct;
-  }
+  parted_sound s p sound apart =
+      with_processes_sound s (filter (λ x. not (x.number == p)) s.processes) s.next_process (All-filter (λ x. not (x.number == p)) (HasSoundMap s) s.processes sound.processes.maps)
+      (All-filter (λ x. not (x.number == p)) (λ x. x.number < s.next_process) s.processes sound.processes.numbered)
+      (λ k d within. stays (get_or s.handles k d).process (apart k d within) (sound.handles.live k d within)) sound
     where
       stays : (q : ℕ) → (q == p) ≡ false → is_live s q ≡ true → is_live (without_process s p) q ≡ true
       stays q other live =
@@ -248,7 +190,7 @@ module _ {K T F I : Type 0} (g : Procedures K T F I) where
   pub begun_sound : (s : State K T F I) (p : ℕ) (inherit : Bool) → IsSound s → IsSound (begun g s p inherit)
   begun_sound s p inherit sound =
       inherits_sound (with_child s p) s.next_process (inherited_from s p inherit) (child_sound s p sound) (child_is_live s p)
-      (All-filter (λ h. h.inherit && inherit) (λ h. Stands s h.object) (handles_in s p) (All-filter (λ h. h.process == p) (λ h. Stands s h.object) s.handles sound.handles))
+      (All-filter (λ h. h.inherit && inherit) (λ h. Stands s h.object) (handles_in s p) (All-filter (λ h. h.process == p) (λ h. Stands s h.object) s.handles sound.handles.standing))
       (λ k d within. child_is_empty s (get_or (inherited_from s p inherit) k d).value sound)
       (λ i j d less within.
       values_differ p (get_or (inherited_from s p inherit) i d) (get_or (inherited_from s p inherit) j d) (pairs i j d less within) (own i d (omega (arith, less, within))) (own j d within))
@@ -256,7 +198,7 @@ module _ {K T F I : Type 0} (g : Procedures K T F I) where
       pairs : AllPairs (λ a b. is_handle a.process a.value b ≡ false) (inherited_from s p inherit)
       pairs =
           AllPairs-filter (λ a b. is_handle a.process a.value b ≡ false) (λ h. h.inherit && inherit) (handles_in s p)
-          (AllPairs-filter (λ a b. is_handle a.process a.value b ≡ false) (λ h. h.process == p) s.handles sound.distinct)
+          (AllPairs-filter (λ a b. is_handle a.process a.value b ≡ false) (λ h. h.process == p) s.handles sound.handles.distinct)
 
       own : All (λ h. (h.process == p) ≡ true) (inherited_from s p inherit)
       own = All-filter (λ h. h.inherit && inherit) (λ h. (h.process == p) ≡ true) (handles_in s p) (filter_passes (λ h. h.process == p) s.handles)
@@ -278,7 +220,7 @@ module _ {K T F I : Type 0} (g : Procedures K T F I) where
 
       found : is_live s to ≡ true → (key : Option ℕ) → MatchOption (option_and_then (held_of s p) key) (IsRefused s InvalidHandle answer t) Does → IsSound t
       found live None h = subst IsSound (sym h.1) sound
-      found live (Some key) h = go (held_of s p key) (find_of (λ x. Stands s x.object) (λ x. x.process == p && x.value == key) s.handles sound.handles) h
+      found live (Some key) h = go (held_of s p key) (find_of (λ x. Stands s x.object) (λ x. x.process == p && x.value == key) s.handles sound.handles.standing) h
         where
           go : (o : Option Held) → MatchOption o (Unit {0}) (λ x. Stands s x.object) → MatchOption o (IsRefused s InvalidHandle answer t) Does → IsSound t
           go None there h = subst IsSound (sym h.1) sound
@@ -370,5 +312,5 @@ module _ {K T F I : Type 0} (g : Procedures K T F I) where
       ∙ ap (λ hs. map without_order hs ++ map handed_on (accepted g (with_child s p) s.next_process (inherited_from s p inherit)))
       (filter_none (λ h. h.process == s.next_process) s.handles
       (λ k d within.
-      let less = live_numbered s.processes s.next_process (get_or s.handles k d).process sound.numbered (sound.live k d within) in
+      let less = live_numbered s.processes s.next_process (get_or s.handles k d).process sound.processes.numbered (sound.handles.live k d within) in
       ne_eqb (get_or s.handles k d).process s.next_process (λ same. omega (arith, less, same))))

@@ -22,10 +22,14 @@ use Rattle.ob_model.specs.declared.state.Pending.{Pending}
 use Rattle.ob_model.specs.declared.state.Wanted.{Wanted}
 use Rattle.ob_model.specs.declared.state.Wanted.TheVariants as wanted
 use Rattle.ob_model.specs.State.{State, is_live, is_directory, is_store_full, held_of}
-use Rattle.ob_model.specs.Looks.{Mode, Look, At, Vacant, Parse, Refused, Looks, LooksUp, most_reparses}
-use Rattle.ob_model.specs.Procedures.{Procedures, ParseOutcome, EndsItself, EndsMade, EndsReparse, EndsRefused, ParseEnds, Reason, Opened, Created, Duplicated}
+use Rattle.ob_model.specs.declared.terms.Mode.{Mode}
+use Rattle.ob_model.specs.Looks.{Look, At, Vacant, Parse, Refused, Looks, LooksUp, most_reparses}
+use Rattle.ob_model.specs.declared.terms.Reason.{Reason}
+use Rattle.ob_model.specs.declared.terms.Reason.TheVariants.{Opened, Created, Duplicated}
+use Rattle.ob_model.specs.Procedures.{Procedures, ParseOutcome, EndsItself, EndsMade, EndsReparse, EndsRefused, ParseEnds}
 use Rattle.ob_model.specs.Settle.{settle}
-use Rattle.ob_model.specs.Grants.{first_refusal, Grants, IsFreeValue, Asked, open_refusal_of, with_handle, with_open}
+use Rattle.ob_model.specs.declared.terms.GrantOptions.{GrantOptions}
+use Rattle.ob_model.specs.Grants.{first_refusal, Grants, IsFreeValue, open_refusal_of, with_handle, with_open}
 use Rattle.ob_model.specs.Closing.{closed_handle}
 use Rattle.ob_model.specs.Permanence.{turned}
 use Rattle.ob_model.specs.Maps.{with_map}
@@ -33,7 +37,7 @@ use Rattle.ob_model.specs.Types.{is_wanted_at}
 use Rattle.ob_model.specs.Refusals.{gives, answers, IsRefused, Unless, create_refusals, open_refusals}
 use Rattle.ob_model.specs.PendingOpens.{face_of, pending_of, with_pending}
 use Rattle.ob_model.specs.Parses.{parsed_state, IsParsed, IsBrought, LooksAgain, EndsOpen, Resumes, Abandons}
-use Rattle.ob_model.specs.Opens.{GivesHandle, OpensAt, Opens, asked_by, type_wanted, open_mode}
+use Rattle.ob_model.specs.Opens.{GivesHandle, OpensAt, Opens, options_by, type_wanted, open_mode}
 use Rattle.ob_model.specs.Creates.{Making, MakesDirectory, MakesLink, MakesObject, is_fit, create_mode, type_made, Spot, room_refusals, make_refusal, body_made, created, dropped, Makes, Creates}
 use Rattle.ob_model.specs.Naming.{TellsName, TellsTarget}
 use Rattle.ob_model.specs.Enumeration.{enumerated, context_used, page_answer}
@@ -99,7 +103,7 @@ no_handle status other v answer e f = absurd (apart (sym e ∙ f))
 
 module _ {K T F I : Type 0} (g : Procedures K T F I) where
   -- what a grant answers
-  granted_end : (s t u t_granted u_granted : State K T F I) (p o : ℕ) (asked : Asked) (reason : Reason) (status : Status) (answer : Answer) (one other : Result ℕ Status)
+  granted_end : (s t u t_granted u_granted : State K T F I) (p o : ℕ) (asked : GrantOptions) (reason : Reason) (status : Status) (answer : Answer) (one other : Result ℕ Status)
       → Grants g s p o asked reason one t_granted
       → MatchResult one (λ value. (answer ≡ gives status (Handle value)) × (t ≡ settle g t_granted)) (λ refusal. IsRefused s refusal answer t)
       → Grants g s p o asked reason other u_granted
@@ -111,15 +115,15 @@ module _ {K T F I : Type 0} (g : Procedures K T F I) where
   granted_end s t u t_granted u_granted p o asked reason status answer (Err refusal) (Ok w) grants h grants_too k = no_handle status refusal w answer k.0 h.0
   granted_end s t u t_granted u_granted p o asked reason status answer (Err one) (Err other) grants h grants_too k = refused_end s t u one other answer h k
 
-  gives_handle_end : (s t u : State K T F I) (p o : ℕ) (asked : Asked) (reason : Reason) (status : Status) (answer : Answer)
+  gives_handle_end : (s t u : State K T F I) (p o : ℕ) (asked : GrantOptions) (reason : Reason) (status : Status) (answer : Answer)
       → GivesHandle g s p o asked reason status answer t → GivesHandle g s p o asked reason status answer u → t ≡ u
   gives_handle_end s t u p o asked reason status answer a b = granted_end s t u a.1 b.1 p o asked reason status answer a.0 b.0 a.2 a.3 b.2 b.3
 
   opens_at_end : (s t u : State K T F I) (p attrs : ℕ) (wanted : Wanted K) (status : Status) (o : ℕ) (answer : Answer)
       → OpensAt g s p attrs wanted status o answer t → OpensAt g s p attrs wanted status o answer u → t ≡ u
   opens_at_end s t u p attrs wanted status o answer h k =
-      unless_end ((not (is_wanted_at g s o wanted), ObjectTypeMismatch) ∷ []) s t u answer (GivesHandle g s p o (asked_by attrs) Opened status answer t) (GivesHandle g s p o (asked_by attrs) Opened status answer u)
-      (gives_handle_end s t u p o (asked_by attrs) Opened status answer) h k
+      unless_end ((not (is_wanted_at g s o wanted), ObjectTypeMismatch) ∷ []) s t u answer (GivesHandle g s p o (options_by attrs) Opened status answer t) (GivesHandle g s p o (options_by attrs) Opened status answer u)
+      (gives_handle_end s t u p o (options_by attrs) Opened status answer) h k
 
   opens_end : (s t u : State K T F I) (p attrs : ℕ) (wanted : Wanted K) (look : Look) (answer : Answer)
       → Opens g s p attrs wanted look answer t → Opens g s p attrs wanted look answer u → t ≡ u

@@ -23,9 +23,12 @@ use Rattle.ob_model.specs.declared.state.Wanted.{Wanted}
 use Rattle.ob_model.specs.declared.state.Wanted.TheVariants as wanted
 use Rattle.ob_model.specs.State.{State, is_live, is_directory, is_store_full, held_of}
 use Rattle.ob_model.specs.Looks.{Look, At, Vacant, Parse, Refused, LooksUp, most_reparses}
-use Rattle.ob_model.specs.Procedures.{Procedures, ParseOutcome, EndsItself, EndsMade, EndsReparse, EndsRefused, Reason, Opened, Created, Duplicated}
+use Rattle.ob_model.specs.declared.terms.Reason.{Reason}
+use Rattle.ob_model.specs.declared.terms.Reason.TheVariants.{Opened, Created, Duplicated}
+use Rattle.ob_model.specs.Procedures.{Procedures, ParseOutcome, EndsItself, EndsMade, EndsReparse, EndsRefused}
 use Rattle.ob_model.specs.Settle.{settle}
-use Rattle.ob_model.specs.Grants.{Asked, first_refusal, Grants, grant_refusal, IsFreeValue, open_refusal_of, with_open, with_handle}
+use Rattle.ob_model.specs.declared.terms.GrantOptions.{GrantOptions}
+use Rattle.ob_model.specs.Grants.{first_refusal, Grants, grant_refusal, IsFreeValue, open_refusal_of, with_open, with_handle}
 use Rattle.ob_model.specs.Closing.{closed_handle}
 use Rattle.ob_model.specs.Permanence.{turned}
 use Rattle.ob_model.specs.Maps.{with_map}
@@ -33,7 +36,7 @@ use Rattle.ob_model.specs.Types.{is_wanted_at}
 use Rattle.ob_model.specs.Refusals.{gives, answers, IsRefused, Unless, name_refusals, create_refusals, open_refusals}
 use Rattle.ob_model.specs.PendingOpens.{with_pending}
 use Rattle.ob_model.specs.Parses.{EndsOpen}
-use Rattle.ob_model.specs.Opens.{GivesHandle, OpensAt, Opens, asked_by, type_wanted, open_mode}
+use Rattle.ob_model.specs.Opens.{GivesHandle, OpensAt, Opens, options_by, type_wanted, open_mode}
 use Rattle.ob_model.specs.Creates.{Making, MakesDirectory, MakesLink, MakesObject, is_fit, create_mode, type_made, Spot, room_refusals, make_refusal, body_made, created, dropped, Makes, Creates}
 use Rattle.ob_model.specs.Naming.{TellsName, TellsTarget}
 use Rattle.ob_model.specs.Enumeration.{enumerated, context_used, page_answer}
@@ -62,7 +65,7 @@ pub data Came {K T F I : Type 0} (g : Procedures K T F I) (s t : State K T F I) 
 
 module _ {K T F I : Type 0} (g : Procedures K T F I) (s : State K T F I) (P : State K T F I → Type 0) (same : P s)
     (drops : (body : Body F I) → P (dropped g s body))
-    (grants : (p value o : ℕ) (asked : Asked) (reason : Reason) → grant_refusal g s p o asked reason ≡ None → P (settle g (with_handle (with_open g s o reason) p value o asked.inherit)))
+    (grants : (p value o : ℕ) (asked : GrantOptions) (reason : Reason) → grant_refusal g s p o asked reason ≡ None → P (settle g (with_handle (with_open g s o reason) p value o asked.inherit)))
     (makes : (p : ℕ) (spot : Spot) (body : Body F I) (attrs value : ℕ) → are_lawful attrs ≡ true → P (settle g (created g s p spot body attrs value)))
     (closes : (h : Held) → P (settle g (closed_handle g s h)))
     (turns : (o : ℕ) (permanent : Bool) → P (settle g (turned s o permanent)))
@@ -104,7 +107,7 @@ module _ {K T F I : Type 0} (g : Procedures K T F I) (s : State K T F I) (P : St
       go (Some x) h = does (Some x.object) h
 
   -- what a grant answers
-  granted_or_refused_leads : (t u : State K T F I) (p o : ℕ) (asked : Asked) (reason : Reason) (status : Status) (answer : Answer) (result : Result ℕ Status) → Grants g s p o asked reason result u
+  granted_or_refused_leads : (t u : State K T F I) (p o : ℕ) (asked : GrantOptions) (reason : Reason) (status : Status) (answer : Answer) (result : Result ℕ Status) → Grants g s p o asked reason result u
       → MatchResult result (λ value. (answer ≡ gives status (Handle value)) × (t ≡ settle g u)) (λ refusal. IsRefused s refusal answer t) → P t
   granted_or_refused_leads t u p o asked reason status answer (Ok value) granted h =
       subst P (sym h.1) (subst (λ v. P (settle g v)) (sym granted.2) (grants p value o asked reason granted.0))
@@ -113,8 +116,8 @@ module _ {K T F I : Type 0} (g : Procedures K T F I) (s : State K T F I) (P : St
   opens_at_leads : (t : State K T F I) (p attrs : ℕ) (wanted : Wanted K) (status : Status) (o : ℕ) (answer : Answer) → OpensAt g s p attrs wanted status o answer t → P t
   opens_at_leads t p attrs wanted status o answer h =
       unless_leads ((not (is_wanted_at g s o wanted), ObjectTypeMismatch) ∷ []) t answer
-      (GivesHandle g s p o (asked_by attrs) Opened status answer t)
-      (λ e does. granted_or_refused_leads t does.1 p o (asked_by attrs) Opened status answer does.0 does.2 does.3) h
+      (GivesHandle g s p o (options_by attrs) Opened status answer t)
+      (λ e does. granted_or_refused_leads t does.1 p o (options_by attrs) Opened status answer does.0 does.2 does.3) h
 
   opens_leads : (t : State K T F I) (p attrs : ℕ) (wanted : Wanted K) (look : Look) (answer : Answer) → Opens g s p attrs wanted look answer t → P t
   opens_leads t p attrs wanted (Refused status) answer h = refused_leads t status answer h

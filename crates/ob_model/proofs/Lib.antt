@@ -39,3 +39,4 @@ pub mod Alike
 pub mod AlikeExits
 pub mod AlikeSteps
 pub mod AlikeResumes
+pub mod Sorted

@@ -10,7 +10,8 @@ use Rattle.ob_model.specs.State.{State, body_of, is_directory, is_directory_body
 use Rattle.ob_model.specs.Paths.{Origin, directory_at, origin_of, relative}
 use Rattle.ob_model.specs.Parses.{LooksAgain}
 use Rattle.ob_model.specs.Procedures.{Procedures}
-use Rattle.ob_model.specs.Looks.{Look, At, Parse, Refused, Mode, Stop, Missed, Reached, Next, Over, Follow, at_miss, at_body, IsNext, IsStop, Again, Ends, Looks, LooksFrom, LooksUp}
+use Rattle.ob_model.specs.declared.terms.Mode.{Mode}
+use Rattle.ob_model.specs.Looks.{Look, At, Parse, Refused, Stop, Missed, Reached, Next, Over, Follow, at_miss, at_body, IsNext, IsStop, Again, Ends, Looks, LooksFrom, LooksUp}
 use Rattle.ob_model.specs.Sound.{IsSound, IsDirectory, Stands}
 use Rattle.ob_model.proofs.Walk.{walked, walked_stops, stop_unique}
 use Rattle.ob_model.proofs.SoundPaths.{IsSoundOrigin, body_from_stands, stands_from_directory, path_stands, origin_is_directory}

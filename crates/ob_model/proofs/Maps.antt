@@ -13,7 +13,8 @@ use Rattle.ob_model.specs.declared.reply.Answer.TheVariants.{Done, Ticket}
 use Rattle.ob_model.specs.declared.state.Held.{Held}
 use Rattle.ob_model.specs.declared.state.Process.{Process}
 use Rattle.ob_model.specs.State.{State, global_id, object_of, is_directory, is_live, process_of, held_of}
-use Rattle.ob_model.specs.Procedures.{Procedures, Inherited}
+use Rattle.ob_model.specs.declared.terms.Reason.TheVariants.{Inherited}
+use Rattle.ob_model.specs.Procedures.{Procedures}
 use Rattle.ob_model.specs.Settle.{settle}
 use Rattle.ob_model.specs.Grants.{open_refusal, with_open, with_handle}
 use Rattle.ob_model.specs.Maps.{with_own_map, map_of, with_map}
@@ -23,6 +24,7 @@ use Rattle.ob_model.specs.Step.{SetsMap}
 use Rattle.ob_model.specs.Sound.{IsSound, IsDirectory, HasSoundMap}
 use Rattle.ob_model.proofs.Finds.{find-map, find_none}
 use Rattle.ob_model.proofs.SoundPaths.{find_of, of_some}
+use Rattle.ob_model.proofs.Soundness.{with_processes_sound}
 use Rattle.ob_model.proofs.Settled.{alive_from_map, object_of-settle}
 
 -- a process keeps its number
@@ -95,39 +97,21 @@ module _ {K T F I : Type 0} where
 
   -- the state stays sound where the map is a directory
   pub mapped_sound : (s : State K T F I) (p d : ℕ) → is_directory s d ≡ true → IsSound s → IsSound (with_map s p d)
-  mapped_sound s p d directory sound = record {
-    root = sound.root;
-    global = sound.global;
-    maps = All-map (HasSoundMap s) (with_own_map p (Some d)) s.processes
-        (All-weaker (HasSoundMap s) (λ x. HasSoundMap s (with_own_map p (Some d) x)) own_map s.processes sound.maps);
-    rows = sound.rows;
-    handles = sound.handles;
-    drawn = sound.drawn;
-    descending = sound.descending;
-    pending = sound.pending;
-    ticketed = sound.ticketed;
-    later = sound.later;
-    reserved = sound.reserved;
-    awaited = sound.awaited;
-    rising = sound.rising;
-    stamped = sound.stamped;
-    inside = sound.inside;
-    named = sound.named;
-    apart = sound.apart;
-    plain = sound.plain;
-    live = All-weaker (λ h. is_live s h.process ≡ true) (λ h. is_live (with_map s p d) h.process ≡ true) (λ h live. live_mapped s p d h.process ∙ live) s.handles sound.live;
-    numbered = All-map (λ x. x.number < s.next_process) (with_own_map p (Some d)) s.processes
-        (All-weaker (λ x. x.number < s.next_process) (λ x. (with_own_map p (Some d) x).number < s.next_process)
-        (λ x less. subst (λ (n : ℕ). n < s.next_process) (sym (own_number p (Some d) x)) less) s.processes sound.numbered);
-    distinct = sound.distinct;
-  }
+  mapped_sound s p d directory sound =
+      with_processes_sound s (map (with_own_map p (Some d)) s.processes) s.next_process
+      (All-map (HasSoundMap s) (with_own_map p (Some d)) s.processes
+      (All-weaker (HasSoundMap s) (λ x. HasSoundMap s (with_own_map p (Some d) x)) own_map s.processes sound.processes.maps))
+      (All-map (λ x. x.number < s.next_process) (with_own_map p (Some d)) s.processes
+      (All-weaker (λ x. x.number < s.next_process) (λ x. (with_own_map p (Some d) x).number < s.next_process)
+      (λ x less. subst (λ (n : ℕ). n < s.next_process) (sym (own_number p (Some d) x)) less) s.processes sound.processes.numbered))
+      (All-weaker (λ h. is_live s h.process ≡ true) (λ h. is_live (with_map s p d) h.process ≡ true) (λ h live. live_mapped s p d h.process ∙ live) s.handles sound.handles.live) sound
     where
       own_map : (x : Process) → HasSoundMap s x → HasSoundMap s (with_own_map p (Some d) x)
       own_map x has = elim (x.number == p) as (λ b. HasSoundMap s (if b then record x { map = Some d } else x)) [ true ↦ directory | false ↦ has ]
 
   -- a process's map directory is one, in a sound state
   pub map_is_directory : (s : State K T F I) (q d : ℕ) → IsSound s → map_of s q ≡ Some d → IsDirectory s d
-  map_is_directory s q d sound has = go (process_of s q) (find_of (HasSoundMap s) (λ x. x.number == q) s.processes sound.maps) has
+  map_is_directory s q d sound has = go (process_of s q) (find_of (HasSoundMap s) (λ x. x.number == q) s.processes sound.processes.maps) has
     where
       go : (found : Option Process) → MatchOption found (Unit {0}) (HasSoundMap s) → option_and_then (λ x. x.map) found ≡ Some d → IsDirectory s d
       go None h has = cc
@@ -140,7 +124,7 @@ module _ {K T F I : Type 0} where
       (find-append (λ (x : Process). x.number == s.next_process) s.processes (child ∷ [])
       ∙ ap (λ found. option_or found (find (λ x. x.number == s.next_process) (child ∷ [])))
       (find_none (λ x. x.number == s.next_process) s.processes
-      (λ k d within. let less = sound.numbered k d within in ne_eqb (get_or s.processes k d).number s.next_process (λ same. omega (arith, less, same)))))
+      (λ k d within. let less = sound.processes.numbered k d within in ne_eqb (get_or s.processes k d).number s.next_process (λ same. omega (arith, less, same)))))
       ∙ ap (λ b. option_and_then (λ (x : Process). x.map) (cond b (Some child) None)) (eq-eqb s.next_process s.next_process refl)
     where
       child : Process

@@ -7,7 +7,8 @@ use Rattle.ob_model.specs.Names.{separator, joined, IsComponent, IsSplit, next_c
 use Rattle.ob_model.specs.State.{State, is_directory}
 use Rattle.ob_model.specs.Paths.{Origin, InDirectory, IsPath, directory_at, entry, place_behind, origin_of}
 use Rattle.ob_model.specs.Procedures.{Procedures}
-use Rattle.ob_model.specs.Looks.{Look, Refused, Mode, Missed, Reached, Over, Follow}
+use Rattle.ob_model.specs.declared.terms.Mode.{Mode}
+use Rattle.ob_model.specs.Looks.{Look, Refused, Missed, Reached, Over, Follow}
 use Rattle.ob_model.proofs.Components.{rest_in_parts, after_component-is_rest, next_component-is_component, length-after_component}
 use Rattle.ob_model.proofs.Walk.{walked, walk-nil, walk-closed, walk-missed, walk-found, walk-enough, place_behind-in_directory}
 use Rattle.ob_model.proofs.Lookup.{looked_up, looked_again, next_of}

@@ -14,7 +14,8 @@ use Rattle.ob_model.specs.State.{State, root_id, object_of, body_of}
 use Rattle.ob_model.specs.Sound.{Stands}
 use Rattle.ob_model.specs.Paths.{Origin, origin_of, relative}
 use Rattle.ob_model.specs.Procedures.{Procedures}
-use Rattle.ob_model.specs.Looks.{Mode, Look, At, Vacant, Parse, Refused, Stop, Missed, Reached, Next, Over, Follow, at_miss, at_link, at_other, named_or_mismatch, at_body, IsNext, Again, Ends, Looks, LooksFrom, LooksUp}
+use Rattle.ob_model.specs.declared.terms.Mode.{Mode}
+use Rattle.ob_model.specs.Looks.{Look, At, Vacant, Parse, Refused, Stop, Missed, Reached, Next, Over, Follow, at_miss, at_link, at_other, named_or_mismatch, at_body, IsNext, Again, Ends, Looks, LooksFrom, LooksUp}
 use Rattle.ob_model.specs.Parses.{LooksAgain}
 
 module _ {K T F I : Type 0} (s : State K T F I) where

@@ -21,16 +21,19 @@ use Rattle.ob_model.specs.declared.state.Wanted.TheVariants as wanted
 use Rattle.ob_model.specs.Names.{longest_name}
 use Rattle.ob_model.specs.State.{State, is_live, is_directory, held_of}
 use Rattle.ob_model.specs.Looks.{Look, At, Vacant, Parse, Refused, LooksUp, most_reparses}
-use Rattle.ob_model.specs.Procedures.{Procedures, Reason, Opened, Created, Duplicated}
+use Rattle.ob_model.specs.declared.terms.Reason.{Reason}
+use Rattle.ob_model.specs.declared.terms.Reason.TheVariants.{Opened, Created, Duplicated}
+use Rattle.ob_model.specs.Procedures.{Procedures}
 use Rattle.ob_model.specs.PendingOpens.{face_of}
 use Rattle.ob_model.specs.Settle.{settle}
-use Rattle.ob_model.specs.Grants.{Asked, first_refusal, IsFreeValue, open_refusal_of}
+use Rattle.ob_model.specs.declared.terms.GrantOptions.{GrantOptions}
+use Rattle.ob_model.specs.Grants.{first_refusal, IsFreeValue, open_refusal_of}
 use Rattle.ob_model.specs.Closing.{closed_handle}
 use Rattle.ob_model.specs.Permanence.{turned}
 use Rattle.ob_model.specs.Maps.{with_map}
 use Rattle.ob_model.specs.Types.{is_wanted_at}
 use Rattle.ob_model.specs.Refusals.{gives, answers, IsRefused, Unless, create_refusals, open_refusals}
-use Rattle.ob_model.specs.Opens.{GivesHandle, OpensAt, Opens, asked_by, type_wanted, open_mode}
+use Rattle.ob_model.specs.Opens.{GivesHandle, OpensAt, Opens, options_by, type_wanted, open_mode}
 use Rattle.ob_model.specs.Creates.{Making, MakesDirectory, MakesLink, MakesObject, is_fit, create_mode, type_made, Spot, room_refusals, make_refusal, body_made, created, dropped, Makes, Creates}
 use Rattle.ob_model.specs.Naming.{path_text, TellsName, TellsTarget}
 use Rattle.ob_model.specs.Enumeration.{enumerated, context_used, page_answer}
@@ -89,7 +92,7 @@ module _ {K T F I : Type 0} (g : Procedures K T F I) (never : (kind : K) → g.p
       go None h = h
       go (Some face) h = let no : g.parses (g.kind_of face) ≡ false = never (g.kind_of face) in cc
 
-  gives_handle_reply : (p o : ℕ) (asked : Asked) (reason : Reason) (status : Status) → GivesHandle g s p o asked reason status answer t → IsReply answer
+  gives_handle_reply : (p o : ℕ) (asked : GrantOptions) (reason : Reason) (status : Status) → GivesHandle g s p o asked reason status answer t → IsReply answer
   gives_handle_reply p o asked reason status h = go h.0 h.3
     where
       go : (result : Result ℕ Status) → MatchResult result (λ value. (answer ≡ gives status (Handle value)) × (t ≡ settle g h.1)) (λ refusal. IsRefused s refusal answer t) → IsReply answer
@@ -98,8 +101,8 @@ module _ {K T F I : Type 0} (g : Procedures K T F I) (never : (kind : K) → g.p
 
   opens_at_reply : (p attrs : ℕ) (wanted : Wanted K) (status : Status) (o : ℕ) → OpensAt g s p attrs wanted status o answer t → IsReply answer
   opens_at_reply p attrs wanted status o h =
-      unless_reply s t answer ((not (is_wanted_at g s o wanted), ObjectTypeMismatch) ∷ []) (GivesHandle g s p o (asked_by attrs) Opened status answer t)
-      (gives_handle_reply p o (asked_by attrs) Opened status) h
+      unless_reply s t answer ((not (is_wanted_at g s o wanted), ObjectTypeMismatch) ∷ []) (GivesHandle g s p o (options_by attrs) Opened status answer t)
+      (gives_handle_reply p o (options_by attrs) Opened status) h
 
   opens_reply : (p attrs : ℕ) (wanted : Wanted K) (look : Look) → IsUsableEnd g s (open_mode wanted attrs) look → Opens g s p attrs wanted look answer t → IsReply answer
   opens_reply p attrs wanted (Refused status) usable h = refused_reply s t answer status h

@@ -75,7 +75,7 @@ module _ {K T F I : Type 0} where
   -- what a component names in a directory is there
   pub found_object-stands : (s : State K T F I) (d : ℕ) (c : List ℕ) (fold : Bool) (m : ℕ) → IsSound s → found_object s d c fold ≡ Some m → Stands s m
   found_object-stands s d c fold m sound h =
-      go (found s d c fold) (earliest_of (λ r. Stands s r.object) (filter (is_match d c fold) s.rows) (All-filter (is_match d c fold) (λ r. Stands s r.object) s.rows sound.rows)) h
+      go (found s d c fold) (earliest_of (λ r. Stands s r.object) (filter (is_match d c fold) s.rows) (All-filter (is_match d c fold) (λ r. Stands s r.object) s.rows sound.rows.standing)) h
     where
       go : (x : Option Row) → MatchOption x (Unit {0}) (λ r. Stands s r.object) → option_map (λ r. r.object) x ≡ Some m → Stands s m
       go None k e = absurd (cc)
@@ -97,14 +97,14 @@ module _ {K T F I : Type 0} where
 
   -- a process's local directory is a directory
   pub local_is_directory : (s : State K T F I) (p : ℕ) → IsSound s → IsDirectory s (local s p)
-  local_is_directory s p sound = go (process_of s p) (find_of (HasSoundMap s) (λ x. x.number == p) s.processes sound.maps)
+  local_is_directory s p sound = go (process_of s p) (find_of (HasSoundMap s) (λ x. x.number == p) s.processes sound.processes.maps)
     where
       at_map : (map : Option ℕ) → MatchOption map (Unit {0}) (IsDirectory s) → IsDirectory s (unwrap_or map global_id)
-      at_map None h = sound.global
+      at_map None h = sound.objects.global
       at_map (Some d) h = h
 
       go : (x : Option Process) → MatchOption x (Unit {0}) (HasSoundMap s) → IsDirectory s (unwrap_or (option_and_then (λ y. y.map) x) global_id)
-      go None h = sound.global
+      go None h = sound.objects.global
       go (Some y) h = at_map y.map h
 
   -- an origin, where there is one, is a directory, and what is walked from there is a rest
@@ -129,8 +129,8 @@ module _ {K T F I : Type 0} where
           else if below_view then Some (if create && is_one_component (drop 3 text) then InDirectory (local s p) else ViewOf p, drop 3 text)
           else if is_absolute then Some (InDirectory root_id, text)
           else None)
-      go true is_view below_view e is_absolute f = (sound.root, tt)
+      go true is_view below_view e is_absolute f = (sound.objects.root, tt)
       go false true below_view e is_absolute f = (local_is_directory s p sound, tt)
       go false false true e is_absolute f = (at_view (create && is_one_component (drop 3 text)), IsRest-behind_view text e)
-      go false false false e true f = (sound.root, IsRest-from_begins text f)
+      go false false false e true f = (sound.objects.root, IsRest-from_begins text f)
       go false false false e false f = tt

@@ -15,28 +15,30 @@ use Rattle.ob_model.specs.declared.state.Object.{Object}
 use Rattle.ob_model.specs.declared.state.Row.{Row}
 use Rattle.ob_model.specs.declared.state.Held.{Held}
 use Rattle.ob_model.specs.declared.state.Process.{Process}
-use Rattle.ob_model.specs.declared.state.Pending.{Pending}
 use Rattle.ob_model.specs.declared.reply.Answer.{Answer}
 use Rattle.ob_model.specs.declared.reply.Given.TheVariants.{Handle}
 use Rattle.ob_base.specs.declared.status.Status.{Status}
 use Rattle.ob_model.specs.Refusals.{gives, IsRefused}
-use Rattle.ob_model.specs.State.{State, root_id, global_id, object_of, is_directory, is_directory_body, is_live, held_of}
+use Rattle.ob_model.specs.State.{State, root_id, global_id, insert_object, object_among, object_of, is_directory, is_directory_body, is_live_among, is_live, held_of}
 use Rattle.ob_model.specs.Opening.{opening}
-use Rattle.ob_model.specs.Procedures.{Procedures, Reason, Created}
+use Rattle.ob_model.specs.declared.terms.Reason.{Reason}
+use Rattle.ob_model.specs.declared.terms.Reason.TheVariants.{Created}
+use Rattle.ob_model.specs.Procedures.{Procedures}
 use Rattle.ob_model.specs.Settle.{is_kept, is_alive, has_name, is_mapped, holds_kept, deleted_one, settle}
-use Rattle.ob_model.specs.Grants.{Asked, Grants, opened_body, opened_set, opened_object, with_open, with_handle}
-use Rattle.ob_model.specs.Closing.{is_handle, closed_body, closed_object, closed_handle}
+use Rattle.ob_model.specs.declared.terms.GrantOptions.{GrantOptions}
+use Rattle.ob_model.specs.Grants.{Grants, opened_body, opened_set, opened_object, with_open, with_handle}
+use Rattle.ob_model.specs.Closing.{is_handle, without_handle, closed_body, closed_object, closed_handle}
 use Rattle.ob_model.specs.Creates.{Spot, new_rows, with_object, with_row, created, dropped}
 use Rattle.ob_model.specs.Names.{IsComponent}
 use Rattle.ob_model.specs.Paths.{is_match}
-use Rattle.ob_model.specs.Sound.{IsSound, IsDirectory, Stands, HasSoundMap, is_barred}
+use Rattle.ob_model.specs.Sound.{StandsAmong, IsDirectoryAmong, HasSoundMapAmong, Stands, IsDirectory, HasSoundMap, IsSound, is_barred}
 use Rattle.ob_model.proofs.Finds.{find-map, not_found, All-kept}
-use Rattle.ob_model.proofs.InOrder.{newest_is_free, in_order-All, in_order-find}
+use Rattle.ob_model.proofs.InOrder.{IsFree, free_from_other, newest_is_free, in_order-All, in_order-find}
 use Rattle.ob_model.proofs.Places.{IsComponent-from_test, stand_apart, IsPlace}
 use Rattle.ob_model.proofs.Settled.{is_directory-settle, stands-settle, alive_from_handle, alive_from_pin, alive_from_map, alive_from_held_name, alive_from_row, rows_are_names, rows_are_held}
 
 -- whether what is found is a directory
-abbrev pub is_directory_object : {F I : Type 0} → Option (Object F I) → Bool
+abbrev is_directory_object : {F I : Type 0} → Option (Object F I) → Bool
 is_directory_object found = option_map_or is_directory_body (option_map (λ x. x.body) found) false
 
 -- of two handles that differ in process or value each is another than the other
@@ -67,15 +69,15 @@ pairs_rise (r ∷ []) rise = λ i j d less within. absurd (omega (arith, less, w
 pairs_rise (r ∷ q ∷ rows) rise = AllPairs-cons (λ a b. a.stamp < b.stamp) r (q ∷ rows) (all_above r.stamp q rows rise.0 rise.1) (pairs_rise (q ∷ rows) rise.1)
 
 -- numbers below one are below a greater one
-pub drawn_more : {F I : Type 0} (n m : ℕ) (xs : List (Object F I)) → n ≤ m → All (λ x. x.id < n) xs → All (λ x. x.id < m) xs
+drawn_more : {F I : Type 0} (n m : ℕ) (xs : List (Object F I)) → n ≤ m → All (λ x. x.id < n) xs → All (λ x. x.id < m) xs
 drawn_more n m xs later all = All-weaker (λ x. x.id < n) (λ x. x.id < m) (λ x less. omega (arith, less, later)) xs all
 
 -- and stay so where a change leaves the numbers
-pub drawn_map : {F I : Type 0} (f : Object F I → Object F I) → ((x : Object F I) → (f x).id ≡ x.id) → (n : ℕ) (xs : List (Object F I)) → All (λ x. x.id < n) xs → All (λ x. x.id < n) (map f xs)
+drawn_map : {F I : Type 0} (f : Object F I → Object F I) → ((x : Object F I) → (f x).id ≡ x.id) → (n : ℕ) (xs : List (Object F I)) → All (λ x. x.id < n) xs → All (λ x. x.id < n) (map f xs)
 drawn_map f same n xs all = All-map (λ x. x.id < n) f xs (λ k d within. subst (λ (i : ℕ). i < n) (sym (same (get_or xs k d))) (all k d within))
 
 -- a number that no object has stays so where a change leaves the numbers
-pub reserved_map : {F I : Type 0} (f : Object F I → Object F I) → ((x : Object F I) → (f x).id ≡ x.id) → (n : ℕ) (xs : List (Object F I)) → All (λ x. x.id ≢ n) xs → All (λ x. x.id ≢ n) (map f xs)
+reserved_map : {F I : Type 0} (f : Object F I → Object F I) → ((x : Object F I) → (f x).id ≡ x.id) → (n : ℕ) (xs : List (Object F I)) → All (λ x. x.id ≢ n) xs → All (λ x. x.id ≢ n) (map f xs)
 reserved_map f same n xs all = All-map (λ x. x.id ≢ n) f xs (λ k d within. subst (λ (i : ℕ). i ≢ n) (sym (same (get_or xs k d))) (all k d within))
 
 -- what stands among objects whose numbers are below one has such a number
@@ -156,33 +158,29 @@ module _ {K T F I : Type 0} (g : Procedures K T F I) where
   closed_root s h = is_directory-closed s h root_id
 
 -- what is found and is a directory is found before what comes behind
-pub is_directory_object-or : {F I : Type 0} (found other : Option (Object F I)) → is_directory_object found ≡ true → is_directory_object (option_or found other) ≡ true
+is_directory_object-or : {F I : Type 0} (found other : Option (Object F I)) → is_directory_object found ≡ true → is_directory_object (option_or found other) ≡ true
 is_directory_object-or None other h = cc
 is_directory_object-or (Some x) other h = h
 
-module _ {K T F I : Type 0} where
-  -- where the next number is above all, a new object of it is found behind the others
-  found_behind : (s : State K T F I) (body : Body F I) (permanent exclusive : Bool) (m : ℕ) → All (λ x. x.id < s.next_id) s.objects
-      → object_of (with_object s body permanent exclusive) m
-      ≡ option_or (object_of s m) (find (λ x. x.id == m) (record { id = s.next_id; body = body; permanent = permanent; exclusive = exclusive } ∷ []))
-  found_behind s body permanent exclusive m drawn =
-      let new : Object F I = record { id = s.next_id; body = body; permanent = permanent; exclusive = exclusive } in
-      in_order-find (λ x. x.id) new s.objects m (newest_is_free (λ x. x.id) new s.objects drawn)
-
-  -- a new object leaves each directory one
-  pub is_directory-with_object : (s : State K T F I) (body : Body F I) (permanent exclusive : Bool) (m : ℕ) → All (λ x. x.id < s.next_id) s.objects
-      → is_directory s m ≡ true → is_directory (with_object s body permanent exclusive) m ≡ true
-  is_directory-with_object s body permanent exclusive m drawn h =
-      ap is_directory_object (found_behind s body permanent exclusive m drawn) ∙ is_directory_object-or (object_of s m) _ h
-
 -- what is found is found before what comes behind, and else what comes behind is
-pub is_some-or_left : {F I : Type 0} (found other : Option (Object F I)) → is_some found ≡ true → is_some (option_or found other) ≡ true
+is_some-or_left : {F I : Type 0} (found other : Option (Object F I)) → is_some found ≡ true → is_some (option_or found other) ≡ true
 is_some-or_left None other h = cc
 is_some-or_left (Some x) other h = refl
 
-pub is_some-or_right : {F I : Type 0} (found other : Option (Object F I)) → is_some other ≡ true → is_some (option_or found other) ≡ true
+is_some-or_right : {F I : Type 0} (found other : Option (Object F I)) → is_some other ≡ true → is_some (option_or found other) ≡ true
 is_some-or_right None other h = h
 is_some-or_right (Some x) other h = refl
+
+-- an object of a number that is free leaves what stands, and each directory one, and stands itself
+module _ {F I : Type 0} (x : Object F I) (xs : List (Object F I)) (free : IsFree (λ y. y.id) x xs) where
+  pub is_directory-inserted : (m : ℕ) → IsDirectoryAmong xs m → IsDirectoryAmong (insert_object x xs) m
+  is_directory-inserted m h = ap is_directory_object (in_order-find (λ y. y.id) x xs m free) ∙ is_directory_object-or (object_among xs m) _ h
+
+  pub stands-inserted : (m : ℕ) → StandsAmong xs m → StandsAmong (insert_object x xs) m
+  stands-inserted m h = ap is_some (in_order-find (λ y. y.id) x xs m free) ∙ is_some-or_left (object_among xs m) _ h
+
+  pub inserted_stands : StandsAmong (insert_object x xs) x.id
+  inserted_stands = ap is_some (in_order-find (λ y. y.id) x xs x.id free) ∙ is_some-or_right (object_among xs x.id) _ (rw (eq-eqb x.id x.id refl) refl)
 
 -- a directory stands
 stands_from_directory_object : {F I : Type 0} (found : Option (Object F I)) → is_directory_object found ≡ true → is_some found ≡ true
@@ -198,37 +196,39 @@ module _ {K T F I : Type 0} where
   opening_sound set =
       let s : State K T F I = opening set in
       record {
-        root = refl;
-        global = refl;
-        maps = All-from_recursion (HasSoundMap s) s.processes (tt, tt);
-        rows = All-from_recursion (λ r. Stands s r.object) s.rows (refl, (refl, (refl, (refl, (refl, tt)))));
-        handles = All-nil (λ h. Stands s h.object);
-        drawn = All-from_recursion (λ x. x.id < s.next_id) s.objects (omega arith, (omega arith, (omega arith, (omega arith, (omega arith, (omega arith, tt))))));
-        descending = All-from_recursion (λ r. r.directory < r.object) s.rows (omega arith, (omega arith, (omega arith, (omega arith, (omega arith, tt)))));
-        pending = All-nil (λ x. Stands s x.object);
-        ticketed = All-nil (λ x. x.ticket < s.next_id);
-        later = All-nil (λ x. x.object < x.ticket);
-        reserved = All-nil (λ x. All (λ y. y.id ≢ x.ticket) s.objects);
-        awaited = λ i j d less within. absurd (omega (arith, within));
-        rising = pairs_rise s.rows (omega arith, (omega arith, (omega arith, (omega arith, tt))));
-        stamped = All-from_recursion (λ r. r.stamp < s.next_stamp) s.rows (omega arith, (omega arith, (omega arith, (omega arith, (omega arith, tt)))));
-        inside = All-from_recursion (λ r. IsDirectory s r.directory) s.rows (refl, (refl, (refl, (refl, (refl, tt)))));
-        named = All-from_recursion (λ r. IsComponent r.name) s.rows
-            (IsComponent-from_test _ refl, (IsComponent-from_test _ refl, (IsComponent-from_test _ refl, (IsComponent-from_test _ refl, (IsComponent-from_test _ refl, tt)))));
-        apart = stand_apart s.rows refl;
-        plain = All-from_recursion (λ r. is_barred r.directory r.name ≡ false) s.rows (refl, (refl, (refl, (refl, (refl, tt)))));
-        live = All-nil (λ h. is_live s h.process ≡ true);
-        numbered = All-from_recursion (λ x. x.number < s.next_process) s.processes (omega arith, tt);
-        distinct = λ i j d less within. absurd (omega (arith, within));
+        objects = record {
+          root = refl;
+          global = refl;
+          drawn = All-from_recursion (λ x. x.id < s.next_id) s.objects (omega arith, (omega arith, (omega arith, (omega arith, (omega arith, (omega arith, tt))))));
+        };
+        processes = record {
+          maps = All-from_recursion (HasSoundMap s) s.processes (tt, tt);
+          numbered = All-from_recursion (λ x. x.number < s.next_process) s.processes (omega arith, tt);
+        };
+        rows = record {
+          standing = All-from_recursion (λ r. Stands s r.object) s.rows (refl, (refl, (refl, (refl, (refl, tt)))));
+          descending = All-from_recursion (λ r. r.directory < r.object) s.rows (omega arith, (omega arith, (omega arith, (omega arith, (omega arith, tt)))));
+          rising = pairs_rise s.rows (omega arith, (omega arith, (omega arith, (omega arith, tt))));
+          stamped = All-from_recursion (λ r. r.stamp < s.next_stamp) s.rows (omega arith, (omega arith, (omega arith, (omega arith, (omega arith, tt)))));
+          inside = All-from_recursion (λ r. IsDirectory s r.directory) s.rows (refl, (refl, (refl, (refl, (refl, tt)))));
+          named = All-from_recursion (λ r. IsComponent r.name) s.rows
+              (IsComponent-from_test _ refl, (IsComponent-from_test _ refl, (IsComponent-from_test _ refl, (IsComponent-from_test _ refl, (IsComponent-from_test _ refl, tt)))));
+          apart = stand_apart s.rows refl;
+          plain = All-from_recursion (λ r. is_barred r.directory r.name ≡ false) s.rows (refl, (refl, (refl, (refl, (refl, tt)))));
+        };
+        handles = record {
+          standing = All-nil (λ h. Stands s h.object);
+          live = All-nil (λ h. is_live s h.process ≡ true);
+          distinct = λ i j d less within. absurd (omega (arith, within));
+        };
+        pending = record {
+          standing = All-nil (λ x. Stands s x.object);
+          ticketed = All-nil (λ x. x.ticket < s.next_id);
+          later = All-nil (λ x. x.object < x.ticket);
+          reserved = All-nil (λ x. All (λ y. y.id ≢ x.ticket) s.objects);
+          awaited = λ i j d less within. absurd (omega (arith, within));
+        };
       }
-
-  -- a map directory that stays a directory
-  sound_map : (s t : State K T F I) (x : Process) → ((d : ℕ) → x.map ≡ Some d → IsDirectory s d → IsDirectory t d) → HasSoundMap s x → HasSoundMap t x
-  sound_map s t x stays h = go x.map refl h
-    where
-      go : (o : Option ℕ) → x.map ≡ o → MatchOption o (Unit {0}) (IsDirectory s) → MatchOption o (Unit {0}) (IsDirectory t)
-      go None e h = tt
-      go (Some d) e h = stays d e h
 
   -- a process's map directory is one
   is_mapped_at : (s : State K T F I) (k : ℕ) (x : Process) (o : ℕ) → k < length s.processes → (get_or s.processes k x).map ≡ Some o → is_mapped s o ≡ true
@@ -237,91 +237,135 @@ module _ {K T F I : Type 0} where
       list_any_at (λ p. option_map_or (λ d. d == o) p.map false) s.processes k x within (rw e (eq-eqb o o refl)) in
       or_right (o == global_id) _ some
 
-  -- what each map, row and handle names stays where all that stands does
-  pub sound_maps : (s t : State K T F I) → ((o : ℕ) → IsDirectory s o → IsDirectory t o) → (xs : List Process) → All (HasSoundMap s) xs → All (HasSoundMap t) xs
-  sound_maps s t stays xs each = All-weaker (HasSoundMap s) (HasSoundMap t) (λ x h. sound_map s t x (λ d e. stays d) h) xs each
-
+  -- what each row names stays where all that stands does
   pub sound_rows : (s t : State K T F I) → ((o : ℕ) → Stands s o → Stands t o) → (xs : List Row) → All (λ r. Stands s r.object) xs → All (λ r. Stands t r.object) xs
   sound_rows s t stays xs each = All-weaker (λ r. Stands s r.object) (λ r. Stands t r.object) (λ r h. stays r.object h) xs each
 
-  pub sound_inside : (s t : State K T F I) → ((o : ℕ) → IsDirectory s o → IsDirectory t o) → (xs : List Row) → All (λ r. IsDirectory s r.directory) xs → All (λ r. IsDirectory t r.directory) xs
-  sound_inside s t stays xs each = All-weaker (λ r. IsDirectory s r.directory) (λ r. IsDirectory t r.directory) (λ r h. stays r.directory h) xs each
+-- a map directory that stays a directory
+sound_map : {F I : Type 0} (xs ys : List (Object F I)) (x : Process) → ((d : ℕ) → x.map ≡ Some d → IsDirectoryAmong xs d → IsDirectoryAmong ys d) → HasSoundMapAmong xs x → HasSoundMapAmong ys x
+sound_map xs ys x stays h = go x.map refl h
+  where
+    go : (o : Option ℕ) → x.map ≡ o → MatchOption o (Unit {0}) (IsDirectoryAmong xs) → MatchOption o (Unit {0}) (IsDirectoryAmong ys)
+    go None e h = tt
+    go (Some d) e h = stays d e h
 
-  pub sound_pending : (s t : State K T F I) → ((o : ℕ) → Stands s o → Stands t o) → (xs : List (Pending K)) → All (λ x. Stands s x.object) xs → All (λ x. Stands t x.object) xs
-  sound_pending s t stays xs each = All-weaker (λ x. Stands s x.object) (λ x. Stands t x.object) (λ x k. stays x.object k) xs each
+module _ {K T F I : Type 0} where
+  -- other objects leave a sound state where all that stands does so among them, each directory is one there,
+  -- and their numbers were drawn and are no tickets
+  with_objects_sound : (s : State K T F I) (ys : List (Object F I)) (set : T) (id : ℕ) → s.next_id ≤ id
+      → ((o : ℕ) → StandsAmong s.objects o → StandsAmong ys o) → ((o : ℕ) → IsDirectoryAmong s.objects o → IsDirectoryAmong ys o)
+      → All (λ y. y.id < id) ys → All (λ x. All (λ y. y.id ≢ x.ticket) ys) s.pending → IsSound s → IsSound (record s { objects = ys; set = set; next_id = id })
+  with_objects_sound s ys set id later stays directory drawn reserved sound = record {
+    objects = record { root = directory root_id sound.objects.root; global = directory global_id sound.objects.global; drawn = drawn };
+    processes = record {
+      maps = All-weaker (HasSoundMap s) (HasSoundMapAmong ys) (λ x h. sound_map s.objects ys x (λ d e. directory d) h) s.processes sound.processes.maps;
+      numbered = sound.processes.numbered;
+    };
+    rows = record {
+      standing = All-weaker (λ r. Stands s r.object) (λ r. StandsAmong ys r.object) (λ r h. stays r.object h) s.rows sound.rows.standing;
+      descending = sound.rows.descending;
+      rising = sound.rows.rising;
+      stamped = sound.rows.stamped;
+      inside = All-weaker (λ r. IsDirectory s r.directory) (λ r. IsDirectoryAmong ys r.directory) (λ r h. directory r.directory h) s.rows sound.rows.inside;
+      named = sound.rows.named;
+      apart = sound.rows.apart;
+      plain = sound.rows.plain;
+    };
+    handles = record {
+      standing = All-weaker (λ h. Stands s h.object) (λ h. StandsAmong ys h.object) (λ h k. stays h.object k) s.handles sound.handles.standing;
+      live = sound.handles.live;
+      distinct = sound.handles.distinct;
+    };
+    pending = record {
+      standing = All-weaker (λ x. Stands s x.object) (λ x. StandsAmong ys x.object) (λ x k. stays x.object k) s.pending sound.pending.standing;
+      ticketed = All-weaker (λ x. x.ticket < s.next_id) (λ x. x.ticket < id) (λ x less. omega (arith, less, later)) s.pending sound.pending.ticketed;
+      later = sound.pending.later;
+      reserved = reserved;
+      awaited = sound.pending.awaited;
+    };
+  }
 
-  pub sound_handles : (s t : State K T F I) → ((o : ℕ) → Stands s o → Stands t o) → (xs : List Held) → All (λ h. Stands s h.object) xs → All (λ h. Stands t h.object) xs
-  sound_handles s t stays xs each = All-weaker (λ h. Stands s h.object) (λ h. Stands t h.object) (λ h k. stays h.object k) xs each
+  -- so does a change of them that leaves their numbers, and which are directories
+  pub changed_sound : (f : Object F I → Object F I) → ((x : Object F I) → (f x).id ≡ x.id) → ((x : Object F I) → is_directory_body (f x).body ≡ is_directory_body x.body)
+      → (s : State K T F I) (set : T) → IsSound s → IsSound (record s { objects = map f s.objects; set = set })
+  changed_sound f same_id same_body s set sound =
+      with_objects_sound s (map f s.objects) set s.next_id (omega arith) (λ o h. stands-map f same_id same_body o s.objects ∙ h) (λ o h. is_directory-map f same_id same_body o s.objects ∙ h)
+      (drawn_map f same_id s.next_id s.objects sound.objects.drawn)
+      (λ k d within. reserved_map f same_id (get_or s.pending k d).ticket s.objects (sound.pending.reserved k d within)) sound
 
-  -- a new object leaves what stands, and stands itself
+  -- one object more, of a number that no object and no pending open has
+  pub inserted_sound : (s : State K T F I) (x : Object F I) (id : ℕ) → s.next_id ≤ id → x.id < id
+      → All (λ y. y.id ≢ x.id) s.objects → All (λ y. x.id ≢ y.ticket) s.pending → IsSound s → IsSound (record s { objects = insert_object x s.objects; next_id = id })
+  inserted_sound s x id later drawn others tickets sound =
+      let free = free_from_other (λ y. y.id) x s.objects others in
+      with_objects_sound s (insert_object x s.objects) s.set id later (stands-inserted x s.objects free) (is_directory-inserted x s.objects free)
+      (in_order-All (λ y. y.id) (λ y. y.id < id) x s.objects drawn (drawn_more s.next_id id s.objects later sound.objects.drawn))
+      (λ k d within. in_order-All (λ y. y.id) (λ y. y.id ≢ (get_or s.pending k d).ticket) x s.objects (tickets k d within) (sound.pending.reserved k d within)) sound
+
+  -- another value of the set, and a number that is drawn
+  pub set_sound : (s : State K T F I) (set : T) (id : ℕ) → s.next_id ≤ id → IsSound s → IsSound (record s { set = set; next_id = id })
+  set_sound s set id later sound =
+      with_objects_sound s s.objects set id later (λ o h. h) (λ o h. h) (drawn_more s.next_id id s.objects later sound.objects.drawn) sound.pending.reserved sound
+
+  -- and so do other processes where their maps are directories, their numbers were drawn, and the process of
+  -- each handle is among them
+  pub with_processes_sound : (s : State K T F I) (ps : List Process) (n : ℕ)
+      → All (HasSoundMap s) ps → All (λ x. x.number < n) ps → All (λ h. is_live_among ps h.process ≡ true) s.handles → IsSound s → IsSound (record s { processes = ps; next_process = n })
+  with_processes_sound s ps n maps numbered live sound = record {
+    objects = sound.objects;
+    processes = record { maps = maps; numbered = numbered };
+    rows = sound.rows;
+    handles = record { standing = sound.handles.standing; live = live; distinct = sound.handles.distinct };
+    pending = sound.pending;
+  }
+
+  -- a new object, of the next number
+  abbrev new_object : State K T F I → Body F I → Bool → Bool → Object F I
+  new_object s body permanent exclusive = record { id = s.next_id; body = body; permanent = permanent; exclusive = exclusive }
+
+  new_is_free : (s : State K T F I) (body : Body F I) (permanent exclusive : Bool) → All (λ x. x.id < s.next_id) s.objects → IsFree (λ x. x.id) (new_object s body permanent exclusive) s.objects
+  new_is_free s body permanent exclusive drawn = newest_is_free (λ x. x.id) (new_object s body permanent exclusive) s.objects drawn
+
+  -- it leaves each directory one and what stands, and stands itself
+  pub is_directory-with_object : (s : State K T F I) (body : Body F I) (permanent exclusive : Bool) (m : ℕ) → All (λ x. x.id < s.next_id) s.objects
+      → IsDirectory s m → IsDirectory (with_object s body permanent exclusive) m
+  is_directory-with_object s body permanent exclusive m drawn h = is_directory-inserted (new_object s body permanent exclusive) s.objects (new_is_free s body permanent exclusive drawn) m h
+
   pub stands-with_object : (s : State K T F I) (body : Body F I) (permanent exclusive : Bool) (m : ℕ) → All (λ x. x.id < s.next_id) s.objects
       → Stands s m → Stands (with_object s body permanent exclusive) m
-  stands-with_object s body permanent exclusive m drawn h = ap is_some (found_behind s body permanent exclusive m drawn) ∙ is_some-or_left (object_of s m) _ h
+  stands-with_object s body permanent exclusive m drawn h = stands-inserted (new_object s body permanent exclusive) s.objects (new_is_free s body permanent exclusive drawn) m h
 
   pub new_stands : (s : State K T F I) (body : Body F I) (permanent exclusive : Bool) → All (λ x. x.id < s.next_id) s.objects
       → Stands (with_object s body permanent exclusive) s.next_id
-  new_stands s body permanent exclusive drawn =
-      ap is_some (found_behind s body permanent exclusive s.next_id drawn)
-      ∙ is_some-or_right (object_of s s.next_id) _ (rw (eq-eqb s.next_id s.next_id refl) refl)
+  new_stands s body permanent exclusive drawn = inserted_stands (new_object s body permanent exclusive) s.objects (new_is_free s body permanent exclusive drawn)
 
-  -- a new object leaves a sound state
+  -- so that it leaves a sound state
   object_sound : (s : State K T F I) (body : Body F I) (permanent exclusive : Bool) → IsSound s → IsSound (with_object s body permanent exclusive)
   object_sound s body permanent exclusive sound =
-      let t = with_object s body permanent exclusive in
-      let stays = λ (m : ℕ) (h : Stands s m). stands-with_object s body permanent exclusive m sound.drawn h in
-      record {
-        root = is_directory-with_object s body permanent exclusive root_id sound.drawn sound.root;
-        global = is_directory-with_object s body permanent exclusive global_id sound.drawn sound.global;
-        maps = sound_maps s t (λ o h. is_directory-with_object s body permanent exclusive o sound.drawn h) s.processes sound.maps;
-        rows = sound_rows s t stays s.rows sound.rows;
-        handles = sound_handles s t stays s.handles sound.handles;
-        drawn = in_order-All (λ x. x.id) (λ x. x.id < s.next_id + 1) _ s.objects (omega arith) (drawn_more s.next_id (s.next_id + 1) s.objects (omega arith) sound.drawn);
-        descending = sound.descending;
-        pending = sound_pending s t stays s.pending sound.pending;
-        ticketed = All-weaker (λ x. x.ticket < s.next_id) (λ x. x.ticket < s.next_id + 1) (λ x less. omega (arith, less)) s.pending sound.ticketed;
-        later = sound.later;
-        reserved = λ k d within.
-            in_order-All (λ x. x.id) (λ y. y.id ≢ (get_or s.pending k d).ticket) _ s.objects
-            (λ same. let less = sound.ticketed k d within in omega (arith, less, same)) (sound.reserved k d within);
-        awaited = sound.awaited;
-        rising = sound.rising;
-        stamped = sound.stamped;
-        inside = sound_inside s t (λ o h. is_directory-with_object s body permanent exclusive o sound.drawn h) s.rows sound.inside;
-        named = sound.named;
-        apart = sound.apart;
-        plain = sound.plain;
-        live = sound.live;
-        numbered = sound.numbered;
-        distinct = sound.distinct;
-      }
+      inserted_sound s (new_object s body permanent exclusive) (s.next_id + 1) (omega arith) (omega arith)
+      (All-weaker (λ y. y.id < s.next_id) (λ y. y.id ≢ s.next_id) (λ y less same. omega (arith, less, same)) s.objects sound.objects.drawn)
+      (All-weaker (λ y. y.ticket < s.next_id) (λ y. s.next_id ≢ y.ticket) (λ y less same. omega (arith, less, same)) s.pending sound.pending.ticketed) sound
 
   -- the row of an object that stands, at a place in a directory made before it, leaves a sound state
   row_sound : (s : State K T F I) (spot : Spot) (o : ℕ)
       → IsSound s → Stands s o → MatchOption spot (Unit {0}) (λ at. (at.0 < o) × IsPlace s at) → IsSound (with_row s spot o)
   row_sound s spot o sound stands inside = record {
-    root = sound.root;
-    global = sound.global;
-    maps = sound.maps;
-    rows = All-append (λ r. Stands s r.object) s.rows (new_rows spot s.next_stamp o) sound.rows (new spot);
+    objects = sound.objects;
+    processes = sound.processes;
+    rows = record {
+      standing = All-append (λ r. Stands s r.object) s.rows (new_rows spot s.next_stamp o) sound.rows.standing (new spot);
+      descending = All-append (λ r. r.directory < r.object) s.rows (new_rows spot s.next_stamp o) sound.rows.descending (below spot inside);
+      rising = last spot;
+      stamped = All-append (λ r. r.stamp < s.next_stamp + length (new_rows spot s.next_stamp o)) s.rows (new_rows spot s.next_stamp o)
+          (All-weaker (λ r. r.stamp < s.next_stamp) (λ r. r.stamp < s.next_stamp + length (new_rows spot s.next_stamp o)) (λ r less. omega (arith, less)) s.rows sound.rows.stamped)
+          (drawn spot);
+      inside = All-append (λ r. IsDirectory s r.directory) s.rows (new_rows spot s.next_stamp o) sound.rows.inside (stand_inside spot inside);
+      named = All-append (λ r. IsComponent r.name) s.rows (new_rows spot s.next_stamp o) sound.rows.named (have_names spot inside);
+      apart = alone spot inside;
+      plain = All-append (λ r. is_barred r.directory r.name ≡ false) s.rows (new_rows spot s.next_stamp o) sound.rows.plain (fit spot inside);
+    };
     handles = sound.handles;
-    drawn = sound.drawn;
-    descending = All-append (λ r. r.directory < r.object) s.rows (new_rows spot s.next_stamp o) sound.descending (below spot inside);
     pending = sound.pending;
-    ticketed = sound.ticketed;
-    later = sound.later;
-    reserved = sound.reserved;
-    awaited = sound.awaited;
-    rising = last spot;
-    stamped = All-append (λ r. r.stamp < s.next_stamp + length (new_rows spot s.next_stamp o)) s.rows (new_rows spot s.next_stamp o)
-        (All-weaker (λ r. r.stamp < s.next_stamp) (λ r. r.stamp < s.next_stamp + length (new_rows spot s.next_stamp o)) (λ r less. omega (arith, less)) s.rows sound.stamped)
-        (drawn spot);
-    inside = All-append (λ r. IsDirectory s r.directory) s.rows (new_rows spot s.next_stamp o) sound.inside (stand_inside spot inside);
-    named = All-append (λ r. IsComponent r.name) s.rows (new_rows spot s.next_stamp o) sound.named (have_names spot inside);
-    apart = alone spot inside;
-    plain = All-append (λ r. is_barred r.directory r.name ≡ false) s.rows (new_rows spot s.next_stamp o) sound.plain (fit spot inside);
-    live = sound.live;
-    numbered = sound.numbered;
-    distinct = sound.distinct;
   }
     where
       below : (spot : Spot) → MatchOption spot (Unit {0}) (λ at. (at.0 < o) × IsPlace s at) → All (λ r. r.directory < r.object) (new_rows spot s.next_stamp o)
@@ -342,12 +386,12 @@ module _ {K T F I : Type 0} where
 
       alone : (spot : Spot) → MatchOption spot (Unit {0}) (λ at. (at.0 < o) × IsPlace s at)
           → AllPairs (λ a b. is_match b.directory b.name false a ≡ false) (s.rows ++ new_rows spot s.next_stamp o)
-      alone None h = subst (λ (rows : List Row). AllPairs (λ a b. is_match b.directory b.name false a ≡ false) rows) (sym (append-nil s.rows)) sound.apart
-      alone (Some at) h = all_pairs_push (λ a b. is_match b.directory b.name false a ≡ false) s.rows _ sound.apart h.1.3
+      alone None h = subst (λ (rows : List Row). AllPairs (λ a b. is_match b.directory b.name false a ≡ false) rows) (sym (append-nil s.rows)) sound.rows.apart
+      alone (Some at) h = all_pairs_push (λ a b. is_match b.directory b.name false a ≡ false) s.rows _ sound.rows.apart h.1.3
 
       last : (spot : Spot) → AllPairs (λ a b. a.stamp < b.stamp) (s.rows ++ new_rows spot s.next_stamp o)
-      last None = subst (λ (rows : List Row). AllPairs (λ a b. a.stamp < b.stamp) rows) (sym (append-nil s.rows)) sound.rising
-      last (Some at) = all_pairs_push (λ a b. a.stamp < b.stamp) s.rows _ sound.rising sound.stamped
+      last None = subst (λ (rows : List Row). AllPairs (λ a b. a.stamp < b.stamp) rows) (sym (append-nil s.rows)) sound.rows.rising
+      last (Some at) = all_pairs_push (λ a b. a.stamp < b.stamp) s.rows _ sound.rows.rising sound.rows.stamped
 
       drawn : (spot : Spot) → All (λ r. r.stamp < s.next_stamp + length (new_rows spot s.next_stamp o)) (new_rows spot s.next_stamp o)
       drawn None = All-nil (λ r. r.stamp < s.next_stamp + 0)
@@ -357,58 +401,34 @@ module _ {K T F I : Type 0} where
       new None = All-nil (λ r. Stands s r.object)
       new (Some at) = All-push (λ r. Stands s r.object) [] _ (All-nil (λ r. Stands s r.object)) stands
 
-  -- another value of the set leaves a sound state, and so does a number that is drawn
-  set_sound : (s : State K T F I) (set : T) (id : ℕ) → s.next_id ≤ id → IsSound s → IsSound (record s { set = set; next_id = id })
-  set_sound s set id later sound = record {
-    root = sound.root;
-    global = sound.global;
-    maps = sound.maps;
-    rows = sound.rows;
-    handles = sound.handles;
-    drawn = drawn_more s.next_id id s.objects later sound.drawn;
-    descending = sound.descending;
-    pending = sound.pending;
-    ticketed = All-weaker (λ x. x.ticket < s.next_id) (λ x. x.ticket < id) (λ x less. omega (arith, less, later)) s.pending sound.ticketed;
-    later = sound.later;
-    reserved = sound.reserved;
-    awaited = sound.awaited;
-    rising = sound.rising;
-    stamped = sound.stamped;
-    inside = sound.inside;
-    named = sound.named;
-    apart = sound.apart;
-    plain = sound.plain;
-    live = sound.live;
-    numbered = sound.numbered;
-    distinct = sound.distinct;
-  }
-
   -- a live process's handle of an unused value to an object that stands leaves a sound state
   pub handle_sound : (s : State K T F I) (p value o : ℕ) (inherit : Bool)
       → IsSound s → is_live s p ≡ true → held_of s p value ≡ None → Stands s o → IsSound (with_handle s p value o inherit)
   handle_sound s p value o inherit sound live free stands = record {
-    root = sound.root;
-    global = sound.global;
-    maps = sound.maps;
+    objects = sound.objects;
+    processes = sound.processes;
     rows = sound.rows;
-    handles = All-push (λ h. Stands s h.object) s.handles _ sound.handles stands;
-    drawn = sound.drawn;
-    descending = sound.descending;
+    handles = record {
+      standing = All-push (λ h. Stands s h.object) s.handles _ sound.handles.standing stands;
+      live = All-push (λ h. is_live s h.process ≡ true) s.handles _ sound.handles.live live;
+      distinct = all_pairs_push (λ a b. is_handle a.process a.value b ≡ false) s.handles _ sound.handles.distinct
+          (λ k d within. other_handle (get_or s.handles k d).process p (get_or s.handles k d).value value (not_found (is_handle p value) s.handles free k d within));
+    };
     pending = sound.pending;
-    ticketed = sound.ticketed;
-    later = sound.later;
-    reserved = sound.reserved;
-    awaited = sound.awaited;
-    rising = sound.rising;
-    stamped = sound.stamped;
-    inside = sound.inside;
-    named = sound.named;
-    apart = sound.apart;
-    plain = sound.plain;
-    live = All-push (λ h. is_live s h.process ≡ true) s.handles _ sound.live live;
-    numbered = sound.numbered;
-    distinct = all_pairs_push (λ a b. is_handle a.process a.value b ≡ false) s.handles _ sound.distinct
-        (λ k d within. other_handle (get_or s.handles k d).process p (get_or s.handles k d).value value (not_found (is_handle p value) s.handles free k d within));
+  }
+
+  -- and so does the end of a handle
+  without_handle_sound : (s : State K T F I) (p value : ℕ) → IsSound s → IsSound (without_handle s p value)
+  without_handle_sound s p value sound = record {
+    objects = sound.objects;
+    processes = sound.processes;
+    rows = sound.rows;
+    handles = record {
+      standing = All-filter (λ h. not (is_handle p value h)) (λ h. Stands s h.object) s.handles sound.handles.standing;
+      live = All-filter (λ h. not (is_handle p value h)) (λ h. is_live s h.process ≡ true) s.handles sound.handles.live;
+      distinct = AllPairs-filter (λ a b. is_handle a.process a.value b ≡ false) (λ h. not (is_handle p value h)) s.handles sound.handles.distinct;
+    };
+    pending = sound.pending;
   }
 
 module _ {K T F I : Type 0} (g : Procedures K T F I) where
@@ -424,73 +444,57 @@ module _ {K T F I : Type 0} (g : Procedures K T F I) where
   -- settling leaves a sound state
   pub settled_sound : (s : State K T F I) → IsSound s → IsSound (settle g s)
   settled_sound s sound = record {
-    root = root_stands g s ∙ sound.root;
-    global = is_directory-settle g s global_id (alive_from_map s global_id refl) ∙ sound.global;
-    maps = λ k d within.
-        sound_map s (settle g s) (get_or s.processes k d)
-        (λ o e is_dir. is_directory-settle g s o (alive_from_map s o (is_mapped_at s k d o within e)) ∙ is_dir)
-        (sound.maps k d within);
-    rows = All-kept (is_kept s) (λ r. Stands s r.object × (has_name s r.object ≡ true)) (λ r. Stands (settle g s) r.object)
-        (λ r kept h. stands-settle g s r.object (alive_from_row s r kept h.1) h.0) s.rows
-        (λ k d within. (sound.rows k d within, rows_are_names s k d within));
-    handles = λ k d within.
-        stands-settle g s (get_or s.handles k d).object
-        (alive_from_handle s (get_or s.handles k d).object
-        (list_any_at (λ h. h.object == (get_or s.handles k d).object) s.handles k d within (eq-eqb (get_or s.handles k d).object (get_or s.handles k d).object refl)))
-        (sound.handles k d within);
-    drawn = All-filter (λ x. is_alive s x.id) (λ x. x.id < s.next_id) s.objects sound.drawn;
-    descending = All-filter (is_kept s) (λ r. r.directory < r.object) s.rows sound.descending;
-    pending = λ k d within.
-        stands-settle g s (get_or s.pending k d).object
-        (alive_from_pin s (get_or s.pending k d).object
-        (list_any_at (λ x. x.object == (get_or s.pending k d).object) s.pending k d within (eq-eqb (get_or s.pending k d).object (get_or s.pending k d).object refl)))
-        (sound.pending k d within);
-    ticketed = sound.ticketed;
-    later = sound.later;
-    reserved = λ k d within. All-filter (λ x. is_alive s x.id) (λ y. y.id ≢ (get_or s.pending k d).ticket) s.objects (sound.reserved k d within);
-    awaited = sound.awaited;
-    rising = AllPairs-filter (λ a b. a.stamp < b.stamp) (is_kept s) s.rows sound.rising;
-    stamped = All-filter (is_kept s) (λ r. r.stamp < s.next_stamp) s.rows sound.stamped;
-    inside = All-kept (is_kept s) (λ r. IsDirectory s r.directory × (is_kept s r ≡ true → holds_kept s r.directory ≡ true)) (λ r. IsDirectory (settle g s) r.directory)
-        (λ r kept h. is_directory-settle g s r.directory (alive_from_held_name s r.directory (h.1 kept)) ∙ h.0) s.rows
-        (λ k d within. (sound.inside k d within, rows_are_held s k d within));
-    named = All-filter (is_kept s) (λ r. IsComponent r.name) s.rows sound.named;
-    apart = AllPairs-filter (λ a b. is_match b.directory b.name false a ≡ false) (is_kept s) s.rows sound.apart;
-    plain = All-filter (is_kept s) (λ r. is_barred r.directory r.name ≡ false) s.rows sound.plain;
-    live = sound.live;
-    numbered = sound.numbered;
-    distinct = sound.distinct;
+    objects = record {
+      root = root_stands g s ∙ sound.objects.root;
+      global = is_directory-settle g s global_id (alive_from_map s global_id refl) ∙ sound.objects.global;
+      drawn = All-filter (λ x. is_alive s x.id) (λ x. x.id < s.next_id) s.objects sound.objects.drawn;
+    };
+    processes = record {
+      maps = λ k d within.
+          sound_map s.objects (settle g s).objects (get_or s.processes k d)
+          (λ o e is_dir. is_directory-settle g s o (alive_from_map s o (is_mapped_at s k d o within e)) ∙ is_dir)
+          (sound.processes.maps k d within);
+      numbered = sound.processes.numbered;
+    };
+    rows = record {
+      standing = All-kept (is_kept s) (λ r. Stands s r.object × (has_name s r.object ≡ true)) (λ r. Stands (settle g s) r.object)
+          (λ r kept h. stands-settle g s r.object (alive_from_row s r kept h.1) h.0) s.rows
+          (λ k d within. (sound.rows.standing k d within, rows_are_names s k d within));
+      descending = All-filter (is_kept s) (λ r. r.directory < r.object) s.rows sound.rows.descending;
+      rising = AllPairs-filter (λ a b. a.stamp < b.stamp) (is_kept s) s.rows sound.rows.rising;
+      stamped = All-filter (is_kept s) (λ r. r.stamp < s.next_stamp) s.rows sound.rows.stamped;
+      inside = All-kept (is_kept s) (λ r. IsDirectory s r.directory × (is_kept s r ≡ true → holds_kept s r.directory ≡ true)) (λ r. IsDirectory (settle g s) r.directory)
+          (λ r kept h. is_directory-settle g s r.directory (alive_from_held_name s r.directory (h.1 kept)) ∙ h.0) s.rows
+          (λ k d within. (sound.rows.inside k d within, rows_are_held s k d within));
+      named = All-filter (is_kept s) (λ r. IsComponent r.name) s.rows sound.rows.named;
+      apart = AllPairs-filter (λ a b. is_match b.directory b.name false a ≡ false) (is_kept s) s.rows sound.rows.apart;
+      plain = All-filter (is_kept s) (λ r. is_barred r.directory r.name ≡ false) s.rows sound.rows.plain;
+    };
+    handles = record {
+      standing = λ k d within.
+          stands-settle g s (get_or s.handles k d).object
+          (alive_from_handle s (get_or s.handles k d).object
+          (list_any_at (λ h. h.object == (get_or s.handles k d).object) s.handles k d within (eq-eqb (get_or s.handles k d).object (get_or s.handles k d).object refl)))
+          (sound.handles.standing k d within);
+      live = sound.handles.live;
+      distinct = sound.handles.distinct;
+    };
+    pending = record {
+      standing = λ k d within.
+          stands-settle g s (get_or s.pending k d).object
+          (alive_from_pin s (get_or s.pending k d).object
+          (list_any_at (λ x. x.object == (get_or s.pending k d).object) s.pending k d within (eq-eqb (get_or s.pending k d).object (get_or s.pending k d).object refl)))
+          (sound.pending.standing k d within);
+      ticketed = sound.pending.ticketed;
+      later = sound.pending.later;
+      reserved = λ k d within. All-filter (λ x. is_alive s x.id) (λ y. y.id ≢ (get_or s.pending k d).ticket) s.objects (sound.pending.reserved k d within);
+      awaited = sound.pending.awaited;
+    };
   }
 
   -- an open leaves a sound state, whatever its object is
   pub opened_sound : (s : State K T F I) (o : ℕ) (reason : Reason) → IsSound s → IsSound (with_open g s o reason)
-  opened_sound s o reason sound =
-      let t = with_open g s o reason in
-      let stays = λ (m : ℕ) (h : Stands s m). stands-opened s o m reason ∙ h in
-      record {
-        root = is_directory-opened g s o root_id reason ∙ sound.root;
-        global = is_directory-opened g s o global_id reason ∙ sound.global;
-        maps = sound_maps s t (λ m h. is_directory-opened g s o m reason ∙ h) s.processes sound.maps;
-        rows = sound_rows s t stays s.rows sound.rows;
-        handles = sound_handles s t stays s.handles sound.handles;
-        drawn = drawn_map (opened_object g s.set o reason) (opened_object-id g s.set o reason) s.next_id s.objects sound.drawn;
-        descending = sound.descending;
-        pending = sound_pending s t stays s.pending sound.pending;
-        ticketed = sound.ticketed;
-        later = sound.later;
-        reserved = λ k d within.
-            reserved_map (opened_object g s.set o reason) (opened_object-id g s.set o reason) (get_or s.pending k d).ticket s.objects (sound.reserved k d within);
-        awaited = sound.awaited;
-        rising = sound.rising;
-        stamped = sound.stamped;
-        inside = sound_inside s t (λ m h. is_directory-opened g s o m reason ∙ h) s.rows sound.inside;
-        named = sound.named;
-        apart = sound.apart;
-        plain = sound.plain;
-        live = sound.live;
-        numbered = sound.numbered;
-        distinct = sound.distinct;
-      }
+  opened_sound s o reason sound = changed_sound (opened_object g s.set o reason) (opened_object-id g s.set o reason) (opened_object-is_directory g s.set o reason) s _ sound
 
   -- an open and a grant of an object that stands to a live process leave a sound state
   pub granted_sound : (s : State K T F I) (p value o : ℕ) (reason : Reason) (inherit : Bool)
@@ -499,7 +503,7 @@ module _ {K T F I : Type 0} (g : Procedures K T F I) where
       handle_sound (with_open g s o reason) p value o inherit (opened_sound s o reason sound) live free (stands-opened s o o reason ∙ stands)
 
   -- and so does what is answered of a grant
-  pub gives_handle_sound : (s t u : State K T F I) (p o : ℕ) (asked : Asked) (reason : Reason) (status : Status) (answer : Answer) (result : Result ℕ Status)
+  pub gives_handle_sound : (s t u : State K T F I) (p o : ℕ) (asked : GrantOptions) (reason : Reason) (status : Status) (answer : Answer) (result : Result ℕ Status)
       → IsSound s → is_live s p ≡ true → Stands s o → Grants g s p o asked reason result u
       → MatchResult result (λ value. (answer ≡ gives status (Handle value)) × (t ≡ settle g u)) (λ refusal. IsRefused s refusal answer t) → IsSound t
   gives_handle_sound s t u p o asked reason status answer (Ok value) sound live stands grants h =
@@ -510,32 +514,8 @@ module _ {K T F I : Type 0} (g : Procedures K T F I) where
   -- a close leaves a sound state
   pub closed_sound : (s : State K T F I) (h : Held) → IsSound s → IsSound (closed_handle g s h)
   closed_sound s h sound =
-      let t = closed_handle g s h in
-      let stays = λ (m : ℕ) (k : Stands s m). stands-closed s h m ∙ k in
-      record {
-        root = closed_root g s h ∙ sound.root;
-        global = is_directory-closed g s h global_id ∙ sound.global;
-        maps = sound_maps s t (λ m k. is_directory-closed g s h m ∙ k) s.processes sound.maps;
-        rows = sound_rows s t stays s.rows sound.rows;
-        handles = All-filter (λ x. not (is_handle h.process h.value x)) (λ x. Stands t x.object) s.handles (sound_handles s t stays s.handles sound.handles);
-        drawn = drawn_map (closed_object g s.set h.object _ _) (closed_object-id g s.set h.object _ _) s.next_id s.objects sound.drawn;
-        descending = sound.descending;
-        pending = sound_pending s t stays s.pending sound.pending;
-        ticketed = sound.ticketed;
-        later = sound.later;
-        reserved = λ k d within.
-            reserved_map (closed_object g s.set h.object _ _) (closed_object-id g s.set h.object _ _) (get_or s.pending k d).ticket s.objects (sound.reserved k d within);
-        awaited = sound.awaited;
-        rising = sound.rising;
-        stamped = sound.stamped;
-        inside = sound_inside s t (λ m k. is_directory-closed g s h m ∙ k) s.rows sound.inside;
-        named = sound.named;
-        apart = sound.apart;
-        plain = sound.plain;
-        live = All-filter (λ x. not (is_handle h.process h.value x)) (λ x. is_live s x.process ≡ true) s.handles sound.live;
-        numbered = sound.numbered;
-        distinct = AllPairs-filter (λ a b. is_handle a.process a.value b ≡ false) (λ x. not (is_handle h.process h.value x)) s.handles sound.distinct;
-      }
+      changed_sound (closed_object g s.set h.object _ _) (closed_object-id g s.set h.object _ _) (closed_object-is_directory g s.set h.object _ _)
+      (without_handle s h.process h.value) _ (without_handle_sound s h.process h.value sound)
 
   -- a create of a live process, at a place or without a name, leaves a sound state
   pub created_sound : (s : State K T F I) (p : ℕ) (spot : Spot) (body : Body F I) (attrs value : ℕ)
@@ -546,7 +526,7 @@ module _ {K T F I : Type 0} (g : Procedures K T F I) where
       let permanent = is_some spot && has_flag permanent_flag attrs in
       let exclusive = has_flag exclusive_flag attrs in
       let there = with_object opened left permanent exclusive in
-      let stands : Stands there s.next_id = new_stands opened left permanent exclusive sound.drawn in
+      let stands : Stands there s.next_id = new_stands opened left permanent exclusive sound.objects.drawn in
       handle_sound (with_row there spot s.next_id) p value s.next_id _
       (row_sound there spot s.next_id (object_sound opened left permanent exclusive (set_sound s (opened_set g s.set body Created) s.next_id (omega arith) sound)) stands (below permanent exclusive spot inside)) live free stands
     where
@@ -559,8 +539,8 @@ module _ {K T F I : Type 0} (g : Procedures K T F I) where
       below : (permanent exclusive : Bool) (spot : Spot) → MatchOption spot (Unit {0}) (IsPlace s) → MatchOption spot (Unit {0}) (λ at. (at.0 < s.next_id) × IsPlace (there permanent exclusive) at)
       below permanent exclusive None h = tt
       below permanent exclusive (Some at) h = (
-        stands_drawn s.next_id s.objects at.0 sound.drawn (stands_from_is_directory s at.0 h.0),
-        (is_directory-with_object opened (opened_body g s.set body Created) permanent exclusive at.0 sound.drawn h.0, h.1, h.2, h.3),
+        stands_drawn s.next_id s.objects at.0 sound.objects.drawn (stands_from_is_directory s at.0 h.0),
+        (is_directory-with_object opened (opened_body g s.set body Created) permanent exclusive at.0 sound.objects.drawn h.0, h.1, h.2, h.3),
       )
 
   -- and so does one whose object the set refuses to open

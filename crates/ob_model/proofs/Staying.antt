@@ -15,7 +15,9 @@ use Rattle.ob_model.specs.declared.state.Object.{Object}
 use Rattle.ob_model.specs.declared.state.Process.{Process}
 use Rattle.ob_model.specs.declared.state.Row.{Row}
 use Rattle.ob_model.specs.State.{State, root_id, global_id, process_of, object_of, handle_count, handle_count_in}
-use Rattle.ob_model.specs.Procedures.{Procedures, Reason, Created, Inherited}
+use Rattle.ob_model.specs.declared.terms.Reason.{Reason}
+use Rattle.ob_model.specs.declared.terms.Reason.TheVariants.{Created, Inherited}
+use Rattle.ob_model.specs.Procedures.{Procedures}
 use Rattle.ob_model.specs.Settle.{is_permanent, has_handle, is_kept, has_name, is_pinned, is_mapped, holds_kept, is_alive, IsSettled, deleted_all, settle}
 use Rattle.ob_model.specs.Grants.{open_refusal, opened_object, opened_body, with_open, with_handle}
 use Rattle.ob_model.specs.Closing.{is_handle, without_handle, closed_body, closed_object, closed_handle}

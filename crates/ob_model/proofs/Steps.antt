@@ -21,7 +21,8 @@ use Rattle.ob_model.specs.declared.state.Wanted.{Wanted}
 use Rattle.ob_model.specs.declared.state.Wanted.TheVariants as wanted
 use Rattle.ob_model.specs.State.{State, is_live, is_directory, is_store_full, held_of, object_of}
 use Rattle.ob_model.specs.Looks.{Look, At, Vacant, Parse, Refused, LooksUp, most_reparses}
-use Rattle.ob_model.specs.Procedures.{Procedures, ParseOutcome, EndsItself, EndsMade, EndsReparse, EndsRefused, Opened, Created}
+use Rattle.ob_model.specs.declared.terms.Reason.TheVariants.{Opened, Created}
+use Rattle.ob_model.specs.Procedures.{Procedures, ParseOutcome, EndsItself, EndsMade, EndsReparse, EndsRefused}
 use Rattle.ob_model.specs.Settle.{settle}
 use Rattle.ob_model.specs.Grants.{first_refusal, IsFreeValue, open_refusal_of}
 use Rattle.ob_model.specs.Closing.{closed_handle}
@@ -31,7 +32,7 @@ use Rattle.ob_model.specs.Types.{is_wanted, is_wanted_at}
 use Rattle.ob_model.specs.Refusals.{gives, answers, IsRefused, Unless, create_refusals, open_refusals}
 use Rattle.ob_model.specs.PendingOpens.{pending_of, with_pending}
 use Rattle.ob_model.specs.Parses.{parsed_state, EndsOpen, Resumes, Abandons}
-use Rattle.ob_model.specs.Opens.{GivesHandle, OpensAt, Begins, Opens, asked_by, type_wanted, open_mode}
+use Rattle.ob_model.specs.Opens.{GivesHandle, OpensAt, Begins, Opens, options_by, type_wanted, open_mode}
 use Rattle.ob_model.specs.Creates.{Making, MakesDirectory, MakesLink, MakesObject, is_fit, create_mode, type_made, Spot, room_refusals, make_refusal, body_made, created, dropped, Makes, Creates}
 use Rattle.ob_model.specs.Naming.{TellsName, TellsTarget}
 use Rattle.ob_model.specs.Enumeration.{enumerated, context_used, page_answer}
@@ -114,8 +115,8 @@ module _ {K T F I : Type 0} (g : Procedures K T F I) where
       → IsSound s → is_live s p ≡ true → OpensAt g s p attrs wanted status o answer t → IsSound t
   opens_at_sound s t p attrs wanted status o answer sound live h =
       tested_sound (is_wanted_at g s o wanted) ObjectTypeMismatch s t answer
-      (GivesHandle g s p o (asked_by attrs) Opened status answer t) sound
-      (λ is does. gives_handle_sound g s t does.1 p o (asked_by attrs) Opened status answer does.0 sound live (stands_where_wanted s o wanted is) does.2 does.3) h
+      (GivesHandle g s p o (options_by attrs) Opened status answer t) sound
+      (λ is does. gives_handle_sound g s t does.1 p o (options_by attrs) Opened status answer does.0 sound live (stands_where_wanted s o wanted is) does.2 does.3) h
 
   begins_sound : (s t : State K T F I) (p attrs : ℕ) (wanted : Wanted K) (o : ℕ) (rest : List ℕ) (n : ℕ) (answer : Answer)
       → IsSound s → Stands s o → Begins g s p attrs wanted o rest n answer t → IsSound t

@@ -26,9 +26,12 @@ use Rattle.ob_model.specs.declared.state.Wanted.{Wanted}
 use Rattle.ob_model.specs.declared.state.Wanted.TheVariants as wanted
 use Rattle.ob_model.specs.State.{State, root_id, is_live, is_store_full, held_of, body_of, table_size, most_handles, greatest_number, is_directory}
 use Rattle.ob_model.specs.Looks.{Look, At, Vacant, Parse, Refused, LooksUp, most_reparses}
-use Rattle.ob_model.specs.Procedures.{Procedures, ParseOutcome, EndsItself, EndsMade, EndsReparse, EndsRefused, Reason, Opened, Created, Duplicated}
+use Rattle.ob_model.specs.declared.terms.Reason.{Reason}
+use Rattle.ob_model.specs.declared.terms.Reason.TheVariants.{Opened, Created, Duplicated}
+use Rattle.ob_model.specs.Procedures.{Procedures, ParseOutcome, EndsItself, EndsMade, EndsReparse, EndsRefused}
 use Rattle.ob_model.specs.Settle.{settle}
-use Rattle.ob_model.specs.Grants.{first_refusal, IsFreeValue, Asked, is_table_full, is_exclusive, has_other_holder, grant_refusal, open_refusal, open_refusal_of, with_open, with_handle}
+use Rattle.ob_model.specs.declared.terms.GrantOptions.{GrantOptions}
+use Rattle.ob_model.specs.Grants.{first_refusal, IsFreeValue, is_table_full, is_exclusive, has_other_holder, grant_refusal, open_refusal, open_refusal_of, with_open, with_handle}
 use Rattle.ob_model.specs.Closing.{closed_handle}
 use Rattle.ob_model.specs.Permanence.{turned}
 use Rattle.ob_model.specs.Maps.{with_map}
@@ -36,7 +39,7 @@ use Rattle.ob_model.specs.Types.{is_wanted_at}
 use Rattle.ob_model.specs.Refusals.{gives, answers, IsRefused, Unless, create_refusals, open_refusals}
 use Rattle.ob_model.specs.PendingOpens.{pending_of, with_pending}
 use Rattle.ob_model.specs.Parses.{parsed_state, IsParsed, IsBrought, EndsOpen, Resumes, Abandons}
-use Rattle.ob_model.specs.Opens.{GivesHandle, OpensAt, Begins, Opens, asked_by, type_wanted, open_mode}
+use Rattle.ob_model.specs.Opens.{GivesHandle, OpensAt, Begins, Opens, options_by, type_wanted, open_mode}
 use Rattle.ob_model.specs.Creates.{Making, MakesDirectory, MakesLink, MakesObject, is_fit, create_mode, type_made, Spot, is_stampless, room_refusals, make_refusal, body_made, created, dropped, Makes, MakesInRoom, Creates}
 use Rattle.ob_model.specs.Naming.{IsWayUp, row_of, path_text, path_answer, target_of, TellsName, TellsTarget}
 use Rattle.ob_model.specs.Enumeration.{enumerated, context_used, page_answer}
@@ -82,7 +85,7 @@ module _ {K T F I : Type 0} where
 
       found : (key : Option ℕ) → Has (λ answer t. MatchOption (option_and_then (held_of s p) key) (IsRefused s InvalidHandle answer t) (λ h. Does h answer t))
       found None = refused_total s InvalidHandle
-      found (Some key) = held (held_of s p key) (find_of (λ h. Stands s h.object) (λ h. h.process == p && h.value == key) s.handles sound.handles)
+      found (Some key) = held (held_of s p key) (find_of (λ h. Stands s h.object) (λ h. h.process == p && h.value == key) s.handles sound.handles.standing)
 
   with_handle_total : (s : State K T F I) (p handle : ℕ) (Does : Held → Answer → State K T F I → Type 0)
       → IsSound s → ((h : Held) → Stands s h.object → Has (Does h)) → Has (λ answer t. WithHandle s p handle answer t (λ h. Does h answer t))
@@ -158,7 +161,7 @@ module _ {K T F I : Type 0} where
       go true e row f rest = inl ([], eqb-true o root_id e)
       go false e None f rest = inr (λ cs way. no_row s o cs (λ same. let is : (o == root_id) ≡ true = eq-eqb o root_id same in cc) f way)
       go false e (Some r) f rest =
-          let before = made_before s.rows o r sound.descending f in
+          let before = made_before s.rows o r sound.rows.descending f in
           by_row s o r (λ same. let is : (o == root_id) ≡ true = eq-eqb o root_id same in cc) f (rest r.directory (omega (arith, before, below)))
 
   tells_name_total : (s : State K T F I) (o : ℕ) → IsSound s → (answer : Answer) × TellsName s o answer
@@ -177,7 +180,7 @@ module _ {K T F I : Type 0} where
 
 module _ {K T F I : Type 0} (g : Procedures K T F I) where
   -- a grant that isn't refused has room
-  room_granted : (s : State K T F I) (p o : ℕ) (asked : Asked) (reason : Reason) → grant_refusal g s p o asked reason ≡ None → is_table_full s p ≡ false
+  room_granted : (s : State K T F I) (p o : ℕ) (asked : GrantOptions) (reason : Reason) → grant_refusal g s p o asked reason ≡ None → is_table_full s p ≡ false
   room_granted s p o asked reason e =
       go (asked.exclusive && not (is_exclusive s o)) (asked.inherit && is_exclusive s o) (is_exclusive s o && has_other_holder s p o) (is_table_full s p) (option_map TypeRefused (open_refusal g s o reason)) e
     where
@@ -190,7 +193,7 @@ module _ {K T F I : Type 0} (g : Procedures K T F I) where
       go false false false false rest e = refl
 
   -- a grant is given, or is refused
-  gives_handle_total : (s : State K T F I) (p o : ℕ) (asked : Asked) (reason : Reason) (status : Status) → Has (GivesHandle g s p o asked reason status)
+  gives_handle_total : (s : State K T F I) (p o : ℕ) (asked : GrantOptions) (reason : Reason) (status : Status) → Has (GivesHandle g s p o asked reason status)
   gives_handle_total s p o asked reason status = go (grant_refusal g s p o asked reason) refl
     where
       go : (refusal : Option Status) → grant_refusal g s p o asked reason ≡ refusal → Has (GivesHandle g s p o asked reason status)
@@ -202,8 +205,8 @@ module _ {K T F I : Type 0} (g : Procedures K T F I) where
 
   opens_at_total : (s : State K T F I) (p attrs : ℕ) (wanted : Wanted K) (status : Status) (o : ℕ) → Has (OpensAt g s p attrs wanted status o)
   opens_at_total s p attrs wanted status o =
-      unless_total ((not (is_wanted_at g s o wanted), ObjectTypeMismatch) ∷ []) s (GivesHandle g s p o (asked_by attrs) Opened status)
-      (λ e. gives_handle_total s p o (asked_by attrs) Opened status)
+      unless_total ((not (is_wanted_at g s o wanted), ObjectTypeMismatch) ∷ []) s (GivesHandle g s p o (options_by attrs) Opened status)
+      (λ e. gives_handle_total s p o (options_by attrs) Opened status)
 
   begins_total : (s : State K T F I) (p attrs : ℕ) (wanted : Wanted K) (o : ℕ) (rest : List ℕ) (n : ℕ) → Has (Begins g s p attrs wanted o rest n)
   begins_total s p attrs wanted o rest n =

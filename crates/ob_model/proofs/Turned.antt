@@ -1,13 +1,13 @@
 -- What stays as it is where an object is made permanent or temporary.
-use Rattle.std.proofs.Common.{◌≡◌, ◌≢◌, ◌∙◌, ℕ, ◌==◌, Bool, true, false, ◌&&◌, not, cond, if◌then◌else◌, List, [], ◌∷◌, get_or, map, find, Some, is_some, refl, ap, sym, eqb-true, eq-eqb}
+use Rattle.std.proofs.Common.{◌≡◌, ◌≢◌, ◌∙◌, ℕ, ◌==◌, Bool, true, false, ◌&&◌, not, cond, if◌then◌else◌, List, [], ◌∷◌, map, find, Some, is_some, refl, ap, sym, eqb-true, eq-eqb}
 use Rattle.std.specs.Option.{option_map_or}
 use Rattle.std.proofs.lemmas.Bool.{false≢true, ne_eqb}
 use Rattle.ob_model.specs.declared.state.Object.{Object}
-use Rattle.ob_model.specs.State.{State, root_id, global_id, object_of, is_directory_body}
+use Rattle.ob_model.specs.State.{State, object_of, is_directory_body}
 use Rattle.ob_model.specs.Settle.{is_permanent, has_name}
 use Rattle.ob_model.specs.Permanence.{turned_object, with_permanence, turned}
 use Rattle.ob_model.specs.Sound.{IsSound, Stands}
-use Rattle.ob_model.proofs.Soundness.{is_directory-map, stands-map, drawn_map, reserved_map, sound_maps, sound_rows, sound_inside, sound_handles, sound_pending}
+use Rattle.ob_model.proofs.Soundness.{changed_sound}
 
 -- an object keeps its number, whether it is a directory, and whether it is exclusive
 module _ {F I : Type 0} (o : ℕ) (permanent : Bool) where
@@ -57,33 +57,7 @@ module _ {K T F I : Type 0} where
 
   -- the state stays sound
   with_permanence_sound : (s : State K T F I) (o : ℕ) (permanent : Bool) → IsSound s → IsSound (with_permanence s o permanent)
-  with_permanence_sound s o permanent sound =
-      let t = with_permanence s o permanent in
-      let directory = λ (m : ℕ). is_directory-map (turned_object o permanent) (turned_object-id o permanent) (turned_object-is_directory o permanent) m s.objects in
-      let stays = λ (m : ℕ) (k : Stands s m). stands-map (turned_object o permanent) (turned_object-id o permanent) (turned_object-is_directory o permanent) m s.objects ∙ k in
-      record {
-        root = directory root_id ∙ sound.root;
-        global = directory global_id ∙ sound.global;
-        maps = sound_maps s t (λ m k. directory m ∙ k) s.processes sound.maps;
-        rows = sound_rows s t stays s.rows sound.rows;
-        handles = sound_handles s t stays s.handles sound.handles;
-        drawn = drawn_map (turned_object o permanent) (turned_object-id o permanent) s.next_id s.objects sound.drawn;
-        descending = sound.descending;
-        pending = sound_pending s t stays s.pending sound.pending;
-        ticketed = sound.ticketed;
-        later = sound.later;
-        reserved = λ k d within. reserved_map (turned_object o permanent) (turned_object-id o permanent) (get_or s.pending k d).ticket s.objects (sound.reserved k d within);
-        awaited = sound.awaited;
-        rising = sound.rising;
-        stamped = sound.stamped;
-        inside = sound_inside s t (λ m k. directory m ∙ k) s.rows sound.inside;
-        named = sound.named;
-        apart = sound.apart;
-        plain = sound.plain;
-        live = sound.live;
-        numbered = sound.numbered;
-        distinct = sound.distinct;
-      }
+  with_permanence_sound s o permanent sound = changed_sound (turned_object o permanent) (turned_object-id o permanent) (turned_object-is_directory o permanent) s s.set sound
 
   pub turned_sound : (s : State K T F I) (o : ℕ) (permanent : Bool) → IsSound s → IsSound (turned s o permanent)
   turned_sound s o permanent sound = turned_either IsSound s o permanent sound (with_permanence_sound s o permanent sound)

@@ -10,13 +10,17 @@ use Rattle.ob_base.specs.declared.status.Status.TheVariants.{InvalidParameter, A
 use Rattle.ob_model.specs.declared.state.Held.{Held}
 use Rattle.ob_model.specs.declared.state.Row.{Row}
 use Rattle.ob_model.specs.State.{State, root_id, body_of, handle_count, handle_count_in, table_size, most_handles, greatest_number, greatest_process, is_store_full}
-use Rattle.ob_model.specs.Looks.{Look, LooksUp, Mode}
+use Rattle.ob_model.specs.declared.terms.Mode.{Mode}
+use Rattle.ob_model.specs.Looks.{Look, LooksUp}
 use Rattle.ob_model.specs.Naming.{TellsName}
 use Rattle.ob_model.specs.declared.reply.Answer.{Answer}
-use Rattle.ob_model.specs.Procedures.{Procedures, Reason, Inherited}
+use Rattle.ob_model.specs.declared.terms.Reason.{Reason}
+use Rattle.ob_model.specs.declared.terms.Reason.TheVariants.{Inherited}
+use Rattle.ob_model.specs.Procedures.{Procedures}
 use Rattle.ob_model.specs.Settle.{settle, has_handle, has_name, is_permanent, is_pinned, is_mapped, deleted_all}
 use Rattle.ob_model.specs.Permanence.{turned, with_permanence}
-use Rattle.ob_model.specs.Grants.{Asked, first_refusal, is_exclusive, has_other_holder, is_table_full, with_handle, open_refusal, with_open, grant_refusal}
+use Rattle.ob_model.specs.declared.terms.GrantOptions.{GrantOptions}
+use Rattle.ob_model.specs.Grants.{first_refusal, is_exclusive, has_other_holder, is_table_full, with_handle, open_refusal, with_open, grant_refusal}
 use Rattle.ob_model.specs.Closing.{with_close, closed_object, closed_set}
 use Rattle.ob_model.specs.Creates.{Spot, is_stampless, room_refusals}
 use Rattle.ob_model.specs.Processes.{most_processes, handles_in, values_in, inherited_from, is_crowded, with_child, inherits_one, inherits, begun}
@@ -113,7 +117,7 @@ module _ {K T F I : Type 0} where
       go false = refl
 
 module _ {K T F I : Type 0} (g : Procedures K T F I) where
-  pub grant_refusal-unvalued : (s : State K T F I) (p o : ℕ) (asked : Asked) (reason : Reason) → grant_refusal g (unvalued s) p o asked reason ≡ grant_refusal g s p o asked reason
+  pub grant_refusal-unvalued : (s : State K T F I) (p o : ℕ) (asked : GrantOptions) (reason : Reason) → grant_refusal g (unvalued s) p o asked reason ≡ grant_refusal g s p o asked reason
   grant_refusal-unvalued s p o asked reason = λ i.
       option_or
       (first_refusal (

@@ -18,7 +18,8 @@ use Rattle.ob_model.specs.PendingOpens.{face_in, face_of}
 use Rattle.ob_model.specs.Sound.{is_barred}
 use Rattle.ob_model.specs.Paths.{Origin, InDirectory, ViewOf, IsPath, entry, found, local, place_behind, origin_of, is_one_component}
 use Rattle.ob_model.specs.Procedures.{Procedures}
-use Rattle.ob_model.specs.Looks.{Mode, Look, At, Vacant, Parse, Refused, Stop, Missed, Reached, Next, Over, Follow, at_miss, at_link, named_or_mismatch, at_body, IsNext, IsStop, Again, Ends, Looks, LooksFrom, LooksUp}
+use Rattle.ob_model.specs.declared.terms.Mode.{Mode}
+use Rattle.ob_model.specs.Looks.{Look, At, Vacant, Parse, Refused, Stop, Missed, Reached, Next, Over, Follow, at_miss, at_link, named_or_mismatch, at_body, IsNext, IsStop, Again, Ends, Looks, LooksFrom, LooksUp}
 
 -- an object is one of the set, of a kind that parses
 abbrev pub IsParsing : {K T F I : Type 0} → Procedures K T F I → State K T F I → ℕ → Type 0

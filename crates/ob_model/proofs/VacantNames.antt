@@ -10,7 +10,8 @@ use Rattle.ob_model.specs.Names.{longest_name, IsComponent, next_component, subs
 use Rattle.ob_model.specs.State.{State, root_id, body_of}
 use Rattle.ob_model.specs.Paths.{Origin, relative}
 use Rattle.ob_model.specs.Procedures.{Procedures}
-use Rattle.ob_model.specs.Looks.{Mode, Look, At, Vacant, Parse, Refused, Stop, Missed, Reached, Next, Over, Follow, at_miss, at_link, named_or_mismatch, at_body, IsNext, IsStop, Again, Ends, Looks, LooksFrom, LooksUp}
+use Rattle.ob_model.specs.declared.terms.Mode.{Mode}
+use Rattle.ob_model.specs.Looks.{Look, At, Vacant, Parse, Refused, Stop, Missed, Reached, Next, Over, Follow, at_miss, at_link, named_or_mismatch, at_body, IsNext, IsStop, Again, Ends, Looks, LooksFrom, LooksUp}
 use Rattle.ob_model.proofs.Components.{next_component-is_component}
 
 -- the component of a vacant place is one

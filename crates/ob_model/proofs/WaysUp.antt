@@ -122,11 +122,11 @@ module _ {K T F I : Type 0} (s : State K T F I) (sound : IsSound s) where
           order : (j ≡ k) ⊎ ((j < k) ⊎ (k < j)) → q ≡ r
           order (inl same) = sym there' ∙ ap (λ (n : ℕ). get_or s.rows n r) same ∙ at
           order (inr (inl less)) =
-              let apart : is_match (get_or s.rows k r).directory (get_or s.rows k r).name false (get_or s.rows j r) ≡ false = sound.apart j k r less within in
+              let apart : is_match (get_or s.rows k r).directory (get_or s.rows k r).name false (get_or s.rows j r) ≡ false = sound.rows.apart j k r less within in
               absurd (false≢true (sym (subst (λ (x : Row). is_match x.directory x.name false q ≡ false) at
               (subst (λ (x : Row). is_match (get_or s.rows k r).directory (get_or s.rows k r).name false x ≡ false) there' apart)) ∙ first.matches))
           order (inr (inr less)) =
-              let rising : (get_or s.rows k r).stamp < (get_or s.rows j r).stamp = sound.rising k j r less below in
+              let rising : (get_or s.rows k r).stamp < (get_or s.rows j r).stamp = sound.rows.rising k j r less below in
               let later : r.stamp < q.stamp = subst (λ (x : Row). x.stamp < q.stamp) at (subst (λ (x : Row). (get_or s.rows k r).stamp < x.stamp) there' rising) in
               let least : q.stamp ≤ r.stamp = subst (λ (x : Row). is_match r.directory r.name false x ≡ true → q.stamp ≤ x.stamp) at (first.least k r within) own in
               absurd (omega (arith, later, least))
@@ -165,19 +165,19 @@ module _ {K T F I : Type 0} (s : State K T F I) (sound : IsSound s) where
   way_down o (c ∷ cs) up =
       let r = up.1.0 in
       let e = up.1.1 in
-      path_push root_id (names_down cs) r.directory o c (way_down r.directory cs up.1.3) (of_row (λ x. IsDirectory s x.directory) sound.inside o r e)
+      path_push root_id (names_down cs) r.directory o c (way_down r.directory cs up.1.3) (of_row (λ x. IsDirectory s x.directory) sound.rows.inside o r e)
       (ap (λ (name : List ℕ). found_object s r.directory name false) up.1.2 ∙ ap (option_map (λ x. x.object)) (found_itself r (row_stands o r e)) ∙ ap Some (row_names o r e))
 
   components_down : (o : ℕ) (cs : List (List ℕ)) → IsWayUp s o cs → All IsComponent (names_down cs)
   components_down o [] up = All-nil IsComponent
   components_down o (c ∷ cs) up =
       All-push IsComponent (names_down cs) c (components_down up.1.0.directory cs up.1.3)
-      (subst IsComponent (sym up.1.2) (of_row (λ x. IsComponent x.name) sound.named o up.1.0 up.1.1))
+      (subst IsComponent (sym up.1.2) (of_row (λ x. IsComponent x.name) sound.rows.named o up.1.0 up.1.1))
 
   -- the object of a way up is there
   way_stands : (o : ℕ) (cs : List (List ℕ)) → IsWayUp s o cs → Stands s o
-  way_stands o [] up = subst (Stands s) (sym up) (stands_from_directory s root_id sound.root)
-  way_stands o (c ∷ cs) up = subst (Stands s) (row_names o up.1.0 up.1.1) (of_row (λ x. Stands s x.object) sound.rows o up.1.0 up.1.1)
+  way_stands o [] up = subst (Stands s) (sym up) (stands_from_directory s root_id sound.objects.root)
+  way_stands o (c ∷ cs) up = subst (Stands s) (row_names o up.1.0 up.1.1) (of_row (λ x. Stands s x.object) sound.rows.standing o up.1.0 up.1.1)
 
   -- no path from the root begins with `??`
   first_is_other : (c : List ℕ) (cs : List (List ℕ)) (o : ℕ) → IsPath s (InDirectory root_id) (c ∷ cs) false o → c ≢ codes "??"
@@ -193,7 +193,7 @@ module _ {K T F I : Type 0} (s : State K T F I) (sound : IsSound s) where
       go None none e = cc
       go (Some r) first e =
           let place = first.stands in
-          let plain : is_barred r.directory r.name ≡ false = subst (λ (x : Row). is_barred x.directory x.name ≡ false) place.2 (sound.plain place.0 r place.1) in
+          let plain : is_barred r.directory r.name ≡ false = subst (λ (x : Row). is_barred x.directory x.name ≡ false) place.2 (sound.rows.plain place.0 r place.1) in
           false≢true (sym plain ∙ barred r first)
 
   module _ (g : Procedures K T F I) (p : ℕ) where

@@ -22,8 +22,9 @@ use Rattle.ob_model.specs.declared.state.Held.{Held}
 use Rattle.ob_model.specs.State.{State, object_of, body_of, is_live, held_of, handle_count, handle_count_in}
 use Rattle.ob_model.specs.PendingOpens.{pending_of}
 use Rattle.ob_model.specs.Parses.{IsBrought}
-use Rattle.ob_model.specs.Procedures.{Procedures, Reason, ParseOutcome, EndsItself, EndsMade, EndsReparse, EndsRefused}
-use Rattle.ob_model.specs.Procedures.{Created as ForCreate, Opened as ForOpen, Duplicated as ForDuplicate, Inherited as ForChild}
+use Rattle.ob_model.specs.declared.terms.Reason.{Reason}
+use Rattle.ob_model.specs.Procedures.{Procedures, ParseOutcome, EndsItself, EndsMade, EndsReparse, EndsRefused}
+use Rattle.ob_model.specs.declared.terms.Reason.TheVariants.{Created as ForCreate, Opened as ForOpen, Duplicated as ForDuplicate, Inherited as ForChild}
 use Rattle.ob_model.specs.Step.{Step}
 use Rattle.ob_model.specs.Run.{Entry}
 

@@ -19,8 +19,10 @@ use Rattle.ob_model.specs.declared.state.Wanted.{Wanted}
 use Rattle.ob_model.specs.declared.state.Wanted.TheVariants as wanted
 use Rattle.ob_model.specs.Names.{is_name}
 use Rattle.ob_model.specs.State.{State, greatest_number, is_store_full, insert_object}
-use Rattle.ob_model.specs.Looks.{Mode, Look, At, Vacant, Parse, Refused}
-use Rattle.ob_model.specs.Procedures.{Procedures, Created}
+use Rattle.ob_model.specs.declared.terms.Mode.{Mode}
+use Rattle.ob_model.specs.Looks.{Look, At, Vacant, Parse, Refused}
+use Rattle.ob_model.specs.declared.terms.Reason.TheVariants.{Created}
+use Rattle.ob_model.specs.Procedures.{Procedures}
 use Rattle.ob_model.specs.Settle.{settle, deleted_one}
 use Rattle.ob_model.specs.Grants.{is_table_full, IsFreeValue, with_handle, open_refusal_of, opened_body, opened_set}
 use Rattle.ob_model.specs.Refusals.{gives, answers, IsRefused, Unless}

@@ -19,8 +19,10 @@ use Rattle.ob_model.specs.Names.{separator, same_name, IsSplit, substituted}
 use Rattle.ob_model.specs.State.{State, object_of, global_id}
 use Rattle.ob_model.specs.Opening.{opening, standing, root_row}
 use Rattle.ob_model.specs.Paths.{origin_of, InDirectory, ViewOf}
-use Rattle.ob_model.specs.Procedures.{Procedures, Created, ParseAnswer, Itself, Front, Reparse, Refused as ParseRefused, EndsItself, EndsMade, EndsReparse, EndsRefused, ParseEnds}
-use Rattle.ob_model.specs.Looks.{Look, At, Vacant, Parse, Refused, Mode, most_reparses, LooksUp}
+use Rattle.ob_model.specs.declared.terms.Reason.TheVariants.{Created}
+use Rattle.ob_model.specs.Procedures.{Procedures, ParseAnswer, Itself, Front, Reparse, Refused as ParseRefused, EndsItself, EndsMade, EndsReparse, EndsRefused, ParseEnds}
+use Rattle.ob_model.specs.declared.terms.Mode.{Mode}
+use Rattle.ob_model.specs.Looks.{Look, At, Vacant, Parse, Refused, most_reparses, LooksUp}
 use Rattle.ob_model.specs.Settle.{settle, has_name}
 use Rattle.ob_model.specs.Closing.{closed_handle}
 use Rattle.ob_model.specs.Permanence.{turned}

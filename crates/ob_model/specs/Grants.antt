@@ -3,6 +3,7 @@
 -- Sources: OBJECT_ATTRIBUTES structure (OBJ_INHERIT, OBJ_EXCLUSIVE); Windows Internals, Object
 -- Manager (handles and the process handle table; open methods). Values are multiples of four (Windows
 -- Driver Kit); their range, and the refusals' order, are this profile.
+use Rattle.ob_model.specs.declared.terms.GrantOptions.{GrantOptions}
 use Rattle.std.specs.Prelude.{◌≡◌, ℕ, ◌+◌, ◌*◌, ◌<◌, ◌≤◌, Bool, false, ◌&&◌, ◌||◌, not, ◌==◌, nat_lt, nat_le, if◌then◌else◌, List, [], ◌∷◌, ◌++◌, map, Option, None, Some, Result, Ok, Err}
 use Rattle.std.specs.List.{list_any}
 use Rattle.std.specs.Option.{option_map_or, option_map, option_or, option_and_then}
@@ -12,7 +13,8 @@ use Rattle.ob_model.specs.declared.state.Body.{Body}
 use Rattle.ob_model.specs.declared.state.Body.TheVariants.{Directory, Link, Other}
 use Rattle.ob_model.specs.declared.state.Object.{Object}
 use Rattle.ob_model.specs.State.{State, body_of, object_of, held_of, table_size, most_handles, greatest_number}
-use Rattle.ob_model.specs.Procedures.{Procedures, Reason}
+use Rattle.ob_model.specs.declared.terms.Reason.{Reason}
+use Rattle.ob_model.specs.Procedures.{Procedures}
 
 -- the first of these refusals whose test holds
 abbrev pub first_refusal : List (Bool × Status) → Option Status
@@ -26,11 +28,6 @@ greatest_handle = 262140
 -- a handle value: a multiple of four from 4 to 262,140
 abbrev pub IsHandleValue : ℕ → Type 0
 IsHandleValue value = (n : ℕ) × (value ≡ 4 * n) × (0 < n) × (value ≤ greatest_handle)
-
--- what is asked of a handle: that children inherit it, and that the object is an exclusive one
-pub record Asked : Type 0 where
-  pub inherit : Bool
-  pub exclusive : Bool
 
 module _ {K T F I : Type 0} where
   -- an object is exclusive
@@ -68,7 +65,7 @@ module _ {K T F I : Type 0} (g : Procedures K T F I) where
   open_refusal s o reason = option_and_then (λ body. open_refusal_of s.set body reason) (body_of s o)
 
   -- the refusals of a grant, in their order
-  abbrev pub grant_refusal : State K T F I → ℕ → ℕ → Asked → Reason → Option Status
+  abbrev pub grant_refusal : State K T F I → ℕ → ℕ → GrantOptions → Reason → Option Status
   grant_refusal s p o asked reason =
       option_or
       (first_refusal (
@@ -101,7 +98,7 @@ module _ {K T F I : Type 0} (g : Procedures K T F I) where
   }
 
   -- a grant gives any free value, or is refused and leaves the state as it was
-  abbrev pub Grants : State K T F I → ℕ → ℕ → Asked → Reason → Result ℕ Status → State K T F I → Type 0
+  abbrev pub Grants : State K T F I → ℕ → ℕ → GrantOptions → Reason → Result ℕ Status → State K T F I → Type 0
   Grants s p o asked reason (Ok value) t =
       (grant_refusal s p o asked reason ≡ None) × IsFreeValue s p value × (t ≡ with_handle (with_open s o reason) p value o asked.inherit)
   Grants s p o asked reason (Err status) t = (grant_refusal s p o asked reason ≡ Some status) × (t ≡ s)

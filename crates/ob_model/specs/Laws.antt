@@ -20,9 +20,11 @@ use Rattle.ob_model.specs.Names.{separator, joined, IsRest, IsSplit, substituted
 use Rattle.ob_model.specs.State.{State, root_id, insert_object, object_of, is_directory, process_of, is_live, held_of}
 use Rattle.ob_model.specs.Opening.{opening}
 use Rattle.ob_model.specs.Paths.{Origin, found, is_match, IsPath, directory_at}
-use Rattle.ob_model.specs.Procedures.{Procedures, Reason, ParseOutcome, ParseEnds, FrontIsUsed}
+use Rattle.ob_model.specs.declared.terms.Reason.{Reason}
+use Rattle.ob_model.specs.Procedures.{Procedures, ParseOutcome, ParseEnds, FrontIsUsed}
 use Rattle.ob_model.specs.Parses.{IsBrought}
-use Rattle.ob_model.specs.Looks.{Look, At, Mode, Looks, LooksUp}
+use Rattle.ob_model.specs.declared.terms.Mode.{Mode}
+use Rattle.ob_model.specs.Looks.{Look, At, Looks, LooksUp}
 use Rattle.ob_model.specs.Settle.{IsSettled, settle, is_permanent, has_handle, has_name}
 use Rattle.ob_model.specs.Closing.{is_handle, closed_handle}
 use Rattle.ob_model.specs.Permanence.{turned}

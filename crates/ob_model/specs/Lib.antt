@@ -29,3 +29,4 @@ pub mod Alike
 pub mod Laws
 pub mod Examples
 pub mod ParseExamples
+pub mod Sorted

@@ -4,6 +4,7 @@
 -- Sources: Windows Internals, Object Manager (symbolic links, parse methods); OBJECT_ATTRIBUTES
 -- structure (OBJ_OPENLINK, root directory). The refusals and their order, the limit of 32 reparses
 -- and what a create does at a link or a parsing object are this profile.
+use Rattle.ob_model.specs.declared.terms.Mode.{Mode}
 use Rattle.std.specs.Prelude.{◌≡◌, ℕ, zero, suc, Bool, true, false, ◌&&◌, not, ◌==◌, nat_lt, if◌then◌else◌, List, [], ◌∷◌, length, Option, None, Some, codes, MatchOption, MatchBool}
 use Rattle.std.specs.Str.{bytes_eq}
 use Rattle.ob_base.specs.declared.status.Status.{Status}
@@ -14,13 +15,6 @@ use Rattle.ob_model.specs.Names.{longest_name, substituted, begins_with_separato
 use Rattle.ob_model.specs.State.{State, root_id, body_of}
 use Rattle.ob_model.specs.Paths.{Origin, IsReach, IsMiss, origin_of, relative}
 use Rattle.ob_model.specs.Procedures.{Procedures}
-
--- how a name is looked up: for a create or an open; with case folded or not; and following a link
--- that the last component names or not
-pub record Mode : Type 0 where
-  pub create : Bool
-  pub fold : Bool
-  pub follow : Bool
 
 -- what a lookup ends with: an object, a vacant place (its directory and its component), a parsing
 -- object with the rest for its parse and the reparses left, or a refusal

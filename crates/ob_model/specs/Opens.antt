@@ -15,16 +15,20 @@ use Rattle.ob_model.specs.declared.state.Wanted.{Wanted}
 use Rattle.ob_model.specs.declared.state.Wanted.TheVariants.{Anything, Directory, Link, Kind}
 use Rattle.ob_model.specs.State.{State, is_store_full}
 use Rattle.ob_model.specs.PendingOpens.{with_pending}
-use Rattle.ob_model.specs.Looks.{Mode, Look, At, Vacant, Parse, Refused}
-use Rattle.ob_model.specs.Procedures.{Procedures, Reason, Opened}
+use Rattle.ob_model.specs.declared.terms.Mode.{Mode}
+use Rattle.ob_model.specs.Looks.{Look, At, Vacant, Parse, Refused}
+use Rattle.ob_model.specs.declared.terms.Reason.{Reason}
+use Rattle.ob_model.specs.declared.terms.Reason.TheVariants.{Opened}
+use Rattle.ob_model.specs.Procedures.{Procedures}
 use Rattle.ob_model.specs.Settle.{settle}
-use Rattle.ob_model.specs.Grants.{Grants, Asked}
+use Rattle.ob_model.specs.declared.terms.GrantOptions.{GrantOptions}
+use Rattle.ob_model.specs.Grants.{Grants}
 use Rattle.ob_model.specs.Types.{is_wanted_at}
 use Rattle.ob_model.specs.Refusals.{gives, IsRefused, Unless}
 
 -- what a command's flags ask of a handle
-abbrev pub asked_by : ℕ → Asked
-asked_by attrs = record { inherit = has_flag inherit_flag attrs; exclusive = has_flag exclusive_flag attrs }
+abbrev pub options_by : ℕ → GrantOptions
+options_by attrs = record { inherit = has_flag inherit_flag attrs; exclusive = has_flag exclusive_flag attrs }
 
 -- the type that an open of an object asks for: a kind, or any type at all
 abbrev pub type_wanted : {K : Type 0} → Option K → Wanted K
@@ -49,7 +53,7 @@ open_mode wanted attrs = record {
 
 module _ {K T F I : Type 0} (g : Procedures K T F I) where
   -- a handle to an object is granted, and given with this status, or it is refused
-  abbrev pub GivesHandle : State K T F I → ℕ → ℕ → Asked → Reason → Status → Answer → State K T F I → Type 0
+  abbrev pub GivesHandle : State K T F I → ℕ → ℕ → GrantOptions → Reason → Status → Answer → State K T F I → Type 0
   GivesHandle s p o asked reason status answer t =
       (result : Result ℕ Status) × (u : State K T F I) × Grants g s p o asked reason result u
       × MatchResult result (λ value. (answer ≡ gives status (Handle value)) × (t ≡ settle g u)) (λ refusal. IsRefused s refusal answer t)
@@ -57,7 +61,7 @@ module _ {K T F I : Type 0} (g : Procedures K T F I) where
   -- an object that was found is opened where it is of the type that is asked for
   abbrev pub OpensAt : State K T F I → ℕ → ℕ → Wanted K → Status → ℕ → Answer → State K T F I → Type 0
   OpensAt s p attrs wanted status o answer t =
-      Unless ((not (is_wanted_at g s o wanted), ObjectTypeMismatch) ∷ []) s answer t (GivesHandle s p o (asked_by attrs) Opened status answer t)
+      Unless ((not (is_wanted_at g s o wanted), ObjectTypeMismatch) ∷ []) s answer t (GivesHandle s p o (options_by attrs) Opened status answer t)
 
   -- an open that reached a parsing object is pending from then on, under the next number as its ticket: the
   -- rest goes to the parse, with so many reparses left

@@ -11,7 +11,8 @@ use Rattle.ob_model.specs.declared.reply.ParseRun.TheVariants.{Unrun, Ran}
 use Rattle.ob_model.specs.declared.state.Body.TheVariants.{Other}
 use Rattle.ob_model.specs.declared.state.Wanted.{Wanted}
 use Rattle.ob_model.specs.declared.state.Wanted.TheVariants.{Anything, Kind}
-use Rattle.ob_model.specs.Procedures.{Procedures, Opened as ForOpen, ParseAnswer, Itself, Front, Reparse, Refused as ParseRefused, ParseOutcome, EndsItself, EndsMade, EndsReparse, EndsRefused}
+use Rattle.ob_model.specs.declared.terms.Reason.TheVariants.{Opened as ForOpen}
+use Rattle.ob_model.specs.Procedures.{Procedures, ParseAnswer, Itself, Front, Reparse, Refused as ParseRefused, ParseOutcome, EndsItself, EndsMade, EndsReparse, EndsRefused}
 use Rattle.ob_model.specs.State.{object_of, global_id}
 use Rattle.ob_model.specs.Opening.{opening}
 use Rattle.ob_model.specs.Parses.{parsed_state}

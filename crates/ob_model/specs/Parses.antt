@@ -14,7 +14,8 @@ use Rattle.ob_model.specs.declared.state.Pending.{Pending}
 use Rattle.ob_model.specs.State.{State, is_live}
 use Rattle.ob_model.specs.PendingOpens.{face_of, pending_of, without_pending, with_instance}
 use Rattle.ob_model.specs.Procedures.{Procedures, ParseOutcome, EndsItself, EndsMade, EndsReparse, EndsRefused, ParseEnds}
-use Rattle.ob_model.specs.Looks.{Mode, Look, Refused, Again, Looks}
+use Rattle.ob_model.specs.declared.terms.Mode.{Mode}
+use Rattle.ob_model.specs.Looks.{Look, Refused, Again, Looks}
 use Rattle.ob_model.specs.Settle.{settle}
 use Rattle.ob_model.specs.Refusals.{answers, IsRefused, Unless}
 use Rattle.ob_model.specs.Opens.{OpensAt, Opens, open_mode}

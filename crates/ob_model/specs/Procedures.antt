@@ -2,14 +2,8 @@
 --
 -- Sources: Windows Internals, Object Manager (object types and their methods: open, close, delete,
 -- parse). Each procedure's form, and the laws, are this profile.
+use Rattle.ob_model.specs.declared.terms.Reason.{Reason}
 use Rattle.std.specs.Prelude.{◌≡◌, ◌≢◌, ℕ, ◌≤◌, ◌<◌, Bool, true, List, [], length, drop, Option, None, Some}
-
--- why a handle is opened
-pub data Reason : Type 0 where
-  Created : Reason
-  Opened : Reason
-  Duplicated : Reason
-  Inherited : Reason
 
 -- what a parse procedure answers: the object itself; a front of the rest, so many bytes, leads to a
 -- new instance with this face and this inner value; look again with this text; or a refusal

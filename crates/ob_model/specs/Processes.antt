@@ -12,7 +12,8 @@ use Rattle.ob_model.specs.declared.reply.Answer.{Answer}
 use Rattle.ob_model.specs.declared.reply.Given.TheVariants.{Process}
 use Rattle.ob_model.specs.declared.state.Held.{Held}
 use Rattle.ob_model.specs.State.{State, is_live, process_of, held_of, greatest_number, greatest_process}
-use Rattle.ob_model.specs.Procedures.{Procedures, Duplicated, Inherited}
+use Rattle.ob_model.specs.declared.terms.Reason.TheVariants.{Duplicated, Inherited}
+use Rattle.ob_model.specs.Procedures.{Procedures}
 use Rattle.ob_model.specs.Settle.{settle}
 use Rattle.ob_model.specs.Grants.{open_refusal, with_open, with_handle}
 use Rattle.ob_model.specs.Closing.{closed_handle}

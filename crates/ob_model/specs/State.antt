@@ -76,10 +76,24 @@ is_directory_body Directory = true
 is_directory_body (Link target) = false
 is_directory_body (Other face inner) = false
 
+-- among these objects the one of a number, where there is one, and whether it is there and is a directory
+abbrev pub object_among : {F I : Type 0} → List (Object F I) → ℕ → Option (Object F I)
+object_among objects o = find (λ x. x.id == o) objects
+
+abbrev pub is_directory_among : {F I : Type 0} → List (Object F I) → ℕ → Bool
+is_directory_among objects o = option_map_or is_directory_body (option_map (λ x. x.body) (object_among objects o)) false
+
+-- among these processes the one of a number, where there is one, and whether it is there
+abbrev pub process_among : List Process → ℕ → Option Process
+process_among processes p = find (λ x. x.number == p) processes
+
+abbrev pub is_live_among : List Process → ℕ → Bool
+is_live_among processes p = is_some (process_among processes p)
+
 module _ {K T F I : Type 0} where
   -- the object of a number, where there is one
   abbrev pub object_of : State K T F I → ℕ → Option (Object F I)
-  object_of s o = find (λ x. x.id == o) s.objects
+  object_of s o = object_among s.objects o
 
   -- its body
   abbrev pub body_of : State K T F I → ℕ → Option (Body F I)
@@ -87,15 +101,15 @@ module _ {K T F I : Type 0} where
 
   -- the object is there, and is a directory
   abbrev pub is_directory : State K T F I → ℕ → Bool
-  is_directory s o = option_map_or is_directory_body (body_of s o) false
+  is_directory s o = is_directory_among s.objects o
 
   -- the process, where it is live
   abbrev pub process_of : State K T F I → ℕ → Option Process
-  process_of s p = find (λ x. x.number == p) s.processes
+  process_of s p = process_among s.processes p
 
   -- the process is live
   abbrev pub is_live : State K T F I → ℕ → Bool
-  is_live s p = is_some (process_of s p)
+  is_live s p = is_live_among s.processes p
 
   -- the handle of this value that a process holds
   abbrev pub held_of : State K T F I → ℕ → ℕ → Option Held

@@ -28,7 +28,7 @@ impl Bytes {
         Bytes { items }
     }
 
-    /// A copy of a slice's bytes. The only error is want of memory.
+    /// A copy of a slice's bytes. The only error is out of memory.
     pub fn from_slice(alloc: Global, items: &[u8]) -> Result<Self, AllocError>
         ensures { IfOk result (λ bytes. bytes ≡ items.now) }
     {

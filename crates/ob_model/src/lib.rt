@@ -13,6 +13,7 @@ mod handles;
 pub mod laws;
 mod reply;
 mod state;
+mod terms;
 
 pub use bytes::Bytes;
 pub use command::{Command, Place};
@@ -20,3 +21,4 @@ pub use entries::{Entries, Listed, TypeName};
 pub use handles::Handles;
 pub use reply::{Answer, Event, Given, ParseRun, Reply};
 pub use state::{Body, Held, Object, Pending, Process, Row, Wanted};
+pub use terms::{GrantOptions, Mode, Reason};

@@ -12,5 +12,5 @@ mod substitution;
 
 pub use component::{Component, first, splitting_joins_back};
 pub use equality::same;
-pub use name::{LONGEST_NAME, Name, NameBuf};
+pub use name::{LONGEST_NAME, Name, NameBuf, is_profile_text};
 pub use substitution::substitute;

@@ -80,8 +80,8 @@ impl<'a> Name<'a> {
     }
 }
 
-// Whether each byte is from 0x20 to 0x7E.
-fn is_profile_text(bytes: &[u8]) -> bool
+/// Whether each byte is one of the profile, from 0x20 to 0x7E. (this profile)
+pub fn is_profile_text(bytes: &[u8]) -> bool
     ensures { result ≡ is_profile_text bytes.now }
 {
     bytes.iter().all(|byte| matches!(byte, 0x20..=0x7E))
@@ -116,7 +116,7 @@ impl NameBuf {
         }
     }
 
-    /// A copy of a name. The only error is want of memory, which a name of up to 16 bytes doesn't take.
+    /// A copy of a name. The only error is out of memory, which a name of up to 16 bytes doesn't take.
     pub fn from_name(alloc: Global, name: Name<'_>) -> Result<NameBuf, AllocError>
         ensures copied { IfOk result (λ owned. owned ≡ name.entry) }
         ensures no_memory { length name.entry ≤ 16 → IsOk result }

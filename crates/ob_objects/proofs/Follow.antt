@@ -18,7 +18,8 @@ use Rattle.ob_model.proofs.Soundness.{opened_object-id}
 use Rattle.ob_model.specs.State.{insert_object}
 use Rattle.ob_model.specs.declared.state.Object.{Object}
 use Rattle.ob_model.specs.declared.state.Row.{Row}
-use Rattle.ob_model.specs.Procedures.{Procedures, Reason}
+use Rattle.ob_model.specs.declared.terms.Reason.{Reason}
+use Rattle.ob_model.specs.Procedures.{Procedures}
 use Rattle.ob_model.specs.Grants.{open_refusal_of, opened_body, opened_object, opened_set}
 use Rattle.ob_model.specs.Closing.{closed_set}
 use Rattle.ob_dirs.specs.declared.entry.DirEntry.{DirEntry}
@@ -29,7 +30,8 @@ use Rattle.ob_objects.specs.declared.object.StoredObject.{StoredObject}
 use Rattle.ob_objects.specs.Store.{Entries, stored_at, entries_in, body_of_stored, object_of_stored, objects_of, rows_in_turn}
 use Rattle.ob_objects.specs.Changes.{with_entry, without_object, body_with_name, body_without_name, with_name, without_name}
 use Rattle.ob_objects.specs.Laws.{FoundIsStored, ObjectsAreAsMany, IdsRise, NewObjectStandsInOrder, ObjectGoesAlone, NewestIsFree, NewestIsLast, StoreWithObjectIsStore, NewObjectIsStored, OthersStayStored, RefusalIsTheMachines, SetAfterOpenIsTheMachines, SetAfterCloseIsTheMachines, NewObjectOpens, ObjectIsTakenBack, NameIsTakenBack, BothAreTakenBack}
-use Rattle.ob_objects.proofs.ByStamp.{by_stamp-All}
+use Rattle.ob_objects.specs.Rows.{stamp_of}
+use Rattle.ob_model.proofs.Sorted.{sorted_by-All}
 use Rattle.ob_objects.proofs.Entries.{stored_free, stored_new, stored_other, rising_with_entry, directories_with_entry}
 use Rattle.ob_objects.proofs.Shown.{find_object, all_parts, new_object_has_no_row, stored_is_object, opened_is_machines}
 
@@ -162,7 +164,7 @@ module _ {F I : Type 0} where
           ap (λ t. cond t (e.0, unnamed e.1) e ∷ without_name (with_name store d entry) d entry.stamp) apart ∙ ap (λ es. e ∷ es) more
 
   pub name_taken_back : NameIsTakenBack F I
-  name_taken_back store d entry below = names_taken_back store d entry (by_stamp-All (λ r. r.stamp < entry.stamp) (rows_in_turn store) below)
+  name_taken_back store d entry below = names_taken_back store d entry (sorted_by-All stamp_of (λ r. r.stamp < entry.stamp) (rows_in_turn store) below)
 
   pub both_taken_back : BothAreTakenBack F I
   both_taken_back store id x d entry none free below =

@@ -6,9 +6,11 @@ use Rattle.std.proofs.lemmas.List.Elements.{All-nil, All-cons, All-head, All-tai
 use Rattle.std.specs.List.{list_any}
 use Rattle.ob_model.specs.declared.state.Row.{Row}
 use Rattle.ob_dirs.specs.Dir.{row_of}
-use Rattle.ob_objects.specs.Rows.{insert_row, by_stamp}
+use Rattle.ob_model.specs.Sorted.{insert_by}
+use Rattle.ob_model.proofs.Sorted.{sorted_by-Rises, above-leb}
+use Rattle.ob_objects.specs.Rows.{stamp_of, by_stamp}
 use Rattle.ob_objects.specs.Store.{Entries, IsStore, entries_at, rows_of}
-use Rattle.ob_objects.proofs.ByStamp.{Rises, ComesFirst, by_stamp-Rises, above-leb}
+use Rattle.ob_objects.proofs.ByStamp.{Rises, ComesFirst}
 use Rattle.ob_objects.proofs.Shown.{rows_are_entries}
 
 -- ---- the earlier of two rows
@@ -55,7 +57,7 @@ found_holds test P (r ∷ rows) all = go (test r) (found_holds test P rows (All-
     go false more = more
 
 pub find-insert_row : (test : Row → Bool) (r : Row) (rows : List Row) → Rises rows
-    → find test (insert_row r rows) ≡ cond (test r) (earlier_row (Some r) (find test rows)) (find test rows)
+    → find test (insert_by stamp_of r rows) ≡ cond (test r) (earlier_row (Some r) (find test rows)) (find test rows)
 find-insert_row test r [] rises = refl
 find-insert_row test r (q ∷ rows) rises = go (nat_le r.stamp q.stamp) refl (find-insert_row test r rows rises.1)
   where
@@ -70,8 +72,8 @@ find-insert_row test r (q ∷ rows) rises = go (nat_le r.stamp q.stamp) refl (fi
     ahead before false = refl
 
     behind : nat_le r.stamp q.stamp ≡ false → (here there : Bool)
-        → find test (insert_row r rows) ≡ cond here (earlier_row (Some r) (find test rows)) (find test rows)
-        → cond there (Some q) (find test (insert_row r rows))
+        → find test (insert_by stamp_of r rows) ≡ cond here (earlier_row (Some r) (find test rows)) (find test rows)
+        → cond there (Some q) (find test (insert_by stamp_of r rows))
         ≡ cond here (earlier_row (Some r) (cond there (Some q) (find test rows))) (cond there (Some q) (find test rows))
     behind after true true more = sym (ap (λ t. Some (cond t r q)) after)
     behind after true false more = more
@@ -79,8 +81,8 @@ find-insert_row test r (q ∷ rows) rises = go (nat_le r.stamp q.stamp) refl (fi
     behind after false false more = more
 
     go : (t : Bool) → nat_le r.stamp q.stamp ≡ t
-        → find test (insert_row r rows) ≡ cond (test r) (earlier_row (Some r) (find test rows)) (find test rows)
-        → find test (cond t (r ∷ q ∷ rows) (q ∷ insert_row r rows))
+        → find test (insert_by stamp_of r rows) ≡ cond (test r) (earlier_row (Some r) (find test rows)) (find test rows)
+        → find test (cond t (r ∷ q ∷ rows) (q ∷ insert_by stamp_of r rows))
         ≡ cond (test r) (earlier_row (Some r) (find test (q ∷ rows))) (find test (q ∷ rows))
     go true e more = ahead e (test r)
     go false e more = behind e (test r) (test q) more
@@ -89,10 +91,10 @@ pub find-by_stamp-append : (test : Row → Bool) (xs ys : List Row)
     → find test (by_stamp (xs ++ ys)) ≡ earlier_row (find test (by_stamp xs)) (find test (by_stamp ys))
 find-by_stamp-append test [] ys = refl
 find-by_stamp-append test (x ∷ xs) ys =
-    find-insert_row test x (by_stamp (xs ++ ys)) (by_stamp-Rises (xs ++ ys))
+    find-insert_row test x (by_stamp (xs ++ ys)) (sorted_by-Rises stamp_of (xs ++ ys))
     ∙ ap (λ o. cond (test x) (earlier_row (Some x) o) o) (find-by_stamp-append test xs ys)
     ∙ go (test x)
-    ∙ ap (λ o. earlier_row o (find test (by_stamp ys))) (sym (find-insert_row test x (by_stamp xs) (by_stamp-Rises xs)))
+    ∙ ap (λ o. earlier_row o (find test (by_stamp ys))) (sym (find-insert_row test x (by_stamp xs) (sorted_by-Rises stamp_of xs)))
   where
     go : (t : Bool)
         → cond t (earlier_row (Some x) (earlier_row (find test (by_stamp xs)) (find test (by_stamp ys)))) (earlier_row (find test (by_stamp xs)) (find test (by_stamp ys)))

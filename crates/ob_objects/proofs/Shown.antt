@@ -6,7 +6,8 @@ use Rattle.std.proofs.lemmas.List.Elements.{All-nil, All-cons, All-head, All-tai
 use Rattle.std.specs.Option.{option_and_then, unwrap_or}
 use Rattle.ob_model.specs.declared.state.Row.{Row}
 use Rattle.ob_model.specs.declared.state.Object.{Object}
-use Rattle.ob_model.specs.Procedures.{Procedures, Reason}
+use Rattle.ob_model.specs.declared.terms.Reason.{Reason}
+use Rattle.ob_model.specs.Procedures.{Procedures}
 use Rattle.ob_model.specs.Grants.{opened_body}
 use Rattle.ob_model.specs.Closing.{closed_body}
 use Rattle.ob_dirs.specs.declared.entry.DirEntry.{DirEntry}
@@ -14,14 +15,15 @@ use Rattle.ob_dirs.specs.Dir.{IsDir, ComesBefore, AreEntries, row_of}
 use Rattle.ob_dirs.proofs.Earliest.{first_comes_before, others_are_dir}
 use Rattle.ob_dirs.proofs.Laws.{found-entries}
 use Rattle.ob_dirs.proofs.Rows.{filter-map}
+use Rattle.ob_model.proofs.Sorted.{sorted_by-Rises, sorted_by-same, filter-sorted_by, sorted_by-All, sorted_by-last}
 use Rattle.ob_objects.specs.declared.object.StoredBody.{StoredBody}
 use Rattle.ob_objects.specs.declared.object.StoredBody.TheVariants.{Directory, Link, Other}
 use Rattle.ob_objects.specs.declared.object.StoredObject.{StoredObject}
-use Rattle.ob_objects.specs.Rows.{by_stamp}
+use Rattle.ob_objects.specs.Rows.{stamp_of, by_stamp}
 use Rattle.ob_objects.specs.Store.{Entries, stored_at, directory_of, directory_at, entries_in, entries_at, body_of_stored, object_of_stored, objects_of, rows_in_turn, rows_of}
 use Rattle.ob_objects.specs.Changes.{with_entry, changed_at, without_object, body_with_name, body_without_name, with_name, without_name, stored_opened, stored_closed}
 use Rattle.ob_objects.specs.Laws.{StoredIsTheObject, StoreFindsWhatTheStateFinds, OpenedIsTheMachines, ClosedIsTheMachines, RowsAreByStamp, RowsAreTheEntries, NewObjectHasNoRow, RowsGoWithTheirDirectory, NewNameIsTheLastRow, RowGoesWithItsName, NamesChangeNoObject, PermanenceIsTheObjects}
-use Rattle.ob_objects.proofs.ByStamp.{Rises, ComesFirst, by_stamp-Rises, by_stamp-same, filter-by_stamp, by_stamp-All, by_stamp-last, AreByStamp-from_Rises}
+use Rattle.ob_objects.proofs.ByStamp.{Rises, ComesFirst, AreByStamp-from_Rises}
 use Rattle.ob_model.proofs.Ids.{Differ, Differ-from_rising, changed, changed-none}
 
 -- ---- the rows of one directory
@@ -89,12 +91,12 @@ module _ {F I : Type 0} where
 
   pub rows_are_entries : RowsAreTheEntries F I
   rows_are_entries store is d =
-      filter-by_stamp (λ r. r.directory == d) (rows_in_turn store)
+      filter-sorted_by stamp_of (λ r. r.directory == d) (rows_in_turn store)
       ∙ ap by_stamp (rows_in store d (Differ-from_rising store is.rising))
-      ∙ by_stamp-same (map (row_of d) (entries_at store d)) (entry_rows-Rises d (entries_at store d) (entries_at-is_dir store d is.directories))
+      ∙ sorted_by-same stamp_of (map (row_of d) (entries_at store d)) (entry_rows-Rises d (entries_at store d) (entries_at-is_dir store d is.directories))
 
   pub rows_by_stamp : RowsAreByStamp F I
-  rows_by_stamp store = AreByStamp-from_Rises (rows_of store) (by_stamp-Rises (rows_in_turn store))
+  rows_by_stamp store = AreByStamp-from_Rises (rows_of store) (sorted_by-Rises stamp_of (rows_in_turn store))
 
   -- ---- objects come and go
 
@@ -130,7 +132,7 @@ module _ {F I : Type 0} where
       go false more = ap (λ rs. map (row_of e.0) (entries_in e.1.body) ++ rs) more
 
   pub rows_go_with_directory : RowsGoWithTheirDirectory F I
-  rows_go_with_directory store id = ap by_stamp (without_object-rows store id) ∙ sym (filter-by_stamp (λ r. not (r.directory == id)) (rows_in_turn store))
+  rows_go_with_directory store id = ap by_stamp (without_object-rows store id) ∙ sym (filter-sorted_by stamp_of (λ r. not (r.directory == id)) (rows_in_turn store))
 
   -- ---- objects change
 
@@ -269,8 +271,8 @@ module _ {F I : Type 0} where
   new_name_is_last store d entry is there newest =
       let parts = named_splits store d entry (Differ-from_rising store is.rising) there in
       let below = all_parts (λ r. r.stamp < entry.stamp) parts.before parts.behind
-      (subst (All (λ r. r.stamp < entry.stamp)) parts.without (by_stamp-All (λ r. r.stamp < entry.stamp) (rows_in_turn store) newest)) in
-      ap by_stamp parts.together ∙ by_stamp-last (row_of d entry) parts.before parts.behind below.0 below.1
+      (subst (All (λ r. r.stamp < entry.stamp)) parts.without (sorted_by-All stamp_of (λ r. r.stamp < entry.stamp) (rows_in_turn store) newest)) in
+      ap by_stamp parts.together ∙ sorted_by-last stamp_of (row_of d entry) parts.before parts.behind below.0 below.1
       ∙ ap (λ rs. by_stamp rs ++ row_of d entry ∷ []) (sym parts.without)
 
   -- ---- a name less
@@ -305,7 +307,7 @@ module _ {F I : Type 0} where
           ∙ ap (λ rs. map (row_of e.0) (filter (λ x. true) (entries_in e.1.body)) ++ rs) more
 
   pub row_goes_with_name : RowGoesWithItsName F I
-  row_goes_with_name store d stamp = ap by_stamp (without_name-rows store d stamp) ∙ sym (filter-by_stamp (λ r. not ((r.directory == d) && (r.stamp == stamp))) (rows_in_turn store))
+  row_goes_with_name store d stamp = ap by_stamp (without_name-rows store d stamp) ∙ sym (filter-sorted_by stamp_of (λ r. not ((r.directory == d) && (r.stamp == stamp))) (rows_in_turn store))
 
 -- ---- the state
 

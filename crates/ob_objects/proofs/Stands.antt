@@ -15,12 +15,12 @@ use Rattle.ob_model.proofs.Ids.{Differ-from_rising}
 use Rattle.ob_dirs.specs.declared.entry.DirEntry.{DirEntry}
 use Rattle.ob_dirs.specs.Dir.{IsDir, ComesBefore, row_of}
 use Rattle.ob_dirs.proofs.Earliest.{first_comes_before, others_are_dir}
-use Rattle.ob_objects.specs.declared.named.Place.{Place}
-use Rattle.ob_objects.specs.Rows.{by_stamp}
+use Rattle.ob_objects.specs.declared.named.EntryPlace.{EntryPlace}
+use Rattle.ob_objects.specs.Rows.{stamp_of, by_stamp}
 use Rattle.ob_objects.specs.Named.{place_of, stands_at}
 use Rattle.ob_objects.specs.Store.{Entries, IsStore, directory_at, entries_at, rows_in_turn, rows_of, place_at}
 use Rattle.ob_objects.specs.Changes.{with_name, without_name, without_object}
-use Rattle.ob_objects.proofs.ByStamp.{pairs_head, pairs_tail, pairs-by_stamp, by_stamp-pairs, pairs-middle, by_stamp-All, All-by_stamp, by_stamp-Rises}
+use Rattle.ob_model.proofs.Sorted.{pairs_head, pairs_tail, pairs-sorted_by, sorted_by-pairs, pairs-middle, sorted_by-All, All-sorted_by, sorted_by-Rises}
 use Rattle.ob_objects.proofs.Entries.{nothing_mapped}
 use Rattle.ob_objects.proofs.Searches.{find-insert_row, find-by_stamp-append, earlier_row, any_both, all_both, any_map}
 use Rattle.ob_objects.proofs.Shown.{rows_are_entries, entries_at-is_dir, row_goes_with_name, rows_go_with_directory, Splits, named_splits, all_parts}
@@ -125,7 +125,7 @@ find_goes test keeps (r ∷ rows) all =
 
 -- ---- the places that entries take with them, one after another
 
-pub forget_more : (es : List DirEntry) (i : ℕ) (e : DirEntry) (id : ℕ) (after before first : Option Place) → i < length es → e ≡ get_or es i e
+pub forget_more : (es : List DirEntry) (i : ℕ) (e : DirEntry) (id : ℕ) (after before first : Option EntryPlace) → i < length es → e ≡ get_or es i e
     → after ≡ cond (is_at (nat_cmp e.object) id) None before → before ≡ cond (list_any (λ x. x.object == id) (take i es)) None first
     → after ≡ cond (list_any (λ x. x.object == id) (take (i + 1) es)) None first
 forget_more es i e id after before first within is taken so_far =
@@ -219,7 +219,7 @@ mapped_some f (Some x) y e = (x, refl, cc)
 
 -- ---- the name at a place
 
-pub placed : (o : Option Row) (p : Place) → option_map place_of o ≡ Some p → (r : Row) × (o ≡ Some r) × (p ≡ place_of r)
+pub placed : (o : Option Row) (p : EntryPlace) → option_map place_of o ≡ Some p → (r : Row) × (o ≡ Some r) × (p ≡ place_of r)
 placed None p e = cc
 placed (Some r) p e = (r, refl, cc)
 
@@ -232,19 +232,19 @@ module _ {F I : Type 0} (store : Entries F I) (is : IsStore store) where
   entries_dir d = entries_at-is_dir store d is.directories
 
   -- what stands at the place of an object's name is its name
-  pub named_at : (id : ℕ) (p : Place) → place_at store id ≡ Some p
+  pub named_at : (id : ℕ) (p : EntryPlace) → place_at store id ≡ Some p
       → option_map (row_of p.directory) (find (λ e. e.stamp == p.stamp) (entries_at store p.directory)) ≡ find (λ r. r.object == id) (rows_of store)
   named_at id p at =
       let found = placed (find (λ r. r.object == id) (rows_of store)) p at in
       let r : Row = found.0 in
       let among = (found_among (λ q. q.object == id) (rows_of store) r found.1).0 in
-      ap (λ (x : Place). option_map (row_of x.directory) (find (λ e. e.stamp == x.stamp) (entries_at store x.directory))) found.2
+      ap (λ (x : EntryPlace). option_map (row_of x.directory) (find (λ e. e.stamp == x.stamp) (entries_at store x.directory))) found.2
       ∙ entry_of_row r.directory (entries_at store r.directory) r (entries_dir r.directory)
       (subst (Among r) (rows_are_entries store is r.directory) (among_filter (λ q. q.directory == r.directory) r (rows_of store) (eq-eqb r.directory r.directory refl) among))
       ∙ sym found.1
 
   -- told from the entries that are found there
-  pub named_in : (id : ℕ) (p : Place) (entries : List DirEntry) (o : Option DirEntry) → place_at store id ≡ Some p → entries ≡ entries_at store p.directory
+  pub named_in : (id : ℕ) (p : EntryPlace) (entries : List DirEntry) (o : Option DirEntry) → place_at store id ≡ Some p → entries ≡ entries_at store p.directory
       → o ≡ find (λ e. e.stamp == p.stamp) entries → option_map (row_of p.directory) o ≡ find (λ r. r.object == id) (rows_of store)
   named_in id p entries o at are found =
       ap (option_map (row_of p.directory)) (found ∙ ap (find (λ e. e.stamp == p.stamp)) are) ∙ named_at id p at
@@ -302,7 +302,7 @@ module _ {F I : Type 0} (store : Entries F I) (is : IsStore store) where
       stays false h = refl
 
   -- with the name at its place goes the one name of an object
-  pub name_goes : (id : ℕ) (p : Place) → place_at store id ≡ Some p → rows_of (without_name store p.directory p.stamp) ≡ filter (λ r. not (r.object == id)) (rows_of store)
+  pub name_goes : (id : ℕ) (p : EntryPlace) → place_at store id ≡ Some p → rows_of (without_name store p.directory p.stamp) ≡ filter (λ r. not (r.object == id)) (rows_of store)
   name_goes id p at =
       row_goes_with_name store p.directory p.stamp
       ∙ filter_agrees (λ r. not (stands_at p.directory p.stamp r)) (λ r. not (r.object == id)) (rows_of store)
@@ -320,7 +320,7 @@ module _ {F I : Type 0} (store : Entries F I) (is : IsStore store) where
       entry = mapped_some (row_of p.directory) (find (λ x. x.stamp == p.stamp) (entries_at store p.directory)) found.0 (named_at id p at ∙ found.1)
 
       there : stands_at p.directory p.stamp found.0 ≡ true
-      there = ap (λ t. t && (found.0.stamp == p.stamp)) (eq-eqb found.0.directory p.directory (ap (λ (x : Place). x.directory) (sym found.2))) ∙ eq-eqb found.0.stamp p.stamp (ap (λ (x : Place). x.stamp) (sym found.2))
+      there = ap (λ t. t && (found.0.stamp == p.stamp)) (eq-eqb found.0.directory p.directory (ap (λ (x : EntryPlace). x.directory) (sym found.2))) ∙ eq-eqb found.0.stamp p.stamp (ap (λ (x : EntryPlace). x.stamp) (sym found.2))
 
       go : (q : Row) (s t : Bool) → stands_at p.directory p.stamp q ≡ s → (q.object == id) ≡ t → (q.object ≡ found.0.object → q ≡ found.0) → (stands_at p.directory p.stamp q ≡ true → q ≡ row_of p.directory entry.0)
           → not s ≡ not t
@@ -330,12 +330,12 @@ module _ {F I : Type 0} (store : Entries F I) (is : IsStore store) where
       go q false true e f one same = absurd (false≢true (sym e ∙ ap (stands_at p.directory p.stamp) (one (eqb-true q.object id f ∙ sym (eqb-true found.0.object id names.1))) ∙ there))
 
   -- all names of an object lie in one directory
-  pub one_directory : (id : ℕ) (p : Place) → place_at store id ≡ Some p → All (λ r. (r.object == id) ≡ true → r.directory ≡ p.directory) (rows_of store)
+  pub one_directory : (id : ℕ) (p : EntryPlace) → place_at store id ≡ Some p → All (λ r. (r.object == id) ≡ true → r.directory ≡ p.directory) (rows_of store)
   one_directory id p at =
       let found = placed (find (λ q. q.object == id) (rows_of store)) p at in
       let names = found_among (λ q. q.object == id) (rows_of store) found.0 found.1 in
       All-weaker (λ q. q.object ≡ found.0.object → q ≡ found.0) (λ r. (r.object == id) ≡ true → r.directory ≡ p.directory)
-      (λ q one named. ap (λ x. x.directory) (one (eqb-true q.object id named ∙ sym (eqb-true found.0.object id names.1))) ∙ ap (λ (x : Place). x.directory) (sym found.2))
+      (λ q one named. ap (λ x. x.directory) (one (eqb-true q.object id named ∙ sym (eqb-true found.0.object id names.1))) ∙ ap (λ (x : EntryPlace). x.directory) (sym found.2))
       (rows_of store) (only_one found.0 (rows_of store) is.named_once names.0)
 
   -- and an object without a place has none
@@ -380,7 +380,7 @@ module _ {F I : Type 0} (store : Entries F I) (is : IsStore store) where
   place_comes d entry there unnamed id =
       ap (option_map place_of) (ap (λ rows. find test (by_stamp rows)) parts.together
       ∙ find-by_stamp-append test parts.before (row_of d entry ∷ parts.behind)
-      ∙ ap (earlier_row (find test (by_stamp parts.before))) (find-insert_row test (row_of d entry) (by_stamp parts.behind) (by_stamp-Rises parts.behind)))
+      ∙ ap (earlier_row (find test (by_stamp parts.before))) (find-insert_row test (row_of d entry) (by_stamp parts.behind) (sorted_by-Rises stamp_of parts.behind)))
       ∙ go (entry.object == id) refl
     where
       parts : Splits store d entry
@@ -390,12 +390,12 @@ module _ {F I : Type 0} (store : Entries F I) (is : IsStore store) where
       test r = r.object == id
 
       apart : All (λ r. r.object ≢ entry.object) parts.before × All (λ r. r.object ≢ entry.object) parts.behind
-      apart = all_parts (λ r. r.object ≢ entry.object) parts.before parts.behind (subst (All (λ r. r.object ≢ entry.object)) parts.without (by_stamp-All (λ r. r.object ≢ entry.object) (rows_in_turn store) unnamed))
+      apart = all_parts (λ r. r.object ≢ entry.object) parts.before parts.behind (subst (All (λ r. r.object ≢ entry.object)) parts.without (sorted_by-All stamp_of (λ r. r.object ≢ entry.object) (rows_in_turn store) unnamed))
 
       none_there : (entry.object == id) ≡ true → (xs : List Row) → All (λ r. r.object ≢ entry.object) xs → find test (by_stamp xs) ≡ None
       none_there same xs all =
           find_none test (by_stamp xs) (All-weaker (λ r. r.object ≢ entry.object) (λ r. test r ≡ false)
-          (λ r other. ne_eqb r.object id (λ at. other (at ∙ sym (eqb-true entry.object id same)))) (by_stamp xs) (All-by_stamp (λ r. r.object ≢ entry.object) xs all))
+          (λ r other. ne_eqb r.object id (λ at. other (at ∙ sym (eqb-true entry.object id same)))) (by_stamp xs) (All-sorted_by stamp_of (λ r. r.object ≢ entry.object) xs all))
 
       go : (t : Bool) → (entry.object == id) ≡ t
           → option_map place_of (earlier_row (find test (by_stamp parts.before)) (cond t (earlier_row (Some (row_of d entry)) (find test (by_stamp parts.behind))) (find test (by_stamp parts.behind))))
@@ -410,7 +410,7 @@ module _ {F I : Type 0} (store : Entries F I) (is : IsStore store) where
   named_once_more d entry there unnamed =
       let parts = named_splits store d entry (Differ-from_rising store is.rising) there in
       subst (λ rows. AllPairs AreApart (by_stamp rows)) (sym parts.together)
-      (pairs-by_stamp AreApart apart_turned (parts.before ++ row_of d entry ∷ parts.behind)
-      (pairs-middle AreApart apart_turned (row_of d entry) parts.before parts.behind
-      (subst (All (AreApart (row_of d entry))) parts.without (by_stamp-All (AreApart (row_of d entry)) _ (All-weaker (λ r. r.object ≢ entry.object) (AreApart (row_of d entry)) (λ r apart same. apart (sym same)) (rows_of store) unnamed)))
-      (subst (AllPairs AreApart) parts.without (by_stamp-pairs AreApart apart_turned _ is.named_once))))
+      (pairs-sorted_by stamp_of AreApart apart_turned (parts.before ++ row_of d entry ∷ parts.behind)
+      (pairs-middle stamp_of AreApart apart_turned (row_of d entry) parts.before parts.behind
+      (subst (All (AreApart (row_of d entry))) parts.without (sorted_by-All stamp_of (AreApart (row_of d entry)) _ (All-weaker (λ r. r.object ≢ entry.object) (AreApart (row_of d entry)) (λ r apart same. apart (sym same)) (rows_of store) unnamed)))
+      (subst (AllPairs AreApart) parts.without (sorted_by-pairs stamp_of AreApart apart_turned _ is.named_once))))

@@ -14,12 +14,13 @@ use Rattle.std.specs.List.Sorted.{IsStrictlySortedBy}
 use Rattle.std.specs.Map.{keys_of, lookup, remove_entry, set_value}
 use Rattle.std.specs.Option.{IfSome, option_and_then, option_map_or, unwrap_or}
 use Rattle.std.specs.Ordering.{nat_cmp}
-use Rattle.ob_model.specs.Procedures.{Procedures, Reason}
+use Rattle.ob_model.specs.declared.terms.Reason.{Reason}
+use Rattle.ob_model.specs.Procedures.{Procedures}
 use Rattle.ob_model.specs.Grants.{open_refusal_of, opened_set}
 use Rattle.ob_model.specs.Closing.{closed_set}
 use Rattle.ob_dirs.specs.declared.entry.DirEntry.{DirEntry}
 use Rattle.ob_dirs.specs.Dir.{IsDir, row_of}
-use Rattle.ob_objects.specs.declared.named.Place.{Place}
+use Rattle.ob_objects.specs.declared.named.EntryPlace.{EntryPlace}
 use Rattle.ob_objects.specs.declared.object.StoredObject.{StoredObject}
 use Rattle.ob_objects.specs.Rows.{by_stamp}
 use Rattle.ob_objects.specs.Named.{place_of}
@@ -79,7 +80,7 @@ module _ {F I : Type 0} where
       e ∙ ap (λ es. insert_entry nat_cmp es key x) same ∙ ap (λ k. insert_entry nat_cmp now k x) is_id ∙ insert_entry-in_order id x now (stored_free now id free)
 
   -- what holds beside the places still does where the rows are as they were
-  pub same_rows_keep : (new inside : Entries F I) (places : List (ℕ × Place)) → KeepsPlaces inside places → rows_of new ≡ rows_of inside
+  pub same_rows_keep : (new inside : Entries F I) (places : List (ℕ × EntryPlace)) → KeepsPlaces inside places → rows_of new ≡ rows_of inside
       → IsStrictlySortedBy nat_cmp (keys_of new) → All (λ e. IsDir (entries_in e.1.body)) new → KeepsPlaces new places
   same_rows_keep new inside places keeps rows rising directories = record {
     is_store = record {
@@ -90,7 +91,7 @@ module _ {F I : Type 0} where
     places = λ id. keeps.places id ∙ ap (λ rs. option_map place_of (find (λ r. r.object == id) rs)) (sym rows);
   }
 
-  pub inserted_keeps : (new inside now : Entries F I) (places : List (ℕ × Place)) (id : ℕ) (x : StoredObject F I)
+  pub inserted_keeps : (new inside now : Entries F I) (places : List (ℕ × EntryPlace)) (id : ℕ) (x : StoredObject F I)
       → KeepsPlaces inside places → inside ≡ now → new ≡ with_entry now id x → IsStrictlySortedBy nat_cmp (keys_of new) → entries_in x.body ≡ [] → KeepsPlaces new places
   inserted_keeps new inside now places id x keeps same put rising none =
       same_rows_keep new inside places keeps
@@ -104,7 +105,7 @@ module _ {F I : Type 0} where
       e ∙ remove_entry-id key inside (Differ-from_rising inside is.rising) ∙ ap (λ es. without_object es key) same ∙ ap (without_object now) is_id
 
   -- the places of the names that lay in it go with it
-  pub removed_keeps : (new inside : Entries F I) (places left : List (ℕ × Place)) (key : ℕ) (entries : List DirEntry)
+  pub removed_keeps : (new inside : Entries F I) (places left : List (ℕ × EntryPlace)) (key : ℕ) (entries : List DirEntry)
       → KeepsPlaces inside places → new ≡ remove_entry (is_at (nat_cmp key)) inside → IsStrictlySortedBy nat_cmp (keys_of new) → entries ≡ entries_at inside key
       → ((id : ℕ) → lookup (is_at (nat_cmp id)) left ≡ cond (list_any (λ e. e.object == id) entries) None (lookup (is_at (nat_cmp id)) places))
       → KeepsPlaces new left
@@ -169,7 +170,7 @@ module _ {F I : Type 0} where
       subst (All (λ x. IsDir (entries_in x.1.body))) (sym e) (set_value-All (λ x. IsDir (entries_in x.body)) key w inside is.directories dir)
 
   -- a change that leaves the entries of the object
-  pub changed_keeps : (new inside : Entries F I) (places : List (ℕ × Place)) (key : ℕ) (change : StoredObject F I → StoredObject F I) (x w : StoredObject F I)
+  pub changed_keeps : (new inside : Entries F I) (places : List (ℕ × EntryPlace)) (key : ℕ) (change : StoredObject F I → StoredObject F I) (x w : StoredObject F I)
       → KeepsPlaces inside places → lookup (is_at (nat_cmp key)) inside ≡ Some x → new ≡ set_value (is_at (nat_cmp key)) inside w → w ≡ change x
       → ((y : StoredObject F I) → entries_in (change y).body ≡ entries_in y.body) → KeepsPlaces new places
   changed_keeps new inside places key change x w keeps found e is_change same =
@@ -180,7 +181,7 @@ module _ {F I : Type 0} where
       (subst (λ y. IsDir (entries_in y.body)) (sym is_change) (subst IsDir (sym (same x)) (found_is_dir inside key x keeps.is_store found))))
 
   -- an entry more
-  pub named_keeps : (new inside : Entries F I) (places more : List (ℕ × Place)) (key : ℕ) (entry : DirEntry) (x w : StoredObject F I)
+  pub named_keeps : (new inside : Entries F I) (places more : List (ℕ × EntryPlace)) (key : ℕ) (entry : DirEntry) (x w : StoredObject F I)
       → KeepsPlaces inside places → lookup (is_at (nat_cmp key)) inside ≡ Some x → new ≡ set_value (is_at (nat_cmp key)) inside w
       → w ≡ record x { body = body_with_name entry x.body } → IsDir (entries_in w.body) → IsSome (directory_at inside key) → All (λ r. r.object ≢ entry.object) (rows_of inside)
       → ((id : ℕ) → lookup (is_at (nat_cmp id)) more ≡ cond (is_at (nat_cmp entry.object) id) (Some (place_of (row_of key entry))) (lookup (is_at (nat_cmp id)) places))
@@ -200,7 +201,7 @@ module _ {F I : Type 0} where
       }
 
   -- a place that came and went again, of an object without a name
-  pub back_keeps : (new inside : Entries F I) (places more left : List (ℕ × Place)) (key object : ℕ) (p : Place) (x w : StoredObject F I)
+  pub back_keeps : (new inside : Entries F I) (places more left : List (ℕ × EntryPlace)) (key object : ℕ) (p : EntryPlace) (x w : StoredObject F I)
       → KeepsPlaces inside places → lookup (is_at (nat_cmp key)) inside ≡ Some x → new ≡ set_value (is_at (nat_cmp key)) inside w → w ≡ x
       → All (λ r. r.object ≢ object) (rows_of inside)
       → ((id : ℕ) → lookup (is_at (nat_cmp id)) more ≡ cond (is_at (nat_cmp object) id) (Some p) (lookup (is_at (nat_cmp id)) places))
@@ -228,7 +229,7 @@ module _ {F I : Type 0} where
       subst (AllPairs (λ a b. a.object ≢ b.object)) (sym (row_goes_with_name inside key stamp))
       (AllPairs-filter (λ a b. a.object ≢ b.object) (λ r. not ((r.directory == key) && (r.stamp == stamp))) (rows_of inside) is.named_once)
 
-  pub unnamed_keeps : (new inside : Entries F I) (places left : List (ℕ × Place)) (key stamp : ℕ) (entry : DirEntry) (x w : StoredObject F I)
+  pub unnamed_keeps : (new inside : Entries F I) (places left : List (ℕ × EntryPlace)) (key stamp : ℕ) (entry : DirEntry) (x w : StoredObject F I)
       → KeepsPlaces inside places → lookup (is_at (nat_cmp key)) inside ≡ Some x → new ≡ set_value (is_at (nat_cmp key)) inside w
       → w ≡ record x { body = body_without_name stamp x.body } → Some entry ≡ find (λ e. e.stamp == stamp) (entries_in x.body)
       → ((id : ℕ) → lookup (is_at (nat_cmp id)) left ≡ cond (is_at (nat_cmp entry.object) id) None (lookup (is_at (nat_cmp id)) places))
@@ -249,7 +250,7 @@ module _ {F I : Type 0} where
       }
 
   -- where no entry has the stamp
-  pub unnamed_none : (new inside : Entries F I) (places : List (ℕ × Place)) (key stamp : ℕ) (x w : StoredObject F I)
+  pub unnamed_none : (new inside : Entries F I) (places : List (ℕ × EntryPlace)) (key stamp : ℕ) (x w : StoredObject F I)
       → KeepsPlaces inside places → lookup (is_at (nat_cmp key)) inside ≡ Some x → new ≡ set_value (is_at (nat_cmp key)) inside w
       → w ≡ record x { body = body_without_name stamp x.body } → None ≡ find (λ e. e.stamp == stamp) (entries_in x.body) → KeepsPlaces new places
   unnamed_none new inside places key stamp x w keeps found e is_change none =

@@ -4,7 +4,8 @@
 use Rattle.std.specs.Prelude.{ℕ, Bool, ◌==◌, not, if◌then◌else◌, [], ◌∷◌, ◌++◌, filter, map, Option}
 use Rattle.std.specs.Option.{option_and_then, option_map_or}
 use Rattle.ob_model.specs.State.{in_order}
-use Rattle.ob_model.specs.Procedures.{Procedures, Reason}
+use Rattle.ob_model.specs.declared.terms.Reason.{Reason}
+use Rattle.ob_model.specs.Procedures.{Procedures}
 use Rattle.ob_model.specs.Grants.{open_refusal_of, opened_set}
 use Rattle.ob_model.specs.Closing.{closed_set}
 use Rattle.ob_dirs.specs.declared.entry.DirEntry.{DirEntry}

@@ -6,7 +6,8 @@ use Rattle.std.specs.Option.{option_map, option_map_or}
 use Rattle.ob_model.specs.declared.state.Object.{Object}
 use Rattle.ob_model.specs.State.{State, insert_object, object_of, body_of, is_directory}
 use Rattle.ob_model.specs.Paths.{found}
-use Rattle.ob_model.specs.Procedures.{Procedures, Reason}
+use Rattle.ob_model.specs.declared.terms.Reason.{Reason}
+use Rattle.ob_model.specs.Procedures.{Procedures}
 use Rattle.ob_model.specs.Grants.{open_refusal_of, open_refusal, opened_object, opened_body, opened_set, with_open}
 use Rattle.ob_model.specs.Closing.{closed_object, closed_set}
 use Rattle.ob_dirs.specs.declared.entry.DirEntry.{DirEntry}

@@ -7,14 +7,14 @@ use Rattle.ob_model.specs.declared.state.Object.{Object}
 use Rattle.ob_model.specs.declared.state.Row.{Row}
 use Rattle.ob_dirs.specs.Dir.{row_of}
 use Rattle.ob_objects.specs.declared.named.Named.{Named}
-use Rattle.ob_objects.specs.declared.named.Place.{Place}
+use Rattle.ob_objects.specs.declared.named.EntryPlace.{EntryPlace}
 
 -- the row that a name is
 abbrev pub row_of_named : Named → Row
 row_of_named named = row_of named.directory named.entry.now
 
 -- where a row stands
-abbrev pub place_of : Row → Place
+abbrev pub place_of : Row → EntryPlace
 place_of r = record { directory = r.directory; stamp = r.stamp }
 
 -- the row stands in this directory under this stamp

@@ -18,7 +18,7 @@ use Rattle.ob_model.specs.declared.state.Row.{Row}
 use Rattle.ob_model.specs.State.{State}
 use Rattle.ob_dirs.specs.declared.entry.DirEntry.{DirEntry}
 use Rattle.ob_dirs.specs.Dir.{IsDir, row_of}
-use Rattle.ob_objects.specs.declared.named.Place.{Place}
+use Rattle.ob_objects.specs.declared.named.EntryPlace.{EntryPlace}
 use Rattle.ob_objects.specs.declared.object.StoredBody.{StoredBody}
 use Rattle.ob_objects.specs.declared.object.StoredBody.TheVariants.{Directory, Link, Other}
 use Rattle.ob_objects.specs.declared.object.StoredObject.{StoredObject}
@@ -81,7 +81,7 @@ module _ {F I : Type 0} where
   rows_of store = by_stamp (rows_in_turn store)
 
   -- where the name of an object stands
-  abbrev pub place_at : Entries F I → ℕ → Option Place
+  abbrev pub place_at : Entries F I → ℕ → Option EntryPlace
   place_at store id = option_map place_of (find (λ r. r.object == id) (rows_of store))
 
   -- What holds of every store: the ids rise strictly, the entries of each directory are a directory's,
@@ -92,7 +92,7 @@ module _ {F I : Type 0} where
     pub named_once : AllPairs (λ a b. a.object ≢ b.object) (rows_of store)
 
   -- what holds of a store beside the places that it keeps: for each object that where its name stands
-  pub record KeepsPlaces (store : Entries F I) (kept : List (ℕ × Place)) : Type 0 where
+  pub record KeepsPlaces (store : Entries F I) (kept : List (ℕ × EntryPlace)) : Type 0 where
     pub is_store : IsStore store
     pub places : (id : ℕ) → lookup (is_at (nat_cmp id)) kept ≡ place_at store id
 

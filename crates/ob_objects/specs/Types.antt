@@ -8,7 +8,7 @@ use Rattle.std.specs.Map.{lookup}
 use Rattle.std.specs.Option.{option_map, option_map_or}
 use Rattle.std.specs.Ordering.{nat_cmp}
 use Rattle.ob_model.specs.Procedures.{Procedures}
-use Rattle.ob_objects.specs.declared.named.Place.{Place}
+use Rattle.ob_objects.specs.declared.named.EntryPlace.{EntryPlace}
 use Rattle.ob_objects.specs.declared.object.StoredBody.{StoredBody}
 use Rattle.ob_objects.specs.declared.object.StoredBody.TheVariants as body
 use Rattle.ob_objects.specs.declared.types.StoredType.{StoredType}
@@ -45,6 +45,6 @@ module _ {K T F I : Type 0} (g : Procedures K T F I) where
   KeepsTypes store types = (id : ℕ) → lookup (is_at (nat_cmp id)) types ≡ option_map (λ x. type_of_body x.body) (stored_at store id)
 
   -- what holds of a store beside the types and the places that it keeps
-  pub record Keeps (store : Entries F I) (kept : Types K) (named : List (ℕ × Place)) : Type 0 where
+  pub record Keeps (store : Entries F I) (kept : Types K) (named : List (ℕ × EntryPlace)) : Type 0 where
     pub places : KeepsPlaces store named
     pub types : KeepsTypes store kept

@@ -6,16 +6,16 @@ ghost use Rattle.std.specs.List.{find};
 ghost use Rattle.ob_model.specs.State.{is_directory_body};
 ghost use Rattle.ob_model.specs.Grants.{open_refusal_of, opened_set};
 ghost use Rattle.ob_model.specs.Closing.{closed_set};
-ghost use Rattle.ob_types.specs.Told.{reason_of};
 ghost use Rattle.ob_objects.specs.Store.{directory_of, entries_in, body_of_stored};
 ghost use Rattle.ob_objects.specs.Changes.{body_with_name, body_without_name};
 ghost use Rattle.ob_objects.specs.Changes.{stored_opened, stored_closed};
 
 use crate::{StoredBody, StoredObject};
-use ob_base::{Fault, ObjId};
+use ob_base::ObjId;
 use ob_dirs::DirEntry;
 use ob_names::NameBuf;
 use ob_types::{Reason, TypeSet, laws};
+use std::alloc::AllocError;
 
 /// Whether an object is a directory.
 pub(crate) fn is_directory<F, I>(stored: &StoredObject<F, I>) -> bool
@@ -40,15 +40,15 @@ pub(crate) fn insert_name<F, I>(
     stamp: u64,
     name: NameBuf,
     object: ObjId,
-) -> Result<(), Fault>
+) -> Result<(), AllocError>
     requires there { IsSome (directory_of stored.old.body) }
     requires free { All (λ entry. entry.name ≢ name) (entries_in stored.old.body) }
     requires newest { All (λ entry. entry.stamp < stamp) (entries_in stored.old.body) }
     ensures last { IfOk result (λ _. stored.new
         ≡ record stored.old {
-          body = body_with_name (record { stamp = stamp; name = name; object = object }) stored.old.body;
+          body = body_with_name
+              (record { stamp = stamp; name = name; object = object }) stored.old.body;
         }) }
-    ensures memory { IfErr result (λ fault. fault ≡ Fault.Memory) }
     ensures unchanged { OnErr result (stored.new ≡ stored.old) }
 {
     let StoredBody::Directory(dir) = &mut stored.body else {
@@ -61,7 +61,8 @@ pub(crate) fn insert_name<F, I>(
 /// taken.
 pub(crate) fn remove_name<F, I>(stored: &mut StoredObject<F, I>, stamp: u64) -> Option<DirEntry>
     ensures there { result ≡ find (λ entry. entry.stamp == stamp) (entries_in stored.old.body) }
-    ensures others { stored.new ≡ record stored.old { body = body_without_name stamp stored.old.body } }
+    ensures others { stored.new
+        ≡ record stored.old { body = body_without_name stamp stored.old.body } }
 {
     match &mut stored.body {
         StoredBody::Directory(dir) => dir.remove(stamp),
@@ -77,13 +78,13 @@ pub(crate) fn open<T: TypeSet>(
     reason: Reason,
 ) -> Result<(), u16>
     ensures accepted { IfOk result (λ _.
-        open_refusal_of T.procedures set.old (body_of_stored stored.old.body) (reason_of reason) ≡ None) }
+        open_refusal_of T.procedures set.old (body_of_stored stored.old.body) reason ≡ None) }
     ensures refused { IfErr result (λ code.
-        open_refusal_of T.procedures set.old (body_of_stored stored.old.body) (reason_of reason) ≡ Some code) }
+        open_refusal_of T.procedures set.old (body_of_stored stored.old.body) reason ≡ Some code) }
     ensures opened { stored.new
-        ≡ record stored.old { body = stored_opened T.procedures set.old (reason_of reason) stored.old.body } }
+        ≡ record stored.old { body = stored_opened T.procedures set.old reason stored.old.body } }
     ensures set { set.new
-        ≡ opened_set T.procedures set.old (body_of_stored stored.old.body) (reason_of reason) }
+        ≡ opened_set T.procedures set.old (body_of_stored stored.old.body) reason }
     ensures unchanged { OnErr result (stored.new ≡ stored.old) }
     ensures set_unchanged { OnErr result (set.new ≡ set.old) }
 {
@@ -102,9 +103,13 @@ pub(crate) fn close<T: TypeSet>(
     system_left: u32,
 )
     ensures closed { stored.new
-        ≡ record stored.old { body = stored_closed T.procedures set.old process_left system_left stored.old.body } }
+        ≡ record stored.old {
+          body = stored_closed T.procedures set.old process_left system_left
+              stored.old.body;
+        } }
     ensures set { set.new
-        ≡ closed_set T.procedures set.old process_left system_left (body_of_stored stored.old.body) }
+        ≡ closed_set T.procedures set.old process_left system_left
+        (body_of_stored stored.old.body) }
 {
     if let StoredBody::Other { inner, .. } = &mut stored.body {
         set.on_close(inner, process_left, system_left);

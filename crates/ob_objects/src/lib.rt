@@ -3,7 +3,7 @@
 #![tactic(auto)]
 
 mod changes;
-pub mod laws;
+mod laws;
 mod listing;
 mod named;
 mod object;
@@ -12,7 +12,8 @@ mod store;
 mod types;
 mod walk;
 
+pub use laws::stored_is_the_object;
 pub use listing::Page;
-pub use named::{Named, Place};
+pub use named::{EntryPlace, Named};
 pub use object::{StoredBody, StoredObject};
 pub use store::Store;

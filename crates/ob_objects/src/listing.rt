@@ -35,7 +35,7 @@ impl<T: TypeSet> Store<T> {
     /// A page of a directory behind a context, which may be any number: of the entries of a greater stamp,
     /// by rising stamps, as many as fit into the room, or the first alone for a single one. An entry takes
     /// 4 bytes of the room, and the lengths of its name and of the name of its type. An object that is no
-    /// directory, or isn't there, has no entries. The only fault is want of memory, which a page that shows
+    /// directory, or isn't there, has no entries. The only fault is out of memory, which a page that shows
     /// none doesn't take.
     ///
     /// Source: ZwQueryDirectoryObject (Windows Driver Kit); the size of an entry, and that a context is a
@@ -88,7 +88,8 @@ impl<T: TypeSet> Store<T> {
 
     // Entries of a directory, with the names of their objects' types.
     fn listed(&self, alloc: Global, shown: &[DirEntry]) -> Result<Vec<Listed>, AllocError>
-        ensures all { IfOk result (λ items. items.items ≡ map (entry_listed T.procedures self.now) shown.now) }
+        ensures all { IfOk result (λ items. items.items
+            ≡ map (entry_listed T.procedures self.now) shown.now) }
         ensures none { shown.now ≡ [] → IsOk result }
     {
         let mut walk = self.walk();

@@ -34,7 +34,7 @@ impl<'a> Named<'a> {
 ///
 /// Source: Windows Internals, Object Manager: object directories; the stamps are this profile.
 #[derive(Clone, Copy, PartialEq, Eq, Debug)]
-pub struct Place {
+pub struct EntryPlace {
     /// The directory's id.
     pub directory: ObjId,
     /// The entry's stamp.

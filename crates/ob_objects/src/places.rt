@@ -6,13 +6,14 @@ ghost use Rattle.std.specs.List.{list_any};
 ghost use Rattle.std.specs.Ordering.{nat_cmp};
 ghost use Rattle.ob_objects.specs.Store.{entries_in};
 
-use crate::{Place, StoredBody, StoredObject};
+use crate::{EntryPlace, StoredBody, StoredObject};
 use std::collections::BTreeMap;
 
 /// Forgets the places of the names that lie in an object.
-pub(crate) fn forget<F, I>(places: &mut BTreeMap<u64, Place>, stored: &StoredObject<F, I>)
+pub(crate) fn forget<F, I>(places: &mut BTreeMap<u64, EntryPlace>, stored: &StoredObject<F, I>)
     ensures { (id : ℕ) → get nat_cmp places.new id
-        ≡ (if list_any (λ entry. entry.object == id) (entries_in stored.now.body) then None else get nat_cmp places.old id) }
+        ≡ (if list_any (λ entry.
+        entry.object == id) (entries_in stored.now.body) then None else get nat_cmp places.old id) }
 {
     let StoredBody::Directory(dir) = &stored.body else {
         return;

@@ -6,7 +6,6 @@ ghost use Rattle.std.specs.Prelude.{false};
 ghost use Rattle.std.specs.List.{find, list_any};
 ghost use Rattle.std.specs.Option.{option_copied, option_map, option_map_or};
 ghost use Rattle.ob_model.specs.State.{is_directory_body};
-ghost use Rattle.ob_types.specs.Told.{reason_of};
 ghost use Rattle.ob_objects.specs.Store.{IsStore, stored_at, directory_at, entries_in, entries_at, place_at};
 ghost use Rattle.ob_objects.specs.Store.{objects_of, rows_of};
 ghost use Rattle.ob_objects.specs.Types.{KeepsTypes};
@@ -22,11 +21,11 @@ ghost use Rattle.ob_objects.specs.Changes.{
 
 use crate::types::StoredType;
 use crate::walk::Walk;
-use crate::{Named, Place, StoredObject, changes, named, places, types};
-use ob_base::{Fault, ObjId};
+use crate::{EntryPlace, Named, StoredObject, changes, named, places, types};
+use ob_base::ObjId;
 use ob_names::NameBuf;
 use ob_types::{Reason, TypeSet};
-use std::alloc::Global;
+use std::alloc::{AllocError, Global};
 use std::collections::BTreeMap;
 use std::marker::Model;
 
@@ -45,7 +44,7 @@ use std::marker::Model;
 pub struct Store<T: TypeSet> {
     objects: BTreeMap<u64, StoredObject<T::Face, T::Inner>>,
     types: BTreeMap<u64, StoredType<T::Kind>>,
-    places: BTreeMap<u64, Place>,
+    places: BTreeMap<u64, EntryPlace>,
 }
 
 impl<T: TypeSet> Model for Store<T> {
@@ -56,7 +55,8 @@ impl<T: TypeSet> Model for Store<T> {
 
     ghost view = { λ store. store.objects.entries };
 
-    ghost invariant = { λ store. Keeps T.procedures store.objects.entries store.types.entries store.places.entries };
+    ghost invariant = { λ store.
+        Keeps T.procedures store.objects.entries store.types.entries store.places.entries };
 }
 
 impl<T: TypeSet> Store<T> {
@@ -147,7 +147,7 @@ impl<T: TypeSet> Store<T> {
     /// Where the name of an object stands; `None` exactly where no name is for it. Takes no memory.
     ///
     /// Source: Windows Internals, Object Manager: object names; the stamps are this profile.
-    pub fn place_of(&self, id: ObjId) -> Option<Place>
+    pub fn place_of(&self, id: ObjId) -> Option<EntryPlace>
         ensures { result ≡ place_at self.now id }
     {
         self.places.get(&id.0).copied()
@@ -158,7 +158,8 @@ impl<T: TypeSet> Store<T> {
     ///
     /// Source: Windows Internals, Object Manager: object names; the stamps are this profile.
     pub fn name_of(&self, id: ObjId) -> Option<Named<'_>>
-        ensures { option_map row_of_named result ≡ find (λ row. row.object == id) (rows_of self.now) }
+        ensures { option_map row_of_named result
+            ≡ find (λ row. row.object == id) (rows_of self.now) }
     {
         let place = self.place_of(id)?;
         let stored = self.get(place.directory)?;
@@ -200,16 +201,15 @@ impl<T: TypeSet> Store<T> {
         &mut self,
         id: ObjId,
         object: StoredObject<T::Face, T::Inner>,
-    ) -> Result<(), Fault>
+    ) -> Result<(), AllocError>
         requires free { stored_at self.old id ≡ None }
         requires empty { entries_in object.body ≡ [] }
         ensures put { IfOk result (λ _. self.new ≡ with_entry self.old id object) }
-        ensures memory { IfErr result (λ fault. fault ≡ Fault.Memory) }
         ensures unchanged { OnErr result (self.new ≡ self.old) }
     {
         match self.try_insert(id, object) {
             Ok(()) => Ok(()),
-            Err(_) => Err(Fault::Memory),
+            Err(_) => Err(AllocError),
         }
     }
 
@@ -265,17 +265,18 @@ impl<T: TypeSet> Store<T> {
         stamp: u64,
         name: NameBuf,
         object: ObjId,
-    ) -> Result<(), Fault>
+    ) -> Result<(), AllocError>
         requires there { IsSome (directory_at self.old directory) }
         requires free { All (λ entry. entry.name ≢ name) (entries_at self.old directory) }
         requires newest { All (λ entry. entry.stamp < stamp) (entries_at self.old directory) }
         requires unnamed { All (λ row. row.object ≢ object) (rows_of self.old) }
         ensures last { IfOk result (λ _. self.new
-            ≡ with_name self.old directory (record { stamp = stamp; name = name; object = object })) }
-        ensures memory { IfErr result (λ fault. fault ≡ Fault.Memory) }
+            ≡ with_name self.old directory
+            (record { stamp = stamp; name = name; object = object })) }
         ensures unchanged { OnErr result (self.new ≡ self.old) }
     {
-        self.places.insert(object.0, Place { directory, stamp })?;
+        self.places
+            .insert(object.0, EntryPlace { directory, stamp })?;
         let Some(stored) = self.objects.get_mut(&directory.0) else {
             unreachable!();
         };
@@ -291,7 +292,8 @@ impl<T: TypeSet> Store<T> {
     ///
     /// Source: Windows Internals, Object Manager: object directories; the stamps are this profile.
     pub fn remove_name(&mut self, directory: ObjId, stamp: u64) -> bool
-        ensures there { result ≡ list_any (λ entry. entry.stamp == stamp) (entries_at self.old directory) }
+        ensures there { result
+            ≡ list_any (λ entry. entry.stamp == stamp) (entries_at self.old directory) }
         ensures others { self.new ≡ without_name self.old directory stamp }
     {
         let Some(stored) = self.objects.get_mut(&directory.0) else {
@@ -324,11 +326,11 @@ impl<T: TypeSet> Store<T> {
     /// Source: Windows Internals, Object Manager: open methods.
     pub fn open(&mut self, id: ObjId, set: &mut T, reason: Reason) -> Result<(), u16>
         ensures accepted { IfOk result (λ _.
-            refusal_to_open T.procedures self.old set.old id (reason_of reason) ≡ None) }
+            refusal_to_open T.procedures self.old set.old id reason ≡ None) }
         ensures refused { IfErr result (λ code.
-            refusal_to_open T.procedures self.old set.old id (reason_of reason) ≡ Some code) }
-        ensures opened { self.new ≡ with_opened T.procedures self.old set.old id (reason_of reason) }
-        ensures set { set.new ≡ set_after_open T.procedures self.old set.old id (reason_of reason) }
+            refusal_to_open T.procedures self.old set.old id reason ≡ Some code) }
+        ensures opened { self.new ≡ with_opened T.procedures self.old set.old id reason }
+        ensures set { set.new ≡ set_after_open T.procedures self.old set.old id reason }
         ensures unchanged { OnErr result (self.new ≡ self.old) }
         ensures set_unchanged { OnErr result (set.new ≡ set.old) }
     {
@@ -344,8 +346,10 @@ impl<T: TypeSet> Store<T> {
     ///
     /// Source: Windows Internals, Object Manager: close methods.
     pub fn close(&mut self, id: ObjId, set: &mut T, process_left: u32, system_left: u32)
-        ensures closed { self.new ≡ with_closed T.procedures self.old set.old id process_left system_left }
-        ensures set { set.new ≡ set_after_close T.procedures self.old set.old id process_left system_left }
+        ensures closed { self.new
+            ≡ with_closed T.procedures self.old set.old id process_left system_left }
+        ensures set { set.new
+            ≡ set_after_close T.procedures self.old set.old id process_left system_left }
     {
         let Some(stored) = self.objects.get_mut(&id.0) else {
             return;

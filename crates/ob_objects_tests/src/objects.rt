@@ -8,7 +8,7 @@ use crate::tables::{object, words};
 use ob_base::{Fault, ObjId};
 use ob_dirs::Dir;
 use ob_names::{Name, NameBuf};
-use ob_objects::{Place, Store, StoredBody, StoredObject};
+use ob_objects::{EntryPlace, Store, StoredBody, StoredObject};
 use ob_plain::{Counting, Plain, PlainKind};
 use ob_types::{Reason, TypeSet};
 use std::alloc::Global;
@@ -143,7 +143,7 @@ fn is_named<T: TypeSet>(store: &Store<T>, id: ObjId, told: [&str; 3]) -> Option<
         Some(named) => named.directory == directory && named.name() == spelling.as_bytes(),
         None => false,
     };
-    Some(is_spelled && store.has_name(id) && place == Some(Place { directory, stamp }))
+    Some(is_spelled && store.has_name(id) && place == Some(EntryPlace { directory, stamp }))
 }
 
 // The entry that a directory has under a component.

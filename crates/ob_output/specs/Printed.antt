@@ -10,7 +10,7 @@ use Rattle.ob_model.specs.declared.entries.Listed.{Listed}
 use Rattle.ob_model.specs.declared.reply.Given.{Given}
 use Rattle.ob_model.specs.declared.reply.Given.TheVariants.{Nothing, Handle, Text, Process, Page}
 use Rattle.ob_model.specs.declared.reply.Reply.{Reply}
-use Rattle.ob_output.specs.declared.counts.Counts.{Counts}
+use Rattle.ob_output.specs.declared.counts.Totals.{Totals}
 
 -- a line of the output: the number of the script's line, a colon, a space, a text and LF
 abbrev pub output_line : ℕ → List ℕ → List ℕ
@@ -55,7 +55,7 @@ abbrev pub reply_text : Reply → List ℕ
 reply_text reply = status_text reply.status ++ given_text reply.given
 
 -- the text of a `stat`
-abbrev pub counts_text : Counts → List ℕ
+abbrev pub counts_text : Totals → List ℕ
 counts_text counts =
     codes "objects " ++ decimal counts.objects ++ codes " handles " ++ decimal counts.handles ++ codes " opens " ++ decimal counts.opens
     ++ codes " closes " ++ decimal counts.closes ++ codes " deletes " ++ decimal counts.deletes

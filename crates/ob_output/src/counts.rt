@@ -2,7 +2,7 @@
 
 /// What a namespace counts, as `stat` tells it. (this profile)
 #[derive(Clone, Copy, PartialEq, Eq, Debug)]
-pub struct Counts {
+pub struct Totals {
     /// The objects that there are.
     pub objects: usize,
     /// The handles of all processes.

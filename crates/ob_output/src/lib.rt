@@ -4,7 +4,7 @@
 mod counts;
 mod lines;
 
-pub use counts::Counts;
+pub use counts::Totals;
 pub use lines::{
     Line, counts_line, printed_part, status_front, status_line, text_front, text_line,
 };

@@ -5,7 +5,7 @@ ghost use Rattle.std.specs.Fmt.{decimal};
 ghost use Rattle.arrayvec.specs.ArrayVec.{array_vec_len};
 ghost use Rattle.ob_output.specs.Printed.{output_line, status_text, printed_byte, printed_bytes, counts_text};
 
-use crate::counts::Counts;
+use crate::counts::Totals;
 use arrayvec::ArrayVec;
 use ob_base::Status;
 
@@ -68,7 +68,7 @@ pub fn status_front(number: u64, status: Status) -> Line
 }
 
 /// The line of a number and of what the namespace counts. (this profile)
-pub fn counts_line(number: u64, counts: Counts) -> Line
+pub fn counts_line(number: u64, counts: Totals) -> Line
     ensures { result.items ≡ output_line number (counts_text counts) }
 {
     let mut line = empty_line();

@@ -54,7 +54,8 @@ pub fn handle_of(bytes: &[u8]) -> Option<HandleForm<&[u8]>>
 // The number that stands behind a `+`.
 fn offset_of(number: &[u8]) -> Option<Offset>
     ensures found { IfSome result (λ offset. codes "+" ++ number.now ≡ offset_text offset) }
-    ensures none { IfNone result ((offset : Offset) → codes "+" ++ number.now ≢ offset_text offset) }
+    ensures none { IfNone result ((offset : Offset) → codes "+"
+        ++ number.now ≢ offset_text offset) }
 {
     if number == b"1".as_slice() {
         return Some(Offset::One);

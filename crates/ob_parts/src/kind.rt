@@ -29,7 +29,8 @@ pub enum KindForm {
 pub fn take_kind(bytes: &[u8]) -> Option<(KindForm, &[u8])>
     ensures found { IfSome result (λ found. BeginsWithKind bytes.now found.0 found.1.now) }
     ensures shorter { IfSome result (λ found. length found.1.now ≤ length bytes.now) }
-    ensures none { IfNone result ((kind : KindForm) (rest : List ℕ) → ¬ BeginsWithKind bytes.now kind rest) }
+    ensures none { IfNone result ((kind : KindForm) (rest : List ℕ)
+        → ¬ BeginsWithKind bytes.now kind rest) }
 {
     let (word, rest) = split_at(bytes, b' ')?;
     let kind = kind_of(word)?;
@@ -41,7 +42,8 @@ pub fn take_kind(bytes: &[u8]) -> Option<(KindForm, &[u8])>
 pub fn take_want(bytes: &[u8]) -> Option<(Option<KindForm>, &[u8])>
     ensures found { IfSome result (λ found. BeginsWithWant bytes.now found.0 found.1.now) }
     ensures shorter { IfSome result (λ found. length found.1.now ≤ length bytes.now) }
-    ensures none { IfNone result ((want : Option KindForm) (rest : List ℕ) → ¬ BeginsWithWant bytes.now want rest) }
+    ensures none { IfNone result ((want : Option KindForm) (rest : List ℕ)
+        → ¬ BeginsWithWant bytes.now want rest) }
 {
     if let Some(rest) = behind(bytes, b"any ") {
         return Some((None, rest));

@@ -70,7 +70,8 @@ pub fn mode_of(word: &[u8]) -> Option<PageMode>
 /// decimal number below 2^32, or with one that has needless zeros. Takes no memory. Source: this profile.
 pub fn take_room(bytes: &[u8]) -> Option<(u32, &[u8])>
     ensures found { IfSome result (λ found. BeginsWithRoom bytes.now found.0 found.1.now) }
-    ensures none { IfNone result ((room : ℕ) (rest : List ℕ) → ¬ BeginsWithRoom bytes.now room rest) }
+    ensures none { IfNone result ((room : ℕ) (rest : List ℕ)
+        → ¬ BeginsWithRoom bytes.now room rest) }
 {
     let (spelled, rest) = split_at(bytes, b' ')?;
     let room = room_of(spelled)?;

@@ -30,9 +30,11 @@ fn take_text(bytes: &[u8]) -> Option<(&[u8], &[u8])>
 
 // The name with which the bytes begin, and what stands behind it and a space.
 fn take_name(bytes: &[u8]) -> Option<(NameForm<&[u8]>, &[u8])>
-    ensures found { IfSome result (λ found. BeginsWithName bytes.now (name_seen found.0) found.1.now) }
+    ensures found { IfSome result (λ found.
+        BeginsWithName bytes.now (name_seen found.0) found.1.now) }
     ensures shorter { IfSome result (λ found. length found.1.now ≤ length bytes.now) }
-    ensures none { IfNone result ((name : NameForm (List ℕ)) (rest : List ℕ) → ¬ BeginsWithName bytes.now name rest) }
+    ensures none { IfNone result ((name : NameForm (List ℕ)) (rest : List ℕ)
+        → ¬ BeginsWithName bytes.now name rest) }
 {
     if let Some((text, rest)) = take_text(bytes) {
         return Some((NameForm::Absolute(text), rest));
@@ -46,9 +48,11 @@ fn take_name(bytes: &[u8]) -> Option<(NameForm<&[u8]>, &[u8])>
 /// The place with which the bytes begin, `PLACE`, and what stands behind it and a space: none where they begin with
 /// no place. Takes no memory. Source: this profile.
 pub fn take_place(bytes: &[u8]) -> Option<(PlaceForm<&[u8]>, &[u8])>
-    ensures found { IfSome result (λ found. BeginsWithPlace bytes.now (place_seen found.0) found.1.now) }
+    ensures found { IfSome result (λ found.
+        BeginsWithPlace bytes.now (place_seen found.0) found.1.now) }
     ensures shorter { IfSome result (λ found. length found.1.now ≤ length bytes.now) }
-    ensures none { IfNone result ((place : PlaceForm (List ℕ)) (rest : List ℕ) → ¬ BeginsWithPlace bytes.now place rest) }
+    ensures none { IfNone result ((place : PlaceForm (List ℕ)) (rest : List ℕ)
+        → ¬ BeginsWithPlace bytes.now place rest) }
 {
     if let Some(rest) = behind(bytes, b"none ") {
         return Some((PlaceForm::Unnamed, rest));
@@ -62,7 +66,8 @@ fn take_flags(bytes: &[u8]) -> Option<(u32, &[u8])>
     requires { length bytes.now ≤ 262144 }
     ensures found { IfSome result (λ found. BeginsWithFlags bytes.now found.0 found.1.now) }
     ensures shorter { IfSome result (λ found. length found.1.now ≤ length bytes.now) }
-    ensures none { IfNone result ((attrs : ℕ) (rest : List ℕ) → ¬ BeginsWithFlags bytes.now attrs rest) }
+    ensures none { IfNone result ((attrs : ℕ) (rest : List ℕ)
+        → ¬ BeginsWithFlags bytes.now attrs rest) }
 {
     let (flags, rest) = split_at(bytes, b' ')?;
     let attrs = flags_of(flags)?;
@@ -87,7 +92,8 @@ pub fn word_set(bytes: &[u8]) -> Option<&[u8]>
 pub fn flags_and_word(bytes: &[u8]) -> Option<(u32, &[u8])>
     requires { length bytes.now ≤ 262144 }
     ensures found { IfSome result (λ parts. IsFlagsAndWord bytes.now parts.0 parts.1.now) }
-    ensures none { IfNone result ((attrs : ℕ) (word : List ℕ) → ¬ IsFlagsAndWord bytes.now attrs word) }
+    ensures none { IfNone result ((attrs : ℕ) (word : List ℕ)
+        → ¬ IsFlagsAndWord bytes.now attrs word) }
 {
     let (attrs, rest) = take_flags(bytes)?;
     let word = word_set(rest)?;
@@ -97,8 +103,10 @@ pub fn flags_and_word(bytes: &[u8]) -> Option<(u32, &[u8])>
 // The parts of `FLAGS TEXT =V`.
 fn flags_text_and_word(bytes: &[u8]) -> Option<(u32, &[u8], &[u8])>
     requires { length bytes.now ≤ 262144 }
-    ensures found { IfSome result (λ parts. IsFlagsTextAndWord bytes.now parts.0 parts.1.now parts.2.now) }
-    ensures none { IfNone result ((attrs : ℕ) (text word : List ℕ) → ¬ IsFlagsTextAndWord bytes.now attrs text word) }
+    ensures found { IfSome result (λ parts.
+        IsFlagsTextAndWord bytes.now parts.0 parts.1.now parts.2.now) }
+    ensures none { IfNone result ((attrs : ℕ) (text word : List ℕ)
+        → ¬ IsFlagsTextAndWord bytes.now attrs text word) }
 {
     let (attrs, rest) = take_flags(bytes)?;
     let (text, rest) = take_text(rest)?;
@@ -110,7 +118,8 @@ fn flags_text_and_word(bytes: &[u8]) -> Option<(u32, &[u8], &[u8])>
 /// aren't that. Takes no memory. Source: this profile.
 pub fn name_flags_and_word(bytes: &[u8]) -> Option<(NameForm<&[u8]>, u32, &[u8])>
     requires { length bytes.now ≤ 262144 }
-    ensures found { IfSome result (λ parts. IsNameFlagsAndWord bytes.now (name_seen parts.0) parts.1 parts.2.now) }
+    ensures found { IfSome result (λ parts.
+        IsNameFlagsAndWord bytes.now (name_seen parts.0) parts.1 parts.2.now) }
     ensures none { IfNone result ((name : NameForm (List ℕ)) (attrs : ℕ) (word : List ℕ)
         → ¬ IsNameFlagsAndWord bytes.now name attrs word) }
 {
@@ -125,8 +134,10 @@ pub fn want_name_flags_and_word(
     bytes: &[u8],
 ) -> Option<(Option<KindForm>, NameForm<&[u8]>, u32, &[u8])>
     requires { length bytes.now ≤ 262144 }
-    ensures found { IfSome result (λ parts. IsWantNameFlagsAndWord bytes.now parts.0 (name_seen parts.1) parts.2 parts.3.now) }
-    ensures none { IfNone result ((want : Option KindForm) (name : NameForm (List ℕ)) (attrs : ℕ) (word : List ℕ)
+    ensures found { IfSome result (λ parts.
+        IsWantNameFlagsAndWord bytes.now parts.0 (name_seen parts.1) parts.2 parts.3.now) }
+    ensures none { IfNone result ((want : Option KindForm) (name : NameForm (List ℕ)) (attrs : ℕ)
+        (word : List ℕ)
         → ¬ IsWantNameFlagsAndWord bytes.now want name attrs word) }
 {
     let (want, rest) = take_want(bytes)?;
@@ -138,7 +149,8 @@ pub fn want_name_flags_and_word(
 /// where the bytes aren't that. Takes no memory. Source: this profile.
 pub fn place_flags_text_and_word(bytes: &[u8]) -> Option<(PlaceForm<&[u8]>, u32, &[u8], &[u8])>
     requires { length bytes.now ≤ 262144 }
-    ensures found { IfSome result (λ parts. IsPlaceFlagsTextAndWord bytes.now (place_seen parts.0) parts.1 parts.2.now parts.3.now) }
+    ensures found { IfSome result (λ parts.
+        IsPlaceFlagsTextAndWord bytes.now (place_seen parts.0) parts.1 parts.2.now parts.3.now) }
     ensures none { IfNone result ((place : PlaceForm (List ℕ)) (attrs : ℕ) (text word : List ℕ)
         → ¬ IsPlaceFlagsTextAndWord bytes.now place attrs text word) }
 {

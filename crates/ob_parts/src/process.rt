@@ -11,8 +11,10 @@ use crate::text::is_process_word;
 /// The handle with which the bytes begin, `H`, and what stands behind it and a space: none where they begin with no
 /// handle. Takes no memory. Source: this profile.
 pub fn take_handle(bytes: &[u8]) -> Option<(HandleForm<&[u8]>, &[u8])>
-    ensures found { IfSome result (λ found. BeginsWithHandle bytes.now (handle_seen found.0) found.1.now) }
-    ensures none { IfNone result ((handle : HandleForm (List ℕ)) (rest : List ℕ) → ¬ BeginsWithHandle bytes.now handle rest) }
+    ensures found { IfSome result (λ found.
+        BeginsWithHandle bytes.now (handle_seen found.0) found.1.now) }
+    ensures none { IfNone result ((handle : HandleForm (List ℕ)) (rest : List ℕ)
+        → ¬ BeginsWithHandle bytes.now handle rest) }
 {
     let (spelled, rest) = split_at(bytes, b' ')?;
     let handle = handle_of(spelled)?;
@@ -24,7 +26,8 @@ pub fn take_handle(bytes: &[u8]) -> Option<(HandleForm<&[u8]>, &[u8])>
 pub fn take_process(bytes: &[u8]) -> Option<(&[u8], &[u8])>
     ensures found { IfSome result (λ found. BeginsWithProcess bytes.now found.0.now found.1.now) }
     ensures shorter { IfSome result (λ found. length found.1.now ≤ length bytes.now) }
-    ensures none { IfNone result ((process rest : List ℕ) → ¬ BeginsWithProcess bytes.now process rest) }
+    ensures none { IfNone result ((process rest : List ℕ)
+        → ¬ BeginsWithProcess bytes.now process rest) }
 {
     let (process, rest) = split_at(bytes, b' ')?;
     if !is_process_word(process) {
@@ -37,7 +40,8 @@ pub fn take_process(bytes: &[u8]) -> Option<(&[u8], &[u8])>
 /// `plain`, none where they begin with neither. Takes no memory. Source: this profile.
 pub fn take_inherit(bytes: &[u8]) -> Option<(bool, &[u8])>
     ensures found { IfSome result (λ found. BeginsWithInherit bytes.now found.0 found.1.now) }
-    ensures none { IfNone result ((inherit : Bool) (rest : List ℕ) → ¬ BeginsWithInherit bytes.now inherit rest) }
+    ensures none { IfNone result ((inherit : Bool) (rest : List ℕ)
+        → ¬ BeginsWithInherit bytes.now inherit rest) }
 {
     if let Some(rest) = behind(bytes, b"plain ") {
         return Some((false, rest));

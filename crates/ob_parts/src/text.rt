@@ -81,7 +81,7 @@ pub fn is_text(bytes: &[u8]) -> bool
     rest.is_empty()
 }
 
-/// The bytes that a text spells. The only error is want of memory.
+/// The bytes that a text spells. The only error is out of memory.
 pub fn decode(alloc: Global, text: &[u8]) -> Result<Bytes, AllocError>
     requires { IsText text.now }
     ensures { IfOk result (λ bytes. Spells text.now bytes) }

@@ -2,8 +2,7 @@
 use Rattle.std.specs.Prelude.{ℕ, ◌==◌, if◌then◌else◌, Option}
 use Rattle.ob_model.specs.Procedures as model
 use Rattle.ob_model.specs.Procedures.{Procedures, ParseAnswer, Itself, Front, Reparse, Refused}
-use Rattle.ob_types.specs.declared.reason.Reason.{Reason}
-use Rattle.ob_types.specs.declared.reason.Reason.TheVariants.{Created, Opened, Duplicated, Inherited}
+use Rattle.ob_model.specs.declared.terms.Reason.{Reason}
 use Rattle.ob_plain.specs.Plain.{unless_told}
 use Rattle.ob_plain.specs.Counting.{counted}
 use Rattle.ob_plain.specs.Calls.{Kept, noted}
@@ -23,20 +22,13 @@ kept_of recorder = recorder.calls
 abbrev pub last_of : {T : Type 0} → Recorder T → ℕ
 last_of recorder = recorder.last
 
--- the reason that a call tells, for the one that the procedures are told
-abbrev pub told_reason : model.Reason → Reason
-told_reason model.Created = Created
-told_reason model.Opened = Opened
-told_reason model.Duplicated = Duplicated
-told_reason model.Inherited = Inherited
-
 -- one call
 abbrev pub call : ℕ → CallKind → Call
 call serial what = record { serial = serial; what = what }
 
 -- the call of an open for a reason
-abbrev pub opened_call : ℕ → model.Reason → Call
-opened_call serial reason = call serial (kinds.Opened (told_reason reason))
+abbrev pub opened_call : ℕ → Reason → Call
+opened_call serial reason = call serial (kinds.Opened reason)
 
 -- the serial of an object behind an accepted open: the next one at the first, and else its own
 abbrev pub serial_after : ℕ → ℕ → ℕ
@@ -63,7 +55,7 @@ unopened_answer (Refused k) = Refused k
 
 -- what an open leaves of a recorder and of an object, given what it leaves below: where it is accepted
 -- it draws a serial at the object's first, and is noted
-abbrev pub opened_by : {T I : Type 0} → Option ℕ → Recorder T → Recorded I → model.Reason → T × I → Recorder T × Recorded I
+abbrev pub opened_by : {T I : Type 0} → Option ℕ → Recorder T → Recorded I → Reason → T × I → Recorder T × Recorded I
 opened_by refusal recorder inner reason left = (
   record recorder {
     part = left.0;

@@ -50,7 +50,8 @@ impl Model for CallList {
 
     ghost view = { λ list. record { calls = list.kept.items; room = list.room; lost = list.lost } };
 
-    ghost invariant = { λ list. (length list.kept.items ≤ list.room) × (list.room ≤ vec_capacity list.kept) };
+    ghost invariant = { λ list. (length list.kept.items ≤ list.room)
+        × (list.room ≤ vec_capacity list.kept) };
 }
 
 impl CallList {
@@ -100,6 +101,8 @@ impl CallList {
 /// the first that there is room for, in their order, and the number of the others, which stops at the
 /// greatest u64. Nothing is done when it runs. (this profile)
 pub fn first_calls_are_kept()
-    ensures kept { (room : ℕ) (calls : List ACall) → (all_noted (none_kept room) calls).calls ≡ take room calls }
-    ensures lost { (room : ℕ) (calls : List ACall) → (all_noted (none_kept room) calls).lost ≡ min (length calls - room) (2 ^ 64 - 1) }
+    ensures kept { (room : ℕ) (calls : List ACall) → (all_noted (none_kept room) calls).calls
+        ≡ take room calls }
+    ensures lost { (room : ℕ) (calls : List ACall) → (all_noted (none_kept room) calls).lost
+        ≡ min (length calls - room) (2 ^ 64 - 1) }
 {}

@@ -1,7 +1,6 @@
 //! A set that counts the calls of another.
 
 ghost use Rattle.std.specs.Prelude.{◌≡◌, ℕ, None, Some};
-ghost use Rattle.ob_model.specs.Procedures as model;
 ghost use Rattle.ob_plain.specs.declared.counting.Counting.{Counting};
 ghost use Rattle.std.proofs.Common.{ap, ◌∙◌};
 ghost use Rattle.ob_plain.specs.Plain.{unless_told};
@@ -120,7 +119,23 @@ impl<T: TypeSet> TypeSet for Counting<T> {
         self.deletes = self.deletes.saturating_add(1);
     }
 
-    ghost refused_open = { λ counting inner reason k told. ap (λ left. (record counting { part = left.0; opens = unless_told ((T.procedures).refuses_to_open counting.part inner reason) counting.opens (counted counting.opens) }, left.1)) (T.refused_open counting.part inner reason k told) ∙ ap (λ refusal. (record counting { opens = unless_told refusal counting.opens (counted counting.opens) }, inner)) told };
+    ghost refused_open = { λ counting inner reason k told.
+        ap (λ left. (
+          record counting {
+            part = left.0;
+            opens = unless_told
+                ((T.procedures).refuses_to_open counting.part inner reason) counting.opens
+                (counted counting.opens);
+          },
+          left.1,
+        )) (T.refused_open counting.part inner reason k told) ∙ ap
+        (λ refusal. (
+          record counting {
+            opens = unless_told refusal counting.opens
+                (counted counting.opens);
+          },
+          inner,
+        )) told };
 
     ghost made_idle = { T.made_idle };
 
@@ -146,9 +161,19 @@ impl<T: TypeSet> TypeSet for Counting<T> {
 /// An open is counted exactly where the set below accepts it, and changes no other number. This
 /// holds of every lawful set; nothing is done when it runs. (this profile)
 pub fn accepted_opens_count<T: TypeSet>()
-    ensures below { (set : Counting T) (inner : T.Inner) (reason : model.Reason) → part_of ((counting_procedures T.procedures).opened set inner reason).0 ≡ ((T.procedures).opened (part_of set) inner reason).0 }
-    ensures accepted { (set : Counting T) (inner : T.Inner) (reason : model.Reason) → (T.procedures).refuses_to_open (part_of set) inner reason ≡ None → opens_of ((counting_procedures T.procedures).opened set inner reason).0 ≡ counted (opens_of set) }
-    ensures refused { (set : Counting T) (inner : T.Inner) (reason : model.Reason) (k : ℕ) → (T.procedures).refuses_to_open (part_of set) inner reason ≡ Some k → opens_of ((counting_procedures T.procedures).opened set inner reason).0 ≡ opens_of set }
-    ensures closes { (set : Counting T) (inner : T.Inner) (reason : model.Reason) → closes_of ((counting_procedures T.procedures).opened set inner reason).0 ≡ closes_of set }
-    ensures deletes { (set : Counting T) (inner : T.Inner) (reason : model.Reason) → deletes_of ((counting_procedures T.procedures).opened set inner reason).0 ≡ deletes_of set }
+    ensures below { (set : Counting T) (inner : T.Inner) (reason : Reason)
+        → part_of ((counting_procedures T.procedures).opened set inner reason).0
+        ≡ ((T.procedures).opened (part_of set) inner reason).0 }
+    ensures accepted { (set : Counting T) (inner : T.Inner) (reason : Reason)
+        → (T.procedures).refuses_to_open (part_of set) inner reason ≡ None
+        → opens_of ((counting_procedures T.procedures).opened set inner reason).0
+        ≡ counted (opens_of set) }
+    ensures refused { (set : Counting T) (inner : T.Inner) (reason : Reason) (k : ℕ)
+        → (T.procedures).refuses_to_open (part_of set) inner reason ≡ Some k
+        → opens_of ((counting_procedures T.procedures).opened set inner reason).0 ≡ opens_of set }
+    ensures closes { (set : Counting T) (inner : T.Inner) (reason : Reason)
+        → closes_of ((counting_procedures T.procedures).opened set inner reason).0 ≡ closes_of set }
+    ensures deletes { (set : Counting T) (inner : T.Inner) (reason : Reason)
+        → deletes_of ((counting_procedures T.procedures).opened set inner reason).0
+        ≡ deletes_of set }
 {}

@@ -32,6 +32,8 @@ fn with_digit(total: u16, byte: u8) -> Option<u16>
 /// A text says a limit exactly where it is the limit, 1 to 65,535, in decimal. This holds of every
 /// text; nothing is done when it runs. (this profile)
 pub fn limits_are_decimal()
-    ensures said { (text : List ℕ) (limit : ℕ) → limits.limit_of text ≡ Some limit → limits.IsLimit text limit }
-    ensures says { (text : List ℕ) (limit : ℕ) → limits.IsLimit text limit → limits.limit_of text ≡ Some limit }
+    ensures said { (text : List ℕ) (limit : ℕ) → limits.limit_of text ≡ Some limit
+        → limits.IsLimit text limit }
+    ensures says { (text : List ℕ) (limit : ℕ) → limits.IsLimit text limit → limits.limit_of text
+        ≡ Some limit }
 {}

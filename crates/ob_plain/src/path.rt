@@ -24,7 +24,7 @@ impl Model for Path {
 }
 
 impl Path {
-    /// A path with a copy of these bytes. The only error is want of memory.
+    /// A path with a copy of these bytes. The only error is out of memory.
     pub fn new(alloc: Global, bytes: &[u8]) -> Result<Path, AllocError>
         ensures { IfOk result (λ path. path ≡ bytes.now) }
     {

@@ -7,6 +7,7 @@ ghost use Rattle.ob_model.specs.Names.{is_profile_text};
 ghost use Rattle.ob_plain.specs.Arguments as arguments;
 ghost use Rattle.ob_plain.specs.Arguments.{IsFirst, has_byte};
 
+use ob_names::is_profile_text;
 use std::alloc::{AllocError, Global};
 
 /// The most bytes of arguments that can be read: 65,535. (this profile)
@@ -17,13 +18,6 @@ pub fn is_readable(args: &[u8]) -> bool
     ensures { result ≡ arguments.is_readable args.now }
 {
     args.len() <= LONGEST_ARGUMENTS && is_profile_text(args)
-}
-
-// Whether each byte is from 0x20 to 0x7E.
-fn is_profile_text(bytes: &[u8]) -> bool
-    ensures { result ≡ is_profile_text bytes.now }
-{
-    bytes.iter().all(|byte| matches!(byte, 0x20..=0x7E))
 }
 
 /// What stands before the first byte of a value in a text, and what stands behind it where there is one.
@@ -56,10 +50,12 @@ fn first_place(text: &[u8], byte: u8) -> usize
 }
 
 /// The pieces of arguments: what stands between the semicolons, in order; empty arguments have none. A
-/// piece may be empty. The only error is want of memory. (this profile)
+/// piece may be empty. The only error is out of memory. (this profile)
 pub fn split(alloc: Global, args: &[u8]) -> Result<Vec<&[u8]>, AllocError>
-    ensures pieces { IfOk result (λ pieces. map (λ piece. piece.now) pieces.items ≡ arguments.pieces args.now) }
-    ensures profile { IsTrue (is_profile_text args.now) → IfOk result (λ pieces. All (λ piece. IsTrue (is_profile_text piece.now)) pieces.items) }
+    ensures pieces { IfOk result (λ pieces. map (λ piece. piece.now) pieces.items
+        ≡ arguments.pieces args.now) }
+    ensures profile { IsTrue (is_profile_text args.now) → IfOk result (λ pieces.
+        All (λ piece. IsTrue (is_profile_text piece.now)) pieces.items) }
 {
     let mut pieces = Vec::new(alloc);
     let mut left = if args.is_empty() { None } else { Some(args) };

@@ -112,7 +112,8 @@ impl TypeSet for Plain {
 
     fn on_delete(&mut self, _inner: PlainInner) {}
 
-    ghost refused_open = { λ set inner _ _ told. ap (λ refusal. (set, unless_told refusal inner (one_more inner))) told };
+    ghost refused_open = { λ set inner _ _ told.
+        ap (λ refusal. (set, unless_told refusal inner (one_more inner))) told };
 
     ghost made_idle = { λ _ _ _. refl };
 
@@ -124,13 +125,35 @@ impl TypeSet for Plain {
 
     ghost parsed_idle = { λ _ _ _ _ _ told. Prim.search rules };
 
-    ghost own_face = { λ face. elim face.kind as (λ kind. same_plain_kind kind kind ≡ true) [ Event ↦ refl | Mutant ↦ refl | Section ↦ refl ] };
+    ghost own_face = { λ face. elim face.kind as (λ kind. same_plain_kind kind kind
+        ≡ true) [ Event ↦ refl | Mutant ↦ refl | Section ↦ refl ] };
 
     ghost same_answers = { λ _ _ _ _. refl };
 
-    ghost one_kind = { elim [ Event ↦ elim [ Event ↦ λ _. refl | Mutant ↦ λ e. Prim.search rules | Section ↦ λ e. Prim.search rules ] | Mutant ↦ elim [ Event ↦ λ e. Prim.search rules | Mutant ↦ λ _. refl | Section ↦ λ e. Prim.search rules ] | Section ↦ elim [ Event ↦ λ e. Prim.search rules | Mutant ↦ λ e. Prim.search rules | Section ↦ λ _. refl ] ] };
+    ghost one_kind = { elim [
+      | Event ↦ elim [
+        | Event ↦ λ _. refl
+        | Mutant ↦ λ e. Prim.search rules
+        | Section ↦ λ e. Prim.search rules
+      ]
+      | Mutant ↦ elim [
+        | Event ↦ λ e. Prim.search rules
+        | Mutant ↦ λ _. refl
+        | Section ↦ λ e. Prim.search rules
+      ]
+      | Section ↦ elim [
+        | Event ↦ λ e.
+            Prim.search rules
+        | Mutant ↦ λ e. Prim.search rules
+        | Section ↦ λ _. refl
+      ]
+    ] };
 
     ghost own_kind = { elim [ Event ↦ refl | Mutant ↦ refl | Section ↦ refl ] };
 
-    ghost equal_kinds = { elim [ Event ↦ elim [ Event ↦ refl | Mutant ↦ refl | Section ↦ refl ] | Mutant ↦ elim [ Event ↦ refl | Mutant ↦ refl | Section ↦ refl ] | Section ↦ elim [ Event ↦ refl | Mutant ↦ refl | Section ↦ refl ] ] };
+    ghost equal_kinds = { elim [
+      | Event ↦ elim [ Event ↦ refl | Mutant ↦ refl | Section ↦ refl ]
+      | Mutant ↦ elim [ Event ↦ refl | Mutant ↦ refl | Section ↦ refl ]
+      | Section ↦ elim [ Event ↦ refl | Mutant ↦ refl | Section ↦ refl ]
+    ] };
 }

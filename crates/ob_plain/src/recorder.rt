@@ -2,7 +2,6 @@
 
 ghost use Rattle.std.specs.Prelude.{◌≡◌, ◌≢◌, ℕ, None, Some, IfOk, IfErr, IsOk};
 ghost use Rattle.std.proofs.Common.{ap, ◌∙◌};
-ghost use Rattle.ob_model.specs.Procedures as model;
 ghost use Rattle.ob_plain.specs.Counting.{counted};
 ghost use Rattle.ob_plain.specs.Calls.{none_kept, noted};
 ghost use Rattle.ob_plain.specs.Recorder.{recording_procedures, opened_by, IsRecordedIdle, part_of, kept_of, last_of};
@@ -154,7 +153,12 @@ impl<T: TypeSet> TypeSet for Recorder<T> {
         });
     }
 
-    ghost refused_open = { λ recorder inner reason k told. ap (λ left. opened_by ((T.procedures).refuses_to_open recorder.part inner.part reason) recorder inner reason left) (T.refused_open recorder.part inner.part reason k told) ∙ ap (λ refusal. opened_by refusal recorder inner reason (recorder.part, inner.part)) told };
+    ghost refused_open = { λ recorder inner reason k told.
+        ap (λ left.
+        opened_by
+        ((T.procedures).refuses_to_open recorder.part inner.part reason) recorder inner reason left)
+        (T.refused_open recorder.part inner.part reason k told) ∙ ap (λ refusal.
+        opened_by refusal recorder inner reason (recorder.part, inner.part)) told };
 
     ghost made_idle = { T.made_idle };
 
@@ -200,9 +204,23 @@ fn unopened<F, I>(answer: ParseAnswer<F, I>) -> ParseAnswer<F, Recorded<I>>
 /// is accepted of an object draws the next serial; later ones leave it. This holds of every lawful set;
 /// nothing is done when it runs. (this profile)
 pub fn accepted_opens_are_noted<T: TypeSet>()
-    ensures below { (recorder : Recorder T) (inner : Recorded T.Inner) (reason : model.Reason) → part_of ((recording_procedures T.procedures).opened recorder inner reason).0 ≡ ((T.procedures).opened (part_of recorder) inner.part reason).0 }
-    ensures noted { (recorder : Recorder T) (inner : Recorded T.Inner) (reason : model.Reason) → (T.procedures).refuses_to_open (part_of recorder) inner.part reason ≡ None → kept_of ((recording_procedures T.procedures).opened recorder inner reason).0 ≡ noted (kept_of recorder) (opened_call (serial_after (last_of recorder) inner.serial) reason) }
-    ensures refused { (recorder : Recorder T) (inner : Recorded T.Inner) (reason : model.Reason) (k : ℕ) → (T.procedures).refuses_to_open (part_of recorder) inner.part reason ≡ Some k → (recording_procedures T.procedures).opened recorder inner reason ≡ (recorder, inner) }
-    ensures first { (recorder : Recorder T) (inner : Recorded T.Inner) (reason : model.Reason) → (T.procedures).refuses_to_open (part_of recorder) inner.part reason ≡ None → inner.serial ≡ 0 → ((recording_procedures T.procedures).opened recorder inner reason).1.serial ≡ counted (last_of recorder) }
-    ensures later { (recorder : Recorder T) (inner : Recorded T.Inner) (reason : model.Reason) → inner.serial ≢ 0 → ((recording_procedures T.procedures).opened recorder inner reason).1.serial ≡ inner.serial }
+    ensures below { (recorder : Recorder T) (inner : Recorded T.Inner) (reason : Reason)
+        → part_of ((recording_procedures T.procedures).opened recorder inner reason).0
+        ≡ ((T.procedures).opened (part_of recorder) inner.part reason).0 }
+    ensures noted { (recorder : Recorder T) (inner : Recorded T.Inner) (reason : Reason)
+        → (T.procedures).refuses_to_open (part_of recorder) inner.part reason ≡ None
+        → kept_of ((recording_procedures T.procedures).opened recorder inner reason).0
+        ≡ noted (kept_of recorder) (opened_call (serial_after
+        (last_of recorder) inner.serial) reason) }
+    ensures refused { (recorder : Recorder T) (inner : Recorded T.Inner) (reason : Reason) (k : ℕ)
+        → (T.procedures).refuses_to_open (part_of recorder) inner.part reason ≡ Some k
+        → (recording_procedures T.procedures).opened recorder inner reason ≡ (recorder, inner) }
+    ensures first { (recorder : Recorder T) (inner : Recorded T.Inner) (reason : Reason)
+        → (T.procedures).refuses_to_open (part_of recorder) inner.part reason ≡ None → inner.serial
+        ≡ 0 → ((recording_procedures T.procedures).opened recorder inner reason).1.serial
+        ≡ counted (last_of recorder) }
+    ensures later { (recorder : Recorder T) (inner : Recorded T.Inner) (reason : Reason)
+        → inner.serial ≢ 0
+        → ((recording_procedures T.procedures).opened recorder inner reason).1.serial
+        ≡ inner.serial }
 {}

@@ -16,9 +16,10 @@ use Rattle.ob_model.proofs.Finds.{filter_all, filter_none}
 use Rattle.ob_model.proofs.Ids.{Differ, Differ-from_rising, is_at-id, insert_entry-last, remove_entry-id}
 use Rattle.ob_devmap.specs.Maps.{Directories, map_in, MapChanges}
 use Rattle.ob_handles.specs.Table.{without}
-use Rattle.ob_processes.specs.ByOrder.{by_order, OrdersRise}
+use Rattle.ob_processes.specs.ByOrder.{order_of, by_order, OrdersRise}
 use Rattle.ob_processes.specs.Running.{Entries, process_of_entry, processes_of, in_turn, handles_of, IsTableOf, IsRunning}
-use Rattle.ob_processes.proofs.ByOrder.{filter-by_order, by_order-All, by_order-last, by_order-length, OrdersRise-push}
+use Rattle.ob_model.proofs.Sorted.{filter-sorted_by, sorted_by-All, sorted_by-last, sorted_by-length}
+use Rattle.ob_processes.proofs.ByOrder.{OrdersRise-push}
 use Rattle.ob_processes.proofs.Entries.{at, handles_in, Table, is_of, others_behind, found_table, handles_at}
 
 -- the entries with something else under a number
@@ -85,8 +86,8 @@ pub handles_pushed : (p : ℕ) (es : Entries) (x w : List Held) (h : Held) → a
 handles_pushed p es x w h found pushed newest =
     let is : Pushed es (put es p w) h = turn_pushed p es x w h found pushed in
     let parts = All-parts (λ (k : Held). k.order < h.order) is.before is.behind
-    (subst (All (λ (k : Held). k.order < h.order)) is.old (by_order-All (λ (k : Held). k.order < h.order) (in_turn es) newest)) in
-    ap by_order is.now ∙ by_order-last h is.before is.behind parts.0 parts.1 ∙ ap (λ hs. by_order hs ++ h ∷ []) (sym is.old)
+    (subst (All (λ (k : Held). k.order < h.order)) is.old (sorted_by-All order_of (λ (k : Held). k.order < h.order) (in_turn es) newest)) in
+    ap by_order is.now ∙ sorted_by-last order_of h is.before is.behind parts.0 parts.1 ∙ ap (λ hs. by_order hs ++ h ∷ []) (sym is.old)
 
 -- ---- a handle less
 
@@ -135,7 +136,7 @@ turn_taken p value (e ∷ es) x w differ tables found taken =
 pub handles_taken : (p value : ℕ) (es : Entries) (x w : List Held) → Differ es → All Table es → at es p ≡ Some x → w ≡ without x value
     → handles_of (put es p w) ≡ filter (stays p value) (handles_of es)
 handles_taken p value es x w differ tables found taken =
-    ap by_order (turn_taken p value es x w differ tables found taken) ∙ sym (filter-by_order (stays p value) (in_turn es))
+    ap by_order (turn_taken p value es x w differ tables found taken) ∙ sym (filter-sorted_by order_of (stays p value) (in_turn es))
 
 turn_length : (p n : ℕ) (es : Entries) (x w : List Held) → at es p ≡ Some x → length w + n ≡ length x → length (in_turn (put es p w)) + n ≡ length (in_turn es)
 turn_length p n [] x w found fewer = cc
@@ -235,8 +236,8 @@ module _ (p kept : ℕ) (es : Entries) (is : IsRunning es kept) where
         module _ (n : ℕ) (fewer : length w + n ≡ length x) where
           lengths : length (handles_of new) + n ≡ kept
           lengths =
-              ap (λ k. k + n) (ap (λ (es : Entries). length (handles_of es)) wrote ∙ by_order-length (in_turn (put es p w)))
-              ∙ turn_length p n es x w found fewer ∙ sym (is.total ∙ by_order-length (in_turn es))
+              ap (λ k. k + n) (ap (λ (es : Entries). length (handles_of es)) wrote ∙ sorted_by-length order_of (in_turn (put es p w)))
+              ∙ turn_length p n es x w found fewer ∙ sym (is.total ∙ sorted_by-length order_of (in_turn es))
 
           pub no_fewer_than : n ≤ kept
           no_fewer_than = omega (arith, lengths)
@@ -290,7 +291,7 @@ module _ (p kept : ℕ) (es : Entries) (is : IsRunning es kept) where
     processes_ended maps left cleared = ap (processes_of left) others ∙ processes_without maps left p es cleared
 
     pub handles_ended : handles_of new ≡ filter (λ h. not (is_of p h)) (handles_of es)
-    handles_ended = ap handles_of others ∙ ap by_order (turn_ended p es is.tables) ∙ sym (filter-by_order (λ h. not (is_of p h)) (in_turn es))
+    handles_ended = ap handles_of others ∙ ap by_order (turn_ended p es is.tables) ∙ sym (filter-sorted_by order_of (λ h. not (is_of p h)) (in_turn es))
 
     module _ (x : List Held) (found : handles_in (at es p) ≡ x) where
       lengths_ended : length (handles_of new) + length x ≡ kept

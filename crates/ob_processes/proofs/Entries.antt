@@ -12,9 +12,10 @@ use Rattle.ob_model.specs.declared.state.Process.{Process}
 use Rattle.ob_model.proofs.Finds.{filter_all, filter_none}
 use Rattle.ob_model.proofs.Ids.{Differ, is_at-id}
 use Rattle.ob_devmap.specs.Maps.{Directories}
-use Rattle.ob_processes.specs.ByOrder.{by_order, OrdersRise}
+use Rattle.ob_processes.specs.ByOrder.{order_of, by_order, OrdersRise}
 use Rattle.ob_processes.specs.Running.{Entries, process_of_entry, processes_of, in_turn, handles_of, IsTableOf}
-use Rattle.ob_processes.proofs.ByOrder.{filter-by_order, by_order-same, OrdersRise-Rises}
+use Rattle.ob_model.proofs.Sorted.{filter-sorted_by, sorted_by-same}
+use Rattle.ob_processes.proofs.ByOrder.{OrdersRise-Rises}
 
 -- what is under a number
 abbrev pub at : Entries → ℕ → Option (List Held)
@@ -103,8 +104,8 @@ at_rises p es tables =
 -- the handles of one process among those of all
 pub handles_at : (p : ℕ) (es : Entries) → Differ es → All Table es → filter (is_of p) (handles_of es) ≡ handles_in (at es p)
 handles_at p es differ tables =
-    filter-by_order (is_of p) (in_turn es) ∙ ap by_order (turn_of p es differ tables)
-    ∙ by_order-same (handles_in (at es p)) (OrdersRise-Rises (handles_in (at es p)) (at_rises p es tables))
+    filter-sorted_by order_of (is_of p) (in_turn es) ∙ ap by_order (turn_of p es differ tables)
+    ∙ sorted_by-same order_of (handles_in (at es p)) (OrdersRise-Rises (handles_in (at es p)) (at_rises p es tables))
 
 -- what is found has the handles of its process
 pub found_table : (p : ℕ) (es : Entries) (x : List Held) → All Table es → at es p ≡ Some x → IsTableOf p x

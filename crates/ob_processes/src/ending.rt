@@ -29,7 +29,8 @@ impl<H: HandleTable> Model for Ending<H> {
 
     ghost Value = { Leaving };
 
-    ghost view = { λ ending. record { handles = H.handles ending.table; touched = ending.touched } };
+    ghost view = { λ ending.
+        record { handles = H.handles ending.table; touched = ending.touched } };
 
     ghost invariant = { λ ending. IsCounted (H.handles ending.table) ending.touched };
 }

@@ -97,9 +97,19 @@ impl<H: HandleTable> Live<H> {
         requires newest { All (λ h. h.order < order) self.old }
         ensures unused { IfOk result (λ value. IsUnused self.old value) }
         ensures last { IfOk result (λ value. self.new
-            ≡ self.old ++ record { process = process; value = value; object = object; inherit = inherit; order = order } ∷ []) }
-        ensures full { most_handles ≤ length self.old → result ≡ Err (Refused InsufficientResources) }
-        ensures refused { IfErr result (λ fault. (fault ≡ Memory) ⊎ (most_handles ≤ length self.old)) }
+            ≡ self.old
+            ++ record {
+              process = process;
+              value = value;
+              object = object;
+              inherit = inherit;
+              order
+                  = order;
+            } ∷ []) }
+        ensures full { most_handles ≤ length self.old → result
+            ≡ Err (Refused InsufficientResources) }
+        ensures refused { IfErr result (λ fault. (fault ≡ Memory)
+            ⊎ (most_handles ≤ length self.old)) }
         ensures unchanged { OnErr result (self.new ≡ self.old) }
     {
         let value = self.table.grant(process, object, inherit, order)?;

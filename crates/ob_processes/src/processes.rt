@@ -109,11 +109,16 @@ impl<H: HandleTable> Processes<H> {
     ///
     /// Source: Windows Internals, Processes (what the end of a process closes).
     pub fn end(&mut self, process: Proc) -> Option<Ending<H>>
-        ensures others { self.new.processes ≡ filter (λ x. not (x.number == process)) self.old.processes }
-        ensures handles { self.new.handles ≡ filter (λ h. not (h.process == process)) self.old.handles }
-        ensures live { is_some result ≡ is_some (find (λ x. x.number == process) self.old.processes) }
-        ensures own { IfSome result (λ ending. ending.handles ≡ filter (λ h. h.process == process) self.old.handles) }
-        ensures touched { IfSome result (λ ending. All (λ h. is_listed ending.touched h.object ≡ true) ending.handles) }
+        ensures others { self.new.processes
+            ≡ filter (λ x. not (x.number == process)) self.old.processes }
+        ensures handles { self.new.handles
+            ≡ filter (λ h. not (h.process == process)) self.old.handles }
+        ensures live { is_some result
+            ≡ is_some (find (λ x. x.number == process) self.old.processes) }
+        ensures own { IfSome result (λ ending. ending.handles
+            ≡ filter (λ h. h.process == process) self.old.handles) }
+        ensures touched { IfSome result (λ ending. All (λ h. is_listed ending.touched h.object
+            ≡ true) ending.handles) }
     {
         let live = self.live.remove(&process.0);
         self.maps.clear(process);
@@ -157,7 +162,8 @@ impl<H: HandleTable> Processes<H> {
     ///
     /// Source: Windows Internals, Object Manager (session namespace, device maps).
     pub fn is_mapped(&self, directory: ObjId) -> bool
-        ensures { result ≡ list_any (λ x. option_map_or (λ d. d == directory) x.map false) self.now.processes }
+        ensures { result
+            ≡ list_any (λ x. option_map_or (λ d. d == directory) x.map false) self.now.processes }
     {
         self.maps.is_mapped(directory)
     }
@@ -214,7 +220,7 @@ impl<H: HandleTable> Processes<H> {
     }
 
     /// The handles of a process that a child inherits, in the order in which they were opened, with values
-    /// that differ; none where the process isn't live. The only error is want of memory. Takes a time that grows with the handles
+    /// that differ; none where the process isn't live. The only error is out of memory. Takes a time that grows with the handles
     /// of the process.
     ///
     /// Source: Windows Internals, Processes (inheritance of handles).
@@ -239,7 +245,8 @@ impl<H: HandleTable> Processes<H> {
 
     /// How many handles of one process lead to an object: 0 where it isn't live. Takes no memory.
     pub fn count_in(&self, process: Proc, object: ObjId) -> usize
-        ensures { result ≡ count_by (λ h. h.process == process && h.object == object) self.now.handles }
+        ensures { result ≡ count_by (λ h. h.process == process
+            && h.object == object) self.now.handles }
     {
         match self.live.get(&process.0) {
             Some(live) => live.count_of(object),
@@ -249,7 +256,8 @@ impl<H: HandleTable> Processes<H> {
 
     /// Whether a process other than this one has a handle to an object. Takes no memory.
     pub fn has_other_holder(&self, process: Proc, object: ObjId) -> bool
-        ensures { result ≡ list_any (λ h. (h.object == object) && not (h.process == process)) self.now.handles }
+        ensures { result ≡ list_any (λ h. (h.object == object)
+            && not (h.process == process)) self.now.handles }
     {
         self.count_in(process, object) < self.count_of(object)
     }
@@ -270,9 +278,18 @@ impl<H: HandleTable> Processes<H> {
         requires newest { All (λ h. h.order < order) self.old.handles }
         requires number { order ≤ greatest_number }
         ensures value { IfOk result IsHandleValue }
-        ensures unused { IfOk result (λ value. find (is_handle process value) self.old.handles ≡ None) }
+        ensures unused { IfOk result (λ value. find (is_handle process value) self.old.handles
+            ≡ None) }
         ensures last { IfOk result (λ value. self.new.handles
-            ≡ self.old.handles ++ record { process = process; value = value; object = object; inherit = inherit; order = order } ∷ []) }
+            ≡ self.old.handles
+            ++ record {
+              process = process;
+              value = value;
+              object = object;
+              inherit = inherit;
+              order
+                  = order;
+            } ∷ []) }
         ensures processes { self.new.processes ≡ self.old.processes }
         ensures full { most_handles ≤ count_by (λ h. h.process == process) self.old.handles
             → result ≡ Err (Refused InsufficientResources) }
@@ -360,8 +377,10 @@ impl<H: HandleTable> Processes<H> {
         requires apart { AllPairs (λ a b. a.value ≢ b.value) inherited.now }
         requires newest { All (λ h. h.order < order) self.old.handles }
         requires orders { order + length inherited.now ≤ greatest_number + 1 }
-        ensures handles { OnOk result (self.new.handles ≡ self.old.handles ++ handed_on process order inherited.now) }
-        ensures others { filter (λ h. not (h.process == process)) self.new.handles ≡ self.old.handles }
+        ensures handles { OnOk result (self.new.handles ≡ self.old.handles
+            ++ handed_on process order inherited.now) }
+        ensures others { filter (λ h. not (h.process == process)) self.new.handles
+            ≡ self.old.handles }
         ensures processes { self.new.processes ≡ self.old.processes }
     {
         let mut next = order;
@@ -382,7 +401,8 @@ impl<H: HandleTable> Processes<H> {
     /// nothing changes. Takes no memory.
     pub fn take(&mut self, process: Proc, value: Handle) -> Option<Held>
         ensures there { result ≡ find (is_handle process value) self.old.handles }
-        ensures others { self.new.handles ≡ filter (λ h. not (is_handle process value h)) self.old.handles }
+        ensures others { self.new.handles
+            ≡ filter (λ h. not (is_handle process value h)) self.old.handles }
         ensures processes { self.new.processes ≡ self.old.processes }
     {
         let live = self.live.get_mut(&process.0)?;

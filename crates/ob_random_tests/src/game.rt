@@ -1,15 +1,15 @@
 //! A game: random turns of a namespace over a set of types, each beside the model.
 
 ghost use Rattle.std.specs.Prelude.{◌≡◌, [], OnOk};
-ghost use Rattle.ob_begun.specs.Begun.{AreAwaited, tickets_of, with_begun, without};
+ghost use Rattle.ob_runner.specs.Begun.{AreAwaited, tickets_of, with_begun, without};
 
 use crate::asks::{Ask, Deed, Kind, Turn};
 use crate::dice::Dice;
 use crate::model::Model;
 use crate::names::{Name, text};
 use ob_base::{Fault, Handle, Proc};
-use ob_begun::{Begun, Waits, begin_open, drop_open, end_open, give_all_up};
 use ob_core::{Bytes, Command, Core, OpenTable, Place};
+use ob_runner::{Begun, Waits, begin_open, drop_open, end_open, give_all_up};
 use ob_types::TypeSet;
 use std::alloc::{AllocError, Global};
 

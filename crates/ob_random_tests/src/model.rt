@@ -9,8 +9,8 @@ use crate::asks::{Ask, Deed, EXCLUSIVE, INHERIT, Kind, PERMANENT, Waiting, is_wa
 use crate::dice::Dice;
 use crate::names::{Name, Path, joined, text};
 use ob_base::{Handle, Status};
-use ob_begun::Begun;
 use ob_model::{Given, Reply};
+use ob_runner::Begun;
 use std::alloc::{AllocError, Global};
 
 // The number of the root directory.

@@ -85,7 +85,8 @@ pub(crate) fn text_at<'a>(value: &'a Value, key: &str) -> Option<&'a str>
 
 /// The items of the list under a key. (this profile)
 pub(crate) fn items_at<'a>(value: &'a Value, key: &str) -> Option<&'a [Value]>
-    ensures { option_map (λ items. items_view items.now) result ≡ items_at key.now (view value.now) }
+    ensures { option_map (λ items. items_view items.now) result
+        ≡ items_at key.now (view value.now) }
 {
     let items = value.get(key)?.as_array()?;
     Some(items.as_slice())

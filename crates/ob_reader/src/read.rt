@@ -12,7 +12,7 @@ use serde_json::Value;
 use std::alloc::{AllocError, Global};
 
 /// The number of seats that a header tells, the first line of a journal of version 1, without its LF: 1 to 1,024. None where
-/// the line is no header. The only error is want of memory. (RFC 8259; the keys: this profile)
+/// the line is no header. The only error is out of memory. (RFC 8259; the keys: this profile)
 #[tactic(auto, unfolding(crate::specs::Reading::header_for))]
 pub fn read_header(alloc: Global, line: &[u8]) -> Result<Option<u32>, AllocError>
     ensures { IfOk result (λ seats. seats ≡ header_for line.now) }
@@ -24,7 +24,7 @@ pub fn read_header(alloc: Global, line: &[u8]) -> Result<Option<u32>, AllocError
 }
 
 /// What a line says of an entry, without its LF: none where the line isn't of the form of an entry. Whether the number is the
-/// next, the seat is one of the journal's and the step gives the reply isn't judged here. The only error is want of memory.
+/// next, the seat is one of the journal's and the step gives the reply isn't judged here. The only error is out of memory.
 /// (RFC 8259; the keys: this profile)
 #[tactic(auto, unfolding(crate::specs::Reading::line_for))]
 pub fn read_line(alloc: Global, line: &[u8]) -> Result<Option<Line>, AllocError>

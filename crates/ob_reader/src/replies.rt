@@ -13,7 +13,7 @@ use ob_model::{Entries, Listed};
 use serde_json::Value;
 use std::alloc::{AllocError, Global};
 
-/// How a step ended, as a reply says it: none where the reply isn't of the form. The only error is want of memory. (this
+/// How a step ended, as a reply says it: none where the reply isn't of the form. The only error is out of memory. (this
 /// profile)
 #[tactic(auto, unfolding(crate::specs::Reading::reply_in))]
 pub(crate) fn read_reply(alloc: Global, reply: &Value) -> Result<Option<Said>, AllocError>

@@ -17,7 +17,7 @@ use std::alloc::{AllocError, Global};
 
 type Asked = Option<Command<StandardKind>>;
 
-/// The event that a step says: none where the step isn't of the form. The only error is want of memory. (this profile)
+/// The event that a step says: none where the step isn't of the form. The only error is out of memory. (this profile)
 #[tactic(auto, unfolding(crate::specs::Reading::step_in))]
 pub(crate) fn read_step(
     alloc: Global,

@@ -55,7 +55,8 @@ fn unescape(alloc: Global, text: &[u8]) -> Result<Option<Bytes>, AllocError>
 
 // The first byte that a text stands for, and the rest of the text.
 fn next_byte(text: &[u8]) -> Option<(u8, &[u8])>
-    ensures found { IfSome result (λ found. unescaped text.now ≡ with_byte found.0 (unescaped found.1.now)) }
+    ensures found { IfSome result (λ found. unescaped text.now
+        ≡ with_byte found.0 (unescaped found.1.now)) }
     ensures shorter { IfSome result (λ found. length found.1.now < length text.now) }
     ensures none { IfNone result (0 < length text.now → unescaped text.now ≡ None) }
 {
@@ -72,7 +73,8 @@ fn next_byte(text: &[u8]) -> Option<(u8, &[u8])>
 
 // The byte that the two digits behind `%` stand for, and the rest of the text.
 fn escaped_byte(text: &[u8]) -> Option<(u8, &[u8])>
-    ensures found { IfSome result (λ found. unescaped (37 ∷ text.now) ≡ with_byte found.0 (unescaped found.1.now)) }
+    ensures found { IfSome result (λ found. unescaped (37 ∷ text.now)
+        ≡ with_byte found.0 (unescaped found.1.now)) }
     ensures shorter { IfSome result (λ found. length found.1.now < length text.now) }
     ensures none { IfNone result (unescaped (37 ∷ text.now) ≡ None) }
 {

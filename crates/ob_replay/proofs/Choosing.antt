@@ -21,7 +21,7 @@ use Rattle.ob_model.specs.Step.{Step}
 use Rattle.ob_choices.specs.Choice.{answer_under, given_under, receiver_of, revalued, IsOtherChoice, same, under}
 use Rattle.ob_choices.proofs.ChosenSteps.{step_last, step_under}
 use Rattle.ob_choices.proofs.OneAnswer.{step_has_one_answer}
-use Rattle.ob_core.specs.Revaluing.{IsLastHandle}
+use Rattle.ob_core.specs.Reached.{IsJustGiven, IsReached}
 use Rattle.ob_standard.specs.Standard.{StandardKind, standard}
 use Rattle.ob_standard_core.specs.Machine.{Space}
 use Rattle.ob_reader.specs.declared.line.Line.{Line}
@@ -83,10 +83,8 @@ module _ (s u : Space) (line : Line) (a : Answer) (step : Step standard s line.s
     pub may_choose : (one : Choice) (chosen : ℕ) → IsTaken line choice a one chosen → MayChoose s line one
     may_choose one chosen taken = some_is (MayChoose s line) choice one taken.one_is free
 
-    pub newest_is_last : (one : Choice) (chosen : ℕ) → IsTaken line choice a one chosen → IsLastHandle u one.process chosen
-    newest_is_last one chosen taken =
-        let last = step_last standard s u line.step a one.process chosen step taken.given (may_choose one chosen taken).receiver in
-        (s.handles, last.0, last.1, last.2, last.3)
+    pub newest_is_given : IsReached standard s → (one : Choice) (chosen : ℕ) → IsTaken line choice a one chosen → IsJustGiven standard u one.process chosen
+    newest_is_given reached one chosen taken = (s, line.step, a, reached, step, (may_choose one chosen taken).receiver, taken.given)
 
     -- the value that the line says is another one than the one that was given
     other_value : (one : Choice) (chosen : ℕ) → IsTaken line choice a one chosen → chosen ≡ one.value → ⊥

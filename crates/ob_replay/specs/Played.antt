@@ -13,8 +13,8 @@ use Rattle.ob_model.specs.Grants.{IsFreeValue}
 use Rattle.ob_model.specs.Run.{Entry}
 use Rattle.ob_model.specs.Step.{Step}
 use Rattle.ob_types.specs.Parse.{ToRun}
-use Rattle.ob_begun.specs.Begun.{AreAwaited}
-use Rattle.ob_begun.specs.Repeated.{AreAllKept}
+use Rattle.ob_runner.specs.Begun.{AreAwaited}
+use Rattle.ob_runner.specs.Repeated.{AreAllKept}
 use Rattle.ob_choices.specs.Choice.{answer_under, receiver_of}
 use Rattle.ob_standard.specs.Standard.{StandardKind, StandardFace, standard}
 use Rattle.ob_standard_core.specs.Machine.{Space}

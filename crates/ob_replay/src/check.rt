@@ -38,7 +38,8 @@ pub fn check_journal(alloc: Global, text: &[u8]) -> Result<Report, CheckFault>
 
 // Checks the lines behind the header.
 fn check_lines(alloc: Global, seats: u32, lines: &[u8]) -> Result<Report, CheckFault>
-    ensures accepted { IfOk result (λ report. (state : Space) × AreOfRun seats (lines_of lines.now) state
+    ensures accepted { IfOk result (λ report. (state : Space)
+        × AreOfRun seats (lines_of lines.now) state
         × (report ≡ report_of (lines_of lines.now) state)) }
     ensures fault { IfErr result (IsFaultBehind seats (lines_of lines.now)) }
 {

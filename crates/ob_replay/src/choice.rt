@@ -97,7 +97,8 @@ fn receiver_in(process: Proc, command: &Command<StandardKind>) -> Proc
 /// place of that one. Takes no memory.
 pub(crate) fn taken(line: &Line, choice: Option<Choice>, answer: Answer) -> Option<(Choice, Handle)>
     ensures taken { IfSome result (λ taken. IsTaken line.now choice answer (taken.0) (taken.1)) }
-    ensures none { IfNone result ((other : SomeChoice) (chosen : ℕ) → IsTaken line.now choice answer other chosen → ⊥) }
+    ensures none { IfNone result ((other : SomeChoice) (chosen : ℕ)
+        → IsTaken line.now choice answer other chosen → ⊥) }
 {
     let choice = choice?;
     let chosen = given_handle(&answer)?;

@@ -4,7 +4,7 @@ ghost use Rattle.std.specs.Prelude.{◌≡◌, ◌+◌, ◌<◌, false, length, 
 ghost use Rattle.ob_model.specs.declared.reply.Answer.{Answer};
 ghost use Rattle.ob_model.specs.Opening.{opening};
 ghost use Rattle.ob_model.specs.Step.{Step};
-ghost use Rattle.ob_begun.specs.Repeated.{MayBe};
+ghost use Rattle.ob_runner.specs.Repeated.{MayBe};
 ghost use Rattle.ob_standard.specs.Standard.{IsFresh, Standard as StandardSet, standard};
 ghost use Rattle.ob_reader.specs.Reading.{said_of};
 ghost use Rattle.ob_replay.specs.Journal.{early_causes, first_cause, lacks_ticket as is_lacking, most_entries, IsNoReply, IsRefusedLine};
@@ -53,7 +53,7 @@ impl Model for Replay {
 }
 
 impl Replay {
-    /// A journal of so many seats, of which no entry was played: the opening state. The only fault is want of memory.
+    /// A journal of so many seats, of which no entry was played: the opening state. The only fault is out of memory.
     pub(crate) fn new(alloc: Global, seats: u32) -> Result<Replay, AllocError>
         ensures { IfOk result (λ replay. (first : StandardSet) × IsFresh first
             × (replay ≡ record { state = opening first; seats = seats; count = 0 })) }
@@ -70,7 +70,8 @@ impl Replay {
     /// journal is finished.
     pub(crate) fn play(self, alloc: Global, text: &[u8]) -> Result<Replay, Stop>
         ensures played { IfOk result (λ next. PlaysLine self text.now next) }
-        ensures refused { IfErr result (λ stop. IfRefused stop (IsRefusedLine self.state self.seats self.count text.now)) }
+        ensures refused { IfErr result (λ stop.
+            IfRefused stop (IsRefusedLine self.state self.seats self.count text.now)) }
     {
         let line = match read_line(alloc, text) {
             Ok(Some(line)) => line,
@@ -87,9 +88,12 @@ impl Replay {
     fn make(self, alloc: Global, line: &Line) -> Result<Replay, Stop>
         requires room { self.count < most_entries }
         requires pending { is_lacking self.state line.now.step ≡ false }
-        ensures made { IfOk result (λ next. (answer : Answer) × Step standard self.state line.now.step answer next.state
-            × (said_of answer ≡ line.now.reply) × (next.seats ≡ self.seats) × (next.count ≡ self.count + 1)) }
-        ensures refused { IfErr result (λ stop. IfRefused stop (λ why. (why ≡ Reply) × IsNoReply self.state line.now)) }
+        ensures made { IfOk result (λ next. (answer : Answer)
+            × Step standard self.state line.now.step answer next.state
+            × (said_of answer ≡ line.now.reply) × (next.seats ≡ self.seats)
+            × (next.count ≡ self.count + 1)) }
+        ensures refused { IfErr result (λ stop. IfRefused stop (λ why. (why ≡ Reply)
+            × IsNoReply self.state line.now)) }
     {
         if is_unrun(&line.step) {
             return Err(self.stop(Stop::Refused(Cause::Reply)));
@@ -111,7 +115,8 @@ impl Replay {
 
     // Why a line is refused before its step is made, if it is.
     fn judge(&self, line: &Line) -> Option<Cause>
-        ensures { result ≡ first_cause (early_causes self.now.state self.now.seats self.now.count line.now) }
+        ensures { result
+            ≡ first_cause (early_causes self.now.state self.now.seats self.now.count line.now) }
     {
         if line.number != self.count as u64 + 1 || line.number > MOST_ENTRIES {
             Some(Cause::Number)
@@ -149,7 +154,13 @@ impl Replay {
 
     /// Gives up what waits, and tells how many entries were played, and what there was behind them.
     pub(crate) fn finish(self) -> Report
-        ensures { result ≡ record { entries = self.count; objects = length self.state.objects; handles = length self.state.handles } }
+        ensures { result
+            ≡ record {
+              entries = self.count;
+              objects = length self.state.objects;
+              handles = length
+                  self.state.handles;
+            } }
     {
         let Replay {
             mut core,
@@ -186,11 +197,14 @@ fn make_step(
 ) -> Result<(StandardCore, StandardWaits), Stop>
     requires kept { IsKeptBeside core waits }
     requires possible { MayBe core line.now.step }
-    ensures made { IfOk result (λ behind. (answer : Answer) × Step standard core line.now.step answer (behind.0)
+    ensures made { IfOk result (λ behind. (answer : Answer)
+        × Step standard core line.now.step answer (behind.0)
         × (said_of answer ≡ line.now.reply) × IsKeptBeside (behind.0) (behind.1)) }
-    ensures refused { IfErr result (λ stop. IfRefused stop (λ why. (why ≡ Reply) × IsNoReply core line.now)) }
+    ensures refused { IfErr result (λ stop. IfRefused stop (λ why. (why ≡ Reply)
+        × IsNoReply core line.now)) }
 {
     core.state_is_sound();
+    core.state_is_reached();
     let choice = choice_of(&core, line);
     let (mut core, mut waits) = (core, waits);
     let Ok(answer) = waits.repeat(&mut core, alloc, &line.step) else {

@@ -6,8 +6,8 @@
 //! further, since this namespace has its own value there.
 
 ghost use Rattle.std.specs.Prelude.{OnOk};
-ghost use Rattle.ob_begun.specs.Begun.{AreAwaited};
-ghost use Rattle.ob_begun.specs.Repeated.{AreAllKept};
+ghost use Rattle.ob_runner.specs.Begun.{AreAwaited};
+ghost use Rattle.ob_runner.specs.Repeated.{AreAllKept};
 
 use crate::run::answer;
 use crate::told::Told;

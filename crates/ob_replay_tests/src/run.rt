@@ -1,8 +1,8 @@
 //! Runs of a namespace, and their journals.
 
 ghost use Rattle.std.specs.Prelude.{◌≡◌, ◌<◌, true, OnOk};
-ghost use Rattle.ob_begun.specs.Begun.{AreAwaited};
-ghost use Rattle.ob_begun.specs.Repeated.{AreAllKept, MayBe};
+ghost use Rattle.ob_runner.specs.Begun.{AreAwaited};
+ghost use Rattle.ob_runner.specs.Repeated.{AreAllKept, MayBe};
 
 use ob_journal::{Entry, write_header, write_line};
 use ob_model::{Answer, Event, ParseRun};

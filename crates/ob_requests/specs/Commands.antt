@@ -123,6 +123,14 @@ given_handle (given.Text text) = 0
 given_handle (given.Process process values) = 0
 given_handle (given.Page entries context) = 0
 
+-- the process that a process word is set to: the child that was given, or 0 where none was given
+abbrev pub given_process : Given → ℕ
+given_process given.Nothing = 0
+given_process (given.Handle handle) = 0
+given_process (given.Text text) = 0
+given_process (given.Process process values) = process
+given_process (given.Page entries context) = 0
+
 -- the words with a child, where the reply gives one: a process word names it, and it has the words of its
 -- parent that are handed on to it; where none is given the process word is 0
 abbrev pub with_child : Words → ℕ → List ℕ → Bool → Given → Words
@@ -151,6 +159,19 @@ changed (change.GivesUp word) process reply words = if is_success reply.status t
 changed (change.TurnsPage word) process reply words = with_page words process word reply.given
 changed change.GivesAllUp process reply words = if is_success reply.status then without_words words process else words
 changed (change.SetsProcess word inherit) process reply words = with_child words process word inherit reply.given
+
+-- the same words, but of a child that is given its process word alone is set, and its own words aren't
+abbrev pub applied : Change (List ℕ) → ℕ → Reply → Words → Words
+applied (change.SetsProcess word inherit) process reply words = with_process words word (given_process reply.given)
+applied other process reply words = changed other process reply words
+
+-- the words with those of a child, where one is given: it has the words of its parent that are handed on to it
+abbrev pub with_own_words : Words → ℕ → Bool → Given → Words
+with_own_words words parent inherit (given.Process process handles) = with_words words process (handed_on (words.values parent) inherit handles)
+with_own_words words parent inherit given.Nothing = words
+with_own_words words parent inherit (given.Handle handle) = words
+with_own_words words parent inherit (given.Text text) = words
+with_own_words words parent inherit (given.Page entries context) = words
 
 -- the words after the reply to a request of a process
 abbrev pub words_after : Request (List ℕ) → ℕ → Reply → Words → Words

@@ -1,4 +1,5 @@
 pub mod Words
 pub mod Tables
+pub mod Room
 pub mod Commands
 pub mod Alike

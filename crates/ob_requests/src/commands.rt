@@ -27,14 +27,15 @@ pub struct Asker<'a> {
     pub process: Proc,
 }
 
-/// The command that a request spells, or want of memory. (this profile)
+/// The command that a request spells, or out of memory. (this profile)
 pub type Asked = Result<Command<StandardKind>, AllocError>;
 
 /// The command that a request of a process spells, with the words of the script. The only fault is want
 /// of memory. Source: this profile.
 pub fn command_of(asker: &Asker<'_>, request: Request<&[u8]>) -> Asked
     requires texts { HasTexts (request_seen request) }
-    ensures { IfOk result (IsCommand (request_seen request.entry) (words_in asker.now.words.now) asker.now.process) }
+    ensures { IfOk result (IsCommand (request_seen request.entry)
+        (words_in asker.now.words.now) asker.now.process) }
 {
     match request {
         Request::CreateDirectory { place, attrs, .. } => create_directory(asker, place, attrs),
@@ -116,7 +117,8 @@ pub fn command_of(asker: &Asker<'_>, request: Request<&[u8]>) -> Asked
 // The create of a directory.
 fn create_directory(asker: &Asker<'_>, place: PlaceForm<&[u8]>, attrs: u32) -> Asked
     requires { HasPlaceText (place_seen place) }
-    ensures { IfOk result (IsCreateDirectory (place_seen place.entry) attrs ((words_in asker.now.words.now).values asker.now.process)) }
+    ensures { IfOk result (IsCreateDirectory (place_seen place.entry) attrs
+        ((words_in asker.now.words.now).values asker.now.process)) }
 {
     let place = place_of(asker, place)?;
     Ok(Command::CreateDirectory { place, attrs })
@@ -126,7 +128,8 @@ fn create_directory(asker: &Asker<'_>, place: PlaceForm<&[u8]>, attrs: u32) -> A
 fn create_link(asker: &Asker<'_>, place: PlaceForm<&[u8]>, attrs: u32, target: &[u8]) -> Asked
     requires place { HasPlaceText (place_seen place) }
     requires target { IsText target.now }
-    ensures { IfOk result (IsCreateLink (place_seen place.entry) attrs target.now ((words_in asker.now.words.now).values asker.now.process)) }
+    ensures { IfOk result (IsCreateLink (place_seen place.entry) attrs target.now
+        ((words_in asker.now.words.now).values asker.now.process)) }
 {
     let place = place_of(asker, place)?;
     let target = decode(asker.words.alloc, target)?;
@@ -147,7 +150,8 @@ fn create_object(
 ) -> Asked
     requires place { HasPlaceText (place_seen place) }
     requires args { IsText args.now }
-    ensures { IfOk result (IsCreateObject kind (place_seen place.entry) attrs args.now ((words_in asker.now.words.now).values asker.now.process)) }
+    ensures { IfOk result (IsCreateObject kind (place_seen place.entry) attrs args.now
+        ((words_in asker.now.words.now).values asker.now.process)) }
 {
     let place = place_of(asker, place)?;
     let args = decode(asker.words.alloc, args)?;
@@ -163,7 +167,8 @@ fn create_object(
 // The open of a directory.
 fn open_directory(asker: &Asker<'_>, name: NameForm<&[u8]>, attrs: u32) -> Asked
     requires { IsText (text_of (name_seen name)) }
-    ensures { IfOk result (IsOpenDirectory (name_seen name.entry) attrs ((words_in asker.now.words.now).values asker.now.process)) }
+    ensures { IfOk result (IsOpenDirectory (name_seen name.entry) attrs
+        ((words_in asker.now.words.now).values asker.now.process)) }
 {
     let root = root_of(asker, name);
     let name = bytes_of(asker, name)?;
@@ -173,7 +178,8 @@ fn open_directory(asker: &Asker<'_>, name: NameForm<&[u8]>, attrs: u32) -> Asked
 // The open of a symbolic link.
 fn open_link(asker: &Asker<'_>, name: NameForm<&[u8]>, attrs: u32) -> Asked
     requires { IsText (text_of (name_seen name)) }
-    ensures { IfOk result (IsOpenLink (name_seen name.entry) attrs ((words_in asker.now.words.now).values asker.now.process)) }
+    ensures { IfOk result (IsOpenLink (name_seen name.entry) attrs
+        ((words_in asker.now.words.now).values asker.now.process)) }
 {
     let root = root_of(asker, name);
     let name = bytes_of(asker, name)?;
@@ -188,7 +194,8 @@ fn open_object(
     attrs: u32,
 ) -> Asked
     requires { IsText (text_of (name_seen name)) }
-    ensures { IfOk result (IsOpenObject want (name_seen name.entry) attrs ((words_in asker.now.words.now).values asker.now.process)) }
+    ensures { IfOk result (IsOpenObject want (name_seen name.entry) attrs
+        ((words_in asker.now.words.now).values asker.now.process)) }
 {
     let root = root_of(asker, name);
     let name = bytes_of(asker, name)?;
@@ -218,7 +225,8 @@ fn kind_meant(kind: KindForm) -> StandardKind
 // The place that a line means.
 fn place_of(asker: &Asker<'_>, place: PlaceForm<&[u8]>) -> Result<Place, AllocError>
     requires { HasPlaceText (place_seen place) }
-    ensures { IfOk result (IsPlace (place_seen place.entry) ((words_in asker.now.words.now).values asker.now.process)) }
+    ensures { IfOk result (IsPlace (place_seen place.entry)
+        ((words_in asker.now.words.now).values asker.now.process)) }
 {
     match place {
         PlaceForm::Named(name) => {
@@ -232,7 +240,8 @@ fn place_of(asker: &Asker<'_>, place: PlaceForm<&[u8]>) -> Result<Place, AllocEr
 
 // The handle that a name is relative to; none for an absolute name.
 fn root_of(asker: &Asker<'_>, name: NameForm<&[u8]>) -> Option<Handle>
-    ensures { result ≡ root_of (name_seen name.entry) ((words_in asker.now.words.now).values asker.now.process) }
+    ensures { result
+        ≡ root_of (name_seen name.entry) ((words_in asker.now.words.now).values asker.now.process) }
 {
     match name {
         NameForm::Absolute(_) => None,
@@ -253,7 +262,9 @@ fn bytes_of(asker: &Asker<'_>, name: NameForm<&[u8]>) -> Result<Bytes, AllocErro
 
 // The handle that is meant: the value of a word, and the number that is added to it.
 fn handle_meant(asker: &Asker<'_>, handle: HandleForm<&[u8]>) -> Handle
-    ensures { result ≡ handle_meant (handle_seen handle.entry) ((words_in asker.now.words.now).values asker.now.process) }
+    ensures { result
+        ≡ handle_meant (handle_seen handle.entry)
+        ((words_in asker.now.words.now).values asker.now.process) }
 {
     let value = asker.words.value_of(asker.process, handle.word);
     with_offset(value, handle.offset)

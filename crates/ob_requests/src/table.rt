@@ -38,7 +38,8 @@ pub(crate) fn room_for<N: Copy>(
 // Sets a word, for which there is room.
 pub(crate) fn set<N: Copy>(table: &mut Table<N>, word: &[u8], number: N)
     requires room { has_word table.old word.now ≡ true }
-    ensures { (none : N) → number_or none table.new ≡ with_number (number_or none table.old) word.now number }
+    ensures { (none : N) → number_or none table.new
+        ≡ with_number (number_or none table.old) word.now number }
 {
     if let Some(slot) = table.get_index_of(word) {
         set_at(table, slot, number);
@@ -74,7 +75,8 @@ pub(crate) fn copy_of(table: &Table<u32>) -> Result<Table<u32>, AllocError>
 /// Source: this profile.
 pub fn keep<P: Fn(u32) -> bool>(table: &mut Table<u32>, test: P)
     requires { P.IsAlwaysCallable test }
-    ensures { (word : List ℕ) → IsKept (λ number passed. P.post test number passed) (number_in table.old word) (number_in table.new word) }
+    ensures { (word : List ℕ) → IsKept (λ number passed.
+        P.post test number passed) (number_in table.old word) (number_in table.new word) }
 {
     for slot in 0..table.len() {
         if !test(table[slot]) {

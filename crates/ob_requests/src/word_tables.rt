@@ -68,7 +68,8 @@ impl<N: Copy> WordTables<N> {
     // Sets a word of a process, for which there is room. Takes no memory.
     pub(crate) fn set(&mut self, process: u32, word: &[u8], number: N)
         requires room { HasRoom self.old process word.now }
-        ensures { (none : N) → numbers_or none self.new ≡ with_number_of (numbers_or none self.old) process word.now number }
+        ensures { (none : N) → numbers_or none self.new
+            ≡ with_number_of (numbers_or none self.old) process word.now number }
     {
         if let Some(table) = self.tables.get_mut(&process) {
             set(table, word, number);
@@ -77,7 +78,8 @@ impl<N: Copy> WordTables<N> {
 
     // A word of a process stands for `none` from now on, as one that was never set. Takes no memory.
     pub(crate) fn give_up(&mut self, process: u32, word: &[u8], none: N)
-        ensures { numbers_or none self.new ≡ with_number_of (numbers_or none self.old) process word.now none }
+        ensures { numbers_or none self.new
+            ≡ with_number_of (numbers_or none self.old) process word.now none }
     {
         if let Some(table) = self.tables.get_mut(&process) {
             give_up(table, word, none);
@@ -86,7 +88,8 @@ impl<N: Copy> WordTables<N> {
 
     // No word of a process is set from now on. Takes no memory.
     pub(crate) fn remove(&mut self, process: u32)
-        ensures { (none : N) → numbers_or none self.new ≡ with_own (numbers_or none self.old) process (λ word. none) }
+        ensures { (none : N) → numbers_or none self.new
+            ≡ with_own (numbers_or none self.old) process (λ word. none) }
     {
         self.tables.remove(&process);
     }
@@ -94,7 +97,8 @@ impl<N: Copy> WordTables<N> {
     // The words of a process are these from now on. There must be room for them. Takes no memory.
     pub(crate) fn replace(&mut self, process: u32, table: Table<N>)
         requires room { HasTable self.old process }
-        ensures { (none : N) → numbers_or none self.new ≡ with_own (numbers_or none self.old) process (number_or none table) }
+        ensures { (none : N) → numbers_or none self.new
+            ≡ with_own (numbers_or none self.old) process (number_or none table) }
     {
         if let Some(own) = self.tables.get_mut(&process) {
             *own = table;

@@ -13,7 +13,7 @@ use std::alloc::{AllocError, Global};
 /// handle words. A word that was never set stands for 0, which is no process and no handle.
 ///
 /// A contract sees them by `words_in`. Room for a word is made before the step whose reply sets it, so
-/// that no reply is lost for want of memory. Room of one kind, as for a process word, a value, a context or
+/// that no reply is lost for lack of memory. Room of one kind, as for a process word, a value, a context or
 /// a ticket, stays where room of another kind is made.
 ///
 /// Source: this profile.
@@ -33,7 +33,7 @@ pub struct Words {
 }
 
 impl Words {
-    /// The words at first: `p1` is process 1. The only fault is want of memory.
+    /// The words at first: `p1` is process 1. The only fault is out of memory.
     pub fn new(alloc: Global) -> Result<Words, AllocError>
         ensures { IfOk result (λ words. words_in words ≡ first_words) }
     {
@@ -65,7 +65,7 @@ impl Words {
 
     /// The context that is kept for a handle word of a process: where the next page of a directory begins,
     /// and 0 at its beginning. Takes no memory.
-    pub fn context_of(&self, process: Proc, word: &[u8]) -> u64
+    pub(crate) fn context_of(&self, process: Proc, word: &[u8]) -> u64
         ensures { result ≡ (words_in self.now).contexts process word.now }
     {
         self.contexts.number_of(process.0, word, 0)
@@ -79,8 +79,8 @@ impl Words {
         self.tickets.number_of(process.0, word, 0)
     }
 
-    /// Makes room for a process word, which keeps its number. The only fault is want of memory.
-    pub fn room_for_process(&mut self, word: &[u8]) -> Result<(), AllocError>
+    /// Makes room for a process word, which keeps its number. The only fault is out of memory.
+    pub(crate) fn room_for_process(&mut self, word: &[u8]) -> Result<(), AllocError>
         ensures same { words_in self.new ≡ words_in self.old }
         ensures handles { self.new.handles ≡ self.old.handles }
         ensures contexts { self.new.contexts ≡ self.old.contexts }
@@ -91,7 +91,7 @@ impl Words {
     }
 
     /// Sets a process word, for which there is room. Takes no memory.
-    pub fn set_process(&mut self, word: &[u8], process: Proc)
+    pub(crate) fn set_process(&mut self, word: &[u8], process: Proc)
         requires room { has_word self.old.processes word.now ≡ true }
         ensures set { words_in self.new ≡ with_process (words_in self.old) word.now process }
         ensures handles { self.new.handles ≡ self.old.handles }
@@ -101,7 +101,7 @@ impl Words {
         set(&mut self.processes, word, process.0);
     }
 
-    /// Makes room for the words of a process, which keep their values. The only fault is want of memory.
+    /// Makes room for the words of a process, which keep their values. The only fault is out of memory.
     pub fn room_for_words(&mut self, process: Proc) -> Result<(), AllocError>
         ensures same { words_in self.new ≡ words_in self.old }
         ensures processes { self.new.processes ≡ self.old.processes }
@@ -112,7 +112,7 @@ impl Words {
         self.handles.room_for_words(self.alloc, process.0)
     }
 
-    /// Makes room for a handle word of a process, which keeps its value. The only fault is want of memory.
+    /// Makes room for a handle word of a process, which keeps its value. The only fault is out of memory.
     pub fn room_for_handle(&mut self, process: Proc, word: &[u8]) -> Result<(), AllocError>
         ensures same { words_in self.new ≡ words_in self.old }
         ensures processes { self.new.processes ≡ self.old.processes }
@@ -124,8 +124,8 @@ impl Words {
     }
 
     /// Makes room for the context of a handle word of a process, which keeps its context. The only fault is
-    /// want of memory.
-    pub fn room_for_context(&mut self, process: Proc, word: &[u8]) -> Result<(), AllocError>
+    /// out of memory.
+    pub(crate) fn room_for_context(&mut self, process: Proc, word: &[u8]) -> Result<(), AllocError>
         ensures same { words_in self.new ≡ words_in self.old }
         ensures processes { self.new.processes ≡ self.old.processes }
         ensures handles { self.new.handles ≡ self.old.handles }
@@ -136,7 +136,7 @@ impl Words {
     }
 
     /// Makes room for the ticket of an open that waits under a handle word of a process, which keeps its
-    /// ticket. The only fault is want of memory.
+    /// ticket. The only fault is out of memory.
     pub fn room_for_ticket(&mut self, process: Proc, word: &[u8]) -> Result<(), AllocError>
         ensures same { words_in self.new ≡ words_in self.old }
         ensures processes { self.new.processes ≡ self.old.processes }
@@ -158,7 +158,7 @@ impl Words {
     }
 
     /// Keeps a context for a handle word of a process, for which there is room. Takes no memory.
-    pub fn set_context(&mut self, process: Proc, word: &[u8], context: u64)
+    pub(crate) fn set_context(&mut self, process: Proc, word: &[u8], context: u64)
         requires room { HasRoom self.old.contexts process word.now }
         ensures { words_in self.new ≡ with_context (words_in self.old) process word.now context }
     {
@@ -190,14 +190,14 @@ impl Words {
     }
 
     /// All handle words of a process stand for 0 from now on, and have no context. Takes no memory.
-    pub fn give_all_up(&mut self, process: Proc)
+    pub(crate) fn give_all_up(&mut self, process: Proc)
         ensures { words_in self.new ≡ without_words (words_in self.old) process }
     {
         self.handles.remove(process.0);
         self.contexts.remove(process.0);
     }
 
-    /// A copy of the values of the handle words of a process. The only fault is want of memory.
+    /// A copy of the values of the handle words of a process. The only fault is out of memory.
     pub fn copy_of(&self, process: Proc) -> Result<Table<u32>, AllocError>
         ensures { IfOk result (λ table. number_in table ≡ (words_in self.now).values process) }
     {
@@ -211,7 +211,8 @@ impl Words {
     /// There must be room for them. Takes no memory.
     pub fn begin(&mut self, process: Proc, table: Table<u32>)
         requires room { HasTable self.old.handles process }
-        ensures words { words_in self.new ≡ with_words (words_in self.old) process (number_in table) }
+        ensures words { words_in self.new
+            ≡ with_words (words_in self.old) process (number_in table) }
         ensures processes { self.new.processes ≡ self.old.processes }
     {
         self.handles.replace(process.0, table);

@@ -6,7 +6,7 @@ use Rattle.ob_model.specs.declared.reply.Answer.TheVariants.{Done, Ticket}
 use Rattle.ob_model.specs.declared.reply.Event.TheVariants.{Resume}
 use Rattle.ob_model.specs.declared.reply.ParseRun.{ParseRun}
 use Rattle.ob_model.specs.declared.reply.Reply.{Reply}
-use Rattle.ob_complete.specs.Completes.{HasRun, Leads}
+use Rattle.ob_runner.specs.Completes.{HasRun, Leads}
 use Rattle.ob_seats.specs.Received.{Entries, IsReceived}
 use Rattle.ob_seats.specs.Played.{IsRunBy}
 use Rattle.ob_seats.proofs.Told.{adds_none}

@@ -1,4 +1,5 @@
 pub mod Told
+pub mod Children
 pub mod Held
 pub mod Keys
 pub mod Chained

@@ -3,7 +3,7 @@ use Rattle.std.proofs.Common.{◌≡◌, ◌∙◌, ℕ, ◌+◌, List, [], ◌�
 use Rattle.std.proofs.lemmas.List.{append_assoc, length-append, map-append}
 use Rattle.ob_model.specs.Run.{Entry}
 use Rattle.ob_standard.specs.Standard.{StandardKind}
-use Rattle.ob_complete.specs.Completes.{step_of}
+use Rattle.ob_runner.specs.Completes.{step_of}
 use Rattle.ob_lines.specs.declared.form.Form.{Form}
 use Rattle.ob_lines.specs.Grammar.{IsLine}
 use Rattle.ob_lines.specs.Lines.{lines_of}

@@ -1,4 +1,3 @@
 pub mod Received
 pub mod Played
 pub mod Kept
-pub mod Room

@@ -8,7 +8,7 @@ use Rattle.ob_model.specs.declared.reply.Event.TheVariants.{Start, Resume}
 use Rattle.ob_model.specs.declared.reply.ParseRun.{ParseRun}
 use Rattle.ob_model.specs.declared.reply.Reply.{Reply}
 use Rattle.ob_model.specs.Run.{Entry}
-use Rattle.ob_complete.specs.Completes.{HasRun, Leads, step_of}
+use Rattle.ob_runner.specs.Completes.{HasRun, Leads, step_of}
 use Rattle.ob_standard.specs.Standard.{StandardKind}
 use Rattle.ob_lines.specs.declared.form.Form.{Form}
 use Rattle.ob_lines.specs.declared.form.Form.TheVariants.{Nothing, Stat, Asks, Waits}

@@ -3,17 +3,17 @@
 ghost use Rattle.std.specs.Prelude.{◌≡◌, ◌++◌, IfOk, OnOk, ℕ};
 ghost use Rattle.ob_model.specs.declared.reply.Event.TheVariants.{Start, Resume};
 ghost use Rattle.ob_model.specs.declared.reply.ParseRun.{ParseRun};
-ghost use Rattle.ob_complete.specs.Completes.{HasRun};
+ghost use Rattle.ob_runner.specs.Completes.{HasRun};
 ghost use Rattle.ob_lines.specs.Grammar.{HasTexts, request_seen};
 ghost use Rattle.ob_lines.specs.Changes.{change_seen};
 ghost use Rattle.ob_requests.specs.Commands.{IsCommand};
+ghost use Rattle.ob_requests.specs.Room.{HasRoomFor};
 ghost use Rattle.ob_requests.specs.Tables.{words_in};
 ghost use Rattle.ob_seats.specs.Received.{Entries};
 ghost use Rattle.ob_seats.specs.Played.{IsRequestPlayed, IsRunBy};
-ghost use Rattle.ob_seats.specs.Room.{HasRoomFor};
 
 use crate::callers::{Begun, Callers};
-use crate::changes::{keep_reply, make_room};
+use crate::changes::keep_reply;
 use crate::stop::Stop;
 use ob_base::Proc;
 use ob_lines::{Change, Request, change_of};
@@ -33,8 +33,10 @@ pub(crate) fn answer<R: Wait, C: Callers>(
     request: Request<&[u8]>,
 ) -> (C::Pass, Result<(), Stop>)
     requires texts { HasTexts (request_seen request) }
-    ensures played { OnOk (result.1) ((entries : Entries) × (C.receipts (result.0) ≡ C.receipts pass ++ entries)
-        × IsRequestPlayed (request_seen request.entry) process (words_in words.old) entries (words_in words.new)) }
+    ensures played { OnOk (result.1) ((entries : Entries) × (C.receipts (result.0) ≡ C.receipts pass
+        ++ entries)
+        × IsRequestPlayed (request_seen request.entry) process (words_in words.old) entries
+        (words_in words.new)) }
     ensures seat { C.seat_of (result.0) ≡ C.seat_of pass }
     ensures tickets { (words_in words.new).tickets ≡ (words_in words.old).tickets }
 {
@@ -62,11 +64,12 @@ fn prepare(
     change: Change<&[u8]>,
 ) -> Result<Command<StandardKind>, AllocError>
     requires texts { HasTexts (request_seen request) }
-    ensures command { IfOk result (IsCommand (request_seen request.entry) (words_in words.old) process) }
+    ensures command { IfOk result (IsCommand (request_seen request.entry)
+        (words_in words.old) process) }
     ensures room { OnOk result (HasRoomFor words.new process (change_seen change.entry)) }
     ensures same { words_in words.new ≡ words_in words.old }
 {
-    make_room(words, process, change)?;
+    words.make_room(process, change)?;
     let asker = Asker { words, process };
     command_of(&asker, request)
 }
@@ -79,7 +82,8 @@ fn run<R: Wait, C: Callers>(
     process: Proc,
     command: &Command<StandardKind>,
 ) -> (C::Pass, Result<Reply, Stop>)
-    ensures ran { IfOk (result.1) (λ reply. (entries : Entries) × (C.receipts (result.0) ≡ C.receipts pass ++ entries) × IsRunBy (Start process command.now) entries reply) }
+    ensures ran { IfOk (result.1) (λ reply. (entries : Entries) × (C.receipts (result.0)
+        ≡ C.receipts pass ++ entries) × IsRunBy (Start process command.now) entries reply) }
     ensures seat { C.seat_of (result.0) ≡ C.seat_of pass }
 {
     let (pass, begun) = callers.start(pass, process, command);
@@ -97,8 +101,10 @@ fn bring<R: Wait, C: Callers>(
     pass: C::Pass,
     parsing: C::Parsing,
 ) -> (C::Pass, Result<Reply, Stop>)
-    ensures ran { IfOk (result.1) (λ reply. (entries : Entries) × (C.receipts (result.0) ≡ C.receipts pass ++ entries)
-        × (parse : ParseRun) × HasRun parse × IsRunBy (Resume (C.ticket_of parsing) parse) entries reply) }
+    ensures ran { IfOk (result.1) (λ reply. (entries : Entries) × (C.receipts (result.0)
+        ≡ C.receipts pass ++ entries)
+        × (parse : ParseRun) × HasRun parse
+        × IsRunBy (Resume (C.ticket_of parsing) parse) entries reply) }
     ensures seat { C.seat_of (result.0) ≡ C.seat_of pass }
 {
     let mut pass = pass;

@@ -6,7 +6,7 @@ ghost use Rattle.ob_model.specs.declared.reply.Event.TheVariants.{Start, Resume,
 ghost use Rattle.ob_model.specs.declared.reply.ParseRun.{ParseRun};
 ghost use Rattle.ob_model.specs.declared.reply.ParseRun.TheVariants.{Unrun};
 ghost use Rattle.ob_model.specs.Refusals.{answers};
-ghost use Rattle.ob_complete.specs.Completes.{HasRun};
+ghost use Rattle.ob_runner.specs.Completes.{HasRun};
 ghost use Rattle.ob_seats.specs.Received.{Entries, IsReceived, answer_of};
 
 use ob_base::{Fault, Proc};
@@ -51,7 +51,9 @@ pub trait Callers {
         command: &Command<StandardKind>,
     ) -> (Self::Pass, Result<Begun<Self::Parsing>, Fault>)
         ensures seat { seat_of (result.0) ≡ seat_of pass }
-        ensures told { IfOk (result.1) (λ begun. IsReceived (receipts pass) (Start process command.now) (answer_of ticket_of begun) (receipts (result.0))) }
+        ensures told { IfOk (result.1) (λ begun.
+            IsReceived (receipts pass) (Start process command.now) (answer_of ticket_of begun)
+            (receipts (result.0))) }
         ensures unmade { OnErr (result.1) (receipts (result.0) ≡ receipts pass) };
 
     /// Runs the parse that an open waits for, with nothing held, and brings it. At a fault no step was made by it, and the open is
@@ -63,14 +65,19 @@ pub trait Callers {
     ) -> (Self::Pass, Result<Begun<Self::Parsing>, Fault>)
         ensures seat { seat_of (result.0) ≡ seat_of pass }
         ensures told { IfOk (result.1) (λ begun. (parse : ParseRun) × HasRun parse
-            × IsReceived (receipts pass) (Resume (ticket_of parsing) parse) (answer_of ticket_of begun) (receipts (result.0))) }
+            × IsReceived (receipts pass) (Resume (ticket_of parsing) parse)
+            (answer_of ticket_of begun) (receipts (result.0))) }
         ensures given_up { OnErr (result.1) ((receipts (result.0) ≡ receipts pass)
-            ⊎ ((parse : ParseRun) × IsReceived (receipts pass) (Abandon (ticket_of parsing) parse) (answers Success) (receipts (result.0)))) };
+            ⊎ ((parse : ParseRun)
+            × IsReceived (receipts pass) (Abandon (ticket_of parsing) parse) (answers Success)
+            (receipts (result.0)))) };
 
     /// Gives an open up whose parse wasn't run, and tells whether that was a step: it was none where the parse is a stranger's, which is let
     /// go. Takes no memory.
     fn abandon(&self, pass: Self::Pass, parsing: Self::Parsing) -> (Self::Pass, bool)
         ensures seat { seat_of (result.0) ≡ seat_of pass }
-        ensures made { result.1 ≡ true → IsReceived (receipts pass) (Abandon (ticket_of parsing) Unrun) (answers Success) (receipts (result.0)) }
+        ensures made { result.1 ≡ true
+            → IsReceived (receipts pass) (Abandon (ticket_of parsing) Unrun) (answers Success)
+            (receipts (result.0)) }
         ensures unmade { result.1 ≡ false → receipts (result.0) ≡ receipts pass };
 }

@@ -8,7 +8,7 @@ use ob_requests::{WordTables, Words};
 use std::alloc::AllocError;
 use std::collections::BTreeMap;
 
-/// A copy of words for a worker, who has no open that waits. The only fault is want of memory.
+/// A copy of words for a worker, who has no open that waits. The only fault is out of memory.
 pub(crate) fn words_for_worker(words: &Words) -> Result<Words, AllocError>
     ensures { IfOk result (λ copy. words_in copy ≡ for_worker (words_in words.now)) }
 {

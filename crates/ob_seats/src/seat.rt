@@ -31,7 +31,7 @@ pub struct Seat<C: Callers> {
 }
 
 impl<C: Callers> Seat<C> {
-    /// A seat that has run no line: `p1` is process 1, and no open waits. The only fault is want of memory. (this profile)
+    /// A seat that has run no line: `p1` is process 1, and no open waits. The only fault is out of memory. (this profile)
     pub fn new(alloc: Global) -> Result<Seat<C>, AllocError>
         ensures first { IfOk result (λ seat. words_in seat.words ≡ first_words) }
         ensures held { IfOk result (λ seat. AreHeld (words_in seat.words).tickets seat.waits) }
@@ -53,10 +53,11 @@ impl<C: Callers> Seat<C> {
         Seat { words, waits }
     }
 
-    /// The words that a worker begins with: the same, with their contexts, and under none of them an open waits. The only fault is want of memory.
+    /// The words that a worker begins with: the same, with their contexts, and under none of them an open waits. The only fault is out of memory.
     /// (this profile)
     pub fn words_for_worker(&self) -> Result<Words, AllocError>
-        ensures words { IfOk result (λ words. words_in words ≡ for_worker (words_in self.now.words)) }
+        ensures words { IfOk result (λ words. words_in words
+            ≡ for_worker (words_in self.now.words)) }
         ensures none { IfOk result (λ words. AreHeld (words_in words).tickets []) }
     {
         words_for_worker(&self.words)
@@ -77,10 +78,14 @@ impl<C: Callers> Seat<C> {
         requires numbers { part.first + length (lines_in part) < 2 ^ 64 }
         requires held { AreHeld (words_in self.old.words).tickets self.old.waits }
         ensures held { AreHeld (words_in self.new.words).tickets self.new.waits }
-        ensures played { OnOk (result.1) ((entries : Entries) × (C.receipts (result.0) ≡ C.receipts pass ++ entries)
-            × ArePlayed (lines_in part.entry) (words_in self.old.words) entries (words_in self.new.words)) }
-        ensures number { IfOk (result.1) (λ number. number ≡ part.entry.first + length (lines_in part.entry)) }
-        ensures line { IfErr (result.1) (λ stopped. (part.entry.first ≤ stopped.line) × (stopped.line < part.entry.first + length (lines_in part.entry))) }
+        ensures played { OnOk (result.1) ((entries : Entries) × (C.receipts (result.0)
+            ≡ C.receipts pass ++ entries)
+            × ArePlayed (lines_in part.entry) (words_in self.old.words) entries
+            (words_in self.new.words)) }
+        ensures number { IfOk (result.1) (λ number. number
+            ≡ part.entry.first + length (lines_in part.entry)) }
+        ensures line { IfErr (result.1) (λ stopped. (part.entry.first ≤ stopped.line)
+            × (stopped.line < part.entry.first + length (lines_in part.entry))) }
         ensures seat { C.seat_of (result.0) ≡ C.seat_of pass }
     {
         let mut pass = pass;
@@ -112,8 +117,10 @@ impl<C: Callers> Seat<C> {
         requires texts { FormHasTexts (form_seen form) }
         requires held { AreHeld (words_in self.old.words).tickets self.old.waits }
         ensures held { AreHeld (words_in self.new.words).tickets self.new.waits }
-        ensures played { OnOk (result.1) ((entries : Entries) × (C.receipts (result.0) ≡ C.receipts pass ++ entries)
-            × IsLinePlayed (form_seen form.entry) (words_in self.old.words) entries (words_in self.new.words)) }
+        ensures played { OnOk (result.1) ((entries : Entries) × (C.receipts (result.0)
+            ≡ C.receipts pass ++ entries)
+            × IsLinePlayed (form_seen form.entry) (words_in self.old.words) entries
+            (words_in self.new.words)) }
         ensures seat { C.seat_of (result.0) ≡ C.seat_of pass }
     {
         match form {
@@ -141,7 +148,8 @@ impl<C: Callers> Seat<C> {
     /// it is unless a parse is a stranger's. Takes no memory. (this profile)
     pub fn end(self, callers: &C, pass: C::Pass) -> (C::Pass, bool)
         requires held { AreHeld (words_in self.words).tickets self.waits }
-        ensures given_up { result.1 ≡ true → (entries : Entries) × (C.receipts (result.0) ≡ C.receipts pass ++ entries) × AreGivenUp (words_in self.words) entries }
+        ensures given_up { result.1 ≡ true → (entries : Entries) × (C.receipts (result.0)
+            ≡ C.receipts pass ++ entries) × AreGivenUp (words_in self.words) entries }
         ensures seat { C.seat_of (result.0) ≡ C.seat_of pass }
     {
         let Seat {
@@ -174,9 +182,11 @@ pub fn run_seat<R: Wait, C: Callers>(
     requires lines { AreScriptLines (lines_in part) }
     requires numbers { part.first + length (lines_in part) < 2 ^ 64 }
     requires held { AreHeld (words_in seat.words).tickets seat.waits }
-    ensures played { OnOk (result.1) ((entries : Entries) × (C.receipts (result.0) ≡ C.receipts pass ++ entries)
+    ensures played { OnOk (result.1) ((entries : Entries) × (C.receipts (result.0) ≡ C.receipts pass
+        ++ entries)
         × IsSeatPlayed (lines_in part.entry) (words_in seat.words) entries) }
-    ensures line { IfErr (result.1) (λ stopped. (part.entry.first ≤ stopped.line) × (stopped.line ≤ part.entry.first + length (lines_in part.entry))) }
+    ensures line { IfErr (result.1) (λ stopped. (part.entry.first ≤ stopped.line)
+        × (stopped.line ≤ part.entry.first + length (lines_in part.entry))) }
     ensures seat { C.seat_of (result.0) ≡ C.seat_of pass }
 {
     let mut seat = seat;

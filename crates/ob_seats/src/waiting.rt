@@ -17,13 +17,12 @@ ghost use Rattle.ob_seats.specs.Played.{IsStepPlayed, IsWaitPlayed};
 ghost use Rattle.ob_seats.specs.Kept.{AreHeld};
 
 use crate::callers::{Begun, Callers};
-use crate::changes::given_handle;
 use crate::stop::Stop;
 use crate::waits::SeatWaits;
 use ob_base::Proc;
 use ob_lines::{KindForm, NameForm, PendingForm, Request};
 use ob_model::{Command, Reply};
-use ob_requests::{Asker, Words, command_of};
+use ob_requests::{Asker, Words, command_of, given_handle};
 use ob_standard::StandardKind;
 use std::alloc::AllocError;
 
@@ -42,8 +41,10 @@ pub(crate) fn carry_on<C: Callers>(
     requires texts { PendingHasTexts (pending_seen pending) }
     requires held { AreHeld (words_in words.old).tickets waits.old }
     ensures held { AreHeld (words_in words.new).tickets waits.new }
-    ensures played { OnOk (result.1) ((entries : Entries) × (C.receipts (result.0) ≡ C.receipts pass ++ entries)
-        × IsWaitPlayed (pending_seen pending.entry) process (words_in words.old) entries (words_in words.new)) }
+    ensures played { OnOk (result.1) ((entries : Entries) × (C.receipts (result.0) ≡ C.receipts pass
+        ++ entries)
+        × IsWaitPlayed (pending_seen pending.entry) process (words_in words.old) entries
+        (words_in words.new)) }
     ensures seat { C.seat_of (result.0) ≡ C.seat_of pass }
 {
     match pending {
@@ -79,8 +80,10 @@ fn begin_under<C: Callers>(
     requires text { IsText (text_of (name_seen (asked.1))) }
     requires held { AreHeld (words_in words.old).tickets waits.old }
     ensures held { AreHeld (words_in words.new).tickets waits.new }
-    ensures played { OnOk (result.1) ((entries : Entries) × (C.receipts (result.0) ≡ C.receipts pass ++ entries)
-        × IsWaitPlayed (Begin (asked.entry.0) (name_seen (asked.entry.1)) (asked.entry.2) word.now) process (words_in words.old) entries (words_in words.new)) }
+    ensures played { OnOk (result.1) ((entries : Entries) × (C.receipts (result.0) ≡ C.receipts pass
+        ++ entries)
+        × IsWaitPlayed (Begin (asked.entry.0) (name_seen (asked.entry.1))
+        (asked.entry.2) word.now) process (words_in words.old) entries (words_in words.new)) }
     ensures seat { C.seat_of (result.0) ≡ C.seat_of pass }
 {
     if words.ticket_of(process, word) != 0 {
@@ -100,7 +103,8 @@ fn end_under<C: Callers>(
 ) -> (C::Pass, Result<(), Stop>)
     requires held { AreHeld (words_in words.old).tickets waits.old }
     ensures held { AreHeld (words_in words.new).tickets waits.new }
-    ensures played { OnOk (result.1) ((entries : Entries) × (C.receipts (result.0) ≡ C.receipts pass ++ entries)
+    ensures played { OnOk (result.1) ((entries : Entries) × (C.receipts (result.0) ≡ C.receipts pass
+        ++ entries)
         × IsWaitPlayed (End word.now) process (words_in words.old) entries (words_in words.new)) }
     ensures seat { C.seat_of (result.0) ≡ C.seat_of pass }
 {
@@ -122,7 +126,8 @@ fn drop_under<C: Callers>(
 ) -> (C::Pass, Result<(), Stop>)
     requires held { AreHeld (words_in words.old).tickets waits.old }
     ensures held { AreHeld (words_in words.new).tickets waits.new }
-    ensures played { OnOk (result.1) ((entries : Entries) × (C.receipts (result.0) ≡ C.receipts pass ++ entries)
+    ensures played { OnOk (result.1) ((entries : Entries) × (C.receipts (result.0) ≡ C.receipts pass
+        ++ entries)
         × IsWaitPlayed (Drop word.now) process (words_in words.old) entries (words_in words.new)) }
     ensures seat { C.seat_of (result.0) ≡ C.seat_of pass }
 {
@@ -155,8 +160,10 @@ fn begin<C: Callers>(
     requires free { (words_in words.old).tickets process word.now ≡ 0 }
     requires held { AreHeld (words_in words.old).tickets waits.old }
     ensures held { AreHeld (words_in words.new).tickets waits.new }
-    ensures played { OnOk (result.1) ((e : Entry StandardKinds) × (C.receipts (result.0) ≡ C.receipts pass ++ e ∷ [])
-        × IsStepPlayed (Begin (asked.entry.0) (name_seen (asked.entry.1)) (asked.entry.2) word.now) process (words_in words.old) e (words_in words.new)) }
+    ensures played { OnOk (result.1) ((e : Entry StandardKinds) × (C.receipts (result.0)
+        ≡ C.receipts pass ++ e ∷ [])
+        × IsStepPlayed (Begin (asked.entry.0) (name_seen (asked.entry.1))
+        (asked.entry.2) word.now) process (words_in words.old) e (words_in words.new)) }
     ensures seat { C.seat_of (result.0) ≡ C.seat_of pass }
 {
     match prepare(words, process, asked, word) {
@@ -185,7 +192,8 @@ fn prepare(
     word: &[u8],
 ) -> Result<Command<StandardKind>, AllocError>
     requires text { IsText (text_of (name_seen (asked.1))) }
-    ensures command { IfOk result (IsOpenObject (asked.entry.0) (name_seen (asked.entry.1)) (asked.entry.2) ((words_in words.old).values process)) }
+    ensures command { IfOk result (IsOpenObject (asked.entry.0) (name_seen (asked.entry.1))
+        (asked.entry.2) ((words_in words.old).values process)) }
     ensures handle { OnOk result (HasRoom words.new.handles process word.now) }
     ensures ticket { OnOk result (HasRoom words.new.tickets process word.now) }
     ensures same { words_in words.new ≡ words_in words.old }
@@ -214,7 +222,8 @@ fn make_room(words: &mut Words, process: Proc, word: &[u8]) -> Result<(), AllocE
 /// Keeps the reply of an open under its word: the handle that was given, or 0, and no open waits there any longer.
 fn keep_reply(words: &mut Words, process: Proc, word: &[u8], reply: &Reply)
     requires handle { HasRoom words.old.handles process word.now }
-    ensures { words_in words.new ≡ words_answered (words_in words.old) process word.now (Done reply.now) }
+    ensures { words_in words.new
+        ≡ words_answered (words_in words.old) process word.now (Done reply.now) }
 {
     words.set_handle(process, word, given_handle(&reply.given));
     words.clear_ticket(process, word);
@@ -231,9 +240,11 @@ fn wait<C: Callers>(
     parsing: C::Parsing,
 ) -> (C::Pass, Result<(), Stop>)
     requires ticket { HasRoom words.old.tickets process word.now }
-    requires held { AreHeld (with_ticket (words_in words.old) process word.now 0).tickets waits.old }
+    requires held { AreHeld (with_ticket
+        (words_in words.old) process word.now 0).tickets waits.old }
     ensures held { AreHeld (words_in words.new).tickets waits.new }
-    ensures set { OnOk (result.1) (words_in words.new ≡ with_ticket (words_in words.old) process word.now (C.ticket_of parsing)) }
+    ensures set { OnOk (result.1) (words_in words.new
+        ≡ with_ticket (words_in words.old) process word.now (C.ticket_of parsing)) }
     ensures kept { OnOk (result.1) (C.receipts (result.0) ≡ C.receipts pass) }
     ensures seat { C.seat_of (result.0) ≡ C.seat_of pass }
 {
@@ -265,7 +276,8 @@ fn end<C: Callers>(
     requires some { ticket ≢ 0 }
     requires held { AreHeld (words_in words.old).tickets waits.old }
     ensures held { AreHeld (words_in words.new).tickets waits.new }
-    ensures played { OnOk (result.1) ((e : Entry StandardKinds) × (C.receipts (result.0) ≡ C.receipts pass ++ e ∷ [])
+    ensures played { OnOk (result.1) ((e : Entry StandardKinds) × (C.receipts (result.0)
+        ≡ C.receipts pass ++ e ∷ [])
         × IsStepPlayed (End word.now) process (words_in words.old) e (words_in words.new)) }
     ensures seat { C.seat_of (result.0) ≡ C.seat_of pass }
 {

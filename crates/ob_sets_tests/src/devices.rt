@@ -1,8 +1,8 @@
 //! Devices and files: their arguments, and the files that names lead to.
 
 use crate::objects::{Told, hand_over_laws, is_so, made};
-use crate::tables::{fields, word};
-use ob_device::{DeviceFace, DeviceInner, DeviceKind, DeviceSet, PathTable};
+use crate::tables::word;
+use ob_device::{DeviceFace, DeviceInner, DeviceKind, DeviceSet};
 use ob_plain::Path;
 use std::alloc::Global;
 
@@ -39,18 +39,7 @@ impl Told for DeviceSet {
     }
 }
 
-// Beside what is told of any set: the arguments of a table of paths, a path, whether the table has it, and whether one of
-// the paths is empty.
 const DEVICES: &'static str = "
-has     |          |      | none  | none
-has     |          | a    | none  | none
-has     | a        | a    | there | none
-has     | ab       | a    | none  | none
-has     | a;b\\c   | b\\c | there | none
-has     | a;b\\c   | b    | none  | none
-has     | a;b      | A    | none  | none
-has     | a;       | a    | there | empty
-has     | ;a       |      | there | empty
 make    | Device           | made      | parses
 make    | Device a         | made      | parses
 make    | Device \\        | made      | parses
@@ -87,6 +76,9 @@ parse   | Device a;b\\c | \\b\\c | 4 file b\\c
 parse   | Device a;a    | \\a    | 2 file a
 parse   | Device \\a    | \\\\a  | 3 file \\a
 parse   | Device \\a    | \\a    | refused 3
+parse   | Device ab     | \\a    | refused 3
+parse   | Device a;b\\c | \\b    | refused 3
+parse   | Device a;b    | \\A    | refused 3
 parse   | Device a      | \\     | refused 3
 parse   | Device a      | \\A    | refused 3
 parse   | Device a      | \\a\\  | refused 3
@@ -101,27 +93,14 @@ life    | Device | 4294967294 | duplicated 4294967295 | 4294967295
 life    | Device | 4294967295 | duplicated 4294967295 | 4294967295
 ";
 
-// Whether the table of these arguments has a path, and an empty one.
-fn has(alloc: Global, args: &str, path: &str, told: [&str; 2]) -> Option<bool> {
-    let table = PathTable::read(alloc, args.as_bytes()).ok()?;
-    let has = (table.has(path.as_bytes()), table.has_empty());
-    Some(has == (told[0] == "there", told[1] == "empty"))
-}
-
-// Whether a line of the table is so.
-fn is_line_so(alloc: Global, line: &str) -> Option<bool> {
-    let [what, args, path, there, empty] = fields(line);
-    match what {
-        "has" => has(alloc, args, path, [there, empty]),
-        _ => is_so(alloc, &mut DeviceSet, line),
-    }
-}
-
 #[test]
 fn devices_are_made_of_paths_and_lead_to_their_files(rt: HostRuntime) {
     hand_over_laws::<DeviceSet>();
     assert!(rt; DeviceKind::Device != DeviceKind::File);
     for line in DEVICES.trim().lines() {
-        assert!(rt; is_line_so(rt.alloc(), line) == Some(true), "{line}");
+        assert!(rt;
+            is_so(rt.alloc(), &mut DeviceSet, line) == Some(true),
+            "{line}"
+        );
     }
 }

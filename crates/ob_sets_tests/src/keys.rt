@@ -2,8 +2,7 @@
 
 use crate::objects::{Told, hand_over_laws, is_so, made};
 use crate::tables::{fields, refused, word};
-use ob_key::{KeyFace, KeyInner, KeyKind, KeySet, KeyTable};
-use ob_plain::{Path, is_readable};
+use ob_key::{KeyFace, KeyInner, KeyKind, KeySet};
 use ob_types::{ParseAnswer, TypeSet};
 use std::alloc::Global;
 use std::process::Abort;
@@ -24,7 +23,7 @@ impl Told for KeySet {
             _ => told.split_once('@').unwrap_or((told, "")),
         };
         let root = made::<KeySet>(alloc, KeyKind::Key, args.trim().as_bytes())?;
-        root.at(Path::new(alloc, path.trim().as_bytes()).ok()?).ok()
+        walked(alloc, root, path.trim())
     }
 
     fn is_new(face: &KeyFace, inner: &KeyInner, field: &str) -> bool {
@@ -39,9 +38,7 @@ impl Told for KeySet {
 
 // Beside what is told of any set:
 //
-// - `make`: the entries of the arguments may stand in one table where the key is made, and else not.
-// - `parse`: where it leads to a key, that has the table of the key that is asked.
-// - `path`: the path of a key, a name, and the path of that name below the key.
+// - `parse`: where it leads to a key, that is the key of that path of the table of the key that is asked.
 // - `long`: the bytes of a target, and what is answered to `\l\b` and to `\l` where the link `l` has it: the bytes of the
 //   name, or a number that refuses.
 const KEYS: &'static str = r"
@@ -53,7 +50,18 @@ make    | Key a\b>\X;a      | made      | parses
 make    | Key a>b>c         | made      | parses
 make    | Key ab;a>b        | made      | parses
 make    | Key a>x;b\c>x     | made      | parses
+make    | Key a\b c\d>\B    | made      | parses
+make    | Key a>>           | made      | parses
+make    | Key a>b>\c\       | made      | parses
+make    | Key a;b           | made      | parses
+make    | Key a\b;a         | made      | parses
+make    | Key a;a\b>c       | made      | parses
+make    | Key a>c;b>c       | made      | parses
 make    | Key ;             | refused 1 | parses
+make    | Key a\>b          | refused 1 | parses
+make    | Key a>b;a>b       | refused 1 | parses
+make    | Key a>c;a\b       | refused 1 | parses
+make    | Key a\b;a>c       | refused 1 | parses
 make    | Key a;            | refused 1 | parses
 make    | Key ;a            | refused 1 | parses
 make    | Key a;;b          | refused 1 | parses
@@ -78,6 +86,9 @@ same    | Key a\b @ a   | Key a\b @ a\b | other
 same    | Key a @ a     | Key a;b @ a   | other
 same    | Key a;b       | Key b;a       | other
 same    | Key a>b       | Key a         | other
+same    | Key a>b       | Key a>c       | other
+same    | Key a>\A>     | Key a>\A      | other
+same    | Key a;b       | Key a         | other
 parse   | at       |        | itself
 parse   | at a\b   |        | itself
 parse   | at       | d      | 1 key d
@@ -101,10 +112,19 @@ parse   | at       | \L     | refused 3
 parse   | at       | \m     | refused 3
 parse   | at d     | \d     | refused 3
 parse   | at a\b\c | d      | refused 3
-path    |     | a   | a
-path    | a   | b   | a\b
-path    | a\b | c d | a\b\c d
-path    |     |     |
+parse   | at a     | \b\    | 2 key a\b
+parse   | Key a\b c           | \a\b c | 2 key a
+parse   | Key a\b c @ a       | \b c   | 4 key a\b c
+parse   | Key                 | \a     | refused 3
+parse   | Key ab;c\d          | \a     | refused 3
+parse   | Key ab;c\d          | \d     | refused 3
+parse   | Key a;b\c           | \b     | 2 key b
+parse   | Key a;b\c @ b       | \c     | 2 key b\c
+parse   | Key a;b\c @ b       | \C     | refused 3
+parse   | Key a;b\l>\X;m>\Y @ b | \l | name \X
+parse   | Key a;b\l>\X;m>\Y | \m     | name \Y
+parse   | Key a;b\l>\X;m>\Y | \l     | refused 3
+parse   | Key l>\A>          | l      | name \A>
 long    | 32765 | 32767     | 32765
 long    | 32766 | refused 4 | 32766
 long    | 32767 | refused 4 | 32767
@@ -122,30 +142,34 @@ make  | Key a>\x7f | refused 1 | parses
 parse | at         | l\\\x7f   | refused 3
 ";
 
-// Whether the entries of arguments that can be read may stand in one table.
-fn is_fit(alloc: Global, args: &[u8]) -> Option<bool> {
-    if !is_readable(args) {
-        return Some(false);
+// The key of this path of a root's table, reached one component behind another.
+fn walked(alloc: Global, root: KeyFace, path: &str) -> Option<KeyFace> {
+    let mut face = root;
+    for component in path.split('\\') {
+        match KeySet::parse(alloc, &face, component.as_bytes()).ok()? {
+            ParseAnswer::Front { next, .. } => face = next,
+            ParseAnswer::Itself => {}
+            ParseAnswer::Reparse(_) => return None,
+            ParseAnswer::Refused(_) => return None,
+        }
     }
-    Some(KeyTable::read(alloc, args).ok()?.is_fit())
+    Some(face)
 }
 
-// Whether an answer leads to no key, or to one of the table of the key that is asked.
-fn keeps_table(alloc: Global, object: &str, rest: &str) -> Option<bool> {
+// Whether an answer leads to no key, or to the key of this path of the table of the key that is asked.
+fn keeps_table(alloc: Global, object: &str, rest: &str, wanted: &str) -> Option<bool> {
     let face = KeySet::face(alloc, object)?;
-    Some(match KeySet::parse(alloc, &face, rest.as_bytes()).ok()? {
-        ParseAnswer::Front { next, .. } => next.table() == face.table(),
-        _ => true,
-    })
-}
-
-// Whether a key of a path, of a table without entries, has it, and a name below it that path.
-fn joins(alloc: Global, path: &str, name: &str, wanted: &str) -> Option<bool> {
-    let root = KeyFace::root(alloc, KeyTable::read(alloc, b"").ok()?).ok()?;
-    let face = root.at(Path::new(alloc, path.as_bytes()).ok()?).ok()?;
-    let below = face.path_of(alloc, name.as_bytes()).ok()?;
-    let is_path = face.path().as_slice() == path.as_bytes();
-    Some(is_path && below.as_slice() == wanted.as_bytes())
+    let ParseAnswer::Front { next, .. } = KeySet::parse(alloc, &face, rest.as_bytes()).ok()? else {
+        return Some(true);
+    };
+    let (name, told) = word(object);
+    let args = match name {
+        "at" => ENTRIES,
+        _ => told.split_once('@').unwrap_or((told, "")).0,
+    };
+    let path = word(word(wanted).1).1;
+    let root = made::<KeySet>(alloc, KeyKind::Key, args.trim().as_bytes())?;
+    Some(KeySet::same(&next, &walked(alloc, root, path)?))
 }
 
 // The root of a link `l` to a name of so many letters.
@@ -175,14 +199,11 @@ fn have_lengths(alloc: Global, letters: &str, below: &str, alone: &str) -> Optio
 // Whether a line of the tables is so.
 fn is_line_so(alloc: Global, line: &str) -> Option<bool> {
     let [what, a, b, c, ..] = fields(line);
-    let more = match what {
-        "path" => return joins(alloc, a, b, c),
-        "long" => return have_lengths(alloc, a, b, c),
-        "make" => is_fit(alloc, word(a).1.as_bytes())? == (b == "made"),
-        "parse" => keeps_table(alloc, a, b)?,
-        _ => true,
-    };
-    Some(more && is_so(alloc, &mut KeySet, line)?)
+    match what {
+        "long" => have_lengths(alloc, a, b, c),
+        "parse" => Some(keeps_table(alloc, a, b, c)? && is_so(alloc, &mut KeySet, line)?),
+        _ => is_so(alloc, &mut KeySet, line),
+    }
 }
 
 fn assert_keys(rt: &impl Abort, alloc: Global, table: &str) {

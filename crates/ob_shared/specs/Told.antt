@@ -10,7 +10,7 @@ use Rattle.ob_model.specs.Procedures.{Procedures}
 use Rattle.ob_model.specs.Refusals.{answers}
 use Rattle.ob_model.specs.Run.{Run}
 use Rattle.ob_types.specs.Parse.{ToRun, asked_of}
-use Rattle.ob_waiting.specs.Waiting.{IsAwaited, IsParseOf}
+use Rattle.ob_opens.specs.Waiting.{IsAwaited, IsParseOf}
 use Rattle.ob_locked.specs.declared.started.Pending.{Pending}
 use Rattle.ob_locked.specs.declared.started.Started.{Started}
 use Rattle.ob_locked.specs.Answers.{answer_in, brought_in, run_in, IfWaits}

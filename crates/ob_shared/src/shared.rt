@@ -106,7 +106,8 @@ impl<T: TypeSet, H: HandleTable, L: Ledger> Shared<T, H, L> {
         process: Proc,
         command: &Command<T::Kind>,
     ) -> (Pass<T::Kind, L>, Result<Started<T>, Fault>)
-        ensures told { IfOk (result.1) (λ started. IsTold T.procedures pass (Start process command.now) started (result.0)) }
+        ensures told { IfOk (result.1) (λ started.
+            IsTold T.procedures pass (Start process command.now) started (result.0)) }
         ensures unmade { OnErr (result.1) (result.0 ≡ pass) }
         ensures fault { IfErr (result.1) (λ fault. IsNotStarted T.procedures pass fault) }
     {
@@ -127,9 +128,12 @@ impl<T: TypeSet, H: HandleTable, L: Ledger> Shared<T, H, L> {
         pass: Pass<T::Kind, L>,
         parsed: Parsed<T>,
     ) -> (Pass<T::Kind, L>, Result<Started<T>, (Fault, Parsed<T>)>)
-        ensures told { IfOk (result.1) (λ started. IsTold T.procedures pass (Resume parsed.ticket (run_of_end parsed.outcome)) started (result.0)) }
+        ensures told { IfOk (result.1) (λ started.
+            IsTold T.procedures pass (Resume parsed.ticket (run_of_end parsed.outcome)) started
+            (result.0)) }
         ensures unmade { OnErr (result.1) (result.0 ≡ pass) }
-        ensures fault { IfErr (result.1) (λ back. IsNotBrought T.procedures pass (asked_of parsed) (back.0)) }
+        ensures fault { IfErr (result.1) (λ back.
+            IsNotBrought T.procedures pass (asked_of parsed) (back.0)) }
         ensures back { IfErr (result.1) (λ back. back.1 ≡ parsed) }
     {
         let mut pass = pass;
@@ -159,9 +163,11 @@ impl<T: TypeSet, H: HandleTable, L: Ledger> Shared<T, H, L> {
     /// and journal differ, and hands nothing back: a pass is missing, or isn't the only one of its seat, or has other receipts than
     /// the journal has entries of its seat. Takes no memory and no lock. (this profile)
     pub fn close(self, passes: Vec<Pass<T::Kind, L>>) -> Result<Ended<T, H>, Mismatch>
-        ensures run { IfOk result (λ ended. (first : T) × Run T.procedures first ended.journal.items ended.core) }
+        ensures run { IfOk result (λ ended. (first : T)
+            × Run T.procedures first ended.journal.items ended.core) }
         ensures settled { IfOk result (λ ended. IsSettled ended.journal.items passes.items self) }
-        ensures mismatch { IfErr result (λ mismatch. IsMismatchOfRun T.procedures passes.items self mismatch) }
+        ensures mismatch { IfErr result (λ mismatch.
+            IsMismatchOfRun T.procedures passes.items self mismatch) }
     {
         let Shared {
             lock,

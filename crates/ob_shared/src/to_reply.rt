@@ -36,8 +36,10 @@ impl<T: TypeSet, H: HandleTable, L: Ledger> Shared<T, H, L> {
         command: &Command<T::Kind>,
         gate: &G,
     ) -> (Pass<T::Kind, L>, Result<Reply, Fault>)
-        ensures reply { IfOk (result.1) (λ reply. IsRunToReply T.procedures pass (Start process command.now) reply (result.0)) }
-        ensures fault { IfErr (result.1) (λ fault. IsCutShort T.procedures pass (Start process command.now) fault (result.0)) }
+        ensures reply { IfOk (result.1) (λ reply.
+            IsRunToReply T.procedures pass (Start process command.now) reply (result.0)) }
+        ensures fault { IfErr (result.1) (λ fault.
+            IsCutShort T.procedures pass (Start process command.now) fault (result.0)) }
     {
         let (pass, started) = self.start(rt, pass, process, command);
         match started {
@@ -55,8 +57,11 @@ impl<T: TypeSet, H: HandleTable, L: Ledger> Shared<T, H, L> {
         parsing: Parsing<T>,
         gate: &G,
     ) -> (Pass<T::Kind, L>, Result<Reply, Fault>)
-        ensures reply { IfOk (result.1) (λ reply. (before : Passed T.Kind) (event : Event T.Kind) → IsOnTheWay before event parsing.ticket pass → IsRunToReply T.procedures before event reply (result.0)) }
-        ensures fault { OnErr (result.1) ((before : Passed T.Kind) (event : Event T.Kind) → IsOnTheWay before event parsing.ticket pass → IsGivenUpAt before event (result.0)) }
+        ensures reply { IfOk (result.1) (λ reply. (before : Passed T.Kind) (event : Event T.Kind)
+            → IsOnTheWay before event parsing.ticket pass
+            → IsRunToReply T.procedures before event reply (result.0)) }
+        ensures fault { OnErr (result.1) ((before : Passed T.Kind) (event : Event T.Kind)
+            → IsOnTheWay before event parsing.ticket pass → IsGivenUpAt before event (result.0)) }
     {
         let mut pass = pass;
         let mut parsing = parsing;

@@ -22,7 +22,8 @@ pub(crate) fn start_under<T: TypeSet, H: HandleTable, L: Ledger>(
     process: Proc,
     command: &Command<T::Kind>,
 ) -> Result<Started<T>, Fault>
-    ensures told { IfOk result (λ started. IsTold T.procedures pass.old (Start process command.now) started pass.new) }
+    ensures told { IfOk result (λ started.
+        IsTold T.procedures pass.old (Start process command.now) started pass.new) }
     ensures unmade { OnErr result (pass.new ≡ pass.old) }
     ensures fault { IfErr result (λ fault. IsNotStarted T.procedures pass.old fault) }
 {
@@ -41,9 +42,12 @@ pub(crate) fn resume_under<'a, T: TypeSet, H: HandleTable, L: Ledger>(
     pass: &'a mut Pass<T::Kind, L>,
     parsed: Parsed<T>,
 ) -> Result<Started<T>, (Fault, Parsed<T>)>
-    ensures told { IfOk result (λ started. IsTold T.procedures pass.old (Resume parsed.ticket (run_of_end parsed.outcome)) started pass.new) }
+    ensures told { IfOk result (λ started.
+        IsTold T.procedures pass.old (Resume parsed.ticket
+        (run_of_end parsed.outcome)) started pass.new) }
     ensures unmade { OnErr result (pass.new ≡ pass.old) }
-    ensures fault { IfErr result (λ back. IsNotBrought T.procedures pass.old (asked_of parsed) (back.0)) }
+    ensures fault { IfErr result (λ back.
+        IsNotBrought T.procedures pass.old (asked_of parsed) (back.0)) }
     ensures back { IfErr result (λ back. back.1 ≡ parsed) }
 {
     locked.is_kept();

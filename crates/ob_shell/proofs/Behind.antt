@@ -11,10 +11,10 @@ use Rattle.ob_model.specs.Sound.{IsSound}
 use Rattle.ob_model.specs.Step.{Step}
 use Rattle.ob_model.proofs.Soundness.{opening_sound}
 use Rattle.ob_model.proofs.Steps.{step_sound}
-use Rattle.ob_complete.specs.Completes.{step_of}
-use Rattle.ob_complete.proofs.Chains.{completes_sound, completes_run, entered, behind as count_behind, entered_steps}
-use Rattle.ob_effects.specs.declared.outcome.Outcome.{Outcome}
-use Rattle.ob_effects.specs.declared.outcome.Outcome.TheVariants as outcome
+use Rattle.ob_runner.specs.Completes.{step_of}
+use Rattle.ob_runner.proofs.Chains.{completes_sound, completes_run, entered, behind as count_behind, entered_steps}
+use Rattle.ob_effects.specs.declared.outcome.LineOutcome.{LineOutcome}
+use Rattle.ob_effects.specs.declared.outcome.LineOutcome.TheVariants as outcome
 use Rattle.ob_shell.specs.declared.run.Ending.{Ending}
 use Rattle.ob_shell.specs.declared.run.Ending.TheVariants as ending
 use Rattle.ob_lines.specs.declared.form.Form.{Form}
@@ -77,7 +77,7 @@ stands_first old has script session none (w, (first, f, e)) = record {
 }
 
 -- the steps of a line that goes on
-abbrev own_steps : (form : Option (Form (List ℕ))) (words words' : Words) (s s' : Space) (o : Outcome) → IsDone form words s o words' s' → Steps
+abbrev own_steps : (form : Option (Form (List ℕ))) (words words' : Words) (s s' : Space) (o : LineOutcome) → IsDone form words s o words' s' → Steps
 own_steps None words words' s s' o d = []
 own_steps (Some Nothing) words words' s s' o d = []
 own_steps (Some Stat) words words' s s' o d = []
@@ -98,7 +98,7 @@ own_steps (Some (Waits process line)) words words' s s' outcome.NoMemory d = []
 
 -- What a line that goes on leaves: a sound state, opens that wait under words, and a run that goes on behind its steps,
 -- with the rest of what is shown.
-record GoesOn (form : Option (Form (List ℕ))) (number : ℕ) (words words' : Words) (s s' : Space) (o : Outcome) (own : Steps) : Type 0 where
+record GoesOn (form : Option (Form (List ℕ))) (number : ℕ) (words words' : Words) (s s' : Space) (o : LineOutcome) (own : Steps) : Type 0 where
   sound : IsSound s'
   tickets : List ℕ
   waiting : AreWaiting s' words' tickets
@@ -107,7 +107,7 @@ record GoesOn (form : Option (Form (List ℕ))) (number : ℕ) (words words' : W
       → Shows number (form ∷ forms) words s (own ++ steps) (outcome_text number o ++ output) end
 
 -- a line that leaves the words and the state
-stays : (form : Option (Form (List ℕ))) (number : ℕ) (words words' : Words) (s s' : Space) (o : Outcome) (tickets : List ℕ) → words' ≡ words → s' ≡ s → IsSound s → AreWaiting s words tickets
+stays : (form : Option (Form (List ℕ))) (number : ℕ) (words words' : Words) (s s' : Space) (o : LineOutcome) (tickets : List ℕ) → words' ≡ words → s' ≡ s → IsSound s → AreWaiting s words tickets
     → ((forms : Forms) (steps : Steps) (output : List ℕ) (end : Ending) → Shows (number + 1) forms words s steps output end → Shows number (form ∷ forms) words s steps (outcome_text number o ++ output) end)
     → GoesOn form number words words' s s' o []
 stays form number words words' s s' o tickets w e sound waiting shows = record {
@@ -120,7 +120,7 @@ stays form number words words' s s' o tickets w e sound waiting shows = record {
 }
 
 -- a line of an open that waits, which made a step
-steps_on : (process : List ℕ) (line : PendingForm (List ℕ)) (number : ℕ) (words words' : Words) (s s' : Space) (o : Outcome) (a : Answer) (tickets : List ℕ) → IsSound s → AreWaiting s words tickets
+steps_on : (process : List ℕ) (line : PendingForm (List ℕ)) (number : ℕ) (words words' : Words) (s s' : Space) (o : LineOutcome) (a : Answer) (tickets : List ℕ) → IsSound s → AreWaiting s words tickets
     → MakesStep line (words.processes process) words → (event : Event StandardKind) → IsEvent line words (words.processes process) event → Step standard s event a s'
     → words' ≡ words_answered words (words.processes process) (word_of line) a → outcome_text number o ≡ output_line number (answer_text a)
     → GoesOn (Some (Waits process line)) number words words' s s' o ((event, a) ∷ [])
@@ -137,7 +137,7 @@ steps_on process line number words words' s s' o a tickets sound waiting makes e
     }
 
 -- a line that goes on
-goes : (form : Option (Form (List ℕ))) (number : ℕ) (words words' : Words) (s s' : Space) (o : Outcome) (tickets : List ℕ) → IsSound s → AreWaiting s words tickets
+goes : (form : Option (Form (List ℕ))) (number : ℕ) (words words' : Words) (s s' : Space) (o : LineOutcome) (tickets : List ℕ) → IsSound s → AreWaiting s words tickets
     → (d : IsDone form words s o words' s') → None ≡ outcome_end number o → GoesOn form number words words' s s' o (own_steps form words words' s s' o d)
 goes None number words words' s s' o tickets sound waiting (is, w, e) n =
     let bad : None ≡ Some (ending.BadLine number) = n ∙ ap (outcome_end number) is in cc
@@ -176,11 +176,11 @@ goes (Some (Waits process line)) number words words' s s' outcome.NoLine tickets
 goes (Some (Waits process line)) number words words' s s' outcome.NoMemory tickets sound waiting d n = cc
 
 -- how many entries there are behind a line
-abbrev pub count_after : (count : ℕ) (form : Option (Form (List ℕ))) (words words' : Words) (s s' : Space) (o : Outcome) → IsDone form words s o words' s' → ℕ
+abbrev pub count_after : (count : ℕ) (form : Option (Form (List ℕ))) (words words' : Words) (s s' : Space) (o : LineOutcome) → IsDone form words s o words' s' → ℕ
 count_after count form words words' s s' o d = count_behind count (own_steps form words words' s s' o d)
 
 -- it stands behind what was shown before it
-runs_more : (script rest behind : List ℕ) (form : Option (Form (List ℕ))) (number : ℕ) (words words' : Words) (s s' : Space) (o : Outcome) (done : Forms) (so_far : List ℕ) (count : ℕ)
+runs_more : (script rest behind : List ℕ) (form : Option (Form (List ℕ))) (number : ℕ) (words words' : Words) (s s' : Space) (o : LineOutcome) (done : Forms) (so_far : List ℕ) (count : ℕ)
     → RunsBehind script rest number words s done so_far count → BeginsWithLine rest form behind → (d : IsDone form words s o words' s') → None ≡ outcome_end (number + 1) o
     → RunsBehind script behind (number + 1) words' s' (done ++ form ∷ []) (so_far ++ outcome_text (number + 1) o) (count_after count form words words' s s' o d)
 runs_more script rest behind form number words words' s s' o done so_far count b e d n =
@@ -199,7 +199,7 @@ runs_more script rest behind form number words words' s s' o done so_far count b
     }
 
 -- what a line shows that ends the run, whatever lines stand behind it
-record Stops (form : Option (Form (List ℕ))) (number : ℕ) (words : Words) (s : Space) (o : Outcome) (end : Ending) (count : ℕ) : Type 0 where
+record Stops (form : Option (Form (List ℕ))) (number : ℕ) (words : Words) (s : Space) (o : LineOutcome) (end : Ending) (count : ℕ) : Type 0 where
   entries : Entries
   last : Space
   run : RunFrom standard s count entries last
@@ -224,7 +224,7 @@ stops_wanting form number words words' s s' end count own left sound waiting run
           (shows later (map step_of final.0) (refl, same, final.4));
     }
 
-stops : (form : Option (Form (List ℕ))) (number : ℕ) (words words' : Words) (s s' : Space) (o : Outcome) (end : Ending) (count : ℕ) (tickets : List ℕ) → IsSound s → AreWaiting s words tickets
+stops : (form : Option (Form (List ℕ))) (number : ℕ) (words words' : Words) (s s' : Space) (o : LineOutcome) (end : Ending) (count : ℕ) (tickets : List ℕ) → IsSound s → AreWaiting s words tickets
     → IsDone form words s o words' s' → Some end ≡ outcome_end number o → Stops form number words s o end count
 stops None number words words' s s' o end count tickets sound waiting (is, w, e) n =
     let same : Some end ≡ Some (ending.BadLine number) = n ∙ ap (outcome_end number) is in
@@ -263,7 +263,7 @@ stops (Some (Waits process line)) number words words' s s' (outcome.Told notice)
 stops (Some (Waits process line)) number words words' s s' outcome.NoLine end count tickets sound waiting d n = absurd d
 
 -- a line that ends the run, whatever lines stand behind it
-runs_end : (script rest : List ℕ) (form : Option (Form (List ℕ))) (number : ℕ) (words words' : Words) (s s' : Space) (o : Outcome) (end : Ending) (done : Forms) (so_far : List ℕ) (count : ℕ)
+runs_end : (script rest : List ℕ) (form : Option (Form (List ℕ))) (number : ℕ) (words words' : Words) (s s' : Space) (o : LineOutcome) (end : Ending) (done : Forms) (so_far : List ℕ) (count : ℕ)
     → RunsBehind script rest number words s done so_far count → IsDone form words s o words' s' → Some end ≡ outcome_end (number + 1) o
     → (later : Forms) → PlaysForms (done ++ (form ∷ later)) (so_far ++ outcome_text (number + 1) o) end
 runs_end script rest form number words words' s s' o end done so_far count b d n later =
@@ -291,7 +291,7 @@ first_done script rest number words s done so_far count b =
         (rest.2, rest.3, rest.4, subst P (sym e) (b.onward later rest.0 rest.1 rest.2 rest.3 rest.5 rest.6 rest.7))
 
 -- all lines play what those play of which the last ended the run
-on_ended : (all : Forms) (output : List ℕ) (number : ℕ) (o : Outcome) (end : Ending) → Some end ≡ outcome_end number o → PlaysForms all output end → PlaysOn all output end
+on_ended : (all : Forms) (output : List ℕ) (number : ℕ) (o : LineOutcome) (end : Ending) → Some end ≡ outcome_end number o → PlaysForms all output end → PlaysOn all output end
 on_ended all output number o (ending.BadLine line) n h = h
 on_ended all output number o (ending.NoMemoryAt line) n h = h
 on_ended all output number outcome.Idle ending.Done n h = cc
@@ -302,7 +302,7 @@ on_ended all output number (outcome.Told notice) ending.Done n h = cc
 on_ended all output number outcome.NoLine ending.Done n h = cc
 on_ended all output number outcome.NoMemory ending.Done n h = cc
 
-first_ended : (script rest behind : List ℕ) (form : Option (Form (List ℕ))) (number : ℕ) (words words' : Words) (s s' : Space) (o : Outcome) (end : Ending) (done : Forms) (so_far : List ℕ) (count : ℕ)
+first_ended : (script rest behind : List ℕ) (form : Option (Form (List ℕ))) (number : ℕ) (words words' : Words) (s s' : Space) (o : LineOutcome) (end : Ending) (done : Forms) (so_far : List ℕ) (count : ℕ)
     → RunsBehind script rest number words s done so_far count → BeginsWithLine rest form behind → IsDone form words s o words' s' → Some end ≡ outcome_end (number + 1) o
     → PlaysFirst script (so_far ++ outcome_text (number + 1) o) end
 first_ended script rest behind form number words words' s s' o end done so_far count b e d n = (
@@ -338,7 +338,7 @@ stands_last old new has script rest number words s b none = (
 )
 
 -- a line that goes on
-pub stands_more : (old mid new : Option (List ℕ)) (had has script rest behind : List ℕ) (form : Option (Form (List ℕ))) (number : ℕ) (words words' : Words) (s s' : Space) (o : Outcome)
+pub stands_more : (old mid new : Option (List ℕ)) (had has script rest behind : List ℕ) (form : Option (Form (List ℕ))) (number : ℕ) (words words' : Words) (s s' : Space) (o : LineOutcome)
     → StandsBehind old mid had script rest number words s → BeginsWithLine rest form behind → IsDone form words s o words' s'
     → None ≡ outcome_end (number + 1) o → Gathers mid new had (outcome_text (number + 1) o) has → StandsBehind old new has script behind (number + 1) words' s'
 stands_more old mid new had has script rest behind form number words words' s s' o b e d n a = record {
@@ -350,7 +350,7 @@ stands_more old mid new had has script rest behind form number words words' s s'
 }
 
 -- a line that ends the run
-pub stands_end : (old mid new : Option (List ℕ)) (had has script rest behind : List ℕ) (form : Option (Form (List ℕ))) (number : ℕ) (words words' : Words) (s s' : Space) (o : Outcome) (end : Ending)
+pub stands_end : (old mid new : Option (List ℕ)) (had has script rest behind : List ℕ) (form : Option (Form (List ℕ))) (number : ℕ) (words words' : Words) (s s' : Space) (o : LineOutcome) (end : Ending)
     → StandsBehind old mid had script rest number words s → BeginsWithLine rest form behind → IsDone form words s o words' s'
     → Some end ≡ outcome_end (number + 1) o → Gathers mid new had (outcome_text (number + 1) o) has → GathersRun old new script has end
 stands_end old mid new had has script rest behind form number words words' s s' o end b e d n a =
@@ -363,7 +363,7 @@ stands_end old mid new had has script rest behind form number words words' s s' 
       gathers_more old mid new [] had has b.so_far (outcome_text (number + 1) o) b.gathered a,
     )
   where
-    not_done : (o : Outcome) → Some end ≡ outcome_end (number + 1) o → end ≡ ending.Done → behind ≡ []
+    not_done : (o : LineOutcome) → Some end ≡ outcome_end (number + 1) o → end ≡ ending.Done → behind ≡ []
     not_done outcome.Idle n all = cc
     not_done (outcome.Counted counts) n all = cc
     not_done (outcome.Replied reply) n all = cc
@@ -379,7 +379,7 @@ part_of old new script output end first f =
     (f.front, (f.back, end, f.unwritten, subst P f.joined first), f.written)
 
 -- a line at which a write failed
-pub stands_part : (old mid new : Option (List ℕ)) (had script rest behind : List ℕ) (form : Option (Form (List ℕ))) (number : ℕ) (words words' : Words) (s s' : Space) (o : Outcome)
+pub stands_part : (old mid new : Option (List ℕ)) (had script rest behind : List ℕ) (form : Option (Form (List ℕ))) (number : ℕ) (words words' : Words) (s s' : Space) (o : LineOutcome)
     → StandsBehind old mid had script rest number words s → BeginsWithLine rest form behind → IsDone form words s o words' s'
     → AppendsFront mid new (had ++ outcome_text (number + 1) o) → PlaysPartTo old new script
 stands_part old mid new had script rest behind form number words words' s s' o b e d f = go (outcome_end (number + 1) o) refl

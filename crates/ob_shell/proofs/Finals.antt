@@ -18,8 +18,8 @@ use Rattle.ob_model.proofs.ParseRuns.{parse_total}
 use Rattle.ob_model.proofs.Steps.{step_sound}
 use Rattle.ob_model.proofs.Total.{step_total}
 use Rattle.ob_effects.specs.Begun.{GivesAllUp}
-use Rattle.ob_complete.specs.Completes.{step_of}
-use Rattle.ob_complete.proofs.Chains.{entered, behind as count_behind, falters_run, gives_up_run}
+use Rattle.ob_runner.specs.Completes.{step_of}
+use Rattle.ob_runner.proofs.Chains.{entered, behind as count_behind, falters_run, gives_up_run}
 use Rattle.ob_standard.specs.Standard.{standard}
 use Rattle.ob_standard.proofs.Fronts.{standard_front}
 use Rattle.ob_lines.specs.declared.pending.PendingForm.{PendingForm}

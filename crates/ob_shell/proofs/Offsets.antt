@@ -27,13 +27,16 @@ use Rattle.ob_model.specs.PendingOpens.{pending_of, with_pending}
 use Rattle.ob_model.specs.Parses.{EndsOpen, Resumes, parsed_state}
 use Rattle.ob_model.specs.Names.{longest_name}
 use Rattle.ob_model.specs.Looks.{Look, At, Vacant, Parse, Refused, LooksUp, most_reparses}
-use Rattle.ob_model.specs.Procedures.{Procedures, ParseOutcome, EndsItself, EndsMade, EndsReparse, EndsRefused, Reason, Opened, Created, Duplicated}
+use Rattle.ob_model.specs.declared.terms.Reason.{Reason}
+use Rattle.ob_model.specs.declared.terms.Reason.TheVariants.{Opened, Created, Duplicated}
+use Rattle.ob_model.specs.Procedures.{Procedures, ParseOutcome, EndsItself, EndsMade, EndsReparse, EndsRefused}
 use Rattle.ob_model.specs.Settle.{settle}
-use Rattle.ob_model.specs.Grants.{first_refusal, Grants, IsFreeValue, Asked, open_refusal_of, greatest_handle}
+use Rattle.ob_model.specs.declared.terms.GrantOptions.{GrantOptions}
+use Rattle.ob_model.specs.Grants.{first_refusal, Grants, IsFreeValue, open_refusal_of, greatest_handle}
 use Rattle.ob_model.specs.Closing.{closed_handle}
 use Rattle.ob_model.specs.Types.{is_wanted_at}
 use Rattle.ob_model.specs.Refusals.{gives, answers, IsRefused, Unless, create_refusals, open_refusals}
-use Rattle.ob_model.specs.Opens.{GivesHandle as GivesHandleAt, OpensAt, Opens, asked_by, type_wanted, open_mode}
+use Rattle.ob_model.specs.Opens.{GivesHandle as GivesHandleAt, OpensAt, Opens, options_by, type_wanted, open_mode}
 use Rattle.ob_model.specs.Creates.{Making, MakesDirectory, MakesLink, MakesObject, is_fit, create_mode, type_made, Spot, room_refusals, make_refusal, body_made, created, dropped, Makes, Creates}
 use Rattle.ob_model.specs.Processes.{values_in, is_crowded, begun, ended}
 use Rattle.ob_model.specs.Permanence.{turned}
@@ -44,7 +47,7 @@ use Rattle.ob_model.specs.Step.{WithHandle, WithRoot, CreatesIn, CreatesAt, Open
 use Rattle.ob_parts.specs.declared.handle.Offset.{Offset}
 use Rattle.ob_parts.specs.declared.handle.Offset.TheVariants.{Zero, One, Two, Three}
 use Rattle.ob_requests.specs.Words.{Words, with_number, with_process, with_words, with_word, without_words, is_among}
-use Rattle.ob_complete.specs.Completes.{Made, Leads, HasRun, Completes}
+use Rattle.ob_runner.specs.Completes.{Made, Leads, HasRun, Completes}
 use Rattle.ob_standard.specs.Standard.{standard}
 use Rattle.ob_requests.specs.Commands.{is_success, given_handle, with_child, with_page, changed}
 use Rattle.ob_lines.specs.declared.change.Change.{Change}
@@ -109,7 +112,7 @@ module _ {K T F I : Type 0} where
       go false e = subst GivesHandle (sym e) (omega arith)
 
 module _ {K T F I : Type 0} (g : Procedures K T F I) where
-  gives_handle_gives : (s t : State K T F I) (p o : ℕ) (asked : Asked) (reason : Reason) (status : Status) (answer : Answer)
+  gives_handle_gives : (s t : State K T F I) (p o : ℕ) (asked : GrantOptions) (reason : Reason) (status : Status) (answer : Answer)
       → GivesHandleAt g s p o asked reason status answer t → GivesHandle answer
   gives_handle_gives s t p o asked reason status answer h = go h.0 h.2 h.3
     where
@@ -121,8 +124,8 @@ module _ {K T F I : Type 0} (g : Procedures K T F I) where
   opens_at_gives : (s t : State K T F I) (p attrs : ℕ) (wanted : Wanted K) (status : Status) (o : ℕ) (answer : Answer)
       → OpensAt g s p attrs wanted status o answer t → GivesHandle answer
   opens_at_gives s t p attrs wanted status o answer h =
-      unless_gives ((not (is_wanted_at g s o wanted), ObjectTypeMismatch) ∷ []) s t answer (GivesHandleAt g s p o (asked_by attrs) Opened status answer t)
-      (gives_handle_gives s t p o (asked_by attrs) Opened status answer) h
+      unless_gives ((not (is_wanted_at g s o wanted), ObjectTypeMismatch) ∷ []) s t answer (GivesHandleAt g s p o (options_by attrs) Opened status answer t)
+      (gives_handle_gives s t p o (options_by attrs) Opened status answer) h
 
   opens_gives : (s t : State K T F I) (p attrs : ℕ) (wanted : Wanted K) (look : Look) (answer : Answer)
       → Opens g s p attrs wanted look answer t → GivesHandle answer

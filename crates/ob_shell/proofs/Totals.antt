@@ -16,9 +16,9 @@ use Rattle.ob_model.specs.Sound.{IsSound}
 use Rattle.ob_model.specs.Step.{Step}
 use Rattle.ob_model.proofs.Steps.{step_sound}
 use Rattle.ob_model.proofs.Total.{start_total}
-use Rattle.ob_complete.specs.Completes.{step_of}
-use Rattle.ob_complete.proofs.Chains.{completes_sound, completes_run, entered, behind as count_behind, entered_steps}
-use Rattle.ob_complete.proofs.TotalChains.{completes_total}
+use Rattle.ob_runner.specs.Completes.{step_of}
+use Rattle.ob_runner.proofs.Chains.{completes_sound, completes_run, entered, behind as count_behind, entered_steps}
+use Rattle.ob_runner.proofs.TotalChains.{completes_total}
 use Rattle.ob_standard.specs.Standard.{StandardKind, standard}
 use Rattle.ob_standard.proofs.Fronts.{standard_front}
 use Rattle.ob_lines.specs.declared.form.Form.TheVariants.{Nothing, Stat, Asks, Waits}

@@ -3,7 +3,7 @@
 --
 -- Source: this profile, by which the machine may choose the value of a new handle.
 use Rattle.std.specs.Prelude.{◌≡◌, ℕ, List}
-use Rattle.ob_complete.specs.Completes.{FindMemory}
+use Rattle.ob_runner.specs.Completes.{FindMemory}
 use Rattle.ob_lines.specs.Script.{Forms}
 use Rattle.ob_shell.specs.declared.run.Ending.{Ending}
 use Rattle.ob_shell.specs.Shown.{PlaysFormsBy, PlaysBy, FindsMemory}

@@ -6,7 +6,7 @@ use Rattle.ob_model.specs.declared.command.Command.{Command}
 use Rattle.ob_model.specs.declared.reply.Reply.{Reply}
 use Rattle.ob_model.specs.declared.reply.Event.TheVariants.{Start}
 use Rattle.ob_model.specs.Grants.{greatest_handle}
-use Rattle.ob_complete.specs.Completes.{Completes}
+use Rattle.ob_runner.specs.Completes.{Completes}
 use Rattle.ob_standard.specs.Standard.{StandardKind, standard}
 use Rattle.ob_parts.specs.declared.handle.HandleForm.{HandleForm}
 use Rattle.ob_lines.specs.declared.request.Request.{Request}

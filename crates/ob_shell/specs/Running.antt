@@ -2,8 +2,8 @@
 --
 -- Source: this profile.
 use Rattle.std.specs.Prelude.{◌≡◌, ℕ, List, [], Option, Some, None, codes}
-use Rattle.ob_effects.specs.declared.outcome.Outcome.{Outcome}
-use Rattle.ob_effects.specs.declared.outcome.Outcome.TheVariants as outcome
+use Rattle.ob_effects.specs.declared.outcome.LineOutcome.{LineOutcome}
+use Rattle.ob_effects.specs.declared.outcome.LineOutcome.TheVariants as outcome
 use Rattle.ob_effects.specs.Effects.{notice_text}
 use Rattle.ob_shell.specs.declared.run.Ending.{Ending}
 use Rattle.ob_shell.specs.declared.run.Ending.TheVariants as ending
@@ -14,7 +14,7 @@ use Rattle.ob_shell.specs.declared.fault.ShellFault.{ShellFault}
 use Rattle.ob_shell.specs.declared.fault.ShellFault.TheVariants as fault
 
 -- what the line of this number prints for it
-abbrev pub outcome_text : ℕ → Outcome → List ℕ
+abbrev pub outcome_text : ℕ → LineOutcome → List ℕ
 outcome_text number outcome.Idle = []
 outcome_text number (outcome.Counted counts) = output_line number (counts_text counts)
 outcome_text number (outcome.Replied reply) = output_line number (reply_text reply)
@@ -24,7 +24,7 @@ outcome_text number outcome.NoLine = output_line number (codes "not a script lin
 outcome_text number outcome.NoMemory = output_line number (codes "want of memory")
 
 -- how it ends the run, where it does
-abbrev pub outcome_end : ℕ → Outcome → Option Ending
+abbrev pub outcome_end : ℕ → LineOutcome → Option Ending
 outcome_end number outcome.Idle = None
 outcome_end number (outcome.Counted counts) = None
 outcome_end number (outcome.Replied reply) = None

@@ -11,7 +11,7 @@ use Rattle.ob_model.specs.declared.reply.Event.TheVariants.{Start}
 use Rattle.ob_model.specs.Opening.{opening}
 use Rattle.ob_model.specs.Run.{Entry, Run}
 use Rattle.ob_model.specs.Step.{Step}
-use Rattle.ob_complete.specs.Completes.{step_of, Completes}
+use Rattle.ob_runner.specs.Completes.{step_of, Completes}
 use Rattle.ob_standard.specs.Standard.{StandardKind, Standard, standard, IsFresh}
 use Rattle.ob_lines.specs.declared.form.Form.{Form}
 use Rattle.ob_lines.specs.declared.form.Form.TheVariants.{Nothing, Stat, Asks, Waits}

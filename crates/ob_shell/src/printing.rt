@@ -10,7 +10,7 @@ ghost use Rattle.ob_model.specs.declared.reply.Given.TheVariants.{Text};
 use crate::fault::ShellFault;
 use crate::writing::gather;
 use ob_base::Status;
-use ob_effects::Outcome;
+use ob_effects::LineOutcome;
 use ob_model::{Entries, Given, Listed, Reply};
 use ob_output::{counts_line, printed_part, status_front, status_line, text_front, text_line};
 use std::io::Write;
@@ -23,28 +23,34 @@ pub fn write_outcome<W: Write>(
     writer: &mut W,
     block: &mut Vec<u8>,
     number: u64,
-    outcome: &Outcome,
+    outcome: &LineOutcome,
 ) -> Result<(), ShellFault>
     requires { 192 ≤ vec_capacity block.old }
-    ensures ok { OnOk result (Gathers (W.contents writer.old) (W.contents writer.new) block.old.items (outcome_text number outcome.now) block.new.items) }
+    ensures ok { OnOk result (Gathers (W.contents writer.old)
+        (W.contents writer.new) block.old.items (outcome_text number outcome.now) block.new.items) }
     ensures fault { IfErr result (λ fault. fault ≡ Write) }
-    ensures front { OnErr result (AppendsFront (W.contents writer.old) (W.contents writer.new) (block.old.items ++ outcome_text number outcome.now)) }
+    ensures front { OnErr result (AppendsFront (W.contents writer.old) (W.contents writer.new)
+        (block.old.items ++ outcome_text number outcome.now)) }
     ensures capacity { vec_capacity block.old ≤ vec_capacity block.new }
 {
     match outcome {
-        Outcome::Idle => Ok(()),
-        Outcome::Counted(counts) => gather(writer, block, counts_line(number, *counts).as_slice()),
-        Outcome::Replied(reply) => write_reply(writer, block, number, reply),
-        Outcome::Pending => gather(writer, block, text_line(number, b"PENDING").as_slice()),
-        Outcome::Told(notice) => {
+        LineOutcome::Idle => Ok(()),
+        LineOutcome::Counted(counts) => gather(
+            writer,
+            block,
+            counts_line(number, *counts).as_slice(),
+        ),
+        LineOutcome::Replied(reply) => write_reply(writer, block, number, reply),
+        LineOutcome::Pending => gather(writer, block, text_line(number, b"PENDING").as_slice()),
+        LineOutcome::Told(notice) => {
             gather(writer, block, text_line(number, notice.text()).as_slice())
         }
-        Outcome::NoLine => gather(
+        LineOutcome::NoLine => gather(
             writer,
             block,
             text_line(number, b"not a script line").as_slice(),
         ),
-        Outcome::NoMemory => gather(
+        LineOutcome::NoMemory => gather(
             writer,
             block,
             text_line(number, b"want of memory").as_slice(),
@@ -60,9 +66,12 @@ fn write_reply<W: Write>(
     reply: &Reply,
 ) -> Result<(), ShellFault>
     requires { 192 ≤ vec_capacity block.old }
-    ensures ok { OnOk result (Gathers (W.contents writer.old) (W.contents writer.new) block.old.items (output_line number (reply_text reply.now)) block.new.items) }
+    ensures ok { OnOk result (Gathers (W.contents writer.old)
+        (W.contents writer.new) block.old.items (output_line number
+        (reply_text reply.now)) block.new.items) }
     ensures fault { IfErr result (λ fault. fault ≡ Write) }
-    ensures front { OnErr result (AppendsFront (W.contents writer.old) (W.contents writer.new) (block.old.items ++ output_line number (reply_text reply.now))) }
+    ensures front { OnErr result (AppendsFront (W.contents writer.old) (W.contents writer.new)
+        (block.old.items ++ output_line number (reply_text reply.now))) }
     ensures capacity { vec_capacity block.old ≤ vec_capacity block.new }
 {
     match &reply.given {
@@ -83,11 +92,13 @@ fn write_text<W: Write>(
     text: &[u8],
 ) -> Result<(), ShellFault>
     requires { 192 ≤ vec_capacity block.old }
-    ensures ok { OnOk result (Gathers (W.contents writer.old) (W.contents writer.new) block.old.items
+    ensures ok { OnOk result (Gathers (W.contents writer.old)
+        (W.contents writer.new) block.old.items
         (output_line number (status_text status ++ given_text (Text text.now))) block.new.items) }
     ensures fault { IfErr result (λ fault. fault ≡ Write) }
     ensures front { OnErr result (AppendsFront (W.contents writer.old) (W.contents writer.new)
-        (block.old.items ++ output_line number (status_text status ++ given_text (Text text.now)))) }
+        (block.old.items ++ output_line number (status_text status
+        ++ given_text (Text text.now)))) }
     ensures capacity { vec_capacity block.old ≤ vec_capacity block.new }
 {
     gather(writer, block, text_front(number, status).as_slice())?;
@@ -104,7 +115,8 @@ fn write_page<W: Write>(
     entries: &Entries,
 ) -> Result<(), ShellFault>
     requires { 192 ≤ vec_capacity block.old }
-    ensures ok { OnOk result (Gathers (W.contents writer.old) (W.contents writer.new) block.old.items
+    ensures ok { OnOk result (Gathers (W.contents writer.old)
+        (W.contents writer.new) block.old.items
         (output_line number (status_text status ++ entries_text entries.now)) block.new.items) }
     ensures fault { IfErr result (λ fault. fault ≡ Write) }
     ensures front { OnErr result (AppendsFront (W.contents writer.old) (W.contents writer.new)
@@ -123,9 +135,11 @@ fn write_entries<W: Write>(
     entries: &[Listed],
 ) -> Result<(), ShellFault>
     requires { 192 ≤ vec_capacity block.old }
-    ensures ok { OnOk result (Gathers (W.contents writer.old) (W.contents writer.new) block.old.items (entries_text entries.now) block.new.items) }
+    ensures ok { OnOk result (Gathers (W.contents writer.old)
+        (W.contents writer.new) block.old.items (entries_text entries.now) block.new.items) }
     ensures fault { IfErr result (λ fault. fault ≡ Write) }
-    ensures front { OnErr result (AppendsFront (W.contents writer.old) (W.contents writer.new) (block.old.items ++ entries_text entries.now)) }
+    ensures front { OnErr result (AppendsFront (W.contents writer.old) (W.contents writer.new)
+        (block.old.items ++ entries_text entries.now)) }
     ensures capacity { vec_capacity block.old ≤ vec_capacity block.new }
 {
     for entry in entries {
@@ -141,9 +155,11 @@ fn write_entry<W: Write>(
     entry: &Listed,
 ) -> Result<(), ShellFault>
     requires { 192 ≤ vec_capacity block.old }
-    ensures ok { OnOk result (Gathers (W.contents writer.old) (W.contents writer.new) block.old.items (entry_text entry.now) block.new.items) }
+    ensures ok { OnOk result (Gathers (W.contents writer.old)
+        (W.contents writer.new) block.old.items (entry_text entry.now) block.new.items) }
     ensures fault { IfErr result (λ fault. fault ≡ Write) }
-    ensures front { OnErr result (AppendsFront (W.contents writer.old) (W.contents writer.new) (block.old.items ++ entry_text entry.now)) }
+    ensures front { OnErr result (AppendsFront (W.contents writer.old) (W.contents writer.new)
+        (block.old.items ++ entry_text entry.now)) }
     ensures capacity { vec_capacity block.old ≤ vec_capacity block.new }
 {
     gather(writer, block, b" \"")?;
@@ -159,9 +175,11 @@ fn write_printed<W: Write>(
     text: &[u8],
 ) -> Result<(), ShellFault>
     requires { 192 ≤ vec_capacity block.old }
-    ensures ok { OnOk result (Gathers (W.contents writer.old) (W.contents writer.new) block.old.items (printed_bytes text.now) block.new.items) }
+    ensures ok { OnOk result (Gathers (W.contents writer.old)
+        (W.contents writer.new) block.old.items (printed_bytes text.now) block.new.items) }
     ensures fault { IfErr result (λ fault. fault ≡ Write) }
-    ensures front { OnErr result (AppendsFront (W.contents writer.old) (W.contents writer.new) (block.old.items ++ printed_bytes text.now)) }
+    ensures front { OnErr result (AppendsFront (W.contents writer.old) (W.contents writer.new)
+        (block.old.items ++ printed_bytes text.now)) }
     ensures capacity { vec_capacity block.old ≤ vec_capacity block.new }
 {
     let mut rest = text;
@@ -179,9 +197,11 @@ fn write_printed<W: Write>(
 // Writes the bytes of a text as they are, by way of the block.
 fn write_plain<W: Write>(writer: &mut W, block: &mut Vec<u8>, text: &[u8]) -> Result<(), ShellFault>
     requires { 192 ≤ vec_capacity block.old }
-    ensures ok { OnOk result (Gathers (W.contents writer.old) (W.contents writer.new) block.old.items text.now block.new.items) }
+    ensures ok { OnOk result (Gathers (W.contents writer.old)
+        (W.contents writer.new) block.old.items text.now block.new.items) }
     ensures fault { IfErr result (λ fault. fault ≡ Write) }
-    ensures front { OnErr result (AppendsFront (W.contents writer.old) (W.contents writer.new) (block.old.items ++ text.now)) }
+    ensures front { OnErr result (AppendsFront (W.contents writer.old) (W.contents writer.new)
+        (block.old.items ++ text.now)) }
     ensures capacity { vec_capacity block.old ≤ vec_capacity block.new }
 {
     let mut rest = text;

@@ -11,7 +11,7 @@ use crate::fault::ShellFault;
 use crate::printing::write_outcome;
 use crate::reading::{SCRIPT_LIMIT, read_script};
 use crate::writing::write_out;
-use ob_effects::{Outcome, Session};
+use ob_effects::{LineOutcome, Session};
 use ob_lines::read_line;
 use std::alloc::Global;
 use std::io::{Read, Write};
@@ -64,7 +64,8 @@ pub fn run_script<R: Read, W: Write>(
 
     // A script that is too long is never run, and no other is called so: it is told, unless reading it
     // failed before.
-    ensures too_long { IsErrOf result ShellFault.TooLong → IfSome (R.remaining reader.old) (λ script.
+    ensures too_long { IsErrOf result ShellFault.TooLong
+        → IfSome (R.remaining reader.old) (λ script.
         SCRIPT_LIMIT < length script) }
     ensures refused { IfSome (R.remaining reader.old) (λ script.
         SCRIPT_LIMIT < length script → IsErr result) }
@@ -72,7 +73,8 @@ pub fn run_script<R: Read, W: Write>(
         IfErr result StopsLong × (W.contents writer.new ≡ W.contents writer.old)) }
 
     // However it ends, no more than one byte past the limit is read.
-    ensures taken { TakesAtMost (R.remaining reader.old) (R.remaining reader.new) (SCRIPT_LIMIT + 1) }
+    ensures taken { TakesAtMost (R.remaining reader.old) (R.remaining reader.new)
+        (SCRIPT_LIMIT + 1) }
 {
     match read_script(alloc, reader) {
         Ok(script) => run_text(alloc, script.as_slice(), writer),
@@ -83,8 +85,10 @@ pub fn run_script<R: Read, W: Write>(
 // Runs a script that was read, and writes what it shows.
 fn run_text<W: Write>(alloc: Global, script: &[u8], writer: &mut W) -> Result<Ending, ShellFault>
     requires { length script.now ≤ SCRIPT_LIMIT }
-    ensures played { IfOk result (λ ending. PlaysTo (W.contents writer.old) (W.contents writer.new) script.now ending) }
-    ensures fault { IfErr result (λ fault. StopsPlaying script.now fault (W.contents writer.old) (W.contents writer.new)) }
+    ensures played { IfOk result (λ ending.
+        PlaysTo (W.contents writer.old) (W.contents writer.new) script.now ending) }
+    ensures fault { IfErr result (λ fault.
+        StopsPlaying script.now fault (W.contents writer.old) (W.contents writer.new)) }
 {
     let Ok(mut block) = Vec::with_capacity(alloc, BLOCK) else {
         return Err(ShellFault::Memory);
@@ -109,8 +113,11 @@ fn run_lines<W: Write>(
     requires script { length script.now ≤ SCRIPT_LIMIT }
     requires empty { block.old.items ≡ [] }
     requires capacity { 192 ≤ vec_capacity block.old }
-    ensures played { IfOk result (λ ending. GathersRun (W.contents writer.old) (W.contents writer.new) script.now block.new.items ending) }
-    ensures fault { IfErr result (λ fault. StopsPlaying script.now fault (W.contents writer.old) (W.contents writer.new)) }
+    ensures played { IfOk result (λ ending.
+        GathersRun (W.contents writer.old)
+        (W.contents writer.new) script.now block.new.items ending) }
+    ensures fault { IfErr result (λ fault.
+        StopsPlaying script.now fault (W.contents writer.old) (W.contents writer.new)) }
 {
     let Ok(mut session) = Session::new(alloc) else {
         return Err(ShellFault::Memory);
@@ -133,8 +140,11 @@ fn play<W: Write>(
     requires empty { block.old.items ≡ [] }
     requires capacity { 192 ≤ vec_capacity block.old }
     ensures kept { IsSession session.new }
-    ensures played { IfOk result (λ ending. GathersRun (W.contents writer.old) (W.contents writer.new) script.now block.new.items ending) }
-    ensures fault { IfErr result (λ fault. StopsPlaying script.now fault (W.contents writer.old) (W.contents writer.new)) }
+    ensures played { IfOk result (λ ending.
+        GathersRun (W.contents writer.old)
+        (W.contents writer.new) script.now block.new.items ending) }
+    ensures fault { IfErr result (λ fault.
+        StopsPlaying script.now fault (W.contents writer.old) (W.contents writer.new)) }
 {
     let mut rest = script;
     let mut number: u64 = 0;
@@ -156,13 +166,15 @@ fn show<W: Write>(
     writer: &mut W,
     block: &mut Vec<u8>,
     number: u64,
-    outcome: Outcome,
+    outcome: LineOutcome,
 ) -> Result<Option<Ending>, ShellFault>
     requires { 192 ≤ vec_capacity block.old }
     ensures ending { IfOk result (λ ending. ending ≡ outcome_end number outcome) }
-    ensures ok { OnOk result (Gathers (W.contents writer.old) (W.contents writer.new) block.old.items (outcome_text number outcome) block.new.items) }
+    ensures ok { OnOk result (Gathers (W.contents writer.old)
+        (W.contents writer.new) block.old.items (outcome_text number outcome) block.new.items) }
     ensures fault { IfErr result (λ fault. fault ≡ ShellFault.Write) }
-    ensures front { OnErr result (AppendsFront (W.contents writer.old) (W.contents writer.new) (block.old.items ++ outcome_text number outcome)) }
+    ensures front { OnErr result (AppendsFront (W.contents writer.old) (W.contents writer.new)
+        (block.old.items ++ outcome_text number outcome)) }
     ensures capacity { vec_capacity block.old ≤ vec_capacity block.new }
 {
     match write_outcome(writer, block, number, &outcome) {
@@ -172,16 +184,16 @@ fn show<W: Write>(
 }
 
 // How what became of a line ends the run, where it does.
-fn ending_of(number: u64, outcome: &Outcome) -> Option<Ending>
+fn ending_of(number: u64, outcome: &LineOutcome) -> Option<Ending>
     ensures { result ≡ outcome_end number outcome.now }
 {
     match outcome {
-        Outcome::Idle => None,
-        Outcome::Counted(_) => None,
-        Outcome::Replied(_) => None,
-        Outcome::Pending => None,
-        Outcome::Told(_) => None,
-        Outcome::NoLine => Some(Ending::BadLine(number)),
-        Outcome::NoMemory => Some(Ending::NoMemoryAt(number)),
+        LineOutcome::Idle => None,
+        LineOutcome::Counted(_) => None,
+        LineOutcome::Replied(_) => None,
+        LineOutcome::Pending => None,
+        LineOutcome::Told(_) => None,
+        LineOutcome::NoLine => Some(Ending::BadLine(number)),
+        LineOutcome::NoMemory => Some(Ending::NoMemoryAt(number)),
     }
 }

@@ -33,14 +33,17 @@ pub fn write_out<W: Write>(writer: &mut W, bytes: &[u8]) -> Result<(), ShellFaul
 // Gathers the bytes in a block. Where the block has no room for them, it is written and emptied first.
 pub fn gather<W: Write>(writer: &mut W, block: &mut Vec<u8>, bytes: &[u8]) -> Result<(), ShellFault>
     requires { length bytes.now ≤ vec_capacity block.old }
-    ensures ok { OnOk result (Gathers (W.contents writer.old) (W.contents writer.new) block.old.items bytes.now block.new.items) }
+    ensures ok { OnOk result (Gathers (W.contents writer.old)
+        (W.contents writer.new) block.old.items bytes.now block.new.items) }
     ensures fault { IfErr result (λ fault. fault ≡ ShellFault.Write) }
     ensures front { OnErr result
-        (AppendsFront (W.contents writer.old) (W.contents writer.new) (block.old.items ++ bytes.now)) }
+        (AppendsFront (W.contents writer.old) (W.contents writer.new) (block.old.items
+        ++ bytes.now)) }
     ensures capacity { vec_capacity block.old ≤ vec_capacity block.new }
 
     // Nothing is written while there is room.
-    ensures waits { vec_len block.old + length bytes.now ≤ vec_capacity block.old → writer.new ≡ writer.old }
+    ensures waits { vec_len block.old + length bytes.now ≤ vec_capacity block.old → writer.new
+        ≡ writer.old }
 {
     if block.capacity() - block.len() < bytes.len() {
         write_out(writer, block.as_slice())?;

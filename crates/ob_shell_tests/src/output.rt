@@ -1,11 +1,11 @@
 //! Lines of the output, and their parts.
 
 use ob_base::Status;
-use ob_output::{Counts, Line, counts_line, printed_part, status_line, text_front, text_line};
+use ob_output::{Line, Totals, counts_line, printed_part, status_line, text_front, text_line};
 
 #[test]
 fn lines_have_their_number_and_text(rt: HostRuntime) {
-    let counts = Counts {
+    let counts = Totals {
         objects: 6,
         handles: 0,
         opens: 10,

@@ -6,15 +6,16 @@ use Rattle.std.proofs.lemmas.Bool.Decides.{nat_tests}
 use Rattle.ob_base.specs.declared.status.Status.{Status}
 use Rattle.ob_base.specs.declared.status.Status.TheVariants.{InvalidParameter, AccessDenied, InsufficientResources, TypeRefused}
 use Rattle.ob_model.specs.State.{State, table_size, most_handles}
-use Rattle.ob_model.specs.Procedures.{Procedures, Reason}
+use Rattle.ob_model.specs.declared.terms.Reason.{Reason}
+use Rattle.ob_model.specs.Procedures.{Procedures}
 use Rattle.ob_model.specs.Closing.{is_handle}
-use Rattle.ob_model.specs.Grants.{Asked, IsHandleValue, first_refusal, is_exclusive, has_other_holder, is_table_full, with_open, with_handle, Grants}
+use Rattle.ob_model.specs.declared.terms.GrantOptions.{GrantOptions}
+use Rattle.ob_model.specs.Grants.{IsHandleValue, first_refusal, is_exclusive, has_other_holder, is_table_full, with_open, with_handle, Grants}
 use Rattle.ob_objects.specs.Store.{Entries, Shows, objects_of, rows_of}
 use Rattle.ob_objects.specs.Changes.{refusal_to_open, with_opened, set_after_open}
 use Rattle.ob_objects.proofs.Shown.{opened_is_machines}
 use Rattle.ob_objects.proofs.Follow.{refusal_is_machines, set_after_open_is_machines}
 use Rattle.ob_processes.specs.Running.{Running}
-use Rattle.ob_space.specs.declared.space.Namespace.{Namespace}
 use Rattle.ob_space.specs.Namespace.{Parts, state_of}
 use Rattle.ob_space.specs.Orderly.{IsOrderly}
 use Rattle.ob_space.proofs.Handles.{is_itself, taken_back}
@@ -36,7 +37,7 @@ last_test false false false true x y z w h = cc
 last_test false false false false x y z w h = refl
 
 module _ (K : Type 0) {T F I : Type 0} (g : Procedures K T F I) (idle : I → Type 0) (a : Parts K T F I) (orderly : IsOrderly idle (state_of K a))
-    (p o : ℕ) (asked : Asked) (reason : Reason) (result : Option Status) (early_is : result ≡ first_refusal (
+    (p o : ℕ) (asked : GrantOptions) (reason : Reason) (result : Option Status) (early_is : result ≡ first_refusal (
     (asked.exclusive && not (is_exclusive (state_of K a) o), InvalidParameter)
     ∷ (asked.inherit && is_exclusive (state_of K a) o, InvalidParameter)
     ∷ (is_exclusive (state_of K a) o && has_other_holder (state_of K a) p o, AccessDenied)

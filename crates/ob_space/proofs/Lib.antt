@@ -1,13 +1,12 @@
-pub mod Judged
-pub mod Closed
 pub mod Granted
 pub mod Handles
 pub mod Looked
-pub mod Opened
 pub mod Orders
 pub mod Placed
 pub mod Results
 pub mod Waiting
-pub mod Walked
 pub mod Stored
-pub mod Turns
+pub mod Stepping
+pub mod Naming
+pub mod Shown
+pub mod FirstStore

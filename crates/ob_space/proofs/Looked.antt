@@ -11,7 +11,8 @@ use Rattle.ob_model.specs.declared.state.Held.{Held}
 use Rattle.ob_model.specs.State.{State, held_of, object_of}
 use Rattle.ob_model.specs.Procedures.{Procedures}
 use Rattle.ob_model.specs.Sound.{IsSound, Stands}
-use Rattle.ob_model.specs.Looks.{Mode, Look, At, Vacant, Parse, Refused, LooksUp}
+use Rattle.ob_model.specs.declared.terms.Mode.{Mode}
+use Rattle.ob_model.specs.Looks.{Look, At, Vacant, Parse, Refused, LooksUp}
 use Rattle.ob_model.specs.Names.{longest_name}
 use Rattle.ob_model.specs.Parses.{LooksAgain}
 use Rattle.ob_model.proofs.Vacant.{IsUsableEnd}
@@ -56,7 +57,7 @@ module _ {K T F I : Type 0} (s : State K T F I) where
     where
       stands : (key : Option ℕ) → IsRoot s (option_map (λ h. h.object) (option_and_then (held_of s p) key))
       stands None = tt
-      stands (Some value) = found_stands (λ h. (h.process == p) && (h.value == value)) s.handles sound.handles (held_of s p value) refl
+      stands (Some value) = found_stands (λ h. (h.process == p) && (h.value == value)) s.handles sound.handles.standing (held_of s p value) refl
 
       go : (o : Option Held) → IsRoot s (option_map (λ h. h.object) o) → option_map (λ h. Some h.object) o ≡ Some at → IsRoot s at
       go None there e = cc

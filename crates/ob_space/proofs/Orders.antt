@@ -14,7 +14,8 @@ use Rattle.ob_model.specs.declared.state.Body.TheVariants.{Directory, Link, Othe
 use Rattle.ob_model.specs.declared.state.Object.{Object}
 use Rattle.ob_model.specs.declared.state.Held.{Held}
 use Rattle.ob_model.specs.State.{State, root_id, is_directory, is_directory_body, most_handles, table_size, handle_count, handle_count_in}
-use Rattle.ob_model.specs.Procedures.{Procedures, Reason}
+use Rattle.ob_model.specs.declared.terms.Reason.{Reason}
+use Rattle.ob_model.specs.Procedures.{Procedures}
 use Rattle.ob_model.specs.Settle.{settle, is_alive, is_kept, is_permanent, has_name}
 use Rattle.ob_model.specs.Grants.{with_open, with_handle, opened_object, opened_body}
 use Rattle.ob_model.specs.Closing.{is_handle, without_handle, closed_handle, closed_object, closed_body}

@@ -10,7 +10,8 @@ use Rattle.ob_model.specs.declared.state.Object.{Object}
 use Rattle.ob_model.specs.declared.state.Row.{Row}
 use Rattle.ob_model.specs.State.{State, is_directory, is_store_full, table_size, most_handles}
 use Rattle.ob_model.specs.Closing.{is_handle}
-use Rattle.ob_model.specs.Procedures.{Procedures, Created}
+use Rattle.ob_model.specs.declared.terms.Reason.TheVariants.{Created}
+use Rattle.ob_model.specs.Procedures.{Procedures}
 use Rattle.ob_model.specs.Settle.{deleted_one}
 use Rattle.ob_model.specs.Grants.{open_refusal_of, open_refusal, with_open, opened_body, opened_set, opened_object, is_table_full}
 use Rattle.ob_model.specs.Creates.{new_rows, dropped}
@@ -23,7 +24,6 @@ use Rattle.ob_objects.proofs.Shown.{new_object_has_no_row, new_name_is_last, nam
 use Rattle.ob_lookup.proofs.Stays.{directory_with_object}
 use Rattle.ob_processes.specs.Running.{Running}
 use Rattle.ob_space.specs.declared.placing.Spot.{Spot}
-use Rattle.ob_space.specs.declared.space.Namespace.{Namespace}
 use Rattle.ob_space.specs.Namespace.{Parts, state_of, holding, none_running}
 use Rattle.ob_space.specs.Placing.{spot_of, IsVacantSpot, IsFreeSpot, with_placed, without_name_in, IsOpened, IsTakenBack, placed}
 use Rattle.ob_space.specs.Orderly.{IsOrderly}

@@ -5,7 +5,7 @@ use Rattle.std.proofs.lemmas.Bool.{ne_eqb}
 use Rattle.std.proofs.lemmas.List.Elements.{All-weaker}
 use Rattle.ob_model.specs.declared.state.Pending.{Pending}
 use Rattle.ob_model.proofs.Finds.{filter_all, not_found}
-use Rattle.ob_objects.proofs.ByStamp.{pairs_head, pairs_tail}
+use Rattle.ob_model.proofs.Sorted.{pairs_head, pairs_tail}
 
 module _ {K : Type 0} (ticket : ℕ) where
   abbrev others : List (Pending K) → List (Pending K)

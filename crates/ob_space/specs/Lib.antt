@@ -1,8 +1,7 @@
 pub mod Namespace
 pub mod Orderly
-pub mod Settling
 pub mod Roots
-pub mod Opening
 pub mod Placing
 pub mod Looking
-pub mod Asking
+pub mod Early
+pub mod FirstStore

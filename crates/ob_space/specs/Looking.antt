@@ -5,7 +5,8 @@ use Rattle.ob_model.specs.State.{State}
 use Rattle.ob_model.specs.PendingOpens.{face_of}
 use Rattle.ob_model.specs.Procedures.{Procedures}
 use Rattle.ob_model.specs.Sound.{Stands}
-use Rattle.ob_model.specs.Looks.{Mode, Look, At, Vacant, Parse, Refused}
+use Rattle.ob_model.specs.declared.terms.Mode.{Mode}
+use Rattle.ob_model.specs.Looks.{Look, At, Vacant, Parse, Refused}
 use Rattle.ob_space.specs.Placing.{IsVacant}
 
 module _ {K T F I : Type 0} where

@@ -1,5 +1,5 @@
 -- The abstract state of a namespace, put together of its parts.
-use Rattle.std.specs.Prelude.{List, []}
+use Rattle.std.specs.Prelude.{ℕ, List, []}
 use Rattle.ob_model.specs.declared.state.Object.{Object}
 use Rattle.ob_model.specs.declared.state.Row.{Row}
 use Rattle.ob_model.specs.declared.state.Held.{Held}
@@ -7,11 +7,32 @@ use Rattle.ob_model.specs.declared.state.Pending.{Pending}
 use Rattle.ob_model.specs.State.{State}
 use Rattle.ob_objects.specs.Store.{Entries, objects_of, rows_of}
 use Rattle.ob_processes.specs.Running.{Running}
-use Rattle.ob_space.specs.declared.space.Namespace.{Namespace}
+use Rattle.ob_space.specs.declared.space.Space.TheInside.{Inside}
 
--- the parts of a namespace, as a contract sees them
-abbrev pub Parts : (K T F I : Type 0) → Type 0
-Parts K T F I = Namespace T (Entries F I) Running (List (Pending K))
+-- the parts of a namespace: the value of the set, the store's entries, the processes that run, the pending opens, and
+-- the numbers that the next ones get
+pub record Parts (K T F I : Type 0) : Type 0 where
+  pub set : T
+  pub store : Entries F I
+  pub processes : Running
+  pub pending : List (Pending K)
+  pub next_id : ℕ
+  pub next_stamp : ℕ
+  pub next_process : ℕ
+  pub next_order : ℕ
+
+-- those of a namespace, as its struct has them
+abbrev pub parts : {T H K F I : Type 0} → Inside T H K F I → Parts K T F I
+parts a = record {
+  set = a.set;
+  store = a.store;
+  processes = a.processes;
+  pending = a.pending;
+  next_id = a.next_id;
+  next_stamp = a.next_stamp;
+  next_process = a.next_process;
+  next_order = a.next_order;
+}
 
 -- the state of these parts: the objects and the rows are those of the store, the processes and their
 -- handles those that run

@@ -7,7 +7,8 @@ use Rattle.ob_model.specs.declared.state.Object.{Object}
 use Rattle.ob_model.specs.declared.state.Held.{Held}
 use Rattle.ob_model.specs.State.{State, root_id, is_directory, table_size, most_handles}
 use Rattle.ob_model.specs.Processes.{most_processes}
-use Rattle.ob_model.specs.Sound.{Stands}
+use Rattle.ob_model.specs.Settle.{IsSettled}
+use Rattle.ob_model.specs.Sound.{Stands, IsSound}
 
 -- a body has no inner value, or one that stands for no open handle
 abbrev pub IsIdleBody : {F I : Type 0} → (I → Type 0) → Body F I → Type 0
@@ -39,3 +40,9 @@ pub record IsOrderly {K T F I : Type 0} (idle : I → Type 0) (s : State K T F I
   pub numbered : All (λ x. x.number < s.next_process) s.processes
   pub few_handles : (p : ℕ) → table_size s p ≤ most_handles
   pub few_processes : length s.processes ≤ most_processes
+
+-- What holds of a namespace between two steps: its state is orderly, sound and settled.
+pub record IsBetweenSteps {K T F I : Type 0} (idle : I → Type 0) (s : State K T F I) : Type 0 where
+  pub orderly : IsOrderly idle s
+  pub sound : IsSound s
+  pub settled : IsSettled s

@@ -5,7 +5,8 @@ use Rattle.ob_model.specs.Paths.{found}
 use Rattle.ob_model.specs.Creates as machine
 use Rattle.ob_model.specs.Settle.{deleted_one}
 use Rattle.ob_model.specs.Grants.{open_refusal_of, opened_body, opened_set, with_handle}
-use Rattle.ob_model.specs.Procedures.{Procedures, Created}
+use Rattle.ob_model.specs.declared.terms.Reason.TheVariants.{Created}
+use Rattle.ob_model.specs.Procedures.{Procedures}
 use Rattle.ob_objects.specs.declared.object.StoredObject.{StoredObject}
 use Rattle.ob_objects.specs.Store.{Entries, directory_at, entries_at, body_of_stored, objects_of, rows_of}
 use Rattle.ob_objects.specs.Changes.{with_entry, with_name, without_name}

@@ -18,7 +18,8 @@ use ob_names::Name;
 /// Source: OBJECT_ATTRIBUTES structure (Windows Driver Kit); the order is this profile.
 pub fn judge_create(live: bool, fit: bool, place: &Place, attrs: u32) -> Result<Attrs, Status>
     ensures { MatchResult result
-        (λ lawful. (lawful ≡ attrs) × (first_refusal (create_refusals live fit place.now attrs) ≡ None))
+        (λ lawful. (lawful ≡ attrs) × (first_refusal (create_refusals live fit place.now attrs)
+        ≡ None))
         (λ status. first_refusal (create_refusals live fit place.now attrs) ≡ Some status) }
 {
     if !live {

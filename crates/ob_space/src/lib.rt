@@ -1,6 +1,6 @@
 //! The parts of a namespace, and the changes of them that its commands share.
 //!
-//! A [`Namespace`] is plain data: the set of types, the store of objects and names, the live processes
+//! A [`Space`] is plain data: the set of types, the store of objects and names, the live processes
 //! with their handles, the pending opens, and the numbers that come next. The functions here are what commands are put
 //! together from: what is read off the parts, a name looked up, a handle granted, an object placed, a
 //! handle closed, and what a close lets go. Each is told by the state of the abstract machine that the
@@ -11,26 +11,26 @@
 //! wanted and isn't there, the state is as it was.
 #![tactic(auto)]
 
-mod closing;
+mod first_store;
+mod giving;
 mod granting;
 mod judge;
 mod looking;
-mod opening;
 mod placing;
+mod replies;
 mod roots;
-mod settling;
 mod space;
 mod wanted;
 
-pub use closing::close_handle;
-pub use granting::{Asked, grant};
+pub use first_store::opening_store;
+pub use giving::{give_handle, open_at};
+pub use granting::grant;
 pub use judge::{judge_create, judge_open};
 pub use looking::{look_up, look_up_again};
-pub use opening::opening_store;
-pub use placing::{Spot, place_new};
+pub use placing::{Spot, delete_body, place_new};
+pub use replies::{status_alone, with_handle};
 pub use roots::root_object;
-pub use settling::{settle_after_end, settle_after_loss};
 pub use space::{
-    Namespace, ROOT, Space, held_of, is_full, is_full_without, is_live, is_stampless, is_store_full,
+    GLOBAL, ROOT, Space, held_of, is_full, is_full_without, is_live, is_stampless, is_store_full,
 };
 pub use wanted::is_wanted_at;

@@ -1,23 +1,23 @@
 //! Looking a name up in the namespace.
 
 ghost use Rattle.std.specs.Prelude.{◌≡◌, ℕ, List, IfOk, IfErr, Some};
-ghost use Rattle.ob_base.specs.declared.Fault.TheVariants.{Memory};
 ghost use Rattle.ob_model.specs.Looks as machine;
 ghost use Rattle.ob_model.specs.declared.state.Pending.{Pending};
 ghost use Rattle.ob_model.specs.Parses.{LooksAgain};
 ghost use Rattle.ob_model.specs.PendingOpens.{without_pending};
 ghost use Rattle.ob_model.specs.Sound.{IsSound};
-ghost use Rattle.ob_lookup.specs.Look.{mode_of, look_of};
+ghost use Rattle.ob_lookup.specs.Look.{look_of};
 ghost use Rattle.ob_space.specs.Looking.{IsRoot, IsUsable, with_these_opens};
-ghost use Rattle.ob_space.specs.Namespace.{state_of};
 
 use crate::space::Space;
-use ob_base::{Fault, ObjId, Proc, Status};
+use ob_base::{ObjId, Proc, Status};
 use ob_handles::HandleTable;
-use ob_lookup::{Look, Mode, look, sound_has_views, sound_is_closed};
+use ob_lookup::{Look, look, sound_has_views, sound_is_closed};
+use ob_model::Mode;
 use ob_names::Name;
-use ob_objects::laws;
+use ob_objects::stored_is_the_object;
 use ob_types::TypeSet;
+use std::alloc::AllocError;
 
 /// The most reparses of one lookup (this profile).
 const MOST_REPARSES: u32 = 32;
@@ -29,7 +29,7 @@ const MOST_REPARSES: u32 = 32;
 ///
 /// It asks that the state is sound, so that every name in it leads somewhere, and that the root object
 /// is there. A vacant place is told only to a create, and then a name may be put there; an object that is to parse
-/// only to an open, and then its kind does. Nothing is changed. The only fault is want of memory.
+/// only to an open, and then its kind does. Nothing is changed. The only fault is out of memory.
 ///
 /// Source: Windows Internals, Object Manager (object names, symbolic links, parse methods, session namespace);
 /// the limit is this profile.
@@ -39,14 +39,13 @@ pub fn look_up<T: TypeSet, H: HandleTable>(
     root: Option<ObjId>,
     name: Name<'_>,
     mode: Mode,
-) -> Result<Look, Fault>
-    requires sound { IsSound (state_of T.Kind space.now) }
-    requires root { IsRoot (state_of T.Kind space.now) root }
+) -> Result<Look, AllocError>
+    requires sound { IsSound space.now }
+    requires root { IsRoot space.now root }
     ensures end { IfOk result (λ look.
-        machine.LooksUp T.procedures (state_of T.Kind space.now) process (mode_of mode) machine.most_reparses root name.entry
+        machine.LooksUp T.procedures space.now process mode machine.most_reparses root name.entry
         (look_of look)) }
-    ensures usable { IfOk result (λ look. IsUsable T.procedures (state_of T.Kind space.now) (mode_of mode) (look_of look)) }
-    ensures memory { IfErr result (λ fault. fault ≡ Memory) }
+    ensures usable { IfOk result (λ look. IsUsable T.procedures space.now mode (look_of look)) }
 {
     look_with(space, process, root, name, mode, MOST_REPARSES)
 }
@@ -57,7 +56,7 @@ pub fn look_up<T: TypeSet, H: HandleTable>(
 ///
 /// It asks that the state is sound. What it ends with is what a lookup ends with: `Refused` with `ReparseLimit`
 /// where no reparse is left, and with `ObjectPathSyntaxBad` where the name doesn't begin with a separator; no
-/// name is too long. Nothing is changed. The only fault is want of memory.
+/// name is too long. Nothing is changed. The only fault is out of memory.
 ///
 /// Source: Windows Internals, Object Manager (parse methods, symbolic links); that a parse's text takes one of
 /// the reparses of its lookup, and is looked up in the state as it is when the parse has ended, are this profile.
@@ -67,13 +66,12 @@ pub fn look_up_again<T: TypeSet, H: HandleTable>(
     text: Name<'_>,
     mode: Mode,
     left: u32,
-) -> Result<Look, Fault>
-    requires sound { IsSound (state_of T.Kind space.now) }
+) -> Result<Look, AllocError>
+    requires sound { IsSound space.now }
     ensures end { IfOk result (λ look. (ticket : ℕ) →
-        LooksAgain T.procedures (without_pending (state_of T.Kind space.now) ticket) process (mode_of mode) left text.entry
+        LooksAgain T.procedures (without_pending space.now ticket) process mode left text.entry
         (look_of look)) }
-    ensures usable { IfOk result (λ look. IsUsable T.procedures (state_of T.Kind space.now) (mode_of mode) (look_of look)) }
-    ensures memory { IfErr result (λ fault. fault ≡ Memory) }
+    ensures usable { IfOk result (λ look. IsUsable T.procedures space.now mode (look_of look)) }
 {
     // A name is no longer than a lookup takes.
     let _ = text.as_slice();
@@ -91,17 +89,17 @@ fn look_with<T: TypeSet, H: HandleTable>(
     name: Name<'_>,
     mode: Mode,
     left: u32,
-) -> Result<Look, Fault>
-    requires sound { IsSound (state_of T.Kind space.now) }
-    requires root { IsRoot (state_of T.Kind space.now) root }
+) -> Result<Look, AllocError>
+    requires sound { IsSound space.now }
+    requires root { IsRoot space.now root }
     ensures end { IfOk result (λ look. (opens : List (Pending T.Kind)) →
-        machine.LooksUp T.procedures (with_these_opens (state_of T.Kind space.now) opens) process (mode_of mode) left root name.entry
+        machine.LooksUp T.procedures
+        (with_these_opens space.now opens) process mode left root name.entry
         (look_of look)) }
-    ensures usable { IfOk result (λ look. IsUsable T.procedures (state_of T.Kind space.now) (mode_of mode) (look_of look)) }
-    ensures memory { IfErr result (λ fault. fault ≡ Memory) }
+    ensures usable { IfOk result (λ look. IsUsable T.procedures space.now mode (look_of look)) }
 {
     sound_is_closed::<T::Kind, T, T::Face, T::Inner>();
-    laws::stored_is_the_object::<T::Kind, T, T::Face, T::Inner>();
+    stored_is_the_object::<T::Kind, T, T::Face, T::Inner>();
     sound_has_views::<T::Kind, T, T::Face, T::Inner>();
     let view = space.processes.view(process);
     look(space.alloc, &space.store, view, root, name, mode, left)

@@ -4,24 +4,22 @@
 ghost use Rattle.std.specs.Prelude.{◌≡◌, ◌≢◌, ◌<◌, ◌||◌, [], None, Some, true, false, All};
 ghost use Rattle.std.specs.Prelude.{IfOk, IfErr, OnErr};
 ghost use Rattle.std.specs.Option.{option_map, is_some};
-ghost use Rattle.ob_base.specs.declared.Fault.TheVariants.{Memory};
-ghost use Rattle.ob_model.specs.Procedures as model;
 ghost use Rattle.ob_model.specs.State.{is_live, is_store_full};
 ghost use Rattle.ob_model.specs.Creates.{is_stampless, dropped};
+ghost use Rattle.ob_model.specs.Settle.{deleted_one};
 ghost use Rattle.ob_model.specs.Grants.{is_table_full, IsFreeValue, open_refusal_of};
 ghost use Rattle.ob_objects.specs.Store.{IsStore, rows_of, entries_in, body_of_stored, stored_at};
 ghost use Rattle.ob_objects.specs.Changes.{without_object};
 ghost use Rattle.ob_space.specs.Placing.{spot_of, IsVacantSpot, IsFreeSpot, with_placed, without_name_in, IsOpened, IsTakenBack, placed};
-ghost use Rattle.ob_space.specs.Namespace.{state_of};
 ghost use Rattle.ob_space.specs.Orderly.{IsOrderly, IsIdleBody};
 
-use crate::settling::delete_body;
 use crate::space::Space;
-use ob_base::{Fault, Handle, ObjId, Proc};
+use ob_base::{Handle, ObjId, Proc};
 use ob_handles::HandleTable;
 use ob_names::NameBuf;
-use ob_objects::{Store, StoredObject};
+use ob_objects::{Store, StoredBody, StoredObject};
 use ob_types::{Reason, TypeSet};
+use std::alloc::AllocError;
 
 /// Where a new object is to stand: at a name in a directory.
 #[derive(Drop)]
@@ -41,7 +39,7 @@ pub struct Spot {
 /// value stands for no open handle.
 ///
 /// Where the set refuses, with its number, handle, name and object are taken back, the object is
-/// deleted, and its id stays drawn; all else is as it was. The only fault is want of memory, and then
+/// deleted, and its id stays drawn; all else is as it was. The only fault is out of memory, and then
 /// nothing has changed and the set wasn't asked.
 ///
 /// Source: Windows Internals, Object Manager (open methods); the numbers are this profile.
@@ -51,30 +49,35 @@ pub fn place_new<T: TypeSet, H: HandleTable>(
     spot: Option<Spot>,
     object: StoredObject<T::Face, T::Inner>,
     inherit: bool,
-) -> Result<Result<Handle, u16>, Fault>
-    requires orderly { IsOrderly T.idle (state_of T.Kind space.old) }
-    requires live { is_live (state_of T.Kind space.old) process ≡ true }
-    requires room { (is_table_full (state_of T.Kind space.old) process || is_store_full (state_of T.Kind space.old)) ≡ false }
-    requires stamp { is_some spot ≡ true → is_stampless (state_of T.Kind space.old) ≡ false }
-    requires vacant { IsVacantSpot (state_of T.Kind space.old) spot }
+) -> Result<Result<Handle, u16>, AllocError>
+    requires orderly { IsOrderly T.idle space.old }
+    requires live { is_live space.old process ≡ true }
+    requires room { (is_table_full space.old process || is_store_full space.old) ≡ false }
+    requires stamp { is_some spot ≡ true → is_stampless space.old ≡ false }
+    requires vacant { IsVacantSpot space.old spot }
     requires empty { entries_in object.body ≡ [] }
     requires idle { IsIdleBody T.idle (body_of_stored object.body) }
-    ensures orderly { IsOrderly T.idle (state_of T.Kind space.new) }
+    ensures orderly { IsOrderly T.idle space.new }
     ensures accepted { IfOk result (λ told. IfOk told (λ value.
-        (open_refusal_of T.procedures space.old.set (body_of_stored object.body) model.Created ≡ None)
-        × IsFreeValue (state_of T.Kind space.old) process value
-        × (state_of T.Kind space.new ≡ placed T.procedures (state_of T.Kind space.old) process (spot_of spot) object value inherit))) }
+        (open_refusal_of T.procedures space.old.set (body_of_stored object.body) Reason.Created
+        ≡ None)
+        × IsFreeValue space.old process value
+        × (space.new
+        ≡ placed T.procedures space.old process (spot_of spot) object value inherit))) }
     ensures refused { IfOk result (λ told. IfErr told (λ code.
-        (open_refusal_of T.procedures space.old.set (body_of_stored object.body) model.Created ≡ Some code)
-        × (state_of T.Kind space.new ≡ dropped T.procedures (state_of T.Kind space.old) (body_of_stored object.body)))) }
-    ensures err { OnErr result (state_of T.Kind space.new ≡ state_of T.Kind space.old) }
-    ensures memory { IfErr result (λ fault. fault ≡ Memory) }
+        (open_refusal_of T.procedures space.old.set (body_of_stored object.body) Reason.Created
+        ≡ Some code)
+        × (space.new ≡ dropped T.procedures space.old (body_of_stored object.body)))) }
+    ensures err { OnErr result (space.new ≡ space.old) }
 {
     let (id, stamp, order) = (ObjId(space.next_id), space.next_stamp, space.next_order);
     let named = spot.is_some();
     // The length tells what holds of every store.
     let _ = space.store.len();
-    let value = space.processes.grant(process, id, inherit, order)?;
+    // There is room, so that memory alone can lack.
+    let Ok(value) = space.processes.grant(process, id, inherit, order) else {
+        return Err(AllocError);
+    };
     match put_and_open(&mut space.store, &mut space.set, id, stamp, spot, object) {
         Ok(Ok(())) => {
             space.next_id += 1;
@@ -96,7 +99,7 @@ pub fn place_new<T: TypeSet, H: HandleTable>(
 
 /// Puts an object into a store, and its name, where a spot is given, into the spot's directory; then
 /// the set opens it. Where the set refuses, name and object are taken back, and the object is deleted.
-/// The only fault is want of memory, and then nothing has changed.
+/// The only fault is out of memory, and then nothing has changed.
 fn put_and_open<T: TypeSet>(
     store: &mut Store<T>,
     set: &mut T,
@@ -104,7 +107,7 @@ fn put_and_open<T: TypeSet>(
     stamp: u64,
     spot: Option<Spot>,
     object: StoredObject<T::Face, T::Inner>,
-) -> Result<Result<(), u16>, Fault>
+) -> Result<Result<(), u16>, AllocError>
     requires store { IsStore store.old }
     requires id { stored_at store.old id ≡ None }
     requires free { IsFreeSpot store.old stamp spot }
@@ -118,7 +121,6 @@ fn put_and_open<T: TypeSet>(
         IsTakenBack T.procedures set.old store.old object code set.new store.new)) }
     ensures err { OnErr result (store.new ≡ store.old) }
     ensures set { OnErr result (set.new ≡ set.old) }
-    ensures memory { IfErr result (λ fault. fault ≡ Memory) }
 {
     let directory = directory_of(&spot);
     put_in(store, id, stamp, spot, object)?;
@@ -140,21 +142,20 @@ fn directory_of(spot: &Option<Spot>) -> Option<ObjId>
 }
 
 /// Puts an object into a store, and its name, where a spot is given, into the spot's directory. The
-/// only fault is want of memory, and then nothing has changed.
+/// only fault is out of memory, and then nothing has changed.
 fn put_in<T: TypeSet>(
     store: &mut Store<T>,
     id: ObjId,
     stamp: u64,
     spot: Option<Spot>,
     object: StoredObject<T::Face, T::Inner>,
-) -> Result<(), Fault>
+) -> Result<(), AllocError>
     requires id { stored_at store.old id ≡ None }
     requires free { IsFreeSpot store.old stamp spot }
     requires unnamed { All (λ row. row.object ≢ id) (rows_of store.old) }
     requires empty { entries_in object.body ≡ [] }
     ensures put { IfOk result (λ _. store.new ≡ with_placed store.old id stamp spot object) }
     ensures err { OnErr result (store.new ≡ store.old) }
-    ensures memory { IfErr result (λ fault. fault ≡ Memory) }
 {
     store.insert(id, object)?;
     let Some(spot) = spot else {
@@ -181,4 +182,15 @@ fn take_back<T: TypeSet>(
         store.remove_name(directory, stamp);
     }
     store.remove(id)
+}
+
+/// Deletes an object that stands for no open handle. Directories and links have no procedures.
+pub fn delete_body<T: TypeSet>(set: &mut T, body: StoredBody<T::Face, T::Inner>)
+    requires { IsIdleBody T.idle (body_of_stored body) }
+    ensures { set.new ≡ deleted_one T.procedures (body_of_stored body) set.old }
+{
+    match body {
+        StoredBody::Other { inner, .. } => set.on_delete(inner),
+        StoredBody::Directory(_) | StoredBody::Link(_) => {}
+    }
 }

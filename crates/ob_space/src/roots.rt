@@ -2,7 +2,6 @@
 
 ghost use Rattle.std.specs.Prelude.{◌≡◌, Some, None, MatchResult};
 ghost use Rattle.ob_base.specs.declared.Status.TheVariants.{InvalidHandle};
-ghost use Rattle.ob_space.specs.Namespace.{state_of};
 ghost use Rattle.ob_space.specs.Roots.{root_of};
 
 use crate::space::{Space, held_of};
@@ -20,8 +19,8 @@ pub fn root_object<T: TypeSet, H: HandleTable>(
     root: Option<Handle>,
 ) -> Result<Option<ObjId>, Status>
     ensures { MatchResult result
-        (λ object. root_of (state_of T.Kind space.now) process root ≡ Some object)
-        (λ status. (status ≡ InvalidHandle) × (root_of (state_of T.Kind space.now) process root ≡ None)) }
+        (λ object. root_of space.now process root ≡ Some object)
+        (λ status. (status ≡ InvalidHandle) × (root_of space.now process root ≡ None)) }
 {
     let Some(handle) = root else {
         return Ok(None);

@@ -16,12 +16,13 @@ use ob_objects::Store;
 use ob_processes::{PendingOpens, Processes};
 use ob_types::TypeSet;
 use std::alloc::Global;
+use std::marker::Model;
 
 /// The id of the root directory, which `\` names. It is there in every orderly state.
 pub const ROOT: ObjId = ObjId(1);
 
 /// The id of the directory `\GLOBAL??`.
-pub(crate) const GLOBAL: ObjId = ObjId(2);
+pub const GLOBAL: ObjId = ObjId(2);
 
 /// The most objects and pending opens together.
 const MOST_OBJECTS: usize = 1_048_576;
@@ -29,25 +30,25 @@ const MOST_OBJECTS: usize = 1_048_576;
 /// The greatest id, stamp and order of opening.
 const GREATEST_NUMBER: u64 = u64::MAX - 1;
 
-/// The parts of a namespace: the value of its set of types, the store of its objects and of their
-/// names, its live processes with their handles, its pending opens, and the numbers that the next ones get. `T` is the
-/// set, `S` the store of its objects, `P` the processes, and `N` the pending opens.
+/// A namespace: the value of its set of types, the store of its objects and of their names, its live processes with
+/// their handles, its pending opens, and the numbers that the next ones get. `T` is the set, and `H` the handle table
+/// that each process has.
 ///
-/// The state of the abstract machine that these parts stand for is `state_of`. Nothing is kept true of
-/// them by the struct itself: a change says by `IsOrderly` what it asks and what it leaves.
+/// Contracts see the state of the abstract machine that these parts stand for. Nothing is kept true of them by the
+/// struct itself: a change says by `IsOrderly` what it asks and what it leaves.
 #[derive(Drop)]
-pub struct Namespace<T, S, P, N> {
+pub struct Space<T: TypeSet, H: HandleTable> {
     /// Where memory is taken from.
     pub alloc: Global,
     /// The value of the set of types, as the calls of its procedures have left it.
     pub set: T,
     /// The objects by their ids, and the entries of their directories.
-    pub store: S,
+    pub store: Store<T>,
     /// The live processes by their numbers, each with its handles: at most 1,024 processes, and 65,535
     /// handles of each.
-    pub processes: P,
+    pub processes: Processes<H>,
     /// The pending opens by their tickets.
-    pub pending: N,
+    pub pending: PendingOpens<T::Kind>,
     /// The id that the next object gets: above every id that was drawn, and at most 2^64 - 1, with
     /// which none is left.
     pub next_id: u64,
@@ -61,12 +62,29 @@ pub struct Namespace<T, S, P, N> {
     pub next_order: u64,
 }
 
-/// The parts of a namespace of these types, whose handles stand in tables of this sort.
-pub type Space<T, H> = Namespace<T, Store<T>, Processes<H>, PendingOpens<<T as TypeSet>::Kind>>;
+impl<T: TypeSet, H: HandleTable> Model for Space<T, H> {
+    ghost use Rattle.ob_model.specs.State.{State};
+    ghost use Rattle.ob_objects.specs.Store.{objects_of, rows_of};
+
+    ghost Value = { State T.Kind T T.Face T.Inner };
+
+    ghost view = { λ a. record {
+      objects = objects_of a.store;
+      rows = rows_of a.store;
+      handles = a.processes.handles;
+      processes = a.processes.processes;
+      pending = a.pending;
+      set = a.set;
+      next_id = a.next_id;
+      next_stamp = a.next_stamp;
+      next_process = a.next_process;
+      next_order = a.next_order;
+    } };
+}
 
 /// Whether a process is live.
 pub fn is_live<T: TypeSet, H: HandleTable>(space: &Space<T, H>, process: Proc) -> bool
-    ensures { result ≡ is_live (state_of T.Kind space.now) process }
+    ensures { result ≡ is_live space.now process }
 {
     space.processes.is_live(process)
 }
@@ -80,7 +98,7 @@ pub fn held_of<T: TypeSet, H: HandleTable>(
     process: Proc,
     handle: Handle,
 ) -> Option<Held>
-    ensures { result ≡ option_and_then (held_of (state_of T.Kind space.now) process) (key_of handle) }
+    ensures { result ≡ option_and_then (held_of space.now process) (key_of handle) }
 {
     match handle.key() {
         Some(key) => space.processes.get(process, Handle(key)),
@@ -90,14 +108,14 @@ pub fn held_of<T: TypeSet, H: HandleTable>(
 
 /// Whether no handle more fits into a process's table, or no order of opening is left.
 pub(crate) fn is_table_full<T: TypeSet, H: HandleTable>(space: &Space<T, H>, process: Proc) -> bool
-    ensures { result ≡ is_table_full (state_of T.Kind space.now) process }
+    ensures { result ≡ is_table_full space.now process }
 {
     space.processes.len_of(process) >= MOST_HANDLES || space.next_order > GREATEST_NUMBER
 }
 
 /// Whether no object and no pending open more fits, or no id is left.
 pub fn is_store_full<T: TypeSet, H: HandleTable>(space: &Space<T, H>) -> bool
-    ensures { result ≡ is_store_full (state_of T.Kind space.now) }
+    ensures { result ≡ is_store_full space.now }
 {
     let there = space.store.len().saturating_add(space.pending.len());
     there >= MOST_OBJECTS || space.next_id > GREATEST_NUMBER
@@ -108,7 +126,7 @@ pub fn is_store_full<T: TypeSet, H: HandleTable>(space: &Space<T, H>) -> bool
 ///
 /// Source: this profile.
 pub fn is_full_without<T: TypeSet, H: HandleTable>(space: &Space<T, H>, ticket: u64) -> bool
-    ensures { result ≡ is_store_full (without_pending (state_of T.Kind space.now) ticket) }
+    ensures { result ≡ is_store_full (without_pending space.now ticket) }
 {
     let opens = opens_without(space, ticket);
     let there_then = space.store.len().saturating_add(opens);
@@ -117,7 +135,7 @@ pub fn is_full_without<T: TypeSet, H: HandleTable>(space: &Space<T, H>, ticket: 
 
 /// How many opens are pending under other tickets.
 fn opens_without<T: TypeSet, H: HandleTable>(space: &Space<T, H>, ticket: u64) -> usize
-    ensures { result ≡ length (without_pending (state_of T.Kind space.now) ticket).pending }
+    ensures { result ≡ length (without_pending space.now ticket).pending }
 {
     let opens = space.pending.len();
     match space.pending.get(ticket) {
@@ -129,14 +147,14 @@ fn opens_without<T: TypeSet, H: HandleTable>(space: &Space<T, H>, ticket: u64) -
 /// Whether a process can be given no handle to a new object: its table is full, with 65,535 handles,
 /// there are 1,048,576 objects and pending opens, or no id or order of opening is left.
 pub fn is_full<T: TypeSet, H: HandleTable>(space: &Space<T, H>, process: Proc) -> bool
-    ensures { result ≡ (is_table_full (state_of T.Kind space.now) process || is_store_full (state_of T.Kind space.now)) }
+    ensures { result ≡ (is_table_full space.now process || is_store_full space.now) }
 {
     is_table_full(space, process) || is_store_full(space)
 }
 
 /// Whether no stamp is left for a new name.
 pub fn is_stampless<T: TypeSet, H: HandleTable>(space: &Space<T, H>) -> bool
-    ensures { result ≡ is_stampless (state_of T.Kind space.now) }
+    ensures { result ≡ is_stampless space.now }
 {
     space.next_stamp > GREATEST_NUMBER
 }

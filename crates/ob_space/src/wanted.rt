@@ -3,13 +3,12 @@
 ghost use Rattle.std.specs.Prelude.{◌≡◌};
 ghost use Rattle.ob_model.specs.Types.{is_wanted, is_wanted_at};
 ghost use Rattle.ob_objects.specs.Store.{body_of_stored};
-ghost use Rattle.ob_space.specs.Namespace.{state_of};
 
 use crate::space::Space;
 use ob_base::ObjId;
 use ob_handles::HandleTable;
 use ob_model::Wanted;
-use ob_objects::{StoredBody, laws};
+use ob_objects::{StoredBody, stored_is_the_object};
 use ob_types::{TypeSet, is_one_kind};
 
 /// Whether a body is that of the type that is asked for.
@@ -34,9 +33,9 @@ pub fn is_wanted_at<T: TypeSet, H: HandleTable>(
     id: ObjId,
     wanted: Wanted<T::Kind>,
 ) -> bool
-    ensures { result ≡ is_wanted_at T.procedures (state_of T.Kind space.now) id wanted }
+    ensures { result ≡ is_wanted_at T.procedures space.now id wanted }
 {
-    laws::stored_is_the_object::<T::Kind, T, T::Face, T::Inner>();
+    stored_is_the_object::<T::Kind, T, T::Face, T::Inner>();
     match space.store.get(id) {
         Some(stored) => is_wanted::<T>(&stored.body, wanted),
         None => false,

@@ -157,45 +157,65 @@ impl TypeSet for Standard {
 
     ghost equal_kinds = { elim [
       | Left a ↦ elim [
-        | Left b ↦ elim a as (λ x. ⟦<StandardKind as PartialEq>⟧.eq (Left x) (Left b) ≡ (standard).same_kind (Left x) (Left b)) [
-          | Event ↦ elim b as (λ y. ⟦<StandardKind as PartialEq>⟧.eq (Left Event) (Left y) ≡ (standard).same_kind (Left Event) (Left y)) [
-            | Event ↦ refl
-            | Mutant ↦ refl
-            | Section ↦ refl
-          ]
-          | Mutant ↦ elim b as (λ y. ⟦<StandardKind as PartialEq>⟧.eq (Left Mutant) (Left y) ≡ (standard).same_kind (Left Mutant) (Left y)) [
-            | Event ↦ refl
-            | Mutant ↦ refl
-            | Section ↦ refl
-          ]
-          | Section ↦ elim b as (λ y. ⟦<StandardKind as PartialEq>⟧.eq (Left Section) (Left y) ≡ (standard).same_kind (Left Section) (Left y)) [
-            | Event ↦ refl
-            | Mutant ↦ refl
-            | Section ↦ refl
-          ]
-        ]
+        | Left b ↦ elim a as (λ x. ⟦<StandardKind as PartialEq>⟧.eq (Left x) (Left b)
+            ≡ (standard).same_kind (Left x) (Left b)) [
+              | Event ↦ elim b as (λ y. ⟦<StandardKind as PartialEq>⟧.eq (Left Event) (Left y)
+                  ≡ (standard).same_kind (Left Event) (Left y)) [
+                    | Event ↦ refl
+                    | Mutant ↦ refl
+                    | Section ↦ refl
+                  ]
+              | Mutant ↦ elim b as (λ y. ⟦<StandardKind as PartialEq>⟧.eq (Left Mutant) (Left y)
+                  ≡ (standard).same_kind (Left Mutant) (Left y)) [
+                    | Event ↦ refl
+                    | Mutant ↦ refl
+                    | Section ↦ refl
+                  ]
+              | Section ↦ elim b as (λ y. ⟦<StandardKind as PartialEq>⟧.eq (Left Section) (Left y)
+                  ≡ (standard).same_kind (Left Section) (Left y)) [
+                    | Event ↦ refl
+                    | Mutant ↦ refl
+                    | Section ↦ refl
+                  ]
+            ]
         | Right b ↦ refl
       ]
-      | Right a ↦ elim a as (λ x. (b : StandardKind) → ⟦<StandardKind as PartialEq>⟧.eq (Right x) b ≡ (standard).same_kind (Right x) b) [
-        | Left a ↦ elim [
-          | Left b ↦ refl
-          | Right b ↦ elim b as (λ y. ⟦<StandardKind as PartialEq>⟧.eq (Right (Left a)) (Right y) ≡ (standard).same_kind (Right (Left a)) (Right y)) [
-            | Left b ↦ elim a as (λ x. ⟦<StandardKind as PartialEq>⟧.eq (Right (Left x)) (Right (Left b)) ≡ (standard).same_kind (Right (Left x)) (Right (Left b))) [
-              | Device ↦ elim b as (λ y. ⟦<StandardKind as PartialEq>⟧.eq (Right (Left Device)) (Right (Left y)) ≡ (standard).same_kind (Right (Left Device)) (Right (Left y))) [ Device ↦ refl | File ↦ refl ]
-              | File ↦ elim b as (λ y. ⟦<StandardKind as PartialEq>⟧.eq (Right (Left File)) (Right (Left y)) ≡ (standard).same_kind (Right (Left File)) (Right (Left y))) [ Device ↦ refl | File ↦ refl ]
+      | Right a ↦ elim a as (λ x. (b : StandardKind) → ⟦<StandardKind as PartialEq>⟧.eq (Right x) b
+          ≡ (standard).same_kind (Right x) b) [
+            | Left a ↦ elim [
+              | Left b ↦ refl
+              | Right b ↦ elim b as (λ y. ⟦<StandardKind as PartialEq>⟧.eq (Right (Left a)) (Right y)
+                  ≡ (standard).same_kind (Right (Left a)) (Right y)) [
+                    | Left b ↦ elim a as (λ x.
+                        ⟦<StandardKind as PartialEq>⟧.eq (Right (Left x)) (Right (Left b))
+                        ≡ (standard).same_kind (Right (Left x)) (Right (Left b))) [
+                          | Device ↦ elim b as (λ y.
+                              ⟦<StandardKind as PartialEq>⟧.eq (Right (Left Device)) (Right (Left y))
+                              ≡ (standard).same_kind (Right (Left Device)) (Right (Left y))) [
+                                | Device ↦ refl
+                                | File ↦ refl
+                              ]
+                          | File ↦ elim b as (λ y.
+                              ⟦<StandardKind as PartialEq>⟧.eq (Right (Left File)) (Right (Left y))
+                              ≡ (standard).same_kind (Right (Left File)) (Right (Left y))) [ Device ↦ refl | File ↦ refl ]
+                        ]
+                    | Right b ↦ refl
+                  ]
             ]
-            | Right b ↦ refl
-          ]
-        ]
-        | Right a ↦ elim [
-          | Left b ↦ refl
-          | Right b ↦ elim b as (λ y. ⟦<StandardKind as PartialEq>⟧.eq (Right (Right a)) (Right y) ≡ (standard).same_kind (Right (Right a)) (Right y)) [
-            | Left b ↦ refl
-            | Right b ↦ elim a as (λ x. ⟦<StandardKind as PartialEq>⟧.eq (Right (Right x)) (Right (Right b)) ≡ (standard).same_kind (Right (Right x)) (Right (Right b))) [
-              | Key ↦ elim b as (λ y. ⟦<StandardKind as PartialEq>⟧.eq (Right (Right Key)) (Right (Right y)) ≡ (standard).same_kind (Right (Right Key)) (Right (Right y))) [ Key ↦ refl ]
+            | Right a ↦ elim [
+              | Left b ↦ refl
+              | Right b ↦ elim b as (λ y. ⟦<StandardKind as PartialEq>⟧.eq (Right (Right a)) (Right y)
+                  ≡ (standard).same_kind (Right (Right a)) (Right y)) [
+                    | Left b ↦ refl
+                    | Right b ↦ elim a as (λ x.
+                        ⟦<StandardKind as PartialEq>⟧.eq (Right (Right x)) (Right (Right b))
+                        ≡ (standard).same_kind (Right (Right x)) (Right (Right b))) [
+                          | Key ↦ elim b as (λ y.
+                              ⟦<StandardKind as PartialEq>⟧.eq (Right (Right Key)) (Right (Right y))
+                              ≡ (standard).same_kind (Right (Right Key)) (Right (Right y))) [ Key ↦ refl ]
+                        ]
+                  ]
             ]
           ]
-        ]
-      ]
     ] };
 }

@@ -4,7 +4,7 @@
 use Rattle.std.specs.Prelude.{length}
 use Rattle.ob_model.specs.State.{State}
 use Rattle.ob_plain.specs.Counting.{opens_of, closes_of, deletes_of}
-use Rattle.ob_output.specs.declared.counts.Counts.{Counts}
+use Rattle.ob_output.specs.declared.counts.Totals.{Totals}
 use Rattle.ob_standard.specs.Standard.{StandardKind, StandardFace, StandardInner, Standard}
 
 -- the states of the machine
@@ -12,7 +12,7 @@ abbrev pub Space : Type 0
 Space = State StandardKind Standard StandardFace StandardInner
 
 -- what a state counts: its objects and handles now, and its set's accepted opens, closes and deletes
-abbrev pub counts_of : Space → Counts
+abbrev pub counts_of : Space → Totals
 counts_of s = record {
   objects = length s.objects;
   handles = length s.handles;

@@ -7,6 +7,6 @@
 mod standard_core;
 mod waits;
 
-pub use ob_begun::Begun;
+pub use ob_runner::Begun;
 pub use standard_core::StandardCore;
 pub use waits::StandardWaits;

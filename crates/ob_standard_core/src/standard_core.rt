@@ -3,21 +3,21 @@
 ghost use Rattle.std.specs.Prelude.{◌≡◌, List, IfOk, OnErr};
 ghost use Rattle.std.specs.Option.{is_some, option_map};
 ghost use Rattle.ob_choices.specs.Choice.{revalued};
-ghost use Rattle.ob_core.specs.Revaluing.{IsLastHandle};
+ghost use Rattle.ob_core.specs.Reached.{IsJustGiven, IsReached};
 ghost use Rattle.ob_model.specs.Grants.{IsFreeValue};
 ghost use Rattle.ob_model.specs.PendingOpens.{pending_of};
 ghost use Rattle.ob_model.specs.declared.reply.Event.TheVariants.{Start};
 ghost use Rattle.ob_model.specs.Opening.{opening};
 ghost use Rattle.ob_model.specs.Sound.{IsSound};
 ghost use Rattle.ob_model.specs.State.{held_of};
-ghost use Rattle.ob_complete.specs.Completes.{Made, Completes, Falters};
+ghost use Rattle.ob_runner.specs.Completes.{Made, Completes, Falters};
 ghost use Rattle.ob_standard.specs.Standard.{IsFresh, StandardKind, Standard as StandardSet, standard};
 ghost use Rattle.ob_standard_core.specs.Machine.{counts_of};
 
 use ob_base::{Handle, Proc};
-use ob_complete::{Core, OpenTable, run_command};
 use ob_model::{Command, Reply};
-use ob_output::Counts;
+use ob_output::Totals;
+use ob_runner::{Core, OpenTable, run_command};
 use ob_standard::{Standard, StandardKind};
 use std::alloc::{AllocError, Global};
 use std::marker::Model;
@@ -40,9 +40,10 @@ impl Model for StandardCore {
 }
 
 impl StandardCore {
-    /// The opening state, in which the set has counted nothing. The only fault is want of memory. (this profile)
+    /// The opening state, in which the set has counted nothing. The only fault is out of memory. (this profile)
     pub fn new(alloc: Global) -> Result<StandardCore, AllocError>
-        ensures { IfOk result (λ core. (first : StandardSet) × IsFresh first × (core ≡ opening first)) }
+        ensures { IfOk result (λ core. (first : StandardSet) × IsFresh first
+            × (core ≡ opening first)) }
     {
         match Core::new(alloc, Standard::new()) {
             Ok(core) => Ok(StandardCore { core }),
@@ -51,7 +52,7 @@ impl StandardCore {
     }
 
     /// Runs a command of a process to its reply, and each parse that it waits for meanwhile, with nothing else done between
-    /// these steps. The only fault is want of memory: before the first step, where nothing has changed, or behind steps
+    /// these steps. The only fault is out of memory: before the first step, where nothing has changed, or behind steps
     /// that give the open up.
     ///
     /// Source: Windows Internals, Object Manager (parse methods); that a parse is run between two steps is this profile.
@@ -70,11 +71,11 @@ impl StandardCore {
     }
 
     /// What there is now, and what the set has counted. Takes no memory. (this profile)
-    pub fn counts(&self) -> Counts
+    pub fn counts(&self) -> Totals
         ensures { result ≡ counts_of self.now }
     {
         let set = self.core.set();
-        Counts {
+        Totals {
             objects: self.core.objects(),
             handles: self.core.handles(),
             opens: set.opens(),
@@ -100,10 +101,10 @@ impl StandardCore {
         self.core.asker(ticket)
     }
 
-    /// The namespace in which the handle that was opened last, which is one of this process under the value `from`, has
-    /// the value `to` instead, which that process doesn't use; nothing else differs.
+    /// The namespace in which the handle that the last step gave to this process, under the value `from`, has the value
+    /// `to` instead, which that process doesn't use; nothing else differs.
     ///
-    /// The only error is want of memory, and then the namespace is let go.
+    /// The only error is out of memory, and then the namespace is let go.
     ///
     /// Source: handles are values of the system's choice (Windows Driver Kit); that a choice may be changed is this profile.
     pub fn revalue(
@@ -112,7 +113,7 @@ impl StandardCore {
         from: Handle,
         to: Handle,
     ) -> Result<StandardCore, AllocError>
-        requires last { IsLastHandle self process from }
+        requires given { IsJustGiven standard self process from }
         requires free { IsFreeValue self process to }
         ensures { IfOk result (λ core. core ≡ revalued to self) }
     {
@@ -128,6 +129,14 @@ impl StandardCore {
         ensures { result ≡ self.now.next_process }
     {
         self.core.next_process()
+    }
+
+    /// The law that a run leads to the state of every core. The call does nothing; a caller makes it to have the fact.
+    /// (this profile)
+    pub fn state_is_reached(&self)
+        ensures { IsReached standard self.now }
+    {
+        self.core.state_is_reached();
     }
 
     /// The law that the state of every core is sound. The call does nothing; a caller makes it to have the fact. (this

@@ -8,15 +8,15 @@ ghost use Rattle.ob_model.specs.declared.reply.ParseRun.{ParseRun};
 ghost use Rattle.ob_model.specs.declared.reply.ParseRun.TheVariants.{Unrun};
 ghost use Rattle.ob_model.specs.Refusals.{answers};
 ghost use Rattle.ob_model.specs.Step.{Step};
-ghost use Rattle.ob_complete.specs.Completes.{Made, HasRun, GivesUp, Falters};
-ghost use Rattle.ob_begun.specs.Begun.{answer_in, AreAwaited, GivesAllUp, IfWaits, tickets_of, with_begun, without};
-ghost use Rattle.ob_begun.specs.Repeated.{AreAllKept, MayBe};
+ghost use Rattle.ob_runner.specs.Completes.{Made, HasRun, GivesUp, Falters};
+ghost use Rattle.ob_runner.specs.Begun.{answer_in, AreAwaited, GivesAllUp, IfWaits, tickets_of, with_begun, without};
+ghost use Rattle.ob_runner.specs.Repeated.{AreAllKept, MayBe};
 ghost use Rattle.ob_standard.specs.Standard.{StandardKind, standard};
 
 use crate::standard_core::StandardCore;
 use ob_base::Proc;
-use ob_begun::{Begun, Waits, begin_open, drop_open, end_open, give_all_up, repeat_step};
 use ob_model::{Answer, Command, Event};
+use ob_runner::{Begun, Waits, begin_open, drop_open, end_open, give_all_up, repeat_step};
 use ob_standard::{Standard, StandardKind};
 use std::alloc::{AllocError, Global};
 use std::marker::Model;
@@ -55,7 +55,7 @@ impl StandardWaits {
     /// Starts a command of a process, and keeps its parse where it is an open that waits for one. Until that open is ended
     /// or given up, others may be begun, and other steps made.
     ///
-    /// The only fault is want of memory. Where it came before the first step, nothing has changed; where no memory was
+    /// The only fault is out of memory. Where it came before the first step, nothing has changed; where no memory was
     /// left to keep a parse, its open is given up, which is a step of its own. The parses that were kept before stay.
     ///
     /// Source: Windows Internals, Object Manager (parse methods); that a parse is run between two steps is this profile.
@@ -69,7 +69,8 @@ impl StandardWaits {
         ensures awaited { AreAwaited core.new self.new }
         ensures begun { IfOk result (λ begun.
             Step standard core.old (Start process command.now) (answer_in begun) core.new) }
-        ensures tickets { IfOk result (λ begun. tickets_of self.new ≡ with_begun begun (tickets_of self.old)) }
+        ensures tickets { IfOk result (λ begun. tickets_of self.new
+            ≡ with_begun begun (tickets_of self.old)) }
         ensures fresh { IfOk result (λ begun. IfWaits begun (λ n.
             (n ≢ 0) × (list_any (λ k. k == n) (tickets_of self.old) ≡ false))) }
         ensures faltered { OnErr result ((steps : List (Made StandardKind))
@@ -82,7 +83,7 @@ impl StandardWaits {
     /// Runs the parse of an open that waits, and goes on with the open: it is answered, or waits for another parse, under
     /// another ticket.
     ///
-    /// The only fault is want of memory, and then the open is given up. A parse that finds no memory is no fault: its open
+    /// The only fault is out of memory, and then the open is given up. A parse that finds no memory is no fault: its open
     /// is answered `NoMemory`. The other parses stay.
     ///
     /// Source: Windows Internals, Object Manager (parse methods); that a parse is run between two steps is this profile.
@@ -97,10 +98,12 @@ impl StandardWaits {
         ensures awaited { AreAwaited core.new self.new }
         ensures ended { IfOk result (λ begun. (parse : ParseRun) × HasRun parse
             × Step standard core.old (Resume ticket parse) (answer_in begun) core.new) }
-        ensures tickets { IfOk result (λ begun. tickets_of self.new ≡ with_begun begun (without ticket (tickets_of self.old))) }
+        ensures tickets { IfOk result (λ begun. tickets_of self.new
+            ≡ with_begun begun (without ticket (tickets_of self.old))) }
         ensures fresh { IfOk result (λ begun. IfWaits begun (λ n.
             (n ≢ 0) × (list_any (λ k. k == n) (tickets_of self.old) ≡ false))) }
-        ensures faltered { OnErr result ((steps : List (Made StandardKind)) × GivesUp standard ticket steps core.old core.new) }
+        ensures faltered { OnErr result ((steps : List (Made StandardKind))
+            × GivesUp standard ticket steps core.old core.new) }
         ensures kept { OnErr result (tickets_of self.new ≡ without ticket (tickets_of self.old)) }
     {
         end_open(&mut core.core, &mut self.waits, alloc, ticket)
@@ -123,7 +126,7 @@ impl StandardWaits {
     /// is told of its parse. An open that waits then is kept. It answers what the step does; only the value of a new handle
     /// may be another one than the history has.
     ///
-    /// The only fault is want of memory, and then other steps may have been made that give an open up; the parses that are
+    /// The only fault is out of memory, and then other steps may have been made that give an open up; the parses that are
     /// kept are still awaited.
     ///
     /// Source: Windows Internals, Object Manager (parse methods); that a parse is run between two steps is this profile.

@@ -5,7 +5,7 @@ use Rattle.ob_shell.specs.declared.run.Ending.TheVariants as ending
 use Rattle.ob_tasks.specs.declared.end.End.{End}
 use Rattle.ob_tasks.specs.declared.end.End.TheVariants.{Task, Mistake, Help}
 use Rattle.ob_tasks.specs.declared.end.Ended.TheVariants.{Script, Threads, Replay}
-use Rattle.ob_threads.specs.declared.ending.ThreadsEnding.TheVariants as threads
+use Rattle.ob_threads.specs.declared.ends.ThreadsEnding.TheVariants as threads
 use Rattle.ob_verdict.specs.declared.verdict.Verdict.TheVariants as verdict
 
 -- 0 where the whole script was run, a journal is accepted, or help was written; 2 for a mistake in the words; 3 where a journal is

@@ -13,8 +13,8 @@ use Rattle.ob_shell.specs.declared.run.Ending.{Ending}
 use Rattle.ob_tasks.specs.declared.end.Ended.{Ended}
 use Rattle.ob_tasks.specs.declared.end.Ended.TheVariants as ended
 use Rattle.ob_threads.specs.Written.{IsWritten}
-use Rattle.ob_threads.specs.declared.ending.ThreadsEnding.{ThreadsEnding}
-use Rattle.ob_threads.specs.declared.ending.ThreadsEnding.TheVariants as threads
+use Rattle.ob_threads.specs.declared.ends.ThreadsEnding.{ThreadsEnding}
+use Rattle.ob_threads.specs.declared.ends.ThreadsEnding.TheVariants as threads
 use Rattle.ob_verdict.specs.Verdict.{Replays}
 use Rattle.ob_verdict.specs.declared.verdict.Verdict.{Verdict}
 use Rattle.ob_words.specs.declared.planning.Task.{Task}

@@ -16,7 +16,7 @@ use std::thread::Threads;
 
 /// Does the task over the file, where it was opened, and tells how it ended.
 ///
-/// A file that could not be opened is told on `errors`, and nothing is written: as want of memory where
+/// A file that could not be opened is told on `errors`, and nothing is written: as out of memory where
 /// the opening wanted it, and else as an input that cannot be read. (this profile)
 pub fn perform_opened<H: Threads + Wait + Sync, I: Read + Drop, W: Write, E: Write>(
     rt: &H,

@@ -53,7 +53,8 @@ fn run_task<H: Threads + Wait + Sync, R: Read, W: Write>(
     reader: &mut R,
     writer: &mut W,
 ) -> Result<Ended, ShellFault>
-    ensures { Runs task.entry result (R.remaining reader.old) (W.contents writer.old) (W.contents writer.new) }
+    ensures { Runs task.entry result (R.remaining reader.old) (W.contents writer.old)
+        (W.contents writer.new) }
 {
     match task {
         Task::Script | Task::Run(_) => match run_script(alloc, reader, writer) {
@@ -78,7 +79,8 @@ fn run_workers<H: Threads + Wait + Sync, R: Read, W: Write>(
     reader: &mut R,
     writer: &mut W,
 ) -> Result<ThreadsEnding, ShellFault>
-    ensures { IsWritten result (R.remaining reader.old) (W.contents writer.old) (W.contents writer.new) }
+    ensures { IsWritten result (R.remaining reader.old) (W.contents writer.old)
+        (W.contents writer.new) }
 {
     run_threads::<_, Brand, _, _>(rt, alloc, Blank::new(1_024), reader, writer)
 }
@@ -114,7 +116,8 @@ pub fn complain<E: Write>(errors: &mut E, fault: ShellFault) -> Result<(), Shell
     ensures ok { OnOk result
         (Appends (E.contents errors.old) (E.contents errors.new) (line_of (fault_text_of fault))) }
     ensures front { OnErr result
-        (AppendsFront (E.contents errors.old) (E.contents errors.new) (line_of (fault_text_of fault))) }
+        (AppendsFront (E.contents errors.old) (E.contents errors.new) (line_of
+        (fault_text_of fault))) }
 {
     say(errors, fault.text())
 }

@@ -21,7 +21,7 @@ use std::thread::Threads;
 /// `Threads` and `Replay` over the file that `opener` gives for their path. Nothing else is opened: `opener` need only be
 /// callable at the path that the words name, and is called for no script on standard input. A file
 /// that could not be opened is told as `perform_opened` says. A fault of the words is told instead,
-/// and want of memory before there was a task. (this profile)
+/// and out of memory before there was a task. (this profile)
 pub fn serve<
     'a,
     H: Threads + Wait + Sync,
@@ -41,7 +41,8 @@ pub fn serve<
     errors: &mut E,
 ) -> End
     requires { (path : _) → AsksFor (map S.text words.now) path.now → O.pre opener path }
-    ensures { Serves (Gives O.FnOnce opener I.remaining) (map S.text words.now) result (R.remaining reader.old)
+    ensures { Serves (Gives O.FnOnce opener I.remaining) (map S.text words.now) result
+        (R.remaining reader.old)
         (W.contents writer.old) (W.contents writer.new)
         (E.contents errors.old) (E.contents errors.new) }
 {

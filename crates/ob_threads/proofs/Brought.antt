@@ -7,7 +7,7 @@ use Rattle.ob_model.specs.declared.reply.Event.TheVariants.{Abandon}
 use Rattle.ob_model.specs.declared.reply.ParseRun.{ParseRun}
 use Rattle.ob_model.specs.Procedures.{ParseOutcome}
 use Rattle.ob_model.specs.Refusals.{answers}
-use Rattle.ob_complete.specs.Completes.{HasRun}
+use Rattle.ob_runner.specs.Completes.{HasRun}
 use Rattle.ob_types.specs.Brought.{run_of_end}
 use Rattle.ob_standard.specs.Standard.{StandardKind, Standard, StandardFace, StandardInner, standard}
 use Rattle.ob_locked.specs.declared.started.Pending.{Pending}

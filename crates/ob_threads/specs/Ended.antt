@@ -5,8 +5,8 @@ use Rattle.std.specs.Prelude.{ℕ, nat_le, Bool, true, false, Result, Ok, Err, i
 use Rattle.ob_seats.specs.declared.stop.Stop.{Stop}
 use Rattle.ob_seats.specs.declared.stop.Stop.TheVariants.{Memory, Refused}
 use Rattle.ob_seats.specs.declared.stop.Stopped.{Stopped}
-use Rattle.ob_threads.specs.declared.ending.ThreadsEnding.{ThreadsEnding}
-use Rattle.ob_threads.specs.declared.ending.ThreadsEnding.TheVariants as ending
+use Rattle.ob_threads.specs.declared.ends.ThreadsEnding.{ThreadsEnding}
+use Rattle.ob_threads.specs.declared.ends.ThreadsEnding.TheVariants as ending
 
 -- want of memory is told before a refusal, and of the same kind the least line
 abbrev pub is_told_first : Stop → Stop → ℕ → ℕ → Bool

@@ -15,8 +15,8 @@ use Rattle.ob_standard.specs.Standard.{Standard, standard}
 use Rattle.ob_standard_core.specs.Machine.{Space}
 use Rattle.ob_worker_lines.specs.Cuts.{IsBadLine}
 use Rattle.ob_seats.specs.Received.{Entries}
-use Rattle.ob_threads.specs.declared.ending.ThreadsEnding.{ThreadsEnding}
-use Rattle.ob_threads.specs.declared.ending.ThreadsEnding.TheVariants as ending
+use Rattle.ob_threads.specs.declared.ends.ThreadsEnding.{ThreadsEnding}
+use Rattle.ob_threads.specs.declared.ends.ThreadsEnding.TheVariants as ending
 use Rattle.ob_threads.specs.Played.{IsPlayed}
 
 -- the journal of a run of the machine, for so many seats

@@ -22,8 +22,11 @@ pub(crate) fn write_journal<W: Write>(
     seats: u32,
     journal: &[Entry<StandardKind>],
 ) -> Result<(), ShellFault>
-    ensures written { OnOk result (Appends (W.contents writer.old) (W.contents writer.new) (journal_lines standard.type_name seats journal.now)) }
-    ensures cut_off { IfErr result (λ fault. IsCutOff fault (W.contents writer.old) (W.contents writer.new) (journal_lines standard.type_name seats journal.now)) }
+    ensures written { OnOk result (Appends (W.contents writer.old) (W.contents writer.new)
+        (journal_lines standard.type_name seats journal.now)) }
+    ensures cut_off { IfErr result (λ fault.
+        IsCutOff fault (W.contents writer.old) (W.contents writer.new)
+        (journal_lines standard.type_name seats journal.now)) }
 {
     let Ok(header) = write_header(alloc, seats) else {
         return Err(ShellFault::Memory);
@@ -44,8 +47,11 @@ pub(crate) fn write_journal<W: Write>(
 
 /// Writes the line that tells which line of a script is bad. The only fault is `Write`, behind which a beginning of it stands.
 pub(crate) fn write_bad_line<W: Write>(writer: &mut W, number: u64) -> Result<(), ShellFault>
-    ensures written { OnOk result (Appends (W.contents writer.old) (W.contents writer.new) (output_line number (codes "not a script line"))) }
-    ensures cut_off { IfErr result (λ fault. IsCutOff fault (W.contents writer.old) (W.contents writer.new) (output_line number (codes "not a script line"))) }
+    ensures written { OnOk result (Appends (W.contents writer.old) (W.contents writer.new)
+        (output_line number (codes "not a script line"))) }
+    ensures cut_off { IfErr result (λ fault.
+        IsCutOff fault (W.contents writer.old) (W.contents writer.new) (output_line number
+        (codes "not a script line"))) }
 {
     let line = text_line(number, b"not a script line");
     match write_out(writer, line.as_slice()) {

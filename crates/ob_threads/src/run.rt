@@ -12,7 +12,7 @@ ghost use Rattle.ob_threads.specs.Played.{ArePasses, ArePlayedBy, IsPlayedOf};
 ghost use Rattle.ob_threads.specs.Worked.{CanRun};
 ghost use Rattle.ob_threads.specs.Written.{Writes, WritesPart};
 
-use crate::ending::{ThreadsEnding, ending_of};
+use crate::ends::{ThreadsEnding, ending_of};
 use crate::journal::{write_bad_line, write_journal};
 use crate::lent::Lent;
 use crate::seats::{Ran, run_seats};
@@ -54,12 +54,15 @@ pub fn run_threads<H: Threads + Wait + Sync, L: Ledger + Send + Sync, R: Read, W
     // After a fault it is a beginning of one, and of most faults nothing.
     ensures part { IfErr result (λ fault. IfSome (R.remaining reader.old) (λ script.
         WritesPart fault (W.contents writer.old) (W.contents writer.new) script)) }
-    ensures unwritten { IfErr result (λ fault. fault ≢ ShellFault.Write → fault ≢ ShellFault.Memory →
+    ensures unwritten { IfErr result (λ fault. fault ≢ ShellFault.Write → fault ≢ ShellFault.Memory
+        →
         W.contents writer.new ≡ W.contents writer.old) }
 
     // A script that is too long is never run, and no other is called so.
-    ensures too_long { IsErrOf result ShellFault.TooLong → IfSome (R.remaining reader.old) (λ script. SCRIPT_LIMIT < length script) }
-    ensures refused { IfSome (R.remaining reader.old) (λ script. SCRIPT_LIMIT < length script → IsErr result) }
+    ensures too_long { IsErrOf result ShellFault.TooLong
+        → IfSome (R.remaining reader.old) (λ script. SCRIPT_LIMIT < length script) }
+    ensures refused { IfSome (R.remaining reader.old) (λ script. SCRIPT_LIMIT < length script
+        → IsErr result) }
 {
     match read_script(alloc, reader) {
         Ok(script) => run_text::<H, L, W>(rt, alloc, blank, script.as_slice(), writer),
@@ -79,9 +82,12 @@ fn run_text<H: Threads + Wait + Sync, L: Ledger + Send + Sync, W: Write>(
     requires parts { blank.parts ≡ L.parts }
     requires whole { L.parts ≡ most_seats }
     requires script { length script.now ≤ SCRIPT_LIMIT }
-    ensures written { IfOk result (λ ending. Writes (W.contents writer.old) (W.contents writer.new) script.now ending) }
-    ensures part { IfErr result (λ fault. WritesPart fault (W.contents writer.old) (W.contents writer.new) script.now) }
-    ensures unwritten { IfErr result (λ fault. fault ≢ ShellFault.Write → fault ≢ ShellFault.Memory → W.contents writer.new ≡ W.contents writer.old) }
+    ensures written { IfOk result (λ ending.
+        Writes (W.contents writer.old) (W.contents writer.new) script.now ending) }
+    ensures part { IfErr result (λ fault.
+        WritesPart fault (W.contents writer.old) (W.contents writer.new) script.now) }
+    ensures unwritten { IfErr result (λ fault. fault ≢ ShellFault.Write → fault ≢ ShellFault.Memory
+        → W.contents writer.new ≡ W.contents writer.old) }
     ensures fault { IfErr result (λ fault. fault ≢ ShellFault.TooLong) }
 {
     match cut(alloc, script) {
@@ -105,9 +111,12 @@ fn tell<W: Write>(
     writer: &mut W,
 ) -> Result<ThreadsEnding, ShellFault>
     requires { IsFault (lines_of script.now) fault }
-    ensures written { IfOk result (λ ending. Writes (W.contents writer.old) (W.contents writer.new) script.now ending) }
-    ensures part { IfErr result (λ fault. WritesPart fault (W.contents writer.old) (W.contents writer.new) script.now) }
-    ensures unwritten { IfErr result (λ fault. fault ≢ ShellFault.Write → fault ≢ ShellFault.Memory → W.contents writer.new ≡ W.contents writer.old) }
+    ensures written { IfOk result (λ ending.
+        Writes (W.contents writer.old) (W.contents writer.new) script.now ending) }
+    ensures part { IfErr result (λ fault.
+        WritesPart fault (W.contents writer.old) (W.contents writer.new) script.now) }
+    ensures unwritten { IfErr result (λ fault. fault ≢ ShellFault.Write → fault ≢ ShellFault.Memory
+        → W.contents writer.new ≡ W.contents writer.old) }
     ensures fault { IfErr result (λ fault. fault ≢ ShellFault.TooLong) }
 {
     match fault {
@@ -141,9 +150,13 @@ fn play<H: Threads + Wait + Sync, L: Ledger + Send + Sync>(
     requires before { CanRun parts.now.before }
     requires workers { All CanRun parts.now.workers.items }
     requires behind { CanRun parts.now.behind }
-    ensures run { IfOk result (λ played. (first : StandardSet) × (state : Space) × Run standard first (played.0.items) state) }
-    ensures played { IfOk result (λ played. OnOk (played.1) (IsPlayedOf (lines_in parts.now.before) (map lines_in parts.now.workers.items) (lines_in parts.now.behind) (played.0.items))) }
-    ensures fault { IfErr result (λ fault. (fault ≡ ShellFault.Memory) ⊎ (fault ≡ ShellFault.Mismatch)) }
+    ensures run { IfOk result (λ played. (first : StandardSet) × (state : Space)
+        × Run standard first (played.0.items) state) }
+    ensures played { IfOk result (λ played.
+        OnOk (played.1) (IsPlayedOf (lines_in parts.now.before)
+        (map lines_in parts.now.workers.items) (lines_in parts.now.behind) (played.0.items))) }
+    ensures fault { IfErr result (λ fault. (fault ≡ ShellFault.Memory)
+        ⊎ (fault ≡ ShellFault.Mismatch)) }
 {
     match open_shared::<Standard, OpenTable, L>(alloc, blank, Standard::new(), seats_of(parts)) {
         Ok((shared, passes)) => play_shared(rt, alloc, parts, shared, passes),
@@ -164,9 +177,13 @@ fn play_shared<H: Threads + Wait + Sync, L: Ledger + Send + Sync>(
     requires before { CanRun parts.now.before }
     requires workers { All CanRun parts.now.workers.items }
     requires behind { CanRun parts.now.behind }
-    ensures run { IfOk result (λ played. (first : StandardSet) × (state : Space) × Run standard first (played.0.items) state) }
-    ensures played { IfOk result (λ played. OnOk (played.1) (IsPlayedOf (lines_in parts.now.before) (map lines_in parts.now.workers.items) (lines_in parts.now.behind) (played.0.items))) }
-    ensures fault { IfErr result (λ fault. (fault ≡ ShellFault.Memory) ⊎ (fault ≡ ShellFault.Mismatch)) }
+    ensures run { IfOk result (λ played. (first : StandardSet) × (state : Space)
+        × Run standard first (played.0.items) state) }
+    ensures played { IfOk result (λ played.
+        OnOk (played.1) (IsPlayedOf (lines_in parts.now.before)
+        (map lines_in parts.now.workers.items) (lines_in parts.now.behind) (played.0.items))) }
+    ensures fault { IfErr result (λ fault. (fault ≡ ShellFault.Memory)
+        ⊎ (fault ≡ ShellFault.Mismatch)) }
 {
     let mut theirs = passes;
     let own = theirs.remove(0);
@@ -193,9 +210,12 @@ fn run_lent<'a, H: Threads + Wait + Sync, L: Ledger + Send + Sync>(
     requires behind { CanRun parts.now.behind }
     requires passes { length theirs.items ≡ length parts.now.workers.items }
     requires own { own ≡ fresh_pass 0 }
-    requires theirs { theirs.items ≡ map fresh_pass (range_with_len 1 (length parts.now.workers.items)) }
+    requires theirs { theirs.items
+        ≡ map fresh_pass (range_with_len 1 (length parts.now.workers.items)) }
     ensures passes { IfOk result (λ ran. ArePasses (length parts.now.workers.items) (ran.0.items)) }
-    ensures played { IfOk result (λ ran. OnOk (ran.1) (ArePlayedBy (lines_in parts.now.before) (map lines_in parts.now.workers.items) (lines_in parts.now.behind) (ran.0.items))) }
+    ensures played { IfOk result (λ ran.
+        OnOk (ran.1) (ArePlayedBy (lines_in parts.now.before) (map lines_in parts.now.workers.items)
+        (lines_in parts.now.behind) (ran.0.items))) }
     ensures fault { IfErr result (λ fault. fault ≡ ShellFault.Memory) }
 {
     let callers = Lent { shared, rt, alloc };

@@ -9,7 +9,7 @@ ghost use Rattle.ob_seats.specs.Played.{IsSeatPlayed};
 ghost use Rattle.ob_threads.specs.Played.{IsPlayedBy};
 ghost use Rattle.ob_threads.specs.Worked.{CanRun};
 
-use crate::ending::told_of;
+use crate::ends::told_of;
 use crate::workers::{Job, gather, run_workers};
 use ob_seats::{Callers, Seat, Stopped, run_seat};
 use ob_worker_lines::{Part, WorkerScript};
@@ -31,7 +31,7 @@ pub struct Ran<P> {
 /// Runs a script that was cut: the lines before the workers by seat 0; then the workers, each in a thread of its own, all at once; and when all have
 /// ended the lines behind them, by seat 0 again. Where seat 0 stops before the workers, none is started.
 ///
-/// The only fault is want of memory for the seats and threads themselves, and then the passes are lost. (this profile)
+/// The only fault is out of memory for the seats and threads themselves, and then the passes are lost. (this profile)
 pub fn run_seats<H: Threads + Wait + Sync, C: Callers + Sync>(
     rt: &H,
     alloc: Global,
@@ -47,8 +47,11 @@ pub fn run_seats<H: Threads + Wait + Sync, C: Callers + Sync>(
     requires own { C.receipts own ≡ [] }
     requires theirs { All (λ pass. C.receipts pass ≡ []) theirs.items }
     ensures seat { IfOk result (λ ran. C.seat_of ran.own ≡ C.seat_of own) }
-    ensures seats { IfOk result (λ ran. map C.seat_of ran.theirs.items ≡ map C.seat_of theirs.items) }
-    ensures played { IfOk result (λ ran. OnOk ran.ended (IsPlayedBy (lines_in script.now.before) (map lines_in script.now.workers.items) (lines_in script.now.behind)
+    ensures seats { IfOk result (λ ran. map C.seat_of ran.theirs.items
+        ≡ map C.seat_of theirs.items) }
+    ensures played { IfOk result (λ ran.
+        OnOk ran.ended (IsPlayedBy (lines_in script.now.before)
+        (map lines_in script.now.workers.items) (lines_in script.now.behind)
         (C.receipts ran.own) (map C.receipts ran.theirs.items))) }
 {
     let mut seat = Seat::new(alloc)?;
@@ -84,7 +87,9 @@ fn run_all<H: Threads + Wait + Sync, C: Callers + Sync>(
     requires passes { length passes.items ≡ length parts.now }
     requires fresh { All (λ pass. C.receipts pass ≡ []) passes.items }
     ensures seats { IfOk result (λ ran. map C.seat_of (ran.0.items) ≡ map C.seat_of passes.items) }
-    ensures played { IfOk result (λ ran. OnOk (ran.1) (AllZip (λ lines entries. IsSeatPlayed lines (for_worker (words_in seat.now.words)) entries)
+    ensures played { IfOk result (λ ran.
+        OnOk (ran.1) (AllZip (λ lines entries.
+        IsSeatPlayed lines (for_worker (words_in seat.now.words)) entries)
         (map lines_in parts.now) (map C.receipts (ran.0.items)))) }
 {
     let jobs = jobs_of(alloc, seat, parts, passes)?;
@@ -102,8 +107,10 @@ fn jobs_of<'a, C: Callers>(
     requires passes { length passes.items ≡ length parts.now }
     ensures parts { IfOk result (λ jobs. map (λ job. job.part) jobs.items ≡ parts.now) }
     ensures passes { IfOk result (λ jobs. map (λ job. job.pass) jobs.items ≡ passes.items) }
-    ensures words { IfOk result (λ jobs. All (λ job. words_in job.words ≡ for_worker (words_in seat.now.words)) jobs.items) }
-    ensures none { IfOk result (λ jobs. All (λ job. AreHeld (words_in job.words).tickets []) jobs.items) }
+    ensures words { IfOk result (λ jobs. All (λ job. words_in job.words
+        ≡ for_worker (words_in seat.now.words)) jobs.items) }
+    ensures none { IfOk result (λ jobs.
+        All (λ job. AreHeld (words_in job.words).tickets []) jobs.items) }
 {
     let mut jobs = Vec::new(alloc);
     let mut passes = passes;

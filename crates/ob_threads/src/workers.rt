@@ -7,7 +7,7 @@ ghost use Rattle.ob_worker_lines.specs.Parts.{lines_in};
 ghost use Rattle.ob_seats.specs.Kept.{AreHeld};
 ghost use Rattle.ob_threads.specs.Worked.{CanRun, IsWorked};
 
-use crate::ending::told_of;
+use crate::ends::told_of;
 use ob_requests::Words;
 use ob_seats::{Callers, Seat, Stopped, run_seat};
 use ob_worker_lines::Part;
@@ -31,7 +31,7 @@ pub(crate) struct Worked<C: Callers> {
     pub(crate) ended: Result<(), Stopped>,
 }
 
-/// Runs all workers, each in a thread of its own where one can be made, to their ends. At want of memory their passes are lost.
+/// Runs all workers, each in a thread of its own where one can be made, to their ends. Out of memory, their passes are lost.
 pub(crate) fn run_workers<H: Threads + Wait + Sync, C: Callers + Sync>(
     rt: &H,
     callers: &C,
@@ -39,7 +39,9 @@ pub(crate) fn run_workers<H: Threads + Wait + Sync, C: Callers + Sync>(
 ) -> Result<Vec<Worked<C>>, AllocError>
     requires parts { All (λ job. CanRun job.part) jobs.items }
     requires words { All (λ job. AreHeld (words_in job.words).tickets []) jobs.items }
-    ensures { IfOk result (λ worked. AllZip (λ job done. IsWorked (lines_in job.part) (words_in job.words) (C.seat_of job.pass) (C.seat_of done.pass)
+    ensures { IfOk result (λ worked.
+        AllZip (λ job done.
+        IsWorked (lines_in job.part) (words_in job.words) (C.seat_of job.pass) (C.seat_of done.pass)
         (C.receipts job.pass) (C.receipts done.pass) done.ended) jobs.entry.items worked.items) }
 {
     thread::map_vec(
@@ -47,7 +49,9 @@ pub(crate) fn run_workers<H: Threads + Wait + Sync, C: Callers + Sync>(
         jobs,
         &|job: Job<'_, C>| -> Worked<C>
             requires { CanRun job.part × AreHeld (words_in job.words).tickets [] }
-            ensures { IsWorked (lines_in job.entry.part) (words_in job.entry.words) (C.seat_of job.entry.pass) (C.seat_of result.pass) (C.receipts job.entry.pass) (C.receipts result.pass) result.ended }
+            ensures { IsWorked (lines_in job.entry.part) (words_in job.entry.words)
+                (C.seat_of job.entry.pass) (C.seat_of result.pass) (C.receipts job.entry.pass)
+                (C.receipts result.pass) result.ended }
         { work(rt, callers, job) },
     )
 }
@@ -56,7 +60,9 @@ pub(crate) fn run_workers<H: Threads + Wait + Sync, C: Callers + Sync>(
 fn work<H: Wait, C: Callers>(rt: &H, callers: &C, job: Job<'_, C>) -> Worked<C>
     requires part { CanRun job.part }
     requires words { AreHeld (words_in job.words).tickets [] }
-    ensures { IsWorked (lines_in job.entry.part) (words_in job.entry.words) (C.seat_of job.entry.pass) (C.seat_of result.pass) (C.receipts job.entry.pass) (C.receipts result.pass) result.ended }
+    ensures { IsWorked (lines_in job.entry.part) (words_in job.entry.words)
+        (C.seat_of job.entry.pass) (C.seat_of result.pass) (C.receipts job.entry.pass)
+        (C.receipts result.pass) result.ended }
 {
     let Job { pass, words, part } = job;
     let (pass, ended) = run_seat(rt, callers, Seat::with_words(words), pass, part);
@@ -68,8 +74,10 @@ pub(crate) fn gather<C: Callers>(
     alloc: Global,
     worked: Vec<Worked<C>>,
 ) -> Result<(Vec<C::Pass>, Result<(), Stopped>), AllocError>
-    ensures passes { IfOk result (λ gathered. gathered.0.items ≡ map (λ done. done.pass) worked.items) }
-    ensures ended { IfOk result (λ gathered. OnOk (gathered.1) (All (λ done. done.ended ≡ Ok tt) worked.items)) }
+    ensures passes { IfOk result (λ gathered. gathered.0.items
+        ≡ map (λ done. done.pass) worked.items) }
+    ensures ended { IfOk result (λ gathered.
+        OnOk (gathered.1) (All (λ done. done.ended ≡ Ok tt) worked.items)) }
 {
     let mut passes = Vec::new(alloc);
     let mut ended = Ok(());

@@ -77,7 +77,7 @@ fn is_given<R: Clock>(rt: &R, signal: &AtomicBool) -> bool {
     false
 }
 
-/// Whether two workers met, and both ended for want of memory, the first of them in line 2.
+/// Whether two workers met, and both ended for lack of memory, the first of them in line 2.
 fn have_met<R: Threads + Wait + Clock + Sync>(rt: &R, alloc: Global) -> Result<bool, Fail> {
     let meeting = Meeting {
         rt,

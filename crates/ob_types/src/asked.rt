@@ -15,7 +15,9 @@ pub(crate) fn is_asked<T: TypeSet>(
     pending: &Pending<T::Kind>,
     pinned: &T::Face,
 ) -> bool
-    ensures { IsTrue result ↔ IsFor T.procedures (record { ticket = ticket; face = face.now; rest = rest.now }) pending.now pinned.now }
+    ensures { IsTrue result
+        ↔ IsFor T.procedures
+        (record { ticket = ticket; face = face.now; rest = rest.now }) pending.now pinned.now }
 {
     ticket == pending.ticket && rest == pending.rest.as_slice() && T::same(face, pinned)
 }

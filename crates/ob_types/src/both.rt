@@ -1,7 +1,6 @@
 //! The sum of two sets.
 
 ghost use Rattle.std.specs.Prelude.{◌≡◌, ℕ, false, List, refl};
-ghost use Rattle.ob_model.specs.Procedures as model;
 ghost use Rattle.ob_types.specs.declared.both.Both.{Both};
 ghost use Rattle.either.specs.declared.Either.TheVariants.{Left, Right};
 ghost use Rattle.ob_types.specs.Parsing.{answer_of};
@@ -135,27 +134,35 @@ impl<A: TypeSet, B: TypeSet> TypeSet for Both<A, B> {
         }
     }
 
-    ghost refused_open = { both_refused_open A.procedures B.procedures A.refused_open B.refused_open };
+    ghost refused_open = { both_refused_open A.procedures B.procedures A.refused_open
+        B.refused_open };
 
-    ghost made_idle = { both_made_idle A.procedures B.procedures A.idle B.idle A.made_idle B.made_idle };
+    ghost made_idle = { both_made_idle A.procedures B.procedures A.idle B.idle A.made_idle
+        B.made_idle };
 
-    ghost closed_idle = { both_closed_idle A.procedures B.procedures A.idle B.idle A.closed_idle B.closed_idle };
+    ghost closed_idle = { both_closed_idle A.procedures B.procedures A.idle B.idle A.closed_idle
+        B.closed_idle };
 
     ghost front_is_used = { both_front A.procedures B.procedures A.front_is_used B.front_is_used };
 
     ghost itself_at_end = { both_itself A.procedures B.procedures A.itself_at_end B.itself_at_end };
 
-    ghost parsed_idle = { both_parsed_idle A.procedures B.procedures A.idle B.idle A.parsed_idle B.parsed_idle };
+    ghost parsed_idle = { both_parsed_idle A.procedures B.procedures A.idle B.idle A.parsed_idle
+        B.parsed_idle };
 
     ghost own_face = { both_own_face A.procedures B.procedures A.own_face B.own_face };
 
-    ghost same_answers = { both_same_answers A.procedures B.procedures A.same_answers B.same_answers };
+    ghost same_answers = { both_same_answers A.procedures B.procedures A.same_answers
+        B.same_answers };
 
     ghost one_kind = { both_one_kind A.procedures B.procedures A.one_kind B.one_kind };
 
     ghost own_kind = { both_own_kind A.procedures B.procedures A.own_kind B.own_kind };
 
-    ghost equal_kinds = { elim [ Left a ↦ elim [ Left b ↦ A.equal_kinds a b | Right b ↦ refl ] | Right a ↦ elim [ Left b ↦ refl | Right b ↦ B.equal_kinds a b ] ] };
+    ghost equal_kinds = { elim [
+      | Left a ↦ elim [ Left b ↦ A.equal_kinds a b | Right b ↦ refl ]
+      | Right a ↦ elim [ Left b ↦ refl | Right b ↦ B.equal_kinds a b ]
+    ] };
 }
 
 /// An answer of the first set.
@@ -198,16 +205,44 @@ fn of_second<F, I, G: Drop, J: Drop>(
 /// Kinds, and faces, of different parts are never the same. This holds of every two lawful sets; nothing is
 /// done when it runs. (this profile)
 pub fn calls_go_to_their_part<A: TypeSet, B: TypeSet>()
-    ensures opened_first { (both : Both A B) (inner : A.Inner) (reason : model.Reason) → LeavesFirst both ((A.procedures).opened (first_of both) inner reason) ((both_procedures A.procedures B.procedures).opened both (Left inner) reason) }
-    ensures opened_second { (both : Both A B) (inner : B.Inner) (reason : model.Reason) → LeavesSecond both ((B.procedures).opened (second_of both) inner reason) ((both_procedures A.procedures B.procedures).opened both (Right inner) reason) }
-    ensures refused_first { (both : Both A B) (inner : A.Inner) (reason : model.Reason) → (both_procedures A.procedures B.procedures).refuses_to_open both (Left inner) reason ≡ (A.procedures).refuses_to_open (first_of both) inner reason }
-    ensures refused_second { (both : Both A B) (inner : B.Inner) (reason : model.Reason) → (both_procedures A.procedures B.procedures).refuses_to_open both (Right inner) reason ≡ (B.procedures).refuses_to_open (second_of both) inner reason }
-    ensures closed_first { (both : Both A B) (inner : A.Inner) (process_left system_left : ℕ) → LeavesFirst both ((A.procedures).closed (first_of both) inner process_left system_left) ((both_procedures A.procedures B.procedures).closed both (Left inner) process_left system_left) }
-    ensures closed_second { (both : Both A B) (inner : B.Inner) (process_left system_left : ℕ) → LeavesSecond both ((B.procedures).closed (second_of both) inner process_left system_left) ((both_procedures A.procedures B.procedures).closed both (Right inner) process_left system_left) }
-    ensures deleted_first { (both : Both A B) (inner : A.Inner) → let left = (both_procedures A.procedures B.procedures).deleted both (Left inner) in (first_of left ≡ (A.procedures).deleted (first_of both) inner) × (second_of left ≡ second_of both) }
-    ensures deleted_second { (both : Both A B) (inner : B.Inner) → let left = (both_procedures A.procedures B.procedures).deleted both (Right inner) in (second_of left ≡ (B.procedures).deleted (second_of both) inner) × (first_of left ≡ first_of both) }
-    ensures parsed_first { (face : A.Face) (rest : List ℕ) → (both_procedures A.procedures B.procedures).parsed (Left face) rest ≡ answer_of_first ((A.procedures).parsed face rest) }
-    ensures parsed_second { (face : B.Face) (rest : List ℕ) → (both_procedures A.procedures B.procedures).parsed (Right face) rest ≡ answer_of_second ((B.procedures).parsed face rest) }
-    ensures kinds_apart { (a : A.Kind) (b : B.Kind) → ((both_procedures A.procedures B.procedures).same_kind (Left a) (Right b) ≡ false) × ((both_procedures A.procedures B.procedures).same_kind (Right b) (Left a) ≡ false) }
-    ensures faces_apart { (a : A.Face) (b : B.Face) → ((both_procedures A.procedures B.procedures).same_face (Left a) (Right b) ≡ false) × ((both_procedures A.procedures B.procedures).same_face (Right b) (Left a) ≡ false) }
+    ensures opened_first { (both : Both A B) (inner : A.Inner) (reason : Reason)
+        → LeavesFirst both ((A.procedures).opened (first_of both) inner reason)
+        ((both_procedures A.procedures B.procedures).opened both (Left inner) reason) }
+    ensures opened_second { (both : Both A B) (inner : B.Inner) (reason : Reason)
+        → LeavesSecond both ((B.procedures).opened (second_of both) inner reason)
+        ((both_procedures A.procedures B.procedures).opened both (Right inner) reason) }
+    ensures refused_first { (both : Both A B) (inner : A.Inner) (reason : Reason)
+        → (both_procedures A.procedures B.procedures).refuses_to_open both (Left inner) reason
+        ≡ (A.procedures).refuses_to_open (first_of both) inner reason }
+    ensures refused_second { (both : Both A B) (inner : B.Inner) (reason : Reason)
+        → (both_procedures A.procedures B.procedures).refuses_to_open both (Right inner) reason
+        ≡ (B.procedures).refuses_to_open (second_of both) inner reason }
+    ensures closed_first { (both : Both A B) (inner : A.Inner) (process_left system_left : ℕ)
+        → LeavesFirst both ((A.procedures).closed (first_of both) inner process_left system_left)
+        ((both_procedures A.procedures B.procedures).closed both
+        (Left inner) process_left system_left) }
+    ensures closed_second { (both : Both A B) (inner : B.Inner) (process_left system_left : ℕ)
+        → LeavesSecond both ((B.procedures).closed (second_of both) inner process_left system_left)
+        ((both_procedures A.procedures B.procedures).closed both
+        (Right inner) process_left system_left) }
+    ensures deleted_first { (both : Both A B) (inner : A.Inner)
+        → let left = (both_procedures A.procedures B.procedures).deleted both (Left inner) in
+        (first_of left ≡ (A.procedures).deleted (first_of both) inner)
+        × (second_of left ≡ second_of both) }
+    ensures deleted_second { (both : Both A B) (inner : B.Inner)
+        → let left = (both_procedures A.procedures B.procedures).deleted both (Right inner) in
+        (second_of left ≡ (B.procedures).deleted (second_of both) inner)
+        × (first_of left ≡ first_of both) }
+    ensures parsed_first { (face : A.Face) (rest : List ℕ)
+        → (both_procedures A.procedures B.procedures).parsed (Left face) rest
+        ≡ answer_of_first ((A.procedures).parsed face rest) }
+    ensures parsed_second { (face : B.Face) (rest : List ℕ)
+        → (both_procedures A.procedures B.procedures).parsed (Right face) rest
+        ≡ answer_of_second ((B.procedures).parsed face rest) }
+    ensures kinds_apart { (a : A.Kind) (b : B.Kind)
+        → ((both_procedures A.procedures B.procedures).same_kind (Left a) (Right b) ≡ false)
+        × ((both_procedures A.procedures B.procedures).same_kind (Right b) (Left a) ≡ false) }
+    ensures faces_apart { (a : A.Face) (b : B.Face)
+        → ((both_procedures A.procedures B.procedures).same_face (Left a) (Right b) ≡ false)
+        × ((both_procedures A.procedures B.procedures).same_face (Right b) (Left a) ≡ false) }
 {}

@@ -41,11 +41,15 @@ impl<T: TypeSet> Brought<T> {
     /// Whether this is the parse that a pending open waits for, where the object that it pins has this face, as
     /// `is_for` of `Parsed` says.
     pub fn is_for(&self, pending: &Pending<T::Kind>, face: &T::Face) -> bool
-        ensures exact { IsTrue result ↔ IsFor T.procedures (asked_of (brought self.now)) pending.now face.now }
-        ensures ends { IsTrue result → EndsOrWants T.procedures face.now pending.now.rest (brought self.now).outcome }
+        ensures exact { IsTrue result
+            ↔ IsFor T.procedures (asked_of (brought self.now)) pending.now face.now }
+        ensures ends { IsTrue result
+            → EndsOrWants T.procedures face.now pending.now.rest (brought self.now).outcome }
 
         // The machine takes it.
-        ensures taken { IsTrue result → IsTaken T.procedures pending.now face.now (run_of self.now) (brought self.now).outcome }
+        ensures taken { IsTrue result
+            → IsTaken T.procedures pending.now face.now (run_of self.now)
+            (brought self.now).outcome }
     {
         match self {
             Brought::Unrun(parsing) => parsing.is_for(pending, face),

@@ -33,9 +33,17 @@ impl<T: TypeSet> Model for Parsed<T> {
 
     ghost Value = { HasRun T.Face T.Inner };
 
-    ghost view = { λ a. record { ticket = a.ticket; face = arc_value a.face; rest = a.rest; outcome = outcome_of a.outcome } };
+    ghost view = { λ a.
+        record {
+          ticket = a.ticket;
+          face = arc_value a.face;
+          rest = a.rest;
+          outcome = outcome_of
+              a.outcome;
+        } };
 
-    ghost invariant = { λ a. IsRun T.procedures T.idle (arc_value a.face) a.rest (outcome_of a.outcome) };
+    ghost invariant = { λ a.
+        IsRun T.procedures T.idle (arc_value a.face) a.rest (outcome_of a.outcome) };
 }
 
 impl<T: TypeSet> Parsed<T> {
@@ -47,7 +55,14 @@ impl<T: TypeSet> Parsed<T> {
         outcome: Outcome<T::Face, T::Inner>,
     ) -> Parsed<T>
         requires run { IsRun T.procedures T.idle (arc_value face) rest (outcome_of outcome) }
-        ensures { result ≡ record { ticket = ticket; face = arc_value face; rest = rest; outcome = outcome_of outcome } }
+        ensures { result
+            ≡ record {
+              ticket = ticket;
+              face = arc_value face;
+              rest = rest;
+              outcome = outcome_of
+                  outcome;
+            } }
     {
         Parsed {
             ticket,
@@ -118,11 +133,15 @@ impl<T: TypeSet> Parsed<T> {
     /// ticket and the rest are those of the open, and the faces are found the same. Then what it ended with is the
     /// end of the parse of the pinned object over the pending rest, whoever ran it.
     pub fn is_for(&self, pending: &Pending<T::Kind>, face: &T::Face) -> bool
-        ensures exact { IsTrue result ↔ IsFor T.procedures (asked_of self.now) pending.now face.now }
-        ensures ends { IsTrue result → EndsOrWants T.procedures face.now pending.now.rest self.now.outcome }
+        ensures exact { IsTrue result
+            ↔ IsFor T.procedures (asked_of self.now) pending.now face.now }
+        ensures ends { IsTrue result
+            → EndsOrWants T.procedures face.now pending.now.rest self.now.outcome }
 
         // The machine takes it.
-        ensures taken { IsTrue result → IsTaken T.procedures pending.now face.now (run_of_end self.now.outcome) self.now.outcome }
+        ensures taken { IsTrue result
+            → IsTaken T.procedures pending.now face.now
+            (run_of_end self.now.outcome) self.now.outcome }
     {
         same_faces_end_alike::<T>();
         asked::is_asked::<T>(self.ticket, &self.face, self.rest.as_slice(), pending, face)

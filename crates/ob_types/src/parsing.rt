@@ -30,7 +30,8 @@ impl<T: TypeSet> Model for Parsing<T> {
 
     ghost view = { λ a. record { ticket = a.ticket; face = arc_value a.face; rest = a.rest } };
 
-    ghost invariant = { λ a. (T.procedures).parses ((T.procedures).kind_of (arc_value a.face)) ≡ true };
+    ghost invariant = { λ a. (T.procedures).parses ((T.procedures).kind_of (arc_value a.face))
+        ≡ true };
 }
 
 impl<T: TypeSet> Parsing<T> {
@@ -56,7 +57,8 @@ impl<T: TypeSet> Parsing<T> {
 
     /// Gives the parse up: as one that found no memory, without a run.
     pub fn give_up(self) -> Parsed<T>
-        ensures { result ≡ record { ticket = self.ticket; face = self.face; rest = self.rest; outcome = None } }
+        ensures { result
+            ≡ record { ticket = self.ticket; face = self.face; rest = self.rest; outcome = None } }
     {
         let Parsing { ticket, face, rest } = self;
         Parsed::from_parts(ticket, face, rest, Outcome::NoMemory)

@@ -12,7 +12,7 @@ use std::sync::Arc;
 
 /// How a parse run ends. (Windows Internals, Object Manager: parse methods; the forms of the end: this
 /// profile) `F` and `I` are the face and the inner value of an object. Contracts see it as `ob_model`'s
-/// outcome, which has none for want of memory.
+/// outcome, which has none for lack of memory.
 #[derive(Debug, Drop)]
 pub enum Outcome<F, I> {
     /// The object itself is what was named.
@@ -53,7 +53,8 @@ pub fn run_parse<T: TypeSet>(
     rest: &[u8],
 ) -> Outcome<T::Face, T::Inner>
     requires parses { (T.procedures).parses ((T.procedures).kind_of face.now) ≡ true }
-    ensures ends { MatchOption (outcome_of result) (Unit {0}) (λ end. ParseEnds T.procedures face.now rest.now end) }
+    ensures ends { MatchOption (outcome_of result) (Unit {0}) (λ end.
+        ParseEnds T.procedures face.now rest.now end) }
     ensures idle { IfMade result (λ _ inner. T.idle inner) }
 {
     let mut step = answered::<T>(alloc, face, rest);

@@ -3,7 +3,7 @@
 ghost use Rattle.std.specs.Prelude.{◌≡◌, None, Some, true, IfOk, IfErr};
 ghost use Rattle.ob_model.specs.Procedures as model;
 ghost use Rattle.ob_types.specs.Parsing.{answer_of};
-ghost use Rattle.ob_types.specs.Told.{reason_of, IsTold};
+ghost use Rattle.ob_types.specs.Told.{IsTold};
 
 use crate::{ParseAnswer, Reason, Refusal};
 use std::alloc::{AllocError, Global};
@@ -47,7 +47,7 @@ pub trait TypeSet: Sized + Drop + Send {
         ensures { result ≡ procedures.same_face a.now b.now };
 
     /// A new object of the kind: its face and its inner value. It is refused with a number where
-    /// the type refuses the arguments; else want of memory is the only error.
+    /// the type refuses the arguments; else out of memory is the only error.
     fn make(
         alloc: Global,
         kind: Self::Kind,
@@ -55,10 +55,11 @@ pub trait TypeSet: Sized + Drop + Send {
     ) -> Result<(Self::Face, Self::Inner), Refusal>
         ensures accepted { IfOk result (λ _. procedures.refuses_to_make kind args.now ≡ None) }
         ensures made { IfOk result (λ instance. instance ≡ procedures.made kind args.now) }
-        ensures refused { IfErr result (λ refusal. IsTold refusal (procedures.refuses_to_make kind args.now)) };
+        ensures refused { IfErr result (λ refusal.
+            IsTold refusal (procedures.refuses_to_make kind args.now)) };
 
     /// What the parse procedure of an object with this face answers to the rest of a name that leads to
-    /// the object. The only error is want of memory. It is called outside of every lock, and knows nothing of
+    /// the object. The only error is out of memory. It is called outside of every lock, and knows nothing of
     /// the set's value. A run asks only objects whose kind parses; what others answer is the set's choice.
     fn parse(
         alloc: Global,
@@ -70,14 +71,17 @@ pub trait TypeSet: Sized + Drop + Send {
     /// What is done for a new handle to an object with this inner value. It may refuse the handle,
     /// with a number of its own; then the set and the inner value stay as they were.
     fn on_open(&mut self, inner: &mut Self::Inner, reason: Reason) -> Result<(), u16>
-        ensures accepted { IfOk result (λ _. procedures.refuses_to_open self.old inner.old (reason_of reason) ≡ None) }
-        ensures refused { IfErr result (λ code. procedures.refuses_to_open self.old inner.old (reason_of reason) ≡ Some code) }
-        ensures left { (self.new, inner.new) ≡ procedures.opened self.old inner.old (reason_of reason) };
+        ensures accepted { IfOk result (λ _. procedures.refuses_to_open self.old inner.old reason
+            ≡ None) }
+        ensures refused { IfErr result (λ code. procedures.refuses_to_open self.old inner.old reason
+            ≡ Some code) }
+        ensures left { (self.new, inner.new) ≡ procedures.opened self.old inner.old reason };
 
     /// What is done for a handle that went, given the handles to the object that are left in its
     /// process and in the whole system.
     fn on_close(&mut self, inner: &mut Self::Inner, process_left: u32, system_left: u32)
-        ensures { (self.new, inner.new) ≡ procedures.closed self.old inner.old process_left system_left };
+        ensures { (self.new, inner.new)
+            ≡ procedures.closed self.old inner.old process_left system_left };
 
     /// What is done for an object that goes, with no handle open to it.
     fn on_delete(&mut self, inner: Self::Inner)
@@ -116,5 +120,6 @@ pub trait TypeSet: Sized + Drop + Send {
     ghost own_kind: { model.OwnKindIsSame procedures };
 
     /// `==` of kinds finds the same what the procedures find the same.
-    ghost equal_kinds: { (a b : Self.Kind) → Self.Kind.PartialEq.eq a b ≡ procedures.same_kind a b };
+    ghost equal_kinds: { (a b : Self.Kind) → Self.Kind.PartialEq.eq a b
+        ≡ procedures.same_kind a b };
 }

@@ -1,7 +1,6 @@
 //! What follows for every lawful set.
 
 ghost use Rattle.std.specs.Prelude.{◌≡◌, ◌↔◌, None, Some, OnErr, IfOk, IfErr, IsTrue};
-ghost use Rattle.ob_types.specs.Told.{reason_of};
 
 use crate::{Reason, TypeSet, laws};
 
@@ -12,9 +11,12 @@ pub fn open_or_leave<T: TypeSet>(
     inner: &mut T::Inner,
     reason: Reason,
 ) -> Result<(), u16>
-    ensures accepted { IfOk result (λ _. (T.procedures).refuses_to_open set.old inner.old (reason_of reason) ≡ None) }
-    ensures refused { IfErr result (λ code. (T.procedures).refuses_to_open set.old inner.old (reason_of reason) ≡ Some code) }
-    ensures opened { IfOk result (λ _. (set.new, inner.new) ≡ (T.procedures).opened set.old inner.old (reason_of reason)) }
+    ensures accepted { IfOk result (λ _. (T.procedures).refuses_to_open set.old inner.old reason
+        ≡ None) }
+    ensures refused { IfErr result (λ code. (T.procedures).refuses_to_open set.old inner.old reason
+        ≡ Some code) }
+    ensures opened { IfOk result (λ _. (set.new, inner.new)
+        ≡ (T.procedures).opened set.old inner.old reason) }
     ensures set_left { OnErr result (set.new ≡ set.old) }
     ensures inner_left { OnErr result (inner.new ≡ inner.old) }
 {
@@ -25,7 +27,8 @@ pub fn open_or_leave<T: TypeSet>(
 /// What is done for an object whose last handle in the system goes: close, with no handle left,
 /// and then delete. (Windows Internals, Object Manager: object retention; the order: this profile)
 pub fn close_last<T: TypeSet>(set: &mut T, inner: T::Inner)
-    ensures { let left = (T.procedures).closed set.old inner 0 0 in set.new ≡ (T.procedures).deleted left.0 left.1 }
+    ensures { let left = (T.procedures).closed set.old inner 0 0 in set.new
+        ≡ (T.procedures).deleted left.0 left.1 }
 {
     let mut inner = inner;
     set.on_close(&mut inner, 0, 0);

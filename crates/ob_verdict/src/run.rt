@@ -37,14 +37,17 @@ pub fn run_replay<R: Read, W: Write>(
 
     // A journal that is too long is never checked, and no other is called so: it is told, unless reading it
     // failed before.
-    ensures too_long { IsErrOf result ShellFault.TooLong → IfSome (R.remaining reader.old) (λ journal.
+    ensures too_long { IsErrOf result ShellFault.TooLong
+        → IfSome (R.remaining reader.old) (λ journal.
         JOURNAL_LIMIT < length journal) }
-    ensures refused { IfSome (R.remaining reader.old) (λ journal. JOURNAL_LIMIT < length journal → IsErr result) }
+    ensures refused { IfSome (R.remaining reader.old) (λ journal. JOURNAL_LIMIT < length journal
+        → IsErr result) }
     ensures long { IfSome (R.remaining reader.old) (λ journal. JOURNAL_LIMIT < length journal →
         IfErr result StopsLong × (W.contents writer.new ≡ W.contents writer.old)) }
 
     // However it ends, no more than one byte past the limit is read.
-    ensures taken { TakesAtMost (R.remaining reader.old) (R.remaining reader.new) (JOURNAL_LIMIT + 1) }
+    ensures taken { TakesAtMost (R.remaining reader.old) (R.remaining reader.new)
+        (JOURNAL_LIMIT + 1) }
 {
     match read_all(alloc, reader, JOURNAL_LIMIT) {
         Ok(journal) => write_verdict(alloc, journal.as_slice(), writer),

@@ -34,7 +34,8 @@ pub fn write_verdict<W: Write>(
         WritesPart (W.contents writer.old) (W.contents writer.new) journal.now }
     ensures unwritten { IfErr result (λ fault. fault ≢ ShellFault.Write →
         W.contents writer.new ≡ W.contents writer.old) }
-    ensures faults { IfErr result (λ fault. (fault ≡ ShellFault.Memory) ⊎ (fault ≡ ShellFault.Write)) }
+    ensures faults { IfErr result (λ fault. (fault ≡ ShellFault.Memory)
+        ⊎ (fault ≡ ShellFault.Write)) }
 {
     match check_journal(alloc, journal) {
         Ok(report) => {

@@ -29,7 +29,7 @@ pub enum Task<'a> {
 /// these are `run` and a path, which is taken as it is, with `--` before or behind it or without;
 /// so it is `Threads` where they are `threads` and a path, and `Replay` where they are `replay` and a path. The task is what the parser
 /// `clap` states for these words and the program as `ntns` describes it. The faults are clap's: of the kinds that clap states for the words, which are mistakes, or
-/// the request for help; or want of memory, which alone can refuse words that name a task, as no
+/// the request for help; or out of memory, which alone can refuse words that name a task, as no
 /// words behind the program's name do. (this profile)
 pub fn plan<'a, S: AsStr>(alloc: Global, words: &'a [S]) -> Result<Task<'a>, Error>
     ensures task { IfOk result (λ task.
@@ -75,7 +75,7 @@ fn task_in<'a>(matches: &ArgMatches<'a>) -> Option<Task<'a>>
     }
 }
 
-/// The fault of words that are no text: a mistake, as the parser's own are, or want of memory.
+/// The fault of words that are no text: a mistake, as the parser's own are, or out of memory.
 /// (this profile)
 pub fn unreadable(alloc: Global) -> Error
     ensures { IsMistakeOrWant (kind_of result) }

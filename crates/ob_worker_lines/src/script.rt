@@ -91,7 +91,8 @@ pub fn cut(alloc: Global, script: &[u8]) -> Result<WorkerScript<'_>, CutFault>
 fn take_behind(rest: &[u8], number: u64, has_workers: bool) -> Result<Part<'_>, u64>
     requires { number + length rest.now < 2 ^ 64 }
     ensures behind { IfOk result (λ part. IsBehind has_workers (lines_of rest.now) number part) }
-    ensures misplaced { IfErr result (λ line. IsMisplaced has_workers (lines_of rest.now) number line) }
+    ensures misplaced { IfErr result (λ line.
+        IsMisplaced has_workers (lines_of rest.now) number line) }
 {
     if rest.is_empty() {
         return Ok(Part {

@@ -7,9 +7,9 @@
 ghost use Rattle.std.specs.Prelude.{◌≡◌};
 
 use ob_base::{Fault, Handle, Proc};
-use ob_complete::run_command;
 use ob_core::{Bytes, Command, Core, Given, OpenTable, Place, Reply};
 use ob_plain::{Plain, PlainKind};
+use ob_runner::run_command;
 use ob_shared::{Gate, Pass, Shared, open_shared};
 use std::alloc::{AllocError, Global};
 use std::marker::Brand;

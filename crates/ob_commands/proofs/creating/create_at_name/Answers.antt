@@ -2,41 +2,40 @@
 use Rattle.std.proofs.Common.{ap, subst, refl}
 use Rattle.ob_model.specs.declared.reply.Answer.TheVariants.{Done}
 use Rattle.ob_model.specs.Looks.{At, Vacant, Refused, LooksUp, most_reparses}
-use Rattle.ob_lookup.specs.Look.{mode_of, look_of}
+use Rattle.ob_lookup.specs.Look.{look_of}
 use Rattle.ob_commands.specs.Making.{making_of}
-use Rattle.ob_space.specs.Namespace.{state_of}
 use Rattle.ob_space.proofs.Results.{IfOk-map}
-use Rattle.ob_commands.proofs.Judged.{creates_looked}
+use Rattle.ob_space.proofs.Naming.{creates_looked}
 use Rattle.ob_space.proofs.Looked.{root_stands}
 use Rattle.ob_commands.proofs.creating.create_at_name.Goals as goal
 
 pub look_up-requires-clause-root : goal.look_up-requires-clause-root
 look_up-requires-clause-root g c κs within =
-    let s = state_of g.row.T-Kind.Denot c.args.space.now in
-    root_stands s c.requires.sound c.args.process c.args.root c.in-Ok.root c.in-Ok.ensures
+    let s = c.args.space.now in
+    root_stands s c.requires.between.sound c.args.process c.args.root c.in-Ok.root c.in-Ok.ensures
 
 pub returns-in-Refused-clause-step : goal.returns-in-Refused-clause-step
 returns-in-Refused-clause-step g c =
-    let s = state_of g.row.T-Kind.Denot c.args.space.now in
+    let s = c.args.space.now in
     creates_looked g.T.TypeSet.procedures s s c.args.process c.args.attrs (Done c.status_alone-in-Refused.result) c.args.root c.in-Ok.root c.in-Ok.ensures c.args.name
-    (mode_of c.create_mode.result) (Refused c.in-Refused.status)
-    (subst (λ look. LooksUp g.T.TypeSet.procedures s c.args.process (mode_of c.create_mode.result) most_reparses c.in-Ok.root c.args.name (look_of look)) c.in-Refused.is c.in_ok-status.ensures.end)
+    c.create_mode.result (Refused c.in-Refused.status)
+    (subst (λ look. LooksUp g.T.TypeSet.procedures s c.args.process c.create_mode.result most_reparses c.in-Ok.root c.args.name (look_of look)) c.in-Refused.is c.in_ok-status.ensures.end)
     (making_of c.args.making) c.create_mode.ensures (ap Done c.status_alone-in-Refused.ensures, refl)
 
 pub returns-in-At-clause-step : goal.returns-in-At-clause-step
 returns-in-At-clause-step g c =
-    let s = state_of g.row.T-Kind.Denot c.args.space.now in
+    let s = c.args.space.now in
     IfOk-map _ _ c.open_there.result (λ reply done.
-    creates_looked g.T.TypeSet.procedures s (state_of g.row.T-Kind.Denot c.open_there.new.space) c.args.process c.args.attrs (Done reply) c.args.root c.in-Ok.root c.in-Ok.ensures c.args.name
-    (mode_of c.create_mode.result) (At c.in-At.object)
-    (subst (λ look. LooksUp g.T.TypeSet.procedures s c.args.process (mode_of c.create_mode.result) most_reparses c.in-Ok.root c.args.name (look_of look)) c.in-At.is c.in_ok-status.ensures.end)
+    creates_looked g.T.TypeSet.procedures s c.open_there.new.space c.args.process c.args.attrs (Done reply) c.args.root c.in-Ok.root c.in-Ok.ensures c.args.name
+    c.create_mode.result (At c.in-At.object)
+    (subst (λ look. LooksUp g.T.TypeSet.procedures s c.args.process c.create_mode.result most_reparses c.in-Ok.root c.args.name (look_of look)) c.in-At.is c.in_ok-status.ensures.end)
     (making_of c.args.making) c.create_mode.ensures done) c.open_there.ensures.step
 
 pub returns-in-Vacant-clause-step : goal.returns-in-Vacant-clause-step
 returns-in-Vacant-clause-step g c =
-    let s = state_of g.row.T-Kind.Denot c.args.space.now in
+    let s = c.args.space.now in
     IfOk-map _ _ c.make_named.result (λ reply done.
-    creates_looked g.T.TypeSet.procedures s (state_of g.row.T-Kind.Denot c.make_named.new.space) c.args.process c.args.attrs (Done reply) c.args.root c.in-Ok.root c.in-Ok.ensures c.args.name
-    (mode_of c.create_mode.result) (Vacant c.in-Vacant.directory c.in-Vacant.component)
-    (subst (λ look. LooksUp g.T.TypeSet.procedures s c.args.process (mode_of c.create_mode.result) most_reparses c.in-Ok.root c.args.name (look_of look)) c.in-Vacant.is c.in_ok-status.ensures.end)
+    creates_looked g.T.TypeSet.procedures s c.make_named.new.space c.args.process c.args.attrs (Done reply) c.args.root c.in-Ok.root c.in-Ok.ensures c.args.name
+    c.create_mode.result (Vacant c.in-Vacant.directory c.in-Vacant.component)
+    (subst (λ look. LooksUp g.T.TypeSet.procedures s c.args.process c.create_mode.result most_reparses c.in-Ok.root c.args.name (look_of look)) c.in-Vacant.is c.in_ok-status.ensures.end)
     (making_of c.args.making) c.create_mode.ensures done) c.make_named.ensures.step

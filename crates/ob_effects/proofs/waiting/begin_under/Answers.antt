@@ -1,8 +1,8 @@
 -- The open begins with the words as they were before room was made.
 use Rattle.std.proofs.Common.{◌≡◌, ap, subst, inr, refl, ◌∙◌}
 use Rattle.ob_model.specs.declared.reply.Event.TheVariants.{Start}
-use Rattle.ob_begun.specs.Begun.{answer_in}
-use Rattle.ob_begun.proofs.Results.{on_err}
+use Rattle.ob_runner.specs.Begun.{answer_in}
+use Rattle.ob_runner.proofs.Results.{on_err}
 use Rattle.ob_parts.specs.Parts.{name_seen}
 use Rattle.ob_requests.specs.Commands.{IsOpenObject}
 use Rattle.ob_requests.specs.Tables.{words_in}

@@ -1,8 +1,8 @@
 -- The open that waits under the word is resumed, or given up.
 use Rattle.std.proofs.Common.{◌≡◌, ap, sym, subst, inr, ◌∙◌}
 use Rattle.ob_model.specs.declared.reply.Event.TheVariants.{Resume}
-use Rattle.ob_begun.specs.Begun.{answer_in}
-use Rattle.ob_complete.specs.Completes.{GivesUp}
+use Rattle.ob_runner.specs.Begun.{answer_in}
+use Rattle.ob_runner.specs.Completes.{GivesUp}
 use Rattle.ob_standard.specs.Standard.{standard}
 use Rattle.ob_requests.specs.Tables.{words_in}
 use Rattle.ob_requests.specs.Words.{Words, with_ticket}

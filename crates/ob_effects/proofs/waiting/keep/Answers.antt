@@ -1,6 +1,6 @@
 -- The word is set, and no open waits under it.
 use Rattle.std.proofs.Common.{ap, sym, ◌∙◌}
-use Rattle.ob_begun.specs.Begun.{answer_in}
+use Rattle.ob_runner.specs.Begun.{answer_in}
 use Rattle.ob_requests.specs.Tables.{words_in}
 use Rattle.ob_requests.specs.Words.{Words, with_word, with_ticket}
 use Rattle.ob_effects.specs.Waiting.{words_answered}

@@ -4,17 +4,17 @@ use Rattle.ob_model.specs.State.{State}
 use Rattle.ob_model.specs.Looks as machine
 use Rattle.ob_devmap.specs.View.{IsViewOf}
 use Rattle.ob_objects.specs.Store.{Shows}
-use Rattle.ob_lookup.specs.Look.{mode_of, turn_of, MayWantMemory, IfAgain, Goes}
+use Rattle.ob_lookup.specs.Look.{turn_of, MayWantMemory, IfAgain, Goes}
 use Rattle.ob_lookup.proofs.lookup.look.Given as goal
 
 abbrev pub invariant-loop-next : goal.invariant-loop-next
 invariant-loop-next g l = record {
   left : IfAgain l.next (0 < l.left);
   goes : (s : State g.row.T-Kind.Denot g.row.T.Denot g.row.T-Face.Denot g.row.T-Inner.Denot) (p : ℕ) (end : machine.Look) → Shows s l.store → IsViewOf s p l.view
-      → Goes g.T.TypeSet.procedures s p (mode_of l.mode) l.left (turn_of l.next) end
-      → machine.LooksUp g.T.TypeSet.procedures s p (mode_of l.mode) l.budget l.fn.root l.fn.name end;
+      → Goes g.T.TypeSet.procedures s p l.mode l.left (turn_of l.next) end
+      → machine.LooksUp g.T.TypeSet.procedures s p l.mode l.budget l.fn.root l.fn.name end;
   wants : IfAgain l.next ((s : State g.row.T-Kind.Denot g.row.T.Denot g.row.T-Face.Denot g.row.T-Inner.Denot) (p : ℕ) → Shows s l.store → IsViewOf s p l.view
-      → (end : machine.Look) × MayWantMemory end × machine.LooksUp g.T.TypeSet.procedures s p (mode_of l.mode) 0 l.fn.root l.fn.name end);
+      → (end : machine.Look) × MayWantMemory end × machine.LooksUp g.T.TypeSet.procedures s p l.mode 0 l.fn.root l.fn.name end);
 }
 
 abbrev pub decreases-loop-next : goal.decreases-loop-next

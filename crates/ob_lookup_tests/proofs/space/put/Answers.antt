@@ -1,7 +1,7 @@
 -- The object comes, and then its name.
 use Rattle.std.proofs.Common.{◌+◌, subst, sym}
 use Rattle.ob_lookup_tests.specs.Space.{IsSpace}
-use Rattle.ob_lookup_tests.proofs.Spaces.{next_is_free, space_with_object, directory_there, entries_free, entries_newest, rows_unnamed, space_with_name}
+use Rattle.ob_lookup_tests.proofs.Spaces.{next_is_free, space_unchanged, space_with_object, directory_there, entries_free, entries_newest, rows_unnamed, space_with_name}
 use Rattle.ob_lookup_tests.proofs.space.put.Goals as goal
 
 pub insert-requires-clause-free : goal.insert-requires-clause-free
@@ -20,6 +20,9 @@ insert_name-requires-clause-newest g c = λ κs _.
 
 pub insert_name-requires-clause-unnamed : goal.insert_name-requires-clause-unnamed
 insert_name-requires-clause-unnamed g c = λ κs _. rows_unnamed c.insert.new.self c.args.store.now c.args.id c.args.object c.in_ok-insert.ensures.put c.requires.space c.requires.empty
+
+pub returns-in_err-insert : goal.returns-in_err-insert
+returns-in_err-insert g c = space_unchanged c.insert.new.self c.args.store.now c.args.id c.in_err-insert.ensures.unchanged c.requires.space
 
 pub returns-in_err-insert_name : goal.returns-in_err-insert_name
 returns-in_err-insert_name g c =

@@ -1,6 +1,6 @@
 -- The tickets are those of the opens that wait, and each kept parse is the one that its open waits for.
 use Rattle.std.proofs.Common.{◌≡◌}
-use Rattle.ob_begun.specs.Begun.{AreAwaited, tickets_of}
+use Rattle.ob_runner.specs.Begun.{AreAwaited, tickets_of}
 use Rattle.ob_random_tests.proofs.game.play.Given as goal
 
 abbrev pub invariant-loop-done : goal.invariant-loop-done

@@ -6,7 +6,7 @@ use Rattle.ob_standard_core.specs.Machine.{Space}
 use Rattle.ob_model.specs.Step.{Step}
 use Rattle.ob_standard.specs.Standard.{standard}
 use Rattle.ob_replay.specs.Played.{IsKeptBeside}
-use Rattle.ob_replay.proofs.Choosing.{not_said, newest_is_last, still_free, step_revalued, no_step_replies}
+use Rattle.ob_replay.proofs.Choosing.{not_said, newest_is_given, still_free, step_revalued, no_step_replies}
 use Rattle.ob_replay.proofs.replay.make_step.Goals as goal
 
 pub returns-in_default-taken-clause-refused : goal.returns-in_default-taken-clause-refused
@@ -17,10 +17,11 @@ returns-in_default-taken-clause-refused c =
           c.choice_of-choice.ensures.none c.in_default-taken.ensures.none,
     )
 
-pub revalue-requires-clause-last : goal.revalue-requires-clause-last
-revalue-requires-clause-last c =
+pub revalue-requires-clause-given : goal.revalue-requires-clause-given
+revalue-requires-clause-given c =
     let unsaid = not_said c.is_said.result c.args.line.now.reply (said_of c.in-Ok.answer) c.is_said.ensures c.if-is_said.false in
-    newest_is_last c.args.core c.repeat.new.core c.args.line.now c.in-Ok.answer c.in-Ok.ensures.step unsaid c.choice_of-choice.result c.choice_of-choice.ensures.free c.in-Some.choice c.in-Some.chosen
+    newest_is_given c.args.core c.repeat.new.core c.args.line.now c.in-Ok.answer c.in-Ok.ensures.step unsaid c.choice_of-choice.result c.choice_of-choice.ensures.free c.state_is_reached.ensures c.in-Some.choice
+    c.in-Some.chosen
     c.in-Some.ensures.taken
 
 pub revalue-requires-clause-free : goal.revalue-requires-clause-free

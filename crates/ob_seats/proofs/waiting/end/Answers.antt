@@ -3,7 +3,7 @@ use Rattle.std.proofs.Common.{◌∙◌, IfOk, ap, sym, subst}
 use Rattle.ob_model.specs.declared.reply.Answer.TheVariants.{Done}
 use Rattle.ob_model.specs.declared.reply.Event.TheVariants.{Resume}
 use Rattle.ob_model.specs.declared.reply.ParseRun.{ParseRun}
-use Rattle.ob_complete.specs.Completes.{HasRun}
+use Rattle.ob_runner.specs.Completes.{HasRun}
 use Rattle.ob_requests.specs.Tables.{words_in}
 use Rattle.ob_requests.specs.Words.{Words, with_ticket}
 use Rattle.ob_effects.specs.Waiting.{words_answered}

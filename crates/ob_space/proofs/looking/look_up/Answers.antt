@@ -1,9 +1,8 @@
 -- What holds whatever opens are pending holds of those that are.
-use Rattle.ob_space.specs.Namespace.{state_of}
 use Rattle.ob_space.proofs.Results.{IfOk-map}
 use Rattle.ob_space.proofs.looking.look_up.Goals as goal
 
 pub returns-clause-end : goal.returns-clause-end
 returns-clause-end g c =
-    let s = state_of g.row.T-Kind.Denot c.args.space.now in
+    let s = c.args.space.now in
     IfOk-map _ _ c.look_with.result (λ look told. told s.pending) c.look_with.ensures.end

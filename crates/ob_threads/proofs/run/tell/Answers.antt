@@ -4,7 +4,7 @@ use Rattle.std.specs.Prelude.{codes}
 use Rattle.ob_lines.specs.Lines.{lines_of}
 use Rattle.ob_output.specs.Printed.{output_line}
 use Rattle.ob_worker_lines.specs.Parts.{IsFault}
-use Rattle.ob_threads.specs.declared.ending.ThreadsEnding.TheVariants as ending
+use Rattle.ob_threads.specs.declared.ends.ThreadsEnding.TheVariants as ending
 use Rattle.ob_threads.proofs.run.tell.Goals as goal
 
 pub returns-in-Err-clause-part : goal.returns-in-Err-clause-part

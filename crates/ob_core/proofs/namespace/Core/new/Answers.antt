@@ -2,15 +2,17 @@
 use Rattle.std.proofs.Common.{◌∙◌, ◌++◌, ◌∷◌, [], None, ap, sym, subst}
 use Rattle.ob_model.specs.Opening.{opening}
 use Rattle.ob_objects.specs.Store.{objects_of, rows_of}
-use Rattle.ob_core.specs.Kept.{IsCore}
+use Rattle.ob_space.specs.Orderly.{IsBetweenSteps}
+use Rattle.ob_core.specs.Reached.{IsReached}
 use Rattle.ob_core.proofs.Opened.{opening_core}
+use Rattle.ob_core.proofs.Reached.{opening_reached}
 use Rattle.ob_core.proofs.namespace.Core.new.Goals as goal
 
 pub invariant_of-result : goal.invariant_of-result
 invariant_of-result g c =
     let handles = c.start.ensures.handles ∙ ap (λ r. r.handles) c.new-processes.ensures in
     let processes = c.in_ok-start.ensures.last ∙ ap (λ r. r.processes ++ record { number = 1; map = None } ∷ []) c.new-processes.ensures in
-    subst (IsCore g.T.TypeSet.idle)
+    subst (λ s. IsBetweenSteps g.T.TypeSet.idle s × IsReached g.T.TypeSet.procedures s)
     (sym (λ i. record (opening c.args.types) {
       objects = objects_of (c.in_ok-opening_store.ensures.store i);
       rows = rows_of (c.in_ok-opening_store.ensures.store i);
@@ -18,4 +20,4 @@ invariant_of-result g c =
       processes = processes i;
       pending = c.new.ensures i;
     }))
-    (opening_core g.T.TypeSet.idle c.args.types)
+    (opening_core g.T.TypeSet.idle c.args.types, opening_reached g.T.TypeSet.procedures c.args.types)

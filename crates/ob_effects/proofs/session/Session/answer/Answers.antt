@@ -1,7 +1,7 @@
 -- What waits goes on waiting while a request is run to its reply, or found no memory.
 use Rattle.std.proofs.Common.{sym, subst}
-use Rattle.ob_begun.specs.Begun.{tickets_of}
-use Rattle.ob_begun.proofs.Awaited.{completes_all_await}
+use Rattle.ob_runner.specs.Begun.{tickets_of}
+use Rattle.ob_runner.proofs.Awaited.{completes_all_await}
 use Rattle.ob_lines.specs.Grammar.{request_seen}
 use Rattle.ob_requests.specs.Tables.{words_in}
 use Rattle.ob_standard.specs.Standard.{standard}

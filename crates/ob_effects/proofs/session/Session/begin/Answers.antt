@@ -1,5 +1,5 @@
 -- One more waits, or none.
-use Rattle.ob_begun.specs.Begun.{tickets_of}
+use Rattle.ob_runner.specs.Begun.{tickets_of}
 use Rattle.ob_parts.specs.Parts.{name_seen}
 use Rattle.ob_requests.specs.Tables.{words_in}
 use Rattle.std.proofs.Common.{sym, ◌∙◌}

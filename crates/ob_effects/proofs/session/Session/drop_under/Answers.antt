@@ -2,7 +2,7 @@
 use Rattle.std.proofs.Common.{ap, ◌∙◌}
 use Rattle.ob_model.specs.declared.reply.Event.TheVariants.{Abandon}
 use Rattle.ob_model.specs.declared.reply.ParseRun.TheVariants.{Unrun}
-use Rattle.ob_begun.specs.Begun.{tickets_of}
+use Rattle.ob_runner.specs.Begun.{tickets_of}
 use Rattle.ob_requests.specs.Tables.{words_in}
 use Rattle.ob_requests.specs.Words.{Words, with_word}
 use Rattle.ob_effects.proofs.Sessions.{drop_keeps, makes_drop, not_none}

@@ -1,6 +1,6 @@
 -- Those that wait are the tickets of the parses that are kept.
 use Rattle.std.proofs.Common.{refl, map}
-use Rattle.ob_begun.specs.Begun.{tickets_of}
+use Rattle.ob_runner.specs.Begun.{tickets_of}
 use Rattle.ob_effects.specs.Waiting.{given_up}
 use Rattle.ob_effects.proofs.session.Session.end.Goals as goal
 

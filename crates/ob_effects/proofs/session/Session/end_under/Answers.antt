@@ -1,6 +1,6 @@
 -- One waits no longer, or under another ticket.
 use Rattle.std.proofs.Common.{subst, IfOk, OnErr, ◌≡◌, ◌⊎◌}
-use Rattle.ob_begun.specs.Begun.{tickets_of, with_begun, without}
+use Rattle.ob_runner.specs.Begun.{tickets_of, with_begun, without}
 use Rattle.ob_requests.specs.Tables.{words_in}
 use Rattle.ob_requests.specs.Words.{with_ticket}
 use Rattle.ob_effects.proofs.Sessions.{end_keeps, not_none}

@@ -1,8 +1,8 @@
 -- No open waits.
 use Rattle.std.proofs.Common.{sym, subst}
 use Rattle.std.proofs.lemmas.List.Elements.{All-nil}
-use Rattle.ob_begun.specs.Begun.{AreAwaited, tickets_of}
-use Rattle.ob_begun.specs.Waiting.{IsParseOf}
+use Rattle.ob_runner.specs.Begun.{AreAwaited, tickets_of}
+use Rattle.ob_runner.specs.Waiting.{IsParseOf}
 use Rattle.ob_effects.specs.Kept.{AreWaiting}
 use Rattle.ob_effects.proofs.Awaiting.{first_waiting}
 use Rattle.ob_effects.proofs.session.Session.new.Goals as goal

@@ -4,7 +4,7 @@ use Rattle.ob_model.specs.declared.reply.Answer.TheVariants.{Done, Ticket}
 use Rattle.ob_model.specs.declared.reply.Event.TheVariants.{Resume}
 use Rattle.ob_types.specs.Brought.{run_of_end}
 use Rattle.ob_types.specs.Parse.{asked_of}
-use Rattle.ob_waiting.specs.Waiting.{answer_of}
+use Rattle.ob_opens.specs.Waiting.{answer_of}
 use Rattle.ob_locked.specs.Locked.{IsKept}
 use Rattle.ob_locked.specs.Passed.{IsKnown}
 use Rattle.ob_locked.specs.Places.{places_of}

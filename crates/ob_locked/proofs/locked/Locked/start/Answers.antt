@@ -1,7 +1,7 @@
 -- Behind the step the journal is a run that ends with its entry, and an open that waits has its places.
 use Rattle.std.proofs.Common.{◌∙◌, ◌+◌, [], ◌∷◌, ◌++◌, vec_capacity, ap, sym, subst, arith}
 use Rattle.ob_model.specs.declared.reply.Event.TheVariants.{Start}
-use Rattle.ob_waiting.specs.Waiting.{answer_of}
+use Rattle.ob_opens.specs.Waiting.{answer_of}
 use Rattle.ob_locked.specs.Entered.{HasFew, PendingAfter}
 use Rattle.ob_locked.specs.Locked.{IsKept}
 use Rattle.ob_locked.specs.Places.{places_of}

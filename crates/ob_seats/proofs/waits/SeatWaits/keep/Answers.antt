@@ -1,6 +1,6 @@
 -- A parse whose ticket is above all comes last, and none was kept under it.
 use Rattle.std.proofs.Common.{◌∙◌, ◌<◌, All, ap, sym, subst}
-use Rattle.ob_begun.proofs.Results.{on_ok, ok_of_err, if_err_of_ok, if_err_of_err}
+use Rattle.ob_runner.proofs.Results.{on_ok, ok_of_err, if_err_of_ok, if_err_of_err}
 use Rattle.ob_seats.specs.Kept.{AreKept}
 use Rattle.ob_seats.proofs.Keys.{last_now, more_kept, none_there}
 use Rattle.ob_seats.proofs.waits.SeatWaits.keep.Goals as goal

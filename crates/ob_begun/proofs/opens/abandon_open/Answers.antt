@@ -1,6 +1,0 @@
--- The open of a parse that it waits for is given up.
-use Rattle.ob_complete.proofs.Brought.{is_awaited}
-use Rattle.ob_begun.proofs.opens.abandon_open.Goals as goal
-
-pub returns : goal.returns
-returns g c = c.abandon.ensures.step (c.abandon.ensures.exact.1 (is_awaited g.T.TypeSet.procedures c.own_face.ensures c.args.core.now _ c.requires))

@@ -1,6 +1,0 @@
--- Tickets rise with the numbers of the map.
-use Rattle.ob_begun.proofs.Kept.{rising}
-use Rattle.ob_begun.proofs.waits.Waits.tickets_rise.Goals as goal
-
-pub returns : goal.returns
-returns g c = rising c.self.inside.parses.entries c.self.invariant c.args.self.now c.self.view_is

@@ -1,6 +1,0 @@
-pub mod Replies
-pub mod Fewer
-pub mod Brought
-pub mod Chains
-pub mod AlikeChains
-pub mod TotalChains

@@ -1,0 +1,285 @@
+-- What the calls of settling make of a namespace: one object forgotten, deleted and settled; and the two that
+-- may go after a close.
+use Rattle.std.proofs.Common.{◌≡◌, ℕ, ◌<◌, Bool, true, false, not, ◌||◌, ◌&&◌, ◌==◌, cond, List, [], get_or, find, refl, ap, ◌∙◌, sym, subst, arith, filter, All, eq-eqb, eqb-true}
+use Rattle.std.specs.Prelude.{Option, None, Some, option_map, MatchOption}
+use Rattle.std.specs.List.{list_any}
+use Rattle.std.specs.Option.{option_map_or}
+use Rattle.std.proofs.lemmas.Bool.{false≢true, ne_eqb}
+use Rattle.std.proofs.lemmas.List.Elements.{All-filter}
+use Rattle.std.proofs.lemmas.List.Folds.{list_any-append}
+use Rattle.ob_model.specs.declared.state.Row.{Row}
+use Rattle.ob_model.specs.declared.state.Held.{Held}
+use Rattle.ob_model.specs.declared.state.Object.{Object}
+use Rattle.ob_model.specs.Procedures.{Procedures}
+use Rattle.ob_model.specs.State.{State, root_id, body_of}
+use Rattle.ob_model.specs.Settle.{is_kept, is_alive, is_permanent, has_handle, has_name, is_pinned, is_mapped, holds_kept, deleted_one, settle, IsSettled}
+use Rattle.ob_model.proofs.Finds.{filter_all}
+use Rattle.ob_objects.specs.declared.named.EntryPlace.{EntryPlace}
+use Rattle.ob_objects.specs.declared.object.StoredObject.{StoredObject}
+use Rattle.ob_objects.specs.Changes as changes
+use Rattle.ob_objects.specs.Named.{place_of}
+use Rattle.ob_objects.specs.Store.{Entries, NameEntry, IsStore, Shows, stored_at, body_of_stored, object_of_stored, objects_of, rows_of, place_at}
+use Rattle.ob_objects.proofs.Follow.{found_is_stored, object_goes_alone}
+use Rattle.ob_objects.proofs.Shown.{names_change_no_object, rows_go_with_directory}
+use Rattle.ob_objects.proofs.Stands.{name_goes, no_name, one_directory, placed}
+use Rattle.ob_space.specs.Namespace.{Parts, state_of}
+use Rattle.ob_space.specs.Orderly.{IsIdleBody, is_held, IsIdleUnheld, IsOrderly}
+use Rattle.ob_life.specs.Settling.{is_held_up, without_names, with_handle_to, without_object, settled_one, settled_unless, AreSettled}
+use Rattle.ob_space.proofs.Handles.{found_passes}
+use Rattle.ob_life.proofs.Judged.{Judged, none_judged, all_judged, one_judged, greatest_first, unheld_left, or_none, any_agrees, all_pass, all_found, left_stays, some_done}
+use Rattle.ob_space.proofs.Orders.{settled_orderly}
+use Rattle.ob_space.proofs.Stored.{body_is}
+
+-- ---- the name of one object
+
+no_entry : NameEntry
+no_entry = record { stamp = 0; name = []; object = 0 }
+
+module _ {F I : Type 0} (store : Entries F I) (is : IsStore store) (id : ℕ) where
+  module _ (p : EntryPlace) (at : place_at store id ≡ Some p) (left : Entries F I) (others : left ≡ changes.without_name store p.directory p.stamp) where
+    pub objects_stay : objects_of left ≡ objects_of store
+    objects_stay = ap objects_of others ∙ (names_change_no_object store p.directory no_entry p.stamp).1
+
+    pub name_gone : rows_of left ≡ filter (λ r. not (r.object == id)) (rows_of store)
+    name_gone = ap rows_of others ∙ name_goes store is id p at
+
+  pub none_gone : place_at store id ≡ None → rows_of store ≡ filter (λ r. not (r.object == id)) (rows_of store)
+  none_gone none = sym (filter_all (λ r. not (r.object == id)) (rows_of store) (λ k d below. ap not (no_name store is id none k d below)))
+
+second_false : (a b c d e f : Bool) → (a || b || c || d || e || f) ≡ false → b ≡ false
+second_false true b c d e f h = cc
+second_false false true c d e f h = cc
+second_false false false c d e f h = refl
+
+module _ (K : Type 0) {T F I : Type 0} (g : Procedures K T F I) (a : Parts K T F I) (id : ℕ) where
+  -- ---- one object is deleted
+
+  pub is_deleted : (x : Option (StoredObject F I)) (left : Entries F I) (after : T) → x ≡ stored_at a.store id → left ≡ changes.without_object a.store id
+      → after ≡ option_map_or (λ y. deleted_one g (body_of_stored y.body) a.set) x a.set
+      → record (state_of K a) { objects = objects_of left; rows = rows_of left; set = after } ≡ without_object g (state_of K a) id
+  is_deleted x left after there others told =
+      λ i. record (state_of K a) {
+        objects = (ap objects_of others ∙ object_goes_alone a.store id) i;
+        rows = (ap rows_of others ∙ rows_go_with_directory a.store id) i;
+        set = (told ∙ mapped x ∙ ap (λ o. option_map_or (λ body. deleted_one g body a.set) o a.set) (sym (body_is (state_of K a) a.store (record { objects = refl; rows = refl }) id x there))) i;
+      }
+    where
+      mapped : (x : Option (StoredObject F I)) → option_map_or (λ y. deleted_one g (body_of_stored y.body) a.set) x a.set
+          ≡ option_map_or (λ body. deleted_one g body a.set) (option_map (λ y. body_of_stored y.body) x) a.set
+      mapped None = refl
+      mapped (Some y) = refl
+
+  -- ---- one object is settled
+
+  module _ (store : Entries F I) (objects : objects_of store ≡ objects_of a.store) (rows : rows_of store ≡ (without_names (state_of K a) id).rows) where
+    forgotten : state_of K (record a { store = store }) ≡ without_names (state_of K a) id
+    forgotten = λ i. record (state_of K a) { objects = objects i; rows = rows i }
+
+    pub settled_gone : (u : State K T F I) → u ≡ without_object g (state_of K (record a { store = store })) id → is_held_up (state_of K (record a { store = store })) id ≡ false → u ≡ settled_one g (state_of K a) id
+    settled_gone u is up =
+        is ∙ ap (λ t. without_object g t id) forgotten
+        ∙ sym (ap (λ b. cond b (without_names (state_of K a) id) (without_object g (without_names (state_of K a) id) id)) (sym (ap (λ t. is_held_up t id) forgotten) ∙ up))
+
+    pub settled_there : is_held_up (state_of K (record a { store = store })) id ≡ true → state_of K (record a { store = store }) ≡ settled_one g (state_of K a) id
+    settled_there up =
+        forgotten
+        ∙ sym (ap (λ b. cond b (without_names (state_of K a) id) (without_object g (without_names (state_of K a) id) id)) (sym (ap (λ t. is_held_up t id) forgotten) ∙ up))
+
+    pub idle_there : (idle : I → Type 0) → All (IsIdleUnheld idle a.processes.handles) (objects_of a.store) → is_held_up (state_of K (record a { store = store })) id ≡ false
+        → MatchOption (body_of (state_of K (record a { store = store })) id) (Unit {0}) (IsIdleBody idle)
+    idle_there idle unheld up =
+        subst (λ o. MatchOption o (Unit {0}) (IsIdleBody idle)) (sym (body_is (state_of K (record a { store = store })) store (record { objects = refl; rows = refl }) id (stored_at store id) refl))
+        (go (stored_at store id) refl)
+      where
+        go : (x : Option (StoredObject F I)) → stored_at store id ≡ x → MatchOption (option_map (λ y. body_of_stored y.body) x) (Unit {0}) (IsIdleBody idle)
+        go None e = tt
+        go (Some x) e =
+            all_found (IsIdleUnheld idle a.processes.handles) (λ o. o.id == id) (objects_of store) (object_of_stored id x)
+            (subst (All (IsIdleUnheld idle a.processes.handles)) (sym objects) unheld) (found_is_stored store id ∙ ap (option_map (object_of_stored id)) e)
+            (second_false (id == root_id) (is_held a.processes.handles id) _ _ _ _ up)
+
+-- ---- one object, and then the directory of its name
+
+-- what is left of a state in which objects without a handle are idle
+pub settled_unheld : {K T F I : Type 0} (g : Procedures K T F I) (idle : I → Type 0) (s : State K T F I) (o : ℕ) → All (IsIdleUnheld idle s.handles) s.objects
+    → (t : State K T F I) → t ≡ settled_one g s o → All (IsIdleUnheld idle t.handles) t.objects
+settled_unheld {K} {T} {F} {I} g idle s o unheld t is = subst (λ (u : State K T F I). All (IsIdleUnheld idle u.handles) u.objects) (sym is) (go (is_held_up (without_names s o) o))
+  where
+    go : (b : Bool) → All (IsIdleUnheld idle (cond b (without_names s o) (without_object g (without_names s o) o)).handles) (cond b (without_names s o) (without_object g (without_names s o) o)).objects
+    go true = unheld
+    go false = All-filter (λ x. not (x.id == o)) (IsIdleUnheld idle s.handles) s.objects unheld
+
+-- the names of a state stand where those of its store do
+module _ {K T F I : Type 0} (s : State K T F I) (store : Entries F I) (shows : Shows s store) (stores : IsStore store) (id : ℕ) where
+  no_name_shown : place_at store id ≡ None → All (λ q. (q.object == id) ≡ false) s.rows
+  no_name_shown none = subst (All (λ (q : Row). (q.object == id) ≡ false)) (sym shows.rows) (no_name store stores id none)
+
+  one_shown : (p : EntryPlace) → place_at store id ≡ Some p → All (λ q. (q.object == id) ≡ true → q.directory ≡ p.directory) s.rows
+  one_shown p at = subst (All (λ (q : Row). (q.object == id) ≡ true → q.directory ≡ p.directory)) (sym shows.rows) (one_directory store stores id p at)
+
+  found_shown : place_at store id ≡ option_map place_of (find (λ (r : Row). r.object == id) s.rows)
+  found_shown = ap (λ (rows : List Row). option_map place_of (find (λ (r : Row). r.object == id) rows)) (sym shows.rows)
+
+module _ {K T F I : Type 0} (g : Procedures K T F I) (s : State K T F I) (store : Entries F I) (shows : Shows s store) (stores : IsStore store) (touched : ℕ → Bool) (id : ℕ)
+    (t : State K T F I) (first : t ≡ settled_one g s id) where
+  Found : State K T F I → Option Row → Type 0
+  Found u o =
+      MatchOption o ((u ≡ settled_one g s id) × All (λ q. (q.object == id) ≡ false) s.rows)
+      (λ r. (u ≡ settled_unless g touched (settled_one g s id) r.directory) × All (λ q. (q.object == id) ≡ true → q.directory ≡ r.directory) s.rows)
+
+  pub named_settled : (p : EntryPlace) → place_at store id ≡ Some p → (u : State K T F I) → u ≡ settled_unless g touched t p.directory → AreSettled g s touched id u
+  unfolding Found
+  named_settled p at u then =
+      let found = placed (find (λ (r : Row). r.object == id) s.rows) p (sym (found_shown s store shows stores id) ∙ at) in
+      let there : p.directory ≡ found.0.directory = ap (λ (x : EntryPlace). x.directory) found.2 in
+      subst (Found u) (sym found.1) (
+        then ∙ (λ i. settled_unless g touched (first i) (there i)),
+        λ k d below own. one_shown s store shows stores id p at k d below own ∙ there,
+      )
+
+  pub unnamed_settled : place_at store id ≡ None → AreSettled g s touched id t
+  unfolding Found
+  unnamed_settled none = go (find (λ (r : Row). r.object == id) s.rows) (sym (found_shown s store shows stores id) ∙ none)
+    where
+      go : (o : Option Row) → option_map place_of o ≡ None → Found t o
+      go None e = (first, no_name_shown s store shows stores id none)
+      go (Some r) e = cc
+
+-- ---- the two after a close
+
+turned : (a b : ℕ) → (a == b) ≡ false → (b == a) ≡ false
+turned a b other = ne_eqb b a (λ same. false≢true (sym other ∙ eq-eqb a b (sym same)))
+
+not_both : (a b : Bool) → (a ≡ true → b ≡ true → ⊥) → (a && b) ≡ false
+not_both true true h = absurd (h refl refl)
+not_both true false h = refl
+not_both false b h = refl
+
+and_false : (b : Bool) → (b && false) ≡ false
+and_false true = refl
+and_false false = refl
+
+or_true : (k : Bool) → (k || true) ≡ true
+or_true true = refl
+or_true false = refl
+
+more_done : (k a b : Bool) → (k || a) ≡ true → (k || (a || b)) ≡ true
+more_done true a b h = refl
+more_done false true b h = refl
+more_done false false b h = cc
+
+module _ {K T F I : Type 0} (g : Procedures K T F I) (idle : I → Type 0) (s : State K T F I) (orderly : IsOrderly idle s) where
+  pub settled_is_orderly : (t : State K T F I) → t ≡ settle g s → IsOrderly idle t
+  settled_is_orderly t is = subst (λ (u : State K T F I). IsOrderly idle u) (sym is) (settled_orderly g idle s orderly)
+
+  -- ---- after a close
+
+  module _ (object : ℕ) (settled : IsSettled (with_handle_to s object)) where
+    -- one handle more leads to this object, and to no other
+    handle_more : (o : ℕ) → has_handle (with_handle_to s object) o ≡ (has_handle s o || ((object == o) || false))
+    handle_more o = list_any-append (λ (h : Held). h.object == o) s.handles _
+
+    handle_same : (o : ℕ) → (o == object) ≡ false → has_handle (with_handle_to s object) o ≡ has_handle s o
+    handle_same o other = handle_more o ∙ ap (λ b. has_handle s o || (b || false)) (turned o object other) ∙ or_none (has_handle s o)
+
+    kept_same : (r : Row) → (r.object == object) ≡ false → is_kept (with_handle_to s object) r ≡ is_kept s r
+    kept_same r other = ap (λ b. is_permanent s r.object || b) (handle_same r.object other)
+
+    -- names of other objects stay
+    kept_others : All (λ r. (is_kept s r || (r.object == object)) ≡ true) s.rows
+    kept_others k d below = go (get_or s.rows k d) ((get_or s.rows k d).object == object) refl (settled.names k d below)
+      where
+        go : (r : Row) (b : Bool) → (r.object == object) ≡ b → is_kept (with_handle_to s object) r ≡ true → (is_kept s r || b) ≡ true
+        go r true e kept = some_done (is_kept s r) true refl
+        go r false e kept = ap (λ b. b || false) (sym (kept_same r e) ∙ kept)
+
+    -- an object in which no name of this one lies stays as it did
+    alive_others : (m : ℕ) → (m == object) ≡ false → All (λ r. ((r.directory == m) && (r.object == object)) ≡ false) s.rows → is_alive (with_handle_to s object) m ≡ is_alive s m
+    alive_others m other none = λ i. (m == root_id) || handle_same m other i || is_pinned s m || is_mapped s m || (is_permanent s m && has_name s m) || holds i
+      where
+        agree : (r : Row) (b : Bool) → ((b && (r.object == object)) ≡ false) → (b && is_kept (with_handle_to s object) r) ≡ (b && is_kept s r)
+        agree r true apart = kept_same r apart
+        agree r false apart = refl
+
+        holds : list_any (λ r. (r.directory == m) && is_kept (with_handle_to s object) r) s.rows ≡ holds_kept s m
+        holds =
+            any_agrees (λ r. (r.directory == m) && is_kept (with_handle_to s object) r) (λ r. (r.directory == m) && is_kept s r) s.rows
+            (λ k d below. agree (get_or s.rows k d) ((get_or s.rows k d).directory == m) (none k d below))
+
+    first_judged : Judged g s (λ o. false || (o == object)) (settled_one g s object)
+    first_judged =
+        one_judged g s (λ o. false) s (none_judged g s (λ o. false) (λ k d below. or_true (is_alive s (get_or s.objects k d).id)) (λ k d below. or_true (is_kept s (get_or s.rows k d)))) object refl
+        (λ k d below here. kept_others k d below)
+        (greatest_first g s (λ o. false) s (none_judged g s (λ o. false) (λ k d below. or_true (is_alive s (get_or s.objects k d).id)) (λ k d below. or_true (is_kept s (get_or s.rows k d)))) object orderly.rising (λ k d below later. sym (alive_others (get_or s.objects k d).id (ne_eqb (get_or s.objects k d).id object (λ same. omega (arith, later, same)))
+        (λ j e within. not_both ((get_or s.rows j e).directory == (get_or s.objects k d).id) ((get_or s.rows j e).object == object)
+        (λ inside of. omega (arith, later, orderly.descending j e within, eqb-true (get_or s.rows j e).directory (get_or s.objects k d).id inside, eqb-true (get_or s.rows j e).object object of))))
+        ∙ settled.objects k d below))
+
+    -- where it has no name, no other goes
+    pub closed_alone : (t : State K T F I) → t ≡ settled_one g s object → (store : Entries F I) → Shows s store → IsStore store → place_at store object ≡ None → t ≡ settle g s
+    closed_alone t is store shows stores none =
+        all_judged g s (λ o. false || (o == object)) t
+        (λ k d below. go (get_or s.objects k d).id ((get_or s.objects k d).id == object) refl (settled.objects k d below))
+        kept_others (subst (Judged g s (λ o. false || (o == object))) (sym is) first_judged)
+      where
+        go : (m : ℕ) (b : Bool) → (m == object) ≡ b → is_alive (with_handle_to s object) m ≡ true → (is_alive s m || (false || b)) ≡ true
+        go m true e alive = some_done (is_alive s m) true refl
+        go m false e alive =
+            ap (λ b. b || false) (sym (alive_others m e (λ j x within. ap (λ b. ((get_or s.rows j x).directory == m) && b) (no_name_shown s store shows stores object none j x within) ∙ and_false ((get_or s.rows j x).directory == m))) ∙ alive)
+
+    -- where it has one, the directory of its name may go
+    module _ (store : Entries F I) (shows : Shows s store) (stores : IsStore store) (p : EntryPlace) (at : place_at store object ≡ Some p) where
+      in_one : All (λ r. (r.object == object) ≡ true → r.directory ≡ p.directory) s.rows
+      in_one = one_shown s store shows stores object p at
+
+      before : p.directory < object
+      before =
+          let found = placed (find (λ (r : Row). r.object == object) s.rows) p (sym (found_shown s store shows stores object) ∙ at) in
+          let same : found.0.object ≡ object = eqb-true found.0.object object (found_passes (λ (r : Row). r.object == object) s.rows found.0 found.1) in
+          let less : found.0.directory < found.0.object = all_found (λ (r : Row). r.directory < r.object) (λ r. r.object == object) s.rows found.0 orderly.descending found.1 in
+          let stands : p.directory ≡ found.0.directory = ap (λ (x : EntryPlace). x.directory) found.2 in
+          omega (arith, same, less, stands)
+
+      elsewhere : (m : ℕ) → (m == p.directory) ≡ false → All (λ r. ((r.directory == m) && (r.object == object)) ≡ false) s.rows
+      elsewhere m other k d below =
+          not_both ((get_or s.rows k d).directory == m) ((get_or s.rows k d).object == object)
+          (λ inside of. false≢true (sym other ∙ eq-eqb m p.directory (sym (eqb-true (get_or s.rows k d).directory m inside) ∙ in_one k d below of)))
+
+      module _ (t : State K T F I) (is : t ≡ settled_one g s object) where
+        judged : Judged g s (λ o. false || (o == object)) t
+        judged = subst (Judged g s (λ o. false || (o == object))) (sym is) first_judged
+
+        pub closed_unheld : All (IsIdleUnheld idle t.handles) t.objects
+        closed_unheld = unheld_left g s (λ o. false || (o == object)) t judged idle orderly.unheld
+
+        behind : All (λ x. p.directory < x.id → is_alive s x.id ≡ true) t.objects
+        behind k d below later = go (get_or t.objects k d).id ((get_or t.objects k d).id == object) refl later (left k d below) (alive k d below)
+          where
+            left : All (λ x. (is_alive s x.id || not (false || (x.id == object))) ≡ true) t.objects
+            left =
+                subst (λ (xs : List (Object F I)). All (λ x. (is_alive s x.id || not (false || (x.id == object))) ≡ true) xs) (sym judged.objects)
+                (all_pass (λ x. is_alive s x.id || not (false || (x.id == object))) s.objects)
+
+            alive : All (λ x. is_alive (with_handle_to s object) x.id ≡ true) t.objects
+            alive =
+                subst (λ (xs : List (Object F I)). All (λ x. is_alive (with_handle_to s object) x.id ≡ true) xs) (sym judged.objects)
+                (All-filter (λ x. is_alive s x.id || not (false || (x.id == object))) (λ x. is_alive (with_handle_to s object) x.id ≡ true) s.objects settled.objects)
+
+            go : (m : ℕ) (b : Bool) → (m == object) ≡ b → p.directory < m → (is_alive s m || not (false || b)) ≡ true → is_alive (with_handle_to s object) m ≡ true → is_alive s m ≡ true
+            go m true e later left alive = left_stays (is_alive s m) true left refl
+            go m false e later left alive = sym (alive_others m e (elsewhere m (ne_eqb m p.directory (λ same. omega (arith, later, same))))) ∙ alive
+
+        pub closed_both : (u : State K T F I) → u ≡ settled_one g t p.directory → u ≡ settle g s
+        closed_both u then =
+            all_judged g s (λ o. (false || (o == object)) || (o == p.directory)) u
+            (λ k d below. go (get_or s.objects k d).id ((get_or s.objects k d).id == object) ((get_or s.objects k d).id == p.directory) refl refl (settled.objects k d below))
+            (λ k d below. more_done (is_kept s (get_or s.rows k d)) ((get_or s.rows k d).object == object) ((get_or s.rows k d).object == p.directory) (kept_others k d below))
+            (subst (Judged g s (λ o. (false || (o == object)) || (o == p.directory))) (sym then)
+            (one_judged g s (λ o. false || (o == object)) t judged p.directory (ne_eqb p.directory object (λ same. omega (arith, before, same)))
+            (λ k d below here. more_done (is_kept s (get_or s.rows k d)) ((get_or s.rows k d).object == object) ((get_or s.rows k d).object == p.directory) (kept_others k d below))
+            (greatest_first g s (λ o. false || (o == object)) t judged p.directory orderly.rising behind)))
+          where
+            go : (m : ℕ) (b c : Bool) → (m == object) ≡ b → (m == p.directory) ≡ c → is_alive (with_handle_to s object) m ≡ true → (is_alive s m || ((false || b) || c)) ≡ true
+            go m true c e f alive = some_done (is_alive s m) true refl
+            go m false true e f alive = some_done (is_alive s m) true refl
+            go m false false e f alive = ap (λ b. b || false) (sym (alive_others m e (elsewhere m f)) ∙ alive)

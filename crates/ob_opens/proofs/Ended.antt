@@ -1,0 +1,152 @@
+-- A pending open ends, and opens nothing: only the object that it pinned can go, and the directory of its name.
+use Rattle.std.proofs.Common.{◌≡◌, ◌∙◌, ℕ, ◌<◌, ◌==◌, ◌||◌, ◌&&◌, not, cond, Bool, true, false, List, [], ◌∷◌, get_or, filter, find, None, Some, ap, refl, sym, subst, arith, eqb-true}
+use Rattle.std.specs.List.{AllPairs, list_any}
+use Rattle.std.proofs.lemmas.Bool.{ne_eqb}
+use Rattle.std.proofs.lemmas.List.Elements.{All-weaker}
+use Rattle.std.proofs.lemmas.List.Folds.{list_any-append}
+use Rattle.ob_model.specs.declared.state.Held.{Held}
+use Rattle.ob_model.specs.declared.state.Pending.{Pending}
+use Rattle.ob_model.specs.declared.state.Row.{Row}
+use Rattle.ob_model.specs.Procedures.{Procedures}
+use Rattle.ob_model.specs.State.{State, root_id}
+use Rattle.ob_model.specs.PendingOpens.{pending_of, without_pending}
+use Rattle.ob_model.specs.Settle.{IsSettled, settle, has_handle, is_pinned, is_mapped, is_permanent, is_kept, has_name, holds_kept, is_alive}
+use Rattle.ob_model.proofs.Finds.{filter_all, not_found, list_any_weaker}
+use Rattle.ob_model.proofs.Staying.{settled_itself}
+use Rattle.ob_model.proofs.Sorted.{pairs_head, pairs_tail}
+use Rattle.ob_life.specs.Settling.{with_handle_to}
+
+or_true : (b : Bool) → (b || true) ≡ true
+or_true true = refl
+or_true false = refl
+
+or_left : (a b : Bool) → a ≡ true → (a || b) ≡ true
+or_left true b e = refl
+or_left false b e = cc
+
+-- the tests of staying, of which the second may be met in place of the third
+moves : (r h p m n k h' p' k' : Bool) → (h ≡ true → h' ≡ true) → (p ≡ true → (h' || p') ≡ true) → (k ≡ true → k' ≡ true)
+    → (r || h || p || m || n || k) ≡ true → (r || h' || p' || m || n || k') ≡ true
+moves true h p m n k h' p' k' held pinned kept e = refl
+moves false true p m n k h' p' k' held pinned kept e = ap (λ x. x || p' || m || n || k') (held refl)
+moves false false true m n k h' p' k' held pinned kept e = ap (λ x. x || m || n || k') (pinned refl)
+moves false false false true n k h' p' k' held pinned kept e = ap (λ x. x || n || k') (or_true (h' || p'))
+moves false false false false true k h' p' k' held pinned kept e = ap (λ x. x || k') (or_true (h' || p' || false))
+moves false false false false false k h' p' k' held pinned kept e = ap (λ x. h' || p' || false || false || x) (kept e) ∙ or_true (h' || p' || false || false)
+
+-- what an open of a list pins is pinned by another one, or is what the open of the ticket pinned
+pinned_apart : {K : Type 0} (ticket o : ℕ) (x : Pending K) (xs : List (Pending K)) → AllPairs (λ a b. a.ticket < b.ticket) xs → find (λ y. y.ticket == ticket) xs ≡ Some x
+    → list_any (λ y. y.object == o) xs ≡ true → ((x.object == o) || list_any (λ y. y.object == o) (filter (λ y. not (y.ticket == ticket)) xs)) ≡ true
+pinned_apart ticket o x [] rising found any = cc
+pinned_apart {K} ticket o x (y ∷ ys) rising found any =
+    go (y.ticket == ticket) refl found any (pinned_apart ticket o x ys (pairs_tail (λ (a b : Pending K). a.ticket < b.ticket) y ys rising))
+  where
+    left : List (Pending K)
+    left = filter (λ z. not (z.ticket == ticket)) ys
+
+    go : (b : Bool) → (y.ticket == ticket) ≡ b → cond b (Some y) (find (λ z. z.ticket == ticket) ys) ≡ Some x → ((y.object == o) || list_any (λ z. z.object == o) ys) ≡ true
+        → (find (λ z. z.ticket == ticket) ys ≡ Some x → list_any (λ z. z.object == o) ys ≡ true → ((x.object == o) || list_any (λ z. z.object == o) left) ≡ true)
+        → ((x.object == o) || list_any (λ z. z.object == o) (cond (not b) (y ∷ left) left)) ≡ true
+    go true e is any rest =
+        let it : x ≡ y = cc in
+        (λ i. ((it i).object == o) || list_any (λ (z : Pending K). z.object == o) (others i)) ∙ any
+      where
+        others : left ≡ ys
+        others =
+            filter_all (λ z. not (z.ticket == ticket)) ys
+            (All-weaker (λ z. y.ticket < z.ticket) (λ z. not (z.ticket == ticket) ≡ true)
+            (λ z less. ap not (ne_eqb z.ticket ticket (λ same. omega (arith, less, same, eqb-true y.ticket ticket e)))) ys (pairs_head (λ (a b : Pending K). a.ticket < b.ticket) y ys rising))
+    go false e is any rest = either (y.object == o) any
+      where
+        either : (b : Bool) → (b || list_any (λ z. z.object == o) ys) ≡ true → ((x.object == o) || (b || list_any (λ z. z.object == o) left)) ≡ true
+        either true h = or_true (x.object == o)
+        either false h = rest is h
+
+module _ {K T F I : Type 0} (s : State K T F I) (ticket : ℕ) (x : Pending K) (rising : AllPairs (λ a b. a.ticket < b.ticket) s.pending) (found : pending_of s ticket ≡ Some x) (settled : IsSettled s) where
+  -- the state with a handle to the object in place of the open
+  abbrev u : State K T F I
+  u = with_handle_to (without_pending s ticket) x.object
+
+  handle_to : (o : ℕ) → has_handle u o ≡ (has_handle s o || ((x.object == o) || false))
+  handle_to o = list_any-append (λ (h : Held). h.object == o) s.handles _
+
+  held_still : (o : ℕ) → has_handle s o ≡ true → has_handle u o ≡ true
+  held_still o e = handle_to o ∙ or_left (has_handle s o) _ e
+
+  kept_still : (r : Row) → is_kept s r ≡ true → is_kept u r ≡ true
+  kept_still r = go (is_permanent s r.object) (has_handle s r.object) (has_handle u r.object) (held_still r.object)
+    where
+      go : (a b c : Bool) → (b ≡ true → c ≡ true) → (a || b) ≡ true → (a || c) ≡ true
+      go true b c more e = refl
+      go false b c more e = more e
+
+  pinned_or_held : (o : ℕ) → is_pinned s o ≡ true → (has_handle u o || is_pinned u o) ≡ true
+  pinned_or_held o e =
+      ap (λ b. b || is_pinned u o) (handle_to o)
+      ∙ go (has_handle s o) (x.object == o) (is_pinned u o) (pinned_apart ticket o x s.pending rising found e)
+    where
+      go : (a b c : Bool) → (b || c) ≡ true → ((a || (b || false)) || c) ≡ true
+      go true b c e = refl
+      go false true c e = refl
+      go false false c e = e
+
+  holds_still : (o : ℕ) → holds_kept s o ≡ true → holds_kept u o ≡ true
+  holds_still o =
+      list_any_weaker (λ r. (r.directory == o) && is_kept s r) (λ r. (r.directory == o) && is_kept u r) s.rows
+      (λ k d below. go ((get_or s.rows k d).directory == o) (is_kept s (get_or s.rows k d)) (is_kept u (get_or s.rows k d)) (kept_still (get_or s.rows k d)))
+    where
+      go : (a b c : Bool) → (b ≡ true → c ≡ true) → (a && b) ≡ true → (a && c) ≡ true
+      go true b c more e = more e
+      go false b c more e = cc
+
+  -- nothing would go, were there a handle to the object
+  pub held_in_place : IsSettled u
+  held_in_place = record {
+    names = All-weaker (λ r. is_kept s r ≡ true) (λ r. is_kept u r ≡ true) (λ r. kept_still r) s.rows settled.names;
+    objects = λ k d below.
+        let o : ℕ = (get_or s.objects k d).id in
+        moves (o == root_id) (has_handle s o) (is_pinned s o) (is_mapped s o) (is_permanent s o && has_name s o) (holds_kept s o) (has_handle u o) (is_pinned u o) (holds_kept u o)
+        (held_still o) (pinned_or_held o) (holds_still o) (settled.objects k d below);
+  }
+
+-- where the object has a handle, nothing goes when the open that pins it ends
+module _ {K T F I : Type 0} (s : State K T F I) (ticket : ℕ) (x : Pending K) (rising : AllPairs (λ a b. a.ticket < b.ticket) s.pending) (found : pending_of s ticket ≡ Some x) where
+  pub unpinned_settled : IsSettled s → has_handle s x.object ≡ true → IsSettled (without_pending s ticket)
+  unpinned_settled settled held = record {
+    names = settled.names;
+    objects = λ k d below.
+        let o : ℕ = (get_or s.objects k d).id in
+        moves (o == root_id) (has_handle s o) (is_pinned s o) (is_mapped s o) (is_permanent s o && has_name s o) (holds_kept s o) (has_handle s o) (is_pinned (without_pending s ticket) o) (holds_kept s o)
+        (λ e. e) (pinned_or_held o) (λ e. e) (settled.objects k d below);
+  }
+    where
+      pinned_or_held : (o : ℕ) → is_pinned s o ≡ true → (has_handle s o || is_pinned (without_pending s ticket) o) ≡ true
+      pinned_or_held o e = go (x.object == o) refl (pinned_apart ticket o x s.pending rising found e)
+        where
+          go : (b : Bool) → (x.object == o) ≡ b → (b || is_pinned (without_pending s ticket) o) ≡ true → (has_handle s o || is_pinned (without_pending s ticket) o) ≡ true
+          go true same h = or_left (has_handle s o) _ (subst (λ n. has_handle s n ≡ true) (eqb-true x.object o same) held)
+          go false other h = ap (λ b. has_handle s o || b) h ∙ or_true (has_handle s o)
+
+  -- and else only the object that it pinned can go
+  pub only_pinned_goes : (o : ℕ) → is_alive s o ≡ true → is_alive (without_pending s ticket) o ≡ false → x.object ≡ o
+  only_pinned_goes o alive gone = go (x.object == o) refl (pinned_apart ticket o x s.pending rising found)
+    where
+      go : (b : Bool) → (x.object == o) ≡ b → (is_pinned s o ≡ true → (b || is_pinned (without_pending s ticket) o) ≡ true) → x.object ≡ o
+      go true same h = eqb-true x.object o same
+      go false other h =
+          let still : is_alive (without_pending s ticket) o ≡ true =
+          moves (o == root_id) (has_handle s o) (is_pinned s o) (is_mapped s o) (is_permanent s o && has_name s o) (holds_kept s o) (has_handle s o) (is_pinned (without_pending s ticket) o) (holds_kept s o)
+          (λ e. e) (λ e. ap (λ b. has_handle s o || b) (h e) ∙ or_true (has_handle s o)) (λ e. e) alive in
+          cc
+
+-- where no open is pending under the ticket nothing changes
+module _ {K T F I : Type 0} (g : Procedures K T F I) (s : State K T F I) (ticket : ℕ) (none : pending_of s ticket ≡ None) (settled : IsSettled s) where
+  pub nothing_pending : without_pending s ticket ≡ s
+  nothing_pending =
+      λ i. record s {
+        pending = filter_all (λ x. not (x.ticket == ticket)) s.pending
+            (All-weaker (λ x. (x.ticket == ticket) ≡ false) (λ x. not (x.ticket == ticket) ≡ true) (λ x e. ap not e) s.pending (not_found (λ x. x.ticket == ticket) s.pending none)) i;
+      }
+
+  pub nothing_ends : without_pending s ticket ≡ settle g (without_pending s ticket)
+  nothing_ends = sym (settled_itself g (without_pending s ticket) (subst IsSettled (sym nothing_pending) settled))

@@ -1,0 +1,13 @@
+pub mod FoundOpen
+pub mod OpensAgain
+pub mod Pinning
+pub mod BegunAgain
+pub mod Ended
+pub mod Refused
+pub mod Endings
+pub mod MadeGoes
+pub mod MadeOpens
+pub mod MadePut
+pub mod Begun
+pub mod Abandoned
+pub mod Resumed

@@ -1,0 +1,51 @@
+-- The asker is gone, or what the lookup of the text leads to is done.
+use Rattle.std.proofs.Common.{◌∙◌, ap, sym, subst}
+use Rattle.ob_lookup.specs.Look.{look_of}
+use Rattle.ob_model.specs.declared.reply.Answer.TheVariants.{Done}
+use Rattle.ob_model.specs.Looks as machine
+use Rattle.ob_model.specs.Parses.{LooksAgain}
+use Rattle.ob_model.specs.PendingOpens.{without_pending}
+use Rattle.ob_opens.proofs.FoundOpen.{found_open}
+use Rattle.ob_opens.proofs.OpensAgain.{gone_again}
+use Rattle.ob_opens.specs.Waiting.{answer_of}
+use Rattle.ob_opens.proofs.Resumed.{looked}
+use Rattle.ob_opens.proofs.look_again.look_again.Goals as goal
+
+pub returns-then-not-is_live-clause-resumed : goal.returns-then-not-is_live-clause-resumed
+returns-then-not-is_live-clause-resumed g c =
+    let s = c.args.space.now in
+    gone_again g.T.TypeSet.procedures s c.args.ticket c.in-Some.pending.now (found_open c.space.view_is c.args.ticket _ c.in-Some.ensures) (Done c.status_alone.result) c.end_parse.new.space c.args.text
+    (sym c.is_live.ensures ∙ c.if-not-is_live.true) (ap Done c.status_alone.ensures) c.end_parse.ensures.ended
+
+pub returns-in-Refused-clause-resumed : goal.returns-in-Refused-clause-resumed
+returns-in-Refused-clause-resumed g c =
+    let s = c.args.space.now in
+    let t = c.refuse_open.new.space in
+    let x = c.in-Some.pending.now in
+    let mode = c.mode_of_open-mode.result in
+    looked g.T.TypeSet.procedures s t c.args.ticket x c.args.text (machine.Refused c.in-Refused.status) mode (Done c.refuse_open.result) (found_open c.space.view_is c.args.ticket _ c.in-Some.ensures)
+    (sym c.is_live.ensures ∙ c.if-not-is_live.false) c.mode_of_open-mode.ensures
+    (subst (λ look. LooksAgain g.T.TypeSet.procedures (without_pending s c.args.ticket) x.process mode x.left c.args.text (look_of look)) c.in-Refused.is (c.in_ok-status.ensures.end c.args.ticket))
+    c.refuse_open.ensures.opened
+
+pub returns-in_ok-open_found-in-At-clause-resumed : goal.returns-in_ok-open_found-in-At-clause-resumed
+returns-in_ok-open_found-in-At-clause-resumed g c =
+    let s = c.args.space.now in
+    let t = c.open_found.new.space in
+    let x = c.in-Some.pending.now in
+    let mode = c.mode_of_open-mode.result in
+    looked g.T.TypeSet.procedures s t c.args.ticket x c.args.text (machine.At c.in-At.object) mode (Done c.in_ok-open_found-in-At.field-0) (found_open c.space.view_is c.args.ticket _ c.in-Some.ensures)
+    (sym c.is_live.ensures ∙ c.if-not-is_live.false) c.mode_of_open-mode.ensures
+    (subst (λ look. LooksAgain g.T.TypeSet.procedures (without_pending s c.args.ticket) x.process mode x.left c.args.text (look_of look)) c.in-At.is (c.in_ok-status.ensures.end c.args.ticket))
+    c.in_ok-open_found-in-At.ensures.opened
+
+pub returns-in_ok-begun-in-Parse-clause-resumed : goal.returns-in_ok-begun-in-Parse-clause-resumed
+returns-in_ok-begun-in-Parse-clause-resumed g c =
+    let s = c.args.space.now in
+    let t = c.begin_anew.new.space in
+    let x = c.in-Some.pending.now in
+    let mode = c.mode_of_open-mode.result in
+    looked g.T.TypeSet.procedures s t c.args.ticket x c.args.text (machine.Parse c.in-Parse.object c.in-Parse.rest c.in-Parse.left) mode (answer_of c.in_ok-begun-in-Parse.begun) (found_open c.space.view_is c.args.ticket _ c.in-Some.ensures)
+    (sym c.is_live.ensures ∙ c.if-not-is_live.false) c.mode_of_open-mode.ensures
+    (subst (λ look. LooksAgain g.T.TypeSet.procedures (without_pending s c.args.ticket) x.process mode x.left c.args.text (look_of look)) c.in-Parse.is (c.in_ok-status.ensures.end c.args.ticket))
+    c.in_ok-begun-in-Parse.ensures.begun

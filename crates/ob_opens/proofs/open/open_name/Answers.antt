@@ -1,0 +1,59 @@
+-- An open is judged and looked up, and then refused or done.
+use Rattle.std.proofs.Common.{ap, sym, ◌∙◌, subst, refl, List, ℕ}
+use Rattle.ob_model.specs.declared.reply.Answer.TheVariants.{Done}
+use Rattle.ob_model.specs.Looks.{At, Parse, Refused, LooksUp, most_reparses}
+use Rattle.ob_model.specs.Opens.{Begins}
+use Rattle.ob_lookup.specs.Look.{look_of}
+use Rattle.ob_opens.specs.Waiting.{answer_of}
+use Rattle.ob_space.proofs.Naming.{judged_live, opens_served, opens_looked}
+use Rattle.ob_space.proofs.Looked.{root_stands}
+use Rattle.ob_opens.proofs.open.open_name.Goals as goal
+
+pub look_up-requires-clause-root : goal.look_up-requires-clause-root
+look_up-requires-clause-root g c κs within =
+    let s = c.args.space.now in
+    root_stands s c.requires.between.sound c.args.process c.args.root c.in-Ok-root_object.root c.in-Ok-root_object.ensures
+
+pub open_at-requires-clause-live : goal.open_at-requires-clause-live
+open_at-requires-clause-live g c κs within = sym c.is_live.ensures ∙ judged_live c.is_live.result c.args.name.now c.args.attrs c.in-Ok.ensures.1
+
+pub returns-in-Refused-clause-step : goal.returns-in-Refused-clause-step
+returns-in-Refused-clause-step g c =
+    let s = c.args.space.now in
+    let name = c.args.name.now in
+    let root = c.in-Ok-root_object.root in
+    let mode = c.open_mode-mode.result in
+    opens_served g.T.TypeSet.procedures s s c.args.process c.args.attrs c.in-Ok.lawful (Done c.status_alone-in-Refused.result) c.is_live.result c.is_live.ensures c.args.root name c.args.wanted c.in-Ok.ensures.0 c.in-Ok.ensures.1
+    (opens_looked g.T.TypeSet.procedures s s c.args.process c.in-Ok.lawful (Done c.status_alone-in-Refused.result) c.args.root root c.in-Ok-root_object.ensures name mode (Refused c.in-Refused.status)
+    (subst (λ (bytes : List ℕ). LooksUp g.T.TypeSet.procedures s c.args.process mode most_reparses root bytes (Refused c.in-Refused.status)) c.new.ensures
+    (subst (λ look. LooksUp g.T.TypeSet.procedures s c.args.process mode most_reparses root c.new.result (look_of look)) c.in-Refused.is c.in_ok-status.ensures.end))
+    c.args.wanted c.open_mode-mode.ensures (ap Done c.status_alone-in-Refused.ensures, refl))
+
+pub returns-in_ok-reply-in-At-clause-step : goal.returns-in_ok-reply-in-At-clause-step
+returns-in_ok-reply-in-At-clause-step g c =
+    let s = c.args.space.now in
+    let t = c.open_at.new.space in
+    let name = c.args.name.now in
+    let root = c.in-Ok-root_object.root in
+    let mode = c.open_mode-mode.result in
+    opens_served g.T.TypeSet.procedures s t c.args.process c.args.attrs c.in-Ok.lawful (Done c.in_ok-reply-in-At.reply) c.is_live.result c.is_live.ensures c.args.root name c.args.wanted c.in-Ok.ensures.0 c.in-Ok.ensures.1
+    (opens_looked g.T.TypeSet.procedures s t c.args.process c.in-Ok.lawful (Done c.in_ok-reply-in-At.reply) c.args.root root c.in-Ok-root_object.ensures name mode (At c.in-At.object)
+    (subst (λ (bytes : List ℕ). LooksUp g.T.TypeSet.procedures s c.args.process mode most_reparses root bytes (At c.in-At.object)) c.new.ensures
+    (subst (λ look. LooksUp g.T.TypeSet.procedures s c.args.process mode most_reparses root c.new.result (look_of look)) c.in-At.is c.in_ok-status.ensures.end))
+    c.args.wanted c.open_mode-mode.ensures c.in_ok-reply-in-At.ensures.step)
+
+pub returns-in_ok-begun-in-Parse-clause-step : goal.returns-in_ok-begun-in-Parse-clause-step
+returns-in_ok-begun-in-Parse-clause-step g c =
+    let s = c.args.space.now in
+    let t = c.begin.new.space in
+    let name = c.args.name.now in
+    let root = c.in-Ok-root_object.root in
+    let mode = c.open_mode-mode.result in
+    let look = Parse c.in-Parse.object c.in-Parse.rest c.in-Parse.left in
+    opens_served g.T.TypeSet.procedures s t c.args.process c.args.attrs c.in-Ok.lawful (answer_of c.in_ok-begun-in-Parse.begun) c.is_live.result c.is_live.ensures c.args.root name c.args.wanted c.in-Ok.ensures.0 c.in-Ok.ensures.1
+    (opens_looked g.T.TypeSet.procedures s t c.args.process c.in-Ok.lawful (answer_of c.in_ok-begun-in-Parse.begun) c.args.root root c.in-Ok-root_object.ensures name mode look
+    (subst (λ (bytes : List ℕ). LooksUp g.T.TypeSet.procedures s c.args.process mode most_reparses root bytes look) c.new.ensures
+    (subst (λ look. LooksUp g.T.TypeSet.procedures s c.args.process mode most_reparses root c.new.result (look_of look)) c.in-Parse.is c.in_ok-status.ensures.end))
+    c.args.wanted c.open_mode-mode.ensures
+    (subst (λ (flags : ℕ). Begins g.T.TypeSet.procedures s c.args.process flags c.args.wanted c.in-Parse.object c.in-Parse.rest c.in-Parse.left (answer_of c.in_ok-begun-in-Parse.begun) t) (sym c.in-Ok.ensures.0)
+    c.in_ok-begun-in-Parse.ensures.begun))

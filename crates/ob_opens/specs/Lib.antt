@@ -1,0 +1,4 @@
+pub mod Instance
+pub mod Refused
+pub mod Again
+pub mod Waiting

@@ -1,0 +1,87 @@
+//! An open whose parse ended with a text that is to be looked up.
+
+ghost use Rattle.std.specs.Prelude.{◌≡◌, Some, IfOk, IfErr, OnErr, IsSome, MatchOption};
+ghost use Rattle.ob_model.specs.Parses.{Resumes};
+ghost use Rattle.ob_model.specs.PendingOpens.{pending_of};
+ghost use Rattle.ob_model.specs.Procedures.{EndsReparse};
+ghost use Rattle.ob_opens.specs.Again.{OpensAgain};
+ghost use Rattle.ob_model.specs.Looks as machine;
+ghost use Rattle.ob_space.specs.Looking.{IsParsing};
+ghost use Rattle.ob_space.specs.Orderly.{IsBetweenSteps, IsOrderly};
+ghost use Rattle.ob_opens.specs.Waiting.{answer_of, IfParsing, IsParseOf};
+
+use crate::begin::face_at;
+use crate::reparse::{begin_again, mode_of_open, open_found, refuse_open};
+use crate::started::Started;
+use crate::unpin::end_parse;
+use ob_base::{ObjId, Status};
+use ob_handles::HandleTable;
+use ob_lookup::Look;
+use ob_model::{Answer, Bytes};
+use ob_names::Name;
+use ob_space::{Space, is_live, look_up_again, status_alone};
+use ob_types::{Parsing, TypeSet};
+use std::alloc::AllocError;
+
+/// Looks up the text that the parse of a pending open ended with, in the state as it is now, and does what that leads
+/// to: the object that it names is opened, the refusal is told, or another parse is waited for.
+pub(crate) fn look_again<T: TypeSet, H: HandleTable>(
+    space: &mut Space<T, H>,
+    ticket: u64,
+    text: Name<'_>,
+) -> Result<Started<T>, AllocError>
+    requires between { IsBetweenSteps T.idle space.old }
+    requires pending { IsSome (pending_of space.old ticket) }
+    ensures orderly { IsOrderly T.idle space.new }
+    ensures resumed { IfOk result (λ started. MatchOption (pending_of space.old ticket) ⊥ (λ x.
+        Resumes T.procedures space.old x (Some (EndsReparse text.entry))
+        (answer_of started) space.new)) }
+    ensures parse { IfOk result (λ started. IfParsing started (IsParseOf space.new)) }
+    ensures err { OnErr result (space.new ≡ space.old) }
+{
+    let Some(pending) = space.pending.get(ticket) else {
+        unreachable!();
+    };
+    let (process, left) = (pending.process, pending.left);
+    let mode = mode_of_open(pending.wanted, pending.attrs);
+    if !is_live(space, process) {
+        end_parse(space, ticket);
+        return Ok(Started::Done(status_alone(Status::ProcessGone)));
+    }
+    match look_up_again(space, process, text, mode, left)? {
+        Look::Refused(status) => Ok(Started::Done(refuse_open(space, ticket, status))),
+        Look::At(object) => Ok(Started::Done(open_found(space, ticket, object)?)),
+        Look::Vacant { .. } => unreachable!(),
+        Look::Parse { object, rest, left } => {
+            let begun = begin_anew(space, ticket, object, rest, left)?;
+            Ok(begun)
+        }
+    }
+}
+
+/// The open of a ticket is pending again, under another one: its caller is to run the parse of this object over this
+/// rest, with so many reparses left.
+fn begin_anew<T: TypeSet, H: HandleTable>(
+    space: &mut Space<T, H>,
+    ticket: u64,
+    object: ObjId,
+    rest: Bytes,
+    left: u32,
+) -> Result<Started<T>, AllocError>
+    requires between { IsBetweenSteps T.idle space.old }
+    requires pending { IsSome (pending_of space.old ticket) }
+    requires parses { IsParsing T.procedures space.old object }
+    ensures orderly { IsOrderly T.idle space.new }
+    ensures begun { IfOk result (λ started.
+        OpensAgain T.procedures space.old ticket (machine.Parse object rest left)
+        (answer_of started) space.new) }
+    ensures parse { IfOk result (λ started. IfParsing started (IsParseOf space.new)) }
+    ensures unchanged { OnErr result (space.new ≡ space.old) }
+{
+    let face = face_at(space, object)?;
+    let copy = Bytes::from_slice(space.alloc, rest.as_slice())?;
+    match begin_again(space, ticket, object, rest, left)? {
+        Answer::Ticket(next) => Ok(Started::Parsing(Parsing::new(next, face, copy))),
+        Answer::Done(reply) => Ok(Started::Done(reply)),
+    }
+}

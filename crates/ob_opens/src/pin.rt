@@ -1,0 +1,67 @@
+//! An open that waits for a parse.
+
+ghost use Rattle.std.specs.Prelude.{◌≡◌, IfOk, OnErr};
+ghost use Rattle.ob_model.specs.Opens.{Begins};
+ghost use Rattle.ob_space.specs.Orderly.{IsBetweenSteps, IsOrderly};
+
+use ob_base::{ObjId, Proc, Status};
+use ob_handles::HandleTable;
+use ob_model::{Answer, Bytes, Given, Pending, Reply, Wanted};
+use ob_space::{Space, is_store_full};
+use ob_types::TypeSet;
+use std::alloc::AllocError;
+
+/// What an open asks for, and who asks. `K` is the kind of an object of the set.
+#[derive(Clone, Copy, PartialEq, Eq, Debug)]
+pub(crate) struct OpenRequest<K> {
+    /// The process that asks.
+    pub process: Proc,
+    /// The flags of the open, as raw bits.
+    pub attrs: u32,
+    /// The type that is asked for.
+    pub wanted: Wanted<K>,
+}
+
+/// An open that reached a parsing object is pending from now on: what follows that object in the name waits
+/// for its parse, with so many reparses left, and the answer is its ticket, which is the next number. The
+/// object stays as long as the open is pending.
+///
+/// It asks that the state is orderly, sound and settled, and leaves it so. Refused with
+/// `InsufficientResources` where there are 1,048,576 objects and pending opens, or no number is left; then
+/// nothing has changed. So it is where memory is wanted.
+///
+/// Source: Windows Internals, Object Manager (parse methods; object retention). That the parse is run between
+/// two steps, and the ticket, are this profile.
+pub(crate) fn begin_parse<T: TypeSet, H: HandleTable>(
+    space: &mut Space<T, H>,
+    request: OpenRequest<T::Kind>,
+    object: ObjId,
+    rest: Bytes,
+    left: u32,
+) -> Result<Answer, AllocError>
+    requires between { IsBetweenSteps T.idle space.old }
+    ensures orderly { IsOrderly T.idle space.new }
+    ensures begun { IfOk result (λ answer.
+        Begins T.procedures space.old request.process request.attrs request.wanted object rest left
+        answer space.new) }
+    ensures unchanged { OnErr result (space.new ≡ space.old) }
+{
+    if is_store_full(space) {
+        return Ok(Answer::Done(Reply {
+            status: Status::InsufficientResources,
+            given: Given::Nothing,
+        }));
+    }
+    let ticket = space.next_id;
+    space.pending.insert(Pending {
+        ticket,
+        process: request.process,
+        object,
+        rest,
+        left,
+        attrs: request.attrs,
+        wanted: request.wanted,
+    })?;
+    space.next_id = ticket + 1;
+    Ok(Answer::Ticket(ticket))
+}

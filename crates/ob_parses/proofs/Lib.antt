@@ -1,9 +1,0 @@
-pub mod OpensAgain
-pub mod Begun
-pub mod BegunAgain
-pub mod Ended
-pub mod Refused
-pub mod Resumed
-pub mod MadeGoes
-pub mod MadeOpens
-pub mod MadePut

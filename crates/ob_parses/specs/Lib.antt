@@ -1,3 +1,0 @@
-pub mod Instance
-pub mod Refused
-pub mod Again

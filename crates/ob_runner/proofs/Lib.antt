@@ -1,0 +1,13 @@
+pub mod Replies
+pub mod Fewer
+pub mod Brought
+pub mod Chains
+pub mod AlikeChains
+pub mod TotalChains
+pub mod Pending
+pub mod Numbers
+pub mod Awaited
+pub mod Results
+pub mod Kept
+pub mod Beside
+pub mod Repeated

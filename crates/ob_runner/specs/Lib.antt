@@ -1,0 +1,5 @@
+pub mod Completes
+pub use Rattle.ob_opens.specs.Waiting
+pub mod Kept
+pub mod Begun
+pub mod Repeated

@@ -1,0 +1,66 @@
+//! An object that was found is opened: the handle that is given for it.
+
+ghost use Rattle.std.specs.Prelude.{◌≡◌, true, IfOk, IfErr, OnErr};
+ghost use Rattle.ob_model.specs.declared.reply.Answer.TheVariants.{Done};
+ghost use Rattle.ob_model.specs.Opens.{GivesHandle, OpensAt};
+ghost use Rattle.ob_model.specs.Settle.{IsSettled};
+ghost use Rattle.ob_model.specs.State.{is_live};
+ghost use Rattle.ob_space.specs.Orderly.{IsOrderly};
+
+use crate::replies::{status_alone, with_handle};
+use crate::{Space, grant, is_wanted_at};
+use ob_base::{Attrs, ObjId, Proc, Status};
+use ob_handles::HandleTable;
+use ob_model::{GrantOptions, Reply, Wanted};
+use ob_types::{Reason, TypeSet};
+use std::alloc::AllocError;
+
+/// Opens an object that was found, where it is of the type that is asked for. The handle is given
+/// with this status. What is there stays: a handle more lets nothing go.
+pub fn open_at<T: TypeSet, H: HandleTable>(
+    space: &mut Space<T, H>,
+    process: Proc,
+    object: ObjId,
+    attrs: Attrs,
+    wanted: Wanted<T::Kind>,
+    status: Status,
+) -> Result<Reply, AllocError>
+    requires orderly { IsOrderly T.idle space.old }
+    requires settled { IsSettled space.old }
+    requires live { is_live space.old process ≡ true }
+    ensures orderly { IsOrderly T.idle space.new }
+    ensures step { IfOk result (λ reply.
+        OpensAt T.procedures space.old process attrs wanted status object (Done reply) space.new) }
+    ensures err { OnErr result (space.new ≡ space.old) }
+{
+    if !is_wanted_at(space, object, wanted) {
+        return Ok(status_alone(Status::ObjectTypeMismatch));
+    }
+    let options = GrantOptions::by(attrs);
+    give_handle(space, process, object, options, Reason::Opened, status)
+}
+
+/// Grants a live process a handle to an object that is there, and gives it with this status, or
+/// replies why it is refused. What is there stays: a handle more lets nothing go.
+pub fn give_handle<T: TypeSet, H: HandleTable>(
+    space: &mut Space<T, H>,
+    process: Proc,
+    object: ObjId,
+    options: GrantOptions,
+    reason: Reason,
+    status: Status,
+) -> Result<Reply, AllocError>
+    requires orderly { IsOrderly T.idle space.old }
+    requires settled { IsSettled space.old }
+    requires live { is_live space.old process ≡ true }
+    ensures orderly { IsOrderly T.idle space.new }
+    ensures step { IfOk result (λ reply.
+        GivesHandle T.procedures space.old process object options reason status (Done reply)
+        space.new) }
+    ensures err { OnErr result (space.new ≡ space.old) }
+{
+    match grant(space, process, object, options, reason)? {
+        Ok(value) => Ok(with_handle(status, value)),
+        Err(refusal) => Ok(status_alone(refusal)),
+    }
+}

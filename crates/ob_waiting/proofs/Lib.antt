@@ -1,4 +1,0 @@
-pub mod Begun
-pub mod Abandoned
-pub mod Told
-pub mod Resumed
