@@ -184,6 +184,7 @@ pub views_from_sound : {K T F I : Type 0} → SoundHasViews K T F I
 views_from_sound {K} {T} {F} {I} s store p view shows sound of = record {
   local = go view.local of.0 (map_of (process_of s p) (find_of (HasSoundMap s) (λ x. x.number == p) s.processes sound.processes.maps));
   global = subst (λ (d : ℕ). IsSome (directory_at store d)) (sym of.1) (directory_stored s store shows global_id sound.objects.global);
+  is_global = of.1;
 }
   where
     map_of : (x : Option Process) → MatchOption x (Unit {0}) (HasSoundMap s) → MatchOption (option_and_then (λ y. y.map) x) (Unit {0}) (IsDirectory s)

@@ -2,7 +2,7 @@
 --
 -- Source: this profile.
 use Rattle.std.specs.Prelude.{◌≡◌, ℕ, ◌<◌, [], All, IsSome, Option, None, MatchOption}
-use Rattle.ob_model.specs.State.{State, root_id}
+use Rattle.ob_model.specs.State.{State, root_id, global_id}
 use Rattle.ob_model.specs.Sound.{IsSound}
 use Rattle.ob_devmap.specs.declared.view.View.{View}
 use Rattle.ob_devmap.specs.View.{IsViewOf}
@@ -21,10 +21,11 @@ module _ {F I : Type 0} where
   abbrev pub IsRootThere : Entries F I → Option ℕ → Type 0
   IsRootThere store root = MatchOption root (Unit {0}) (λ id. IsSome (stored_at store id))
 
-  -- The directories of a view are directories of the store.
+  -- The directories of a view are directories of the store, and the global one is `\GLOBAL??`.
   pub record IsViewThere (store : Entries F I) (view : View) : Type 0 where
     pub local : MatchOption view.local (Unit {0}) (λ id. IsSome (directory_at store id))
     pub global : IsSome (directory_at store view.global)
+    pub is_global : view.global ≡ global_id
 
 -- the store that a sound state shows is closed
 abbrev pub SoundIsClosed : (K T F I : Type 0) → Type 0

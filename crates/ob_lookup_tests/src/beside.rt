@@ -33,7 +33,8 @@ fn digit(number: u64, place: u32, base: u64) -> u64
     left % base
 }
 
-// Fills the namespace of a number, and its rows: up to four objects, in directories that came before them.
+// Fills the namespace of a number, and its rows: the directory that is seen as `\??`, and up to four objects, in directories
+// that came before them.
 fn fill<T: TypeSet>(
     alloc: Global,
     space: &mut Space<T>,
@@ -41,7 +42,15 @@ fn fill<T: TypeSet>(
     devices: T::Kind,
     number: u64,
 ) -> Option<()> {
-    let mut last = ROOT;
+    let global = space.add(alloc, devices, ROOT, b"b", Kind::Directory)?;
+    rows.push(PlainRow {
+        directory: ROOT.0,
+        name: b'b',
+        object: global.0,
+        kind: Kind::Directory,
+    })
+    .ok()?;
+    let mut last = global;
     for k in 0..4u32 {
         let directory = if digit(number, k, 2) == 0 { ROOT } else { last };
         let name = NAMES[(digit(number, k + 1, 3)) as usize];
@@ -68,22 +77,17 @@ fn fill<T: TypeSet>(
     Some(())
 }
 
-// The view of a namespace: its first directory below the root is the global one, and a later one the local one.
+// The view of a namespace: its first object is the global directory, and its last other directory the local one.
 fn view_of(rows: &[PlainRow]) -> View {
-    let mut global = 1;
     let mut local = None;
     for row in rows {
-        if matches!(row.kind, Kind::Directory) {
-            if global == 1 {
-                global = row.object;
-            } else {
-                local = Some(ObjId(row.object));
-            }
+        if matches!(row.kind, Kind::Directory) && row.object != 2 {
+            local = Some(ObjId(row.object));
         }
     }
     View {
         local,
-        global: ObjId(global),
+        global: ObjId(2),
     }
 }
 

@@ -25,10 +25,10 @@ use std::alloc::Global;
 
 pub(crate) const ROOT: ObjId = ObjId(1);
 
-// A view of the root directory alone.
+// The view of a process without a device map.
 const PLAIN: View = View {
     local: None,
-    global: ROOT,
+    global: ObjId(2),
 };
 
 /// The mode of a word.
@@ -112,9 +112,9 @@ fn ends_from<T: TypeSet>(
     end: End<'_>,
 ) -> Option<bool> {
     let store = space.store();
-    let Some(_) = store.get(root) else {
+    if store.get(root).is_none() || !has_view(store, &PLAIN) {
         return None;
-    };
+    }
     let name = Name::read(name).ok()?;
     let found = look(alloc, store, PLAIN, Some(root), name, mode, 32).ok()?;
     Some(is_end(&found, end))
@@ -229,7 +229,7 @@ fn first_other<T: TypeSet>(alloc: Global, devices: T::Kind, lines: &str) -> Opti
     first_other_in(alloc, &mut space, devices, lines)
 }
 
-// A small namespace: `\Device` is 2, `\Device\Disk` the file 3, `\Device\Raw` the device 10, `\Link` leads to `\Device`,
+// A small namespace: `\Device` is 2, and so what `\??` stands for, `\Device\Disk` the file 3, `\Device\Raw` the device 10, `\Link` leads to `\Device`,
 // `\Self` to itself, the target of `\Bad` has no origin, `\K` leads to `\Device\`, and `\Foo` stands before `\foo`.
 //
 // Names are looked up in it, then with links in them, and to the device: an open asks it to parse what follows it, and a
@@ -297,24 +297,25 @@ open 2    | Raw\a       | parse 10 32 \a
 open 2    |             | at 2
 ";
 
-// A chain of links to `\Device`, which is the local directory: 32 are followed.
+// A chain of links to `\Device`: 32 are followed.
 const CHAIN: &'static str = r"
 add 1 Device directory
 chain \Device
-view 2 1 there
 open   | \O        | at 2
 open   | \P        | REPARSE_LIMIT
 ";
 
 // One of links to `\??`, which behind 32 links is the view as it is without one.
 const CHAIN_TO_VIEW: &'static str = r"
-add 1 Device directory
+add 1 GLOBAL?? directory
+add 1 Local directory
+add 2 C: directory
 chain \??
-view 2 1 there
-open   | \O        | at 2
-open   | \P        | REPARSE_LIMIT
-open   | \O\Device | at 2
-create | \O\Device | vacant 2 Device
+view 3 2 there
+open   | \O     | at 3
+open   | \P     | REPARSE_LIMIT
+open   | \O\C:  | at 4
+create | \O\C:  | vacant 3 C:
 ";
 
 // A namespace with device names: `\GLOBAL??` is 2, a process's local directory 3. `C:` is 4 locally and 5 globally, and
@@ -336,7 +337,8 @@ add 3 e: file
 add 2 E: file
 add 2 f: file
 add 5 z file
-view 7 1 missing
+view 7 2 missing
+view 3 1 missing
 view 3 2 there
 open   | \??              | at 3
 open   | \??\C:           | at 4
@@ -382,6 +384,7 @@ create | \??\G:           | vacant 2 G:
 
 // The limit of reparses is told before the length of a name.
 const LONG: &'static str = r"
+add 1 GLOBAL?? directory
 long
 open - 32 | \L\234567  | OBJECT_PATH_NOT_FOUND
 open - 32 | \L\2345678 | NAME_TOO_LONG

@@ -85,7 +85,7 @@ fn temporary<F, I>(body: StoredBody<F, I>) -> StoredObject<F, I>
     }
 }
 
-// Whether the directories of a view are there.
+// Whether the directories of a view are there, and its global one is object 2.
 pub(crate) fn has_view<T: TypeSet>(store: &Store<T>, view: &View) -> bool
     ensures { IsTrue result → IsViewThere store.now view.now }
 {
@@ -93,7 +93,7 @@ pub(crate) fn has_view<T: TypeSet>(store: &Store<T>, view: &View) -> bool
         Some(local) => dir_of(store, local).is_some(),
         None => true,
     };
-    has_local && dir_of(store, view.global).is_some()
+    has_local && view.global == ObjId(2) && dir_of(store, view.global).is_some()
 }
 
 // Whether a directory is there and has no entry of this spelling.

@@ -8,5 +8,6 @@ pub mod Waiting
 pub mod Stored
 pub mod Stepping
 pub mod Naming
+pub mod InPlace
 pub mod Shown
 pub mod FirstStore

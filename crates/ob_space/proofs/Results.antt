@@ -6,6 +6,10 @@ pub IfOk-map : {X E : Type 0} (P Q : X → Type 0) (r : Result X E) → ((x : X)
 IfOk-map P Q (Ok x) f h = f x h
 IfOk-map P Q (Err e) f h = h
 
+pub OnErr-map : {X E : Type 0} (P Q : Type 0) (r : Result X E) → (P → Q) → OnErr r P → OnErr r Q
+OnErr-map P Q (Ok x) f h = tt
+OnErr-map P Q (Err e) f h = f h
+
 -- what holds where a result is an Ok, of one that is, and the same of an Err
 pub of_ok : {X E : Type 0} (P : X → Type 0) (r : Result X E) (x : X) → r ≡ Ok x → IfOk r P → P x
 of_ok P r x is h = subst (λ (o : Result _ _). IfOk o P) is h

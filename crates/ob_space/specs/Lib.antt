@@ -4,4 +4,5 @@ pub mod Roots
 pub mod Placing
 pub mod Looking
 pub mod Early
+pub mod Found
 pub mod FirstStore

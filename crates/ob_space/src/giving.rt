@@ -1,10 +1,11 @@
 //! An object that was found is opened: the handle that is given for it.
 
-ghost use Rattle.std.specs.Prelude.{◌≡◌, true, IfOk, IfErr, OnErr};
+ghost use Rattle.std.specs.Prelude.{◌≡◌, true, IsOk, IfOk, IfErr, OnErr};
 ghost use Rattle.ob_model.specs.declared.reply.Answer.TheVariants.{Done};
-ghost use Rattle.ob_model.specs.Opens.{GivesHandle, OpensAt};
+ghost use Rattle.ob_model.specs.Opens.{GivesHandle, OpensAt, options_by};
 ghost use Rattle.ob_model.specs.Settle.{IsSettled};
 ghost use Rattle.ob_model.specs.State.{is_live};
+ghost use Rattle.ob_space.specs.Found.{is_grant_refused, is_refused_at};
 ghost use Rattle.ob_space.specs.Orderly.{IsOrderly};
 
 use crate::replies::{status_alone, with_handle};
@@ -16,7 +17,8 @@ use ob_types::{Reason, TypeSet};
 use std::alloc::AllocError;
 
 /// Opens an object that was found, where it is of the type that is asked for. The handle is given
-/// with this status. What is there stays: a handle more lets nothing go.
+/// with this status. What is there stays: a handle more lets nothing go. What is refused before the set
+/// is asked takes no memory.
 pub fn open_at<T: TypeSet, H: HandleTable>(
     space: &mut Space<T, H>,
     process: Proc,
@@ -31,6 +33,8 @@ pub fn open_at<T: TypeSet, H: HandleTable>(
     ensures orderly { IsOrderly T.idle space.new }
     ensures step { IfOk result (λ reply.
         OpensAt T.procedures space.old process attrs wanted status object (Done reply) space.new) }
+    ensures early { is_refused_at T.procedures space.old process (options_by attrs) wanted object
+        ≡ true → IsOk result }
     ensures err { OnErr result (space.new ≡ space.old) }
 {
     if !is_wanted_at(space, object, wanted) {
@@ -41,7 +45,8 @@ pub fn open_at<T: TypeSet, H: HandleTable>(
 }
 
 /// Grants a live process a handle to an object that is there, and gives it with this status, or
-/// replies why it is refused. What is there stays: a handle more lets nothing go.
+/// replies why it is refused. What is there stays: a handle more lets nothing go. What is refused before
+/// the set is asked takes no memory.
 pub fn give_handle<T: TypeSet, H: HandleTable>(
     space: &mut Space<T, H>,
     process: Proc,
@@ -57,6 +62,7 @@ pub fn give_handle<T: TypeSet, H: HandleTable>(
     ensures step { IfOk result (λ reply.
         GivesHandle T.procedures space.old process object options reason status (Done reply)
         space.new) }
+    ensures early { is_grant_refused space.old process object options ≡ true → IsOk result }
     ensures err { OnErr result (space.new ≡ space.old) }
 {
     match grant(space, process, object, options, reason)? {

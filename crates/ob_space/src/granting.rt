@@ -1,9 +1,9 @@
 //! Granting a handle to an object that is there.
 
-ghost use Rattle.std.specs.Prelude.{◌≡◌, ◌&&◌, ◌∷◌, [], not, true, IfOk, IfErr, OnErr};
-ghost use Rattle.ob_base.specs.declared.Status.TheVariants.{InvalidParameter, AccessDenied, InsufficientResources};
+ghost use Rattle.std.specs.Prelude.{◌≡◌, true, IsOk, IfOk, IfErr, OnErr};
 ghost use Rattle.ob_model.specs.State.{is_live};
-ghost use Rattle.ob_model.specs.Grants.{first_refusal, is_exclusive, has_other_holder, is_table_full, Grants};
+ghost use Rattle.ob_model.specs.Grants.{Grants};
+ghost use Rattle.ob_space.specs.Found.{early_grant_refusal, is_grant_refused};
 ghost use Rattle.ob_space.specs.Orderly.{IsOrderly};
 
 use crate::space::{Space, is_table_full};
@@ -22,7 +22,8 @@ use std::alloc::AllocError;
 /// has a handle to an exclusive object; `InsufficientResources` where the table has 65,535 handles or
 /// no order of opening is left; and `TypeRefused` with the set's number where the set refuses. A
 /// refusal leaves all as it was, and so does out of memory, the only fault: the handle is in its
-/// table before the set is called, and is taken back where the set refuses.
+/// table before the set is called, and is taken back where the set refuses. What is refused before that
+/// takes no memory.
 ///
 /// Source: OBJECT_ATTRIBUTES structure (OBJ_INHERIT, OBJ_EXCLUSIVE) and ZwDuplicateObject (Windows
 /// Driver Kit); Windows Internals, Object Manager (open methods). The order of refusals is this
@@ -39,6 +40,7 @@ pub fn grant<T: TypeSet, H: HandleTable>(
     ensures orderly { IsOrderly T.idle space.new }
     ensures granted { IfOk result (λ answer.
         Grants T.procedures space.old process object options reason answer space.new) }
+    ensures early { is_grant_refused space.old process object options ≡ true → IsOk result }
     ensures err { OnErr result (space.new ≡ space.old) }
 {
     if let Some(status) = early_refusal(space, process, object, options) {
@@ -67,12 +69,7 @@ fn early_refusal<T: TypeSet, H: HandleTable>(
     object: ObjId,
     options: GrantOptions,
 ) -> Option<Status>
-    ensures { let s = space.now in
-        result ≡ first_refusal (
-        (options.exclusive && not (is_exclusive s object), InvalidParameter)
-        ∷ (options.inherit && is_exclusive s object, InvalidParameter)
-        ∷ (is_exclusive s object && has_other_holder s process object, AccessDenied)
-        ∷ (is_table_full s process, InsufficientResources) ∷ []) }
+    ensures { result ≡ early_grant_refusal space.now process object options }
 {
     let exclusive = space.store.is_exclusive(object);
     if options.exclusive && !exclusive {

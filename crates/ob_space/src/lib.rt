@@ -32,5 +32,6 @@ pub use replies::{status_alone, with_handle};
 pub use roots::root_object;
 pub use space::{
     GLOBAL, ROOT, Space, held_of, is_full, is_full_without, is_live, is_stampless, is_store_full,
+    is_table_full,
 };
 pub use wanted::is_wanted_at;

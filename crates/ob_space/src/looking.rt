@@ -1,12 +1,12 @@
 //! Looking a name up in the namespace.
 
-ghost use Rattle.std.specs.Prelude.{◌≡◌, ℕ, List, IfOk, IfErr, Some};
+ghost use Rattle.std.specs.Prelude.{◌≡◌, ◌<◌, ℕ, List, IfOk, IfErr, OnErr, None, Some};
 ghost use Rattle.ob_model.specs.Looks as machine;
 ghost use Rattle.ob_model.specs.declared.state.Pending.{Pending};
 ghost use Rattle.ob_model.specs.Parses.{LooksAgain};
 ghost use Rattle.ob_model.specs.PendingOpens.{without_pending};
 ghost use Rattle.ob_model.specs.Sound.{IsSound};
-ghost use Rattle.ob_lookup.specs.Look.{look_of};
+ghost use Rattle.ob_lookup.specs.Look.{look_of, MayWantMemory};
 ghost use Rattle.ob_space.specs.Looking.{IsRoot, IsUsable, with_these_opens};
 
 use crate::space::Space;
@@ -29,7 +29,8 @@ const MOST_REPARSES: u32 = 32;
 ///
 /// It asks that the state is sound, so that every name in it leads somewhere, and that the root object
 /// is there. A vacant place is told only to a create, and then a name may be put there; an object that is to parse
-/// only to an open, and then its kind does. Nothing is changed. The only fault is out of memory.
+/// only to an open, and then its kind does. Nothing is changed. The only fault is out of memory: none where the
+/// name, looked up with no reparse left, ends at an object or in another refusal than `ReparseLimit`, however long it is.
 ///
 /// Source: Windows Internals, Object Manager (object names, symbolic links, parse methods, session namespace);
 /// the limit is this profile.
@@ -46,6 +47,9 @@ pub fn look_up<T: TypeSet, H: HandleTable>(
         machine.LooksUp T.procedures space.now process mode machine.most_reparses root name.entry
         (look_of look)) }
     ensures usable { IfOk result (λ look. IsUsable T.procedures space.now mode (look_of look)) }
+    ensures wants { OnErr result ((end : machine.Look) →
+        machine.LooksUp T.procedures space.now process mode 0 root name.entry end
+        → MayWantMemory end) }
 {
     look_with(space, process, root, name, mode, MOST_REPARSES)
 }
@@ -56,7 +60,8 @@ pub fn look_up<T: TypeSet, H: HandleTable>(
 ///
 /// It asks that the state is sound. What it ends with is what a lookup ends with: `Refused` with `ReparseLimit`
 /// where no reparse is left, and with `ObjectPathSyntaxBad` where the name doesn't begin with a separator; no
-/// name is too long. Nothing is changed. The only fault is out of memory.
+/// name is too long. Nothing is changed. The only fault is out of memory, as of [`look_up`], and none where no
+/// reparse is left.
 ///
 /// Source: Windows Internals, Object Manager (parse methods, symbolic links); that a parse's text takes one of
 /// the reparses of its lookup, and is looked up in the state as it is when the parse has ended, are this profile.
@@ -72,6 +77,11 @@ pub fn look_up_again<T: TypeSet, H: HandleTable>(
         LooksAgain T.procedures (without_pending space.now ticket) process mode left text.entry
         (look_of look)) }
     ensures usable { IfOk result (λ look. IsUsable T.procedures space.now mode (look_of look)) }
+    ensures left { OnErr result (0 < left) }
+    ensures wants { OnErr result ((ticket : ℕ) (end : machine.Look) →
+        machine.LooksUp T.procedures
+        (without_pending space.now ticket) process mode 0 None text.entry end
+        → MayWantMemory end) }
 {
     // A name is no longer than a lookup takes.
     let _ = text.as_slice();
@@ -97,6 +107,10 @@ fn look_with<T: TypeSet, H: HandleTable>(
         (with_these_opens space.now opens) process mode left root name.entry
         (look_of look)) }
     ensures usable { IfOk result (λ look. IsUsable T.procedures space.now mode (look_of look)) }
+    ensures wants { OnErr result ((opens : List (Pending T.Kind)) (end : machine.Look) →
+        machine.LooksUp T.procedures
+        (with_these_opens space.now opens) process mode 0 root name.entry end
+        → MayWantMemory end) }
 {
     sound_is_closed::<T::Kind, T, T::Face, T::Inner>();
     stored_is_the_object::<T::Kind, T, T::Face, T::Inner>();

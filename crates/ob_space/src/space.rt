@@ -107,7 +107,7 @@ pub fn held_of<T: TypeSet, H: HandleTable>(
 }
 
 /// Whether no handle more fits into a process's table, or no order of opening is left.
-pub(crate) fn is_table_full<T: TypeSet, H: HandleTable>(space: &Space<T, H>, process: Proc) -> bool
+pub fn is_table_full<T: TypeSet, H: HandleTable>(space: &Space<T, H>, process: Proc) -> bool
     ensures { result ≡ is_table_full space.now process }
 {
     space.processes.len_of(process) >= MOST_HANDLES || space.next_order > GREATEST_NUMBER

@@ -4,7 +4,7 @@ use Rattle.ob_model.proofs.Vacant.{usable_end}
 use Rattle.ob_lookup.specs.Look.{look_of}
 use Rattle.ob_space.specs.Looking.{with_these_opens}
 use Rattle.ob_space.proofs.Looked.{root_there, usable}
-use Rattle.ob_space.proofs.Results.{IfOk-map}
+use Rattle.ob_space.proofs.Results.{IfOk-map, OnErr-map}
 use Rattle.ob_space.proofs.looking.look_with.Goals as goal
 use Rattle.ob_space.proofs.Shown.{shown, seen}
 
@@ -33,3 +33,9 @@ returns-clause-usable g c =
     IfOk-map _ _ c.look.result (λ look told.
     usable s g.T.TypeSet.procedures c.args.mode (look_of look)
     (usable_end g.T.TypeSet.procedures s c.args.process c.args.mode c.args.left c.args.root c.args.name (look_of look) (told s c.args.process (shown c.space.inside.store (sym c.space.view_is) refl refl) (seen (sym c.space.view_is) c.args.process c.view-view.result c.view-view.ensures.local c.view-view.ensures.global)))) c.look.ensures.end
+
+pub returns-clause-wants : goal.returns-clause-wants
+returns-clause-wants g c =
+    let s = c.args.space.now in
+    OnErr-map _ _ c.look.result (λ told opens end looks.
+    told (with_these_opens s opens) c.args.process end (shown c.space.inside.store (sym (ap (λ t. with_these_opens t opens) c.space.view_is)) refl refl) (seen (sym (ap (λ t. with_these_opens t opens) c.space.view_is)) c.args.process c.view-view.result c.view-view.ensures.local c.view-view.ensures.global) looks) c.look.ensures.wants
