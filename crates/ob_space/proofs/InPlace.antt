@@ -79,11 +79,11 @@ module _ {K T F I : Type 0} (g : Procedures K T F I) (s : State K T F I) (p : �
   module _ (root : Option ℕ) (name : List ℕ) (refuses : Look → Bool) (at : Option ℕ) (is_root : root_of s p root ≡ Some at) where
     -- where a lookup may want memory, no name is refused in place
     pub none_refused : ((end : Look) → LooksUp g s p mode zero at name end → MayWantMemory end) → IsNameRefused g s p mode root name refuses → ⊥
-    none_refused wants (from, same, end, (looks, apart), refused) =
+    none_refused wants (from, same, (end, (looks, apart), refused)) =
         apart (wants end (subst (λ (x : Option ℕ). LooksUp g s p mode zero x name end) (some_is from at (sym same ∙ is_root)) looks))
 
     -- nor where a lookup with any number of reparses left ends with what isn't refused
     pub end_refused : (n : ℕ) (look : Look) → LooksUp g s p mode n at name look → (refuses look ≡ true → ⊥) → IsNameRefused g s p mode root name refuses → ⊥
-    end_refused n look looked passes (from, same, end, (looks, apart), refused) =
+    end_refused n look looked passes (from, same, (end, (looks, apart), refused)) =
         let there = subst (λ (x : Option ℕ). LooksUp g s p mode zero x name end) (some_is from at (sym same ∙ is_root)) looks in
         passes (subst (λ (x : Look). refuses x ≡ true) (is_its_end n at name end look (there, apart) looked) refused)
