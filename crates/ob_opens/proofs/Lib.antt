@@ -11,3 +11,4 @@ pub mod MadePut
 pub mod Begun
 pub mod Abandoned
 pub mod Resumed
+pub mod Refusing

@@ -1,6 +1,6 @@
 //! An open whose parse ended with a text that is to be looked up.
 
-ghost use Rattle.std.specs.Prelude.{◌≡◌, Some, IfOk, IfErr, OnErr, IsSome, MatchOption};
+ghost use Rattle.std.specs.Prelude.{◌≡◌, Some, IsOk, IfOk, IfErr, OnErr, IsSome, MatchOption};
 ghost use Rattle.ob_model.specs.Parses.{Resumes};
 ghost use Rattle.ob_model.specs.PendingOpens.{pending_of};
 ghost use Rattle.ob_model.specs.Procedures.{EndsReparse};
@@ -8,6 +8,7 @@ ghost use Rattle.ob_opens.specs.Again.{OpensAgain};
 ghost use Rattle.ob_model.specs.Looks as machine;
 ghost use Rattle.ob_space.specs.Looking.{IsParsing};
 ghost use Rattle.ob_space.specs.Orderly.{IsBetweenSteps, IsOrderly};
+ghost use Rattle.ob_opens.specs.Refusing.{IsBroughtRefused};
 ghost use Rattle.ob_opens.specs.Waiting.{answer_of, IfParsing, IsParseOf};
 
 use crate::begin::face_at;
@@ -24,7 +25,8 @@ use ob_types::{Parsing, TypeSet};
 use std::alloc::AllocError;
 
 /// Looks up the text that the parse of a pending open ended with, in the state as it is now, and does what that leads
-/// to: the object that it names is opened, the refusal is told, or another parse is waited for.
+/// to: the object that it names is opened, the refusal is told, or another parse is waited for. What is refused before the
+/// set is asked takes no memory where the lookup copies nothing.
 pub(crate) fn look_again<T: TypeSet, H: HandleTable>(
     space: &mut Space<T, H>,
     ticket: u64,
@@ -36,6 +38,8 @@ pub(crate) fn look_again<T: TypeSet, H: HandleTable>(
     ensures resumed { IfOk result (λ started. MatchOption (pending_of space.old ticket) ⊥ (λ x.
         Resumes T.procedures space.old x (Some (EndsReparse text.entry))
         (answer_of started) space.new)) }
+    ensures early { IsBroughtRefused T.procedures space.old ticket (Some (EndsReparse text.entry))
+        → IsOk result }
     ensures parse { IfOk result (λ started. IfParsing started (IsParseOf space.new)) }
     ensures err { OnErr result (space.new ≡ space.old) }
 {

@@ -1,12 +1,13 @@
 //! An open whose parse made an instance, which becomes an object.
 
-ghost use Rattle.std.specs.Prelude.{◌≡◌, ◌≢◌, ◌<◌, ◌==◌, None, Some, Ok, true, All, IsSome, IfOk, IfErr, OnOk, OnErr, MatchOption};
+ghost use Rattle.std.specs.Prelude.{◌≡◌, ◌≢◌, ◌<◌, ◌==◌, ◌||◌, ◌∷◌, [], None, Some, Ok, true, All, IsSome, IsOk, IfOk, IfErr, OnOk, OnErr, MatchOption};
+ghost use Rattle.ob_base.specs.declared.status.Status.TheVariants.{InvalidParameter, InsufficientResources};
 ghost use Rattle.std.specs.Arc.{arc_value};
 ghost use Rattle.std.specs.List.{find};
 ghost use Rattle.std.specs.Option.{option_and_then, option_map};
 ghost use Rattle.ob_model.specs.declared.reply.Answer.TheVariants.{Done};
 ghost use Rattle.ob_model.specs.declared.Body.TheVariants.{Other};
-ghost use Rattle.ob_model.specs.Grants.{Grants, grant_refusal};
+ghost use Rattle.ob_model.specs.Grants.{Grants, first_refusal, grant_refusal, is_table_full};
 ghost use Rattle.ob_model.specs.Parses.{Resumes, parsed_state};
 ghost use Rattle.ob_model.specs.PendingOpens.{face_in, pending_of, with_instance};
 ghost use Rattle.ob_model.specs.Procedures.{EndsMade};
@@ -18,6 +19,7 @@ ghost use Rattle.ob_model.specs.Types.{is_wanted};
 ghost use Rattle.ob_objects.specs.Changes.{without_object};
 ghost use Rattle.ob_objects.specs.Store.{objects_of, rows_of};
 ghost use Rattle.ob_opens.specs.Instance.{instance_object};
+ghost use Rattle.ob_opens.specs.Refusing.{IsBroughtRefused};
 ghost use Rattle.ob_space.specs.Orderly.{IsBetweenSteps, IsOrderly};
 
 use crate::give_up::end_made;
@@ -27,7 +29,7 @@ use ob_base::{Handle, ObjId, Proc, Status};
 use ob_handles::HandleTable;
 use ob_model::{GrantOptions, Reply, Wanted};
 use ob_objects::{Store, StoredBody, StoredObject};
-use ob_space::{Space, grant, is_live, status_alone, with_handle};
+use ob_space::{Space, grant, is_live, is_table_full, status_alone, with_handle};
 use ob_types::{Reason, TypeSet, is_one_kind};
 use std::alloc::Global;
 use std::sync::Arc;
@@ -65,7 +67,7 @@ struct Refused<I> {
 /// the open is still pending, and the instance is handed back.
 ///
 /// Refusals, in their order: `ProcessGone` where the process that asked is live no longer; `ObjectTypeMismatch` where
-/// the instance isn't of the type that was asked for; and those of a grant.
+/// the instance isn't of the type that was asked for; and those of a grant. Those before the set is asked take no memory.
 ///
 /// Source: Windows Internals, Object Manager (parse methods); that the open is judged in the state as it is when its
 /// parse has ended, the number of the instance, and the order of refusals, are this profile.
@@ -82,6 +84,8 @@ pub(crate) fn open_made<T: TypeSet, H: HandleTable>(
     ensures resumed { IfOk result (λ reply. MatchOption (pending_of space.old ticket) ⊥ (λ x.
         Resumes T.procedures space.old x (Some (EndsMade (arc_value face) inner))
         (Done reply) space.new)) }
+    ensures early { IsBroughtRefused T.procedures space.old ticket
+        (Some (EndsMade (arc_value face) inner)) → IsOk result }
     ensures err { OnErr result (space.new ≡ space.old) }
     ensures face { IfErr result (λ left. arc_value left.face ≡ arc_value face) }
     ensures inner { IfErr result (λ left. left.inner ≡ inner) }
@@ -138,8 +142,9 @@ fn refuse_made<T: TypeSet, H: HandleTable>(
     status_alone(status)
 }
 
-/// Puts an instance under its ticket, and grants a live process a handle to it. Where the grant is refused the instance
-/// is taken out again, and so it is where memory is wanted: then all is as it was.
+/// Puts an instance under its ticket, and grants a live process a handle to it, unless the grant is refused before the set
+/// is asked. Where the set refuses, the instance is taken out again, and so it is where memory is wanted: then all is as
+/// it was.
 fn grant_made<T: TypeSet, H: HandleTable>(
     space: &mut Space<T, H>,
     process: Proc,
@@ -161,12 +166,16 @@ fn grant_made<T: TypeSet, H: HandleTable>(
     ensures refused { IfOk result (λ told. IfErr told (λ refused.
         grant_refusal T.procedures (with_instance space.old ticket
         (arc_value face) inner) process ticket options Reason.Opened ≡ Some refused.status)) }
+    ensures early { (options.exclusive || is_table_full space.old process) ≡ true → IsOk result }
     ensures same { IfOk result (λ told. OnErr told (space.new ≡ space.old)) }
     ensures given { IfOk result (λ told. IfErr told (λ refused. refused.inner ≡ inner)) }
     ensures err { OnErr result (space.new ≡ space.old) }
     ensures face { IfErr result (λ left. arc_value left.face ≡ arc_value face) }
     ensures inner { IfErr result (λ left. left.inner ≡ inner) }
 {
+    if let Some(status) = early_refusal(space, process, options) {
+        return Ok(Err(Refused { status, inner }));
+    }
     put_instance(&mut space.store, ObjId(ticket), face, inner)?;
     match grant(space, process, ObjId(ticket), options, Reason::Opened) {
         Ok(Ok(value)) => Ok(Ok(value)),
@@ -178,6 +187,25 @@ fn grant_made<T: TypeSet, H: HandleTable>(
             let Instance { face, inner } = take_instance(&mut space.store, ObjId(ticket));
             Err(NotOpened { face, inner })
         }
+    }
+}
+
+/// The first refusal of a grant of an instance of those that come before the set's procedure: it isn't exclusive.
+fn early_refusal<T: TypeSet, H: HandleTable>(
+    space: &Space<T, H>,
+    process: Proc,
+    options: GrantOptions,
+) -> Option<Status>
+    ensures { result ≡ first_refusal (
+        (options.exclusive, InvalidParameter)
+        ∷ (is_table_full space.now process, InsufficientResources) ∷ []) }
+{
+    if options.exclusive {
+        Some(Status::InvalidParameter)
+    } else if is_table_full(space, process) {
+        Some(Status::InsufficientResources)
+    } else {
+        None
     }
 }
 

@@ -7,6 +7,7 @@ ghost use Rattle.ob_model.specs.Looks as machine;
 ghost use Rattle.ob_lookup.specs.Look.{look_of};
 ghost use Rattle.ob_space.specs.Orderly.{IsBetweenSteps, IsOrderly};
 ghost use Rattle.ob_space.specs.Early.{is_open_refused};
+ghost use Rattle.ob_space.specs.Found.{IsOpenRefused};
 ghost use Rattle.ob_opens.specs.Waiting.{answer_of, IfParsing, IsParseOf};
 
 use crate::begin::begin;
@@ -41,7 +42,8 @@ pub fn type_wanted<K: Copy>(want: Option<K>) -> Wanted<K>
 /// `InvalidHandle` where the process lacks the root handle, those of a lookup, `ObjectTypeMismatch` where another type
 /// is asked for, and those of a grant. One that would wait is refused with `InsufficientResources` where there
 /// are 1,048,576 objects and pending opens, or no number is left. The only fault is out of memory, and then nothing
-/// has changed; what is refused before the lookup takes none.
+/// has changed; what is refused before the lookup takes none, nor does what is refused at its end, before the set is
+/// asked, where the lookup copies nothing.
 ///
 /// It asks that the state is orderly, settled and sound, and leaves it orderly.
 ///
@@ -62,6 +64,8 @@ pub fn open_name<T: TypeSet, H: HandleTable>(
         (answer_of started) space.new) }
     ensures parse { IfOk result (λ started. IfParsing started (IsParseOf space.new)) }
     ensures early { is_open_refused space.old process root name.now attrs ≡ true → IsOk result }
+    ensures found { IsOpenRefused T.procedures space.old process root name.now attrs wanted
+        → IsOk result }
     ensures err { OnErr result (space.new ≡ space.old) }
 {
     let lawful = match judge_open(is_live(space, process), name, attrs) {

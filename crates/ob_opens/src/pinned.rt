@@ -1,6 +1,6 @@
 //! An open whose parse ended with something to open.
 
-ghost use Rattle.std.specs.Prelude.{◌≡◌, Some, true, IsSome, IfOk, IfErr, OnErr, MatchOption};
+ghost use Rattle.std.specs.Prelude.{◌≡◌, Some, true, IsSome, IsOk, IfOk, IfErr, OnErr, MatchOption};
 ghost use Rattle.ob_model.specs.declared.reply.Answer.TheVariants.{Done};
 ghost use Rattle.ob_model.specs.Opens.{options_by};
 ghost use Rattle.ob_model.specs.Parses.{Resumes};
@@ -8,6 +8,7 @@ ghost use Rattle.ob_model.specs.PendingOpens.{pending_of, without_pending};
 ghost use Rattle.ob_model.specs.Procedures.{EndsItself};
 ghost use Rattle.ob_model.specs.Refusals.{answers};
 ghost use Rattle.ob_model.specs.Settle.{IsSettled, settle};
+ghost use Rattle.ob_opens.specs.Refusing.{IsBroughtRefused};
 ghost use Rattle.ob_space.specs.Orderly.{IsOrderly};
 
 use crate::unpin::end_parse;
@@ -25,7 +26,8 @@ use std::alloc::AllocError;
 /// so. The only fault is out of memory, and then nothing has changed: the open is still pending.
 ///
 /// Refusals, in their order: `ProcessGone` where the process that asked is live no longer;
-/// `ObjectTypeMismatch` where the object isn't of the type that was asked for; and those of a grant.
+/// `ObjectTypeMismatch` where the object isn't of the type that was asked for; and those of a grant. Those before the
+/// set is asked take no memory.
 ///
 /// Source: Windows Internals, Object Manager (parse methods); that the open is judged in the state as it is when
 /// its parse has ended, and the order of refusals, are this profile.
@@ -39,6 +41,7 @@ pub(crate) fn open_pinned<T: TypeSet, H: HandleTable>(
     ensures orderly { IsOrderly T.idle space.new }
     ensures resumed { IfOk result (λ reply. MatchOption (pending_of space.old ticket) ⊥ (λ x.
         Resumes T.procedures space.old x (Some EndsItself) (Done reply) space.new)) }
+    ensures early { IsBroughtRefused T.procedures space.old ticket (Some EndsItself) → IsOk result }
     ensures err { OnErr result (space.new ≡ space.old) }
 {
     // The length tells what holds of all pending opens.

@@ -1,13 +1,14 @@
 //! An open whose parse ended with a name that was looked up again.
 
-ghost use Rattle.std.specs.Prelude.{◌≡◌, ℕ, true, IsSome, IfOk, IfErr, OnErr, MatchOption};
+ghost use Rattle.std.specs.Prelude.{◌≡◌, ℕ, true, IsSome, IsOk, IfOk, IfErr, OnErr, MatchOption};
 ghost use Rattle.ob_model.specs.declared.reply.Answer.TheVariants.{Done, Ticket};
 ghost use Rattle.ob_model.specs.Looks.{At, Parse, Refused};
-ghost use Rattle.ob_model.specs.Opens.{open_mode};
+ghost use Rattle.ob_model.specs.Opens.{open_mode, options_by};
 ghost use Rattle.ob_model.specs.PendingOpens.{face_of, pending_of, without_pending};
 ghost use Rattle.ob_model.specs.Refusals.{answers};
 ghost use Rattle.ob_model.specs.Settle.{IsSettled, settle};
 ghost use Rattle.ob_model.specs.State.{is_live};
+ghost use Rattle.ob_space.specs.Found.{is_refused_at};
 ghost use Rattle.ob_space.specs.Orderly.{IsBetweenSteps, IsOrderly};
 ghost use Rattle.ob_opens.specs.Again.{OpensAgain};
 
@@ -69,7 +70,7 @@ pub(crate) fn refuse_open<T: TypeSet, H: HandleTable>(
 /// open is still pending.
 ///
 /// Refusals, in their order: `ObjectTypeMismatch` where the object isn't of the type that was asked for; and those
-/// of a grant.
+/// of a grant. Those before the set is asked take no memory.
 ///
 /// Source: Windows Internals, Object Manager (parse methods; object retention); that the open is judged in the
 /// state as it is when its parse has ended, and the order of refusals, are this profile.
@@ -86,6 +87,9 @@ pub(crate) fn open_found<T: TypeSet, H: HandleTable>(
     ensures orderly { IsOrderly T.idle space.new }
     ensures opened { IfOk result (λ reply.
         OpensAgain T.procedures space.old ticket (At object) (Done reply) space.new) }
+    ensures early { MatchOption (pending_of space.old ticket) ⊥ (λ x.
+        is_refused_at T.procedures space.old x.process (options_by x.attrs) x.wanted object ≡ true)
+        → IsOk result }
     ensures err { OnErr result (space.new ≡ space.old) }
 {
     let Some(pending) = space.pending.get(ticket) else {

@@ -8,6 +8,7 @@ ghost use Rattle.ob_model.specs.PendingOpens.{pending_of};
 ghost use Rattle.ob_model.specs.Settle.{IsSettled};
 ghost use Rattle.ob_model.specs.Step.{Step};
 ghost use Rattle.ob_opens.specs.Refused.{refusal_of};
+ghost use Rattle.ob_opens.specs.Refusing.{IsBroughtRefused};
 ghost use Rattle.ob_types.specs.Brought.{run_of_end};
 ghost use Rattle.ob_types.specs.Parse.{asked_of, IfMadeNew};
 ghost use Rattle.ob_space.specs.Orderly.{IsBetweenSteps, IsOrderly};
@@ -39,7 +40,8 @@ use ob_types::{Brought, Outcome, Parsed, TypeSet};
 /// It asks that the state is orderly, sound and settled, and leaves it orderly. The faults hand the parse back, and then
 /// nothing has changed: `Refused` with `InvalidParameter` exactly where the parse is a stranger's, whose ticket
 /// isn't that of a pending open, or whose face or rest isn't that of the open; and `Memory` where memory was wanted.
-/// None is where the parse opens nothing.
+/// None is where the parse opens nothing, where the process that asked is gone, nor where what it ended with is refused
+/// before the set is asked, and no name is copied.
 ///
 /// Source: Windows Internals, Object Manager (parse methods; object retention); that a parse is judged when it is
 /// brought, and the order of refusals, are this profile.
@@ -56,6 +58,9 @@ pub fn resume<T: TypeSet, H: HandleTable>(
     ensures awaited { IfOk result (λ _. IsAwaited T.procedures space.old (asked_of parsed)) }
     ensures parse { IfOk result (λ started. IfParsing started (IsParseOf space.new)) }
     ensures without_memory { opens_nothing parsed.outcome ≡ true
+        → IsAwaited T.procedures space.old (asked_of parsed)
+        → IsOk result }
+    ensures early { IsBroughtRefused T.procedures space.old parsed.ticket parsed.outcome
         → IsAwaited T.procedures space.old (asked_of parsed)
         → IsOk result }
     ensures err { OnErr result (space.new ≡ space.old) }
@@ -93,6 +98,8 @@ fn conclude<T: TypeSet, H: HandleTable>(
         Resumes T.procedures space.old x (outcome_of outcome) (answer_of started) space.new)) }
     ensures parse { IfOk result (λ started. IfParsing started (IsParseOf space.new)) }
     ensures without_memory { opens_nothing (outcome_of outcome) ≡ true → IsOk result }
+    ensures early { IsBroughtRefused T.procedures space.old ticket (outcome_of outcome)
+        → IsOk result }
     ensures err { OnErr result (space.new ≡ space.old) }
     ensures back { IfErr result (λ back. outcome_of back ≡ outcome_of outcome) }
 {

@@ -5,8 +5,8 @@ use Rattle.ob_base.specs.declared.status.Status.TheVariants.{ObjectPathSyntaxBad
 use Rattle.ob_model.specs.declared.state.Body.{Body}
 use Rattle.ob_model.specs.declared.state.Body.TheVariants.{Directory, Link, Other}
 use Rattle.ob_model.specs.declared.terms.Mode.{Mode}
-use Rattle.ob_model.specs.Looks.{Look, At, Vacant, Parse, Refused, Stop, Missed, Reached, Next, Over, Follow, at_body, named_or_mismatch, IsNext, IsStop, Again, Ends, Looks, LooksFrom, LooksUp}
-use Rattle.ob_model.specs.Names.{begins_with_separator, substituted}
+use Rattle.ob_model.specs.Looks.{Look, Parse, Refused, Stop, Missed, Reached, Next, Over, Follow, at_body, named_or_mismatch, IsNext, Ends, Looks, LooksFrom, LooksUp}
+use Rattle.ob_model.specs.Names.{begins_with_separator}
 use Rattle.ob_model.specs.Paths.{Origin, origin_of, relative}
 use Rattle.ob_model.specs.Procedures.{Procedures}
 use Rattle.ob_model.specs.State.{State, body_of}

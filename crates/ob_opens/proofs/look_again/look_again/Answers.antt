@@ -1,5 +1,6 @@
 -- The asker is gone, or what the lookup of the text leads to is done.
-use Rattle.std.proofs.Common.{◌∙◌, ap, sym, subst}
+use Rattle.std.proofs.Common.{◌≡◌, ◌∙◌, true, Option, None, Some, ap, sym, subst}
+use Rattle.std.specs.Prelude.{MatchOption}
 use Rattle.ob_lookup.specs.Look.{look_of}
 use Rattle.ob_model.specs.declared.reply.Answer.TheVariants.{Done}
 use Rattle.ob_model.specs.Looks as machine
@@ -9,6 +10,13 @@ use Rattle.ob_opens.proofs.FoundOpen.{found_open}
 use Rattle.ob_opens.proofs.OpensAgain.{gone_again}
 use Rattle.ob_opens.specs.Waiting.{answer_of}
 use Rattle.ob_opens.proofs.Resumed.{looked}
+use Rattle.ob_opens.proofs.Refusing.{isnt, never, not_true, no_refusal_at, no_refusal_parse, passes_again, passes_brought, wants_again}
+use Rattle.ob_space.specs.Found.{is_open_refused_at, is_refused_at}
+use Rattle.ob_lookup.specs.Look.{MayWantMemory}
+use Rattle.ob_model.specs.Procedures.{EndsReparse}
+use Rattle.ob_model.specs.Opens.{open_mode, options_by}
+use Rattle.ob_model.specs.declared.terms.Mode.{Mode}
+use Rattle.ob_model.specs.declared.state.Pending.{Pending}
 use Rattle.ob_opens.proofs.look_again.look_again.Goals as goal
 
 pub returns-then-not-is_live-clause-resumed : goal.returns-then-not-is_live-clause-resumed
@@ -49,3 +57,39 @@ returns-in_ok-begun-in-Parse-clause-resumed g c =
     (sym c.is_live.ensures ∙ c.if-not-is_live.false) c.mode_of_open-mode.ensures
     (subst (λ look. LooksAgain g.T.TypeSet.procedures (without_pending s c.args.ticket) x.process mode x.left c.args.text (look_of look)) c.in-Parse.is (c.in_ok-status.ensures.end c.args.ticket))
     c.in_ok-begun-in-Parse.ensures.begun
+
+pub returns-in_err-status-clause-early : goal.returns-in_err-status-clause-early
+returns-in_err-status-clause-early g c =
+    let s = c.args.space.now in
+    let x = c.in-Some.pending.now in
+    let u = without_pending s x.ticket in
+    never (passes_brought g.T.TypeSet.procedures s c.args.ticket x (Some (EndsReparse c.args.text)) (found_open c.space.view_is c.args.ticket _ c.in-Some.ensures) (sym c.is_live.ensures ∙ c.if-not-is_live.false)
+    (wants_again g.T.TypeSet.procedures u x.process (open_mode x.wanted x.attrs) c.args.text (is_open_refused_at g.T.TypeSet.procedures s x.process x.attrs x.wanted) x.left c.in_err-status.ensures.left
+    (subst (λ (m : Mode). (end : machine.Look) → machine.LooksUp g.T.TypeSet.procedures u x.process m 0 None c.args.text end → MayWantMemory end) c.mode_of_open-mode.ensures (c.in_err-status.ensures.wants x.ticket))))
+
+pub returns-in_err-open_found-in-At-clause-early : goal.returns-in_err-open_found-in-At-clause-early
+returns-in_err-open_found-in-At-clause-early g c =
+    let s = c.args.space.now in
+    let x = c.in-Some.pending.now in
+    let u = without_pending s x.ticket in
+    let found = found_open c.space.view_is c.args.ticket _ c.in-Some.ensures in
+    let look = machine.At c.in-At.object in
+    never (passes_brought g.T.TypeSet.procedures s c.args.ticket x (Some (EndsReparse c.args.text)) found (sym c.is_live.ensures ∙ c.if-not-is_live.false)
+    (passes_again g.T.TypeSet.procedures u x.process (open_mode x.wanted x.attrs) c.args.text (is_open_refused_at g.T.TypeSet.procedures s x.process x.attrs x.wanted) look
+    (isnt (λ refused. c.in_err-open_found-in-At.ensures.early
+    (subst (λ (o : Option (Pending _)). MatchOption o ⊥ (λ y. is_refused_at g.T.TypeSet.procedures s y.process (options_by y.attrs) y.wanted c.in-At.object ≡ true)) (sym found) refused)))
+    (no_refusal_at c.in-At.object) x.left
+    (subst (λ (m : Mode). LooksAgain g.T.TypeSet.procedures u x.process m x.left c.args.text look) c.mode_of_open-mode.ensures
+    (subst (λ look. LooksAgain g.T.TypeSet.procedures u x.process c.mode_of_open-mode.result x.left c.args.text (look_of look)) c.in-At.is (c.in_ok-status.ensures.end x.ticket)))))
+
+pub returns-in_err-begun-in-Parse-clause-early : goal.returns-in_err-begun-in-Parse-clause-early
+returns-in_err-begun-in-Parse-clause-early g c =
+    let s = c.args.space.now in
+    let x = c.in-Some.pending.now in
+    let u = without_pending s x.ticket in
+    let look = machine.Parse c.in-Parse.object c.in-Parse.rest c.in-Parse.left in
+    never (passes_brought g.T.TypeSet.procedures s c.args.ticket x (Some (EndsReparse c.args.text)) (found_open c.space.view_is c.args.ticket _ c.in-Some.ensures) (sym c.is_live.ensures ∙ c.if-not-is_live.false)
+    (passes_again g.T.TypeSet.procedures u x.process (open_mode x.wanted x.attrs) c.args.text (is_open_refused_at g.T.TypeSet.procedures s x.process x.attrs x.wanted) look not_true
+    (no_refusal_parse c.in-Parse.object c.in-Parse.rest c.in-Parse.left) x.left
+    (subst (λ (m : Mode). LooksAgain g.T.TypeSet.procedures u x.process m x.left c.args.text look) c.mode_of_open-mode.ensures
+    (subst (λ look. LooksAgain g.T.TypeSet.procedures u x.process c.mode_of_open-mode.result x.left c.args.text (look_of look)) c.in-Parse.is (c.in_ok-status.ensures.end x.ticket)))))

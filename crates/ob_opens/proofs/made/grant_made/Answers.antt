@@ -7,6 +7,7 @@ use Rattle.ob_space.specs.Namespace.{parts, state_of}
 use Rattle.ob_space.specs.Orderly.{IsOrderly}
 use Rattle.ob_opens.proofs.MadeOpens.{made_orderly}
 use Rattle.ob_opens.proofs.MadePut.{HasInstance, refused_has_instance, instance_there, same_face, same_inner, put_in, back_again}
+use Rattle.ob_opens.proofs.Refusing.{instance_refused}
 use Rattle.ob_opens.proofs.made.grant_made.Goals as goal
 
 pub grant-requires-clause-orderly : goal.grant-requires-clause-orderly
@@ -98,3 +99,8 @@ returns-in-Err-clause-inner g c =
     let put = put_in g.row.T-Kind.Denot (parts c.space.inside) s c.space.view_is c.args.ticket face c.args.inner c.put_instance.new.store c.in_ok-put_instance.ensures.object c.in_ok-put_instance.ensures.rows in
     let is : HasInstance s c.args.ticket face c.args.inner (state_of g.row.T-Kind.Denot (parts c.space-2.inside)) = c.space-2.view_is ∙ c.in-Err.ensures.err ∙ put in
     same_inner s c.requires.sound c.args.ticket c.requires.free face c.args.inner (state_of g.row.T-Kind.Denot (parts c.space-2.inside)) is (arc_value c.take_instance-face.result.face) c.take_instance-face.result.inner c.take_instance-face.ensures.body
+
+pub returns-in-Some-clause-refused : goal.returns-in-Some-clause-refused
+returns-in-Some-clause-refused g c =
+    instance_refused g.T.TypeSet.procedures c.args.space.now c.args.ticket c.requires.free (arc_value c.args.face) c.args.inner c.args.process c.args.options c.in-Some.status
+    (sym c.early_refusal.ensures ∙ c.in-Some.is)

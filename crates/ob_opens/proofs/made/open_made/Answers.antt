@@ -1,10 +1,11 @@
 -- Each ending of an open whose parse made an instance.
-use Rattle.std.proofs.Common.{◌≡◌, ◌∙◌, ap, sym, subst, refl}
+use Rattle.std.proofs.Common.{◌≡◌, ◌∙◌, ◌||◌, not, true, Some, ap, sym, subst, refl}
 use Rattle.std.specs.Arc.{arc_value}
 use Rattle.std.specs.Prelude.{Ok}
 use Rattle.ob_model.specs.declared.reply.Answer.TheVariants.{Done}
 use Rattle.ob_model.specs.declared.state.Body.TheVariants.{Other}
-use Rattle.ob_model.specs.Grants.{Grants}
+use Rattle.ob_model.specs.Grants.{Grants, is_table_full}
+use Rattle.ob_model.specs.Opens.{options_by}
 use Rattle.ob_model.specs.PendingOpens.{without_pending, with_instance}
 use Rattle.ob_model.specs.declared.terms.Reason.TheVariants.{Opened}
 use Rattle.ob_model.specs.Settle.{IsSettled, settle}
@@ -15,6 +16,9 @@ use Rattle.ob_opens.proofs.FoundOpen.{found_open}
 use Rattle.ob_opens.proofs.MadeGoes.{ticket_free}
 use Rattle.ob_opens.proofs.MadeOpens.{made_asker_gone, made_other_type, made_refused, made_given, made_settled}
 use Rattle.ob_opens.proofs.MadePut.{ticket_drawn, of_on_err}
+use Rattle.ob_opens.proofs.Refusing.{isnt, never, passes_brought}
+use Rattle.ob_model.specs.Procedures.{EndsMade}
+use Rattle.ob_model.specs.declared.terms.GrantOptions.{GrantOptions}
 use Rattle.ob_opens.proofs.made.open_made.Goals as goal
 
 pub returns-then-not-is_live-clause-resumed : goal.returns-then-not-is_live-clause-resumed
@@ -85,3 +89,14 @@ returns-in-Ok-Err-clause-resumed g c =
     c.options_by-options.ensures (with_instance s c.args.ticket face c.args.inner) c.in-Ok-Err.refused.status
     (of_err _ c.in-Ok-Err.field-0 c.in-Ok-Err.refused c.in-Ok-Err.field-0-is c.in-Ok-Err.ensures.refused, refl) c.refuse_made-in-Ok-Err.ensures.answer
     (c.refuse_made-in-Ok-Err.ensures.ended face ∙ (λ i. settle g.T.TypeSet.procedures (with_instance (without_pending (same i) c.args.ticket) c.args.ticket face (given i))))
+
+pub returns-in-Err-clause-early : goal.returns-in-Err-clause-early
+returns-in-Err-clause-early g c =
+    let s = c.args.space.now in
+    let x = c.in-Some.pending.now in
+    let face = arc_value c.args.face in
+    let wanted : is_wanted g.T.TypeSet.procedures x.wanted (Other face c.args.inner) ≡ true =
+    sym (c.is_made_wanted.ensures c.args.inner ∙ ap (λ f. is_wanted g.T.TypeSet.procedures x.wanted (Other f c.args.inner)) c.deref.ensures) ∙ c.if-not-is_made_wanted.false in
+    never (passes_brought g.T.TypeSet.procedures s c.args.ticket x (Some (EndsMade face c.args.inner)) (found_open c.space.view_is c.args.ticket _ c.in-Some.ensures) (sym c.is_live.ensures ∙ c.if-not-is_live.false)
+    (λ refused. subst (λ (q : GrantOptions). (q.exclusive || is_table_full s x.process) ≡ true → ⊥) c.options_by-options.ensures (isnt c.in-Err.ensures.early)
+    (ap (λ b. not b || ((options_by x.attrs).exclusive || is_table_full s x.process)) (sym wanted) ∙ refused)))

@@ -1,12 +1,16 @@
 -- An open is judged and looked up, and then refused or done.
-use Rattle.std.proofs.Common.{ap, sym, ◌∙◌, subst, refl, List, ℕ}
+use Rattle.std.proofs.Common.{◌≡◌, true, ap, sym, ◌∙◌, subst, refl, List, ℕ}
 use Rattle.ob_model.specs.declared.reply.Answer.TheVariants.{Done}
 use Rattle.ob_model.specs.Looks.{At, Parse, Refused, LooksUp, most_reparses}
-use Rattle.ob_model.specs.Opens.{Begins}
+use Rattle.ob_model.specs.Opens.{Begins, open_mode, options_by}
+use Rattle.ob_opens.proofs.Refusing.{isnt, never, not_true}
 use Rattle.ob_lookup.specs.Look.{look_of}
 use Rattle.ob_opens.specs.Waiting.{answer_of}
 use Rattle.ob_space.proofs.Naming.{judged_live, opens_served, opens_looked}
 use Rattle.ob_space.proofs.Looked.{root_stands}
+use Rattle.ob_space.proofs.InPlace.{end_refused}
+use Rattle.ob_space.specs.Found.{is_open_refused_at, is_refused_at}
+use Rattle.ob_model.specs.declared.terms.Mode.{Mode}
 use Rattle.ob_opens.proofs.open.open_name.Goals as goal
 
 pub look_up-requires-clause-root : goal.look_up-requires-clause-root
@@ -57,3 +61,34 @@ returns-in_ok-begun-in-Parse-clause-step g c =
     c.args.wanted c.open_mode-mode.ensures
     (subst (λ (flags : ℕ). Begins g.T.TypeSet.procedures s c.args.process flags c.args.wanted c.in-Parse.object c.in-Parse.rest c.in-Parse.left (answer_of c.in_ok-begun-in-Parse.begun) t) (sym c.in-Ok.ensures.0)
     c.in_ok-begun-in-Parse.ensures.begun))
+
+pub returns-in_err-reply-in-At-clause-found : goal.returns-in_err-reply-in-At-clause-found
+returns-in_err-reply-in-At-clause-found g c =
+    let s = c.args.space.now in
+    let p = c.args.process in
+    let name = c.args.name.now in
+    let root = c.in-Ok-root_object.root in
+    let wanted = c.args.wanted in
+    let attrs = c.args.attrs in
+    let mode = c.open_mode-mode.result in
+    never (end_refused g.T.TypeSet.procedures s p (open_mode wanted attrs) c.args.root name (is_open_refused_at g.T.TypeSet.procedures s p attrs wanted) root c.in-Ok-root_object.ensures most_reparses (At c.in-At.object)
+    (subst (λ (m : Mode). LooksUp g.T.TypeSet.procedures s p m most_reparses root name (At c.in-At.object)) (c.open_mode-mode.ensures ∙ ap (open_mode wanted) c.in-Ok.ensures.0)
+    (subst (λ (bytes : List ℕ). LooksUp g.T.TypeSet.procedures s p mode most_reparses root bytes (At c.in-At.object)) c.new.ensures
+    (subst (λ look. LooksUp g.T.TypeSet.procedures s p mode most_reparses root c.new.result (look_of look)) c.in-At.is c.in_ok-status.ensures.end)))
+    (subst (λ (flags : ℕ). is_refused_at g.T.TypeSet.procedures s p (options_by flags) wanted c.in-At.object ≡ true → ⊥) c.in-Ok.ensures.0 (isnt c.in_err-reply-in-At.ensures.early)))
+
+pub returns-in_err-begun-in-Parse-clause-found : goal.returns-in_err-begun-in-Parse-clause-found
+returns-in_err-begun-in-Parse-clause-found g c =
+    let s = c.args.space.now in
+    let p = c.args.process in
+    let name = c.args.name.now in
+    let root = c.in-Ok-root_object.root in
+    let wanted = c.args.wanted in
+    let attrs = c.args.attrs in
+    let mode = c.open_mode-mode.result in
+    let look = Parse c.in-Parse.object c.in-Parse.rest c.in-Parse.left in
+    never (end_refused g.T.TypeSet.procedures s p (open_mode wanted attrs) c.args.root name (is_open_refused_at g.T.TypeSet.procedures s p attrs wanted) root c.in-Ok-root_object.ensures most_reparses look
+    (subst (λ (m : Mode). LooksUp g.T.TypeSet.procedures s p m most_reparses root name look) (c.open_mode-mode.ensures ∙ ap (open_mode wanted) c.in-Ok.ensures.0)
+    (subst (λ (bytes : List ℕ). LooksUp g.T.TypeSet.procedures s p mode most_reparses root bytes look) c.new.ensures
+    (subst (λ look. LooksUp g.T.TypeSet.procedures s p mode most_reparses root c.new.result (look_of look)) c.in-Parse.is c.in_ok-status.ensures.end)))
+    not_true)

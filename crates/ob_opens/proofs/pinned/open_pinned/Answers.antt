@@ -1,5 +1,5 @@
 -- Each ending of an open of the pinned object.
-use Rattle.std.proofs.Common.{◌∙◌, ◌<◌, ap, sym, subst}
+use Rattle.std.proofs.Common.{◌≡◌, ◌∙◌, ◌<◌, true, Some, ap, sym, subst}
 use Rattle.std.specs.List.{AllPairs}
 use Rattle.std.specs.Prelude.{Result, Err}
 use Rattle.ob_model.specs.declared.reply.Answer.TheVariants.{Done}
@@ -11,6 +11,11 @@ use Rattle.ob_model.specs.State.{State}
 use Rattle.ob_space.specs.Namespace.{parts, state_of}
 use Rattle.ob_opens.proofs.Endings.{asker_gone, other_type, grant_refused, grant_given}
 use Rattle.ob_opens.proofs.Pinning.{opens_orderly}
+use Rattle.ob_opens.proofs.Refusing.{isnt, never, passes_at, passes_brought}
+use Rattle.ob_space.specs.Found.{is_grant_refused}
+use Rattle.ob_model.specs.Procedures.{EndsItself}
+use Rattle.ob_model.specs.Opens.{options_by}
+use Rattle.ob_model.specs.declared.terms.GrantOptions.{GrantOptions}
 use Rattle.ob_opens.proofs.pinned.open_pinned.Goals as goal
 
 pub returns-then-not-is_live-clause-resumed : goal.returns-then-not-is_live-clause-resumed
@@ -57,3 +62,12 @@ returns-in-Err-clause-resumed g c =
     (sym c.is_live.ensures ∙ c.if-not-is_live.false) (sym c.is_wanted_at.ensures ∙ c.if-not-is_wanted_at.false) c.options_by-options.result c.options_by-options.ensures u c.in-Err.status
     refused c.refuse-in-Err.ensures.answer
     (c.refuse-in-Err.ensures.ended ∙ ap (λ v. settle g.T.TypeSet.procedures (without_pending v c.args.ticket)) refused.1)
+
+pub returns-in_err-value-clause-early : goal.returns-in_err-value-clause-early
+returns-in_err-value-clause-early g c =
+    let s = c.args.space.now in
+    let found = ap (λ (v : State _ _ _ _). pending_of v c.args.ticket) (sym c.space.view_is) ∙ sym c.in-Some.ensures in
+    let x = c.in-Some.pending.now in
+    never (passes_brought g.T.TypeSet.procedures s c.args.ticket x (Some EndsItself) found (sym c.is_live.ensures ∙ c.if-not-is_live.false)
+    (passes_at g.T.TypeSet.procedures s x.process x.object (options_by x.attrs) x.wanted (sym c.is_wanted_at.ensures ∙ c.if-not-is_wanted_at.false)
+    (subst (λ (q : GrantOptions). is_grant_refused s x.process x.object q ≡ true → ⊥) c.options_by-options.ensures (isnt c.in_err-value.ensures.early))))

@@ -1,6 +1,6 @@
 -- Each ending of an open of the object that was found.
-use Rattle.std.proofs.Common.{◌∙◌, ap, sym, subst}
-use Rattle.std.specs.Prelude.{Result, Err}
+use Rattle.std.proofs.Common.{◌≡◌, ◌∙◌, true, Option, ap, sym, subst}
+use Rattle.std.specs.Prelude.{Result, Err, MatchOption}
 use Rattle.ob_model.specs.declared.reply.Answer.TheVariants.{Done}
 use Rattle.ob_model.specs.Grants.{Grants}
 use Rattle.ob_model.specs.PendingOpens.{without_pending}
@@ -8,6 +8,11 @@ use Rattle.ob_model.specs.declared.terms.Reason.TheVariants.{Opened}
 use Rattle.ob_model.specs.Settle.{settle}
 use Rattle.ob_opens.proofs.FoundOpen.{found_open}
 use Rattle.ob_opens.proofs.OpensAgain.{found_other_type, found_refused, found_given, granted_is_settled, live_there}
+use Rattle.ob_opens.proofs.Refusing.{isnt, never, passes_at}
+use Rattle.ob_space.specs.Found.{is_grant_refused, is_refused_at}
+use Rattle.ob_model.specs.Opens.{options_by}
+use Rattle.ob_model.specs.declared.state.Pending.{Pending}
+use Rattle.ob_model.specs.declared.terms.GrantOptions.{GrantOptions}
 use Rattle.ob_opens.proofs.reparse.open_found.Goals as goal
 
 pub returns-then-not-is_wanted_at-clause-opened : goal.returns-then-not-is_wanted_at-clause-opened
@@ -49,3 +54,12 @@ returns-in-Err-clause-opened g c =
     (sym c.is_wanted_at.ensures ∙ c.if-not-is_wanted_at.false) c.options_by-options.result c.options_by-options.ensures u c.in-Err.status
     refused c.refuse-in-Err.ensures.answer
     (c.refuse-in-Err.ensures.ended ∙ ap (λ v. settle g.T.TypeSet.procedures (without_pending v c.args.ticket)) refused.1)
+
+pub returns-in_err-value-clause-early : goal.returns-in_err-value-clause-early
+returns-in_err-value-clause-early g c = λ refused.
+    let s = c.args.space.now in
+    let x = c.in-Some.pending.now in
+    never (passes_at g.T.TypeSet.procedures s x.process c.args.object (options_by x.attrs) x.wanted (sym c.is_wanted_at.ensures ∙ c.if-not-is_wanted_at.false)
+    (subst (λ (q : GrantOptions). is_grant_refused s x.process c.args.object q ≡ true → ⊥) c.options_by-options.ensures (isnt c.in_err-value.ensures.early)))
+    (subst (λ (o : Option (Pending _)). MatchOption o ⊥ (λ y. is_refused_at g.T.TypeSet.procedures s y.process (options_by y.attrs) y.wanted c.args.object ≡ true))
+    (found_open c.space.view_is c.args.ticket _ c.in-Some.ensures) refused)
