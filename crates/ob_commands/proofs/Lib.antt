@@ -4,3 +4,4 @@ pub mod Made
 pub mod Mapped
 pub mod Queries
 pub mod WaysUp
+pub mod Passed

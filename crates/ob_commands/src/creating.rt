@@ -10,6 +10,7 @@ ghost use Rattle.ob_model.specs.State.{is_live};
 ghost use Rattle.ob_model.specs.Settle.{IsSettled};
 ghost use Rattle.ob_model.specs.Step.{CreatesAt, CreatesIn};
 ghost use Rattle.ob_space.specs.Early.{is_create_refused, lacks_root};
+ghost use Rattle.ob_space.specs.Found.{is_create_refused_at, IsCreateRefused, IsNameRefused};
 ghost use Rattle.ob_commands.specs.Making.{making_of};
 ghost use Rattle.ob_space.specs.Orderly.{IsBetweenSteps, IsOrderly};
 
@@ -35,7 +36,9 @@ use std::alloc::AllocError;
 /// `TypeRefused` with the set's number where the set refuses to make the object, or to open it.
 ///
 /// A refusal changes nothing, but for the last: a new object that the set refuses to open is deleted, and its number
-/// stays drawn. The only fault is out of memory, and then nothing has changed; what is refused before the lookup takes none.
+/// stays drawn. The only fault is out of memory, and then nothing has changed; what is refused before the lookup takes none, nor does
+/// what is refused at an object that is there, before the set is asked, where the lookup copies nothing, or without a
+/// name since no handle or object more fits.
 ///
 /// It asks that the state is orderly, settled and sound, and leaves it orderly.
 ///
@@ -56,6 +59,8 @@ pub fn create<T: TypeSet, H: HandleTable>(
         (Done reply) space.new) }
     ensures early { is_create_refused space.old process place.now attrs (making_of making.entry)
         ≡ true → IsOk result }
+    ensures found { IsCreateRefused T.procedures space.old process place.now attrs
+        (making_of making.entry) → IsOk result }
     ensures err { OnErr result (space.new ≡ space.old) }
 {
     let live = is_live(space, process);
@@ -90,6 +95,9 @@ fn create_at_name<T: TypeSet, H: HandleTable>(
         (Done reply)
         space.new) }
     ensures early { lacks_root space.old process root ≡ true → IsOk result }
+    ensures found { IsNameRefused T.procedures space.old process (create_mode attrs) root name.entry
+        (is_create_refused_at T.procedures space.old process attrs (making_of making.entry))
+        → IsOk result }
     ensures err { OnErr result (space.new ≡ space.old) }
 {
     let root = match root_object(space, process, root) {
@@ -140,6 +148,8 @@ fn open_there<T: TypeSet, H: HandleTable>(
         machine.Creates T.procedures space.old process attrs (making_of making.entry)
         (looks.At object) (Done reply)
         space.new) }
+    ensures early { is_create_refused_at T.procedures space.old process attrs
+        (making_of making.entry) (looks.At object) ≡ true → IsOk result }
     ensures err { OnErr result (space.new ≡ space.old) }
 {
     if !attrs.is_open_if() {

@@ -4,7 +4,7 @@ ghost use Rattle.std.specs.Prelude.{◌≡◌, true, IsOk, IfOk, IfErr, OnErr};
 ghost use Rattle.ob_model.specs.declared.reply.Answer.TheVariants.{Done};
 ghost use Rattle.ob_model.specs.Settle.{IsSettled};
 ghost use Rattle.ob_model.specs.Step.{SetsMap};
-ghost use Rattle.ob_space.specs.Early.{is_use_refused};
+ghost use Rattle.ob_space.specs.Early.{is_use_refused, lacks_directory};
 ghost use Rattle.ob_space.specs.Orderly.{IsOrderly};
 
 use ob_base::{Handle, Proc, Status};
@@ -21,7 +21,7 @@ use std::alloc::AllocError;
 ///
 /// Refusals, in their order, which change nothing: `ProcessGone` for a process that isn't live,
 /// `InvalidHandle` where the process has no such handle, and `ObjectTypeMismatch` where its object is no
-/// directory. The only fault is out of memory, and then nothing has changed; the first two refusals take none.
+/// directory. The only fault is out of memory, and then nothing has changed; the refusals take none.
 ///
 /// It asks that the state is orderly and settled, and leaves it orderly.
 ///
@@ -38,6 +38,7 @@ pub fn set_device_map<T: TypeSet, H: HandleTable>(
     ensures step { IfOk result (λ reply.
         SetsMap T.procedures space.old process handle (Done reply) space.new) }
     ensures early { is_use_refused space.old process handle ≡ true → IsOk result }
+    ensures found { lacks_directory space.old process handle ≡ true → IsOk result }
     ensures err { OnErr result (space.new ≡ space.old) }
 {
     if !is_live(space, process) {

@@ -1,10 +1,11 @@
 //! Duplicates of handles.
 
-ghost use Rattle.std.specs.Prelude.{◌≡◌, true, IsOk, IfOk, IfErr, OnErr};
+ghost use Rattle.std.specs.Prelude.{◌≡◌, true, false, IsOk, IfOk, IfErr, OnErr};
 ghost use Rattle.ob_model.specs.declared.reply.Answer.TheVariants.{Done};
 ghost use Rattle.ob_model.specs.Processes.{Duplicates};
 ghost use Rattle.ob_model.specs.Settle.{IsSettled};
 ghost use Rattle.ob_space.specs.Early.{is_duplicate_refused};
+ghost use Rattle.ob_space.specs.Found.{at_handle, is_grant_refused};
 ghost use Rattle.ob_space.specs.Orderly.{IsOrderly};
 
 use ob_base::{Handle, Proc, Status};
@@ -19,8 +20,8 @@ use std::alloc::AllocError;
 /// one is.
 ///
 /// Refusals, in their order, which change nothing: `ProcessGone` where the caller or the other process
-/// isn't live, `InvalidHandle` where the caller has no such handle, and those of a grant. The only fault is want
-/// of memory, and then nothing has changed; the first two refusals take none.
+/// isn't live, `InvalidHandle` where the caller has no such handle, and those of a grant. The only fault is out of
+/// memory, and then nothing has changed; the refusals before the set is asked take none.
 ///
 /// It asks that the state is orderly and settled, and leaves it orderly.
 ///
@@ -38,6 +39,8 @@ pub fn duplicate<T: TypeSet, H: HandleTable>(
     ensures step { IfOk result (λ reply.
         Duplicates T.procedures space.old process handle to inherit (Done reply) space.new) }
     ensures early { is_duplicate_refused space.old process handle to ≡ true → IsOk result }
+    ensures found { at_handle space.old process handle (λ h. is_grant_refused space.old to h.object
+        (record { inherit = inherit; exclusive = false })) ≡ true → IsOk result }
     ensures err { OnErr result (space.new ≡ space.old) }
 {
     if !is_live(space, process) || !is_live(space, to) {

@@ -1,6 +1,6 @@
 //! Making an object: what is made, and the making itself.
 
-ghost use Rattle.std.specs.Prelude.{◌≡◌, ◌&&◌, ◌||◌, true, false, [], None, Some, IfOk, IfErr, OnErr};
+ghost use Rattle.std.specs.Prelude.{◌≡◌, ◌&&◌, ◌||◌, true, false, [], None, Some, IsOk, IfOk, IfErr, OnErr};
 ghost use Rattle.std.specs.Option.{is_some};
 ghost use Rattle.ob_base.specs.Attrs.{has_flag, permanent_flag, exclusive_flag};
 ghost use Rattle.ob_types.specs.Told.{IsTold};
@@ -119,6 +119,7 @@ pub(crate) fn make_unnamed<T: TypeSet, H: HandleTable>(
     ensures step { IfOk result (λ reply.
         machine.Makes T.procedures space.old process attrs (making_of making.entry) None
         (Done reply) space.new) }
+    ensures full { (is_table_full space.old process || is_store_full space.old) ≡ true → IsOk result }
     ensures err { OnErr result (space.new ≡ space.old) }
 {
     if is_full(space, process) {

@@ -1,6 +1,6 @@
 //! What is told of an object: its path, and the target of a link.
 
-ghost use Rattle.std.specs.Prelude.{◌≡◌, ℕ, List, ◌<◌, true, map, All, IsOk, IfOk, MatchOption};
+ghost use Rattle.std.specs.Prelude.{◌≡◌, ℕ, List, ◌<◌, not, true, map, All, IsOk, IfOk, MatchOption};
 ghost use Rattle.std.specs.Option.{option_map};
 ghost use Rattle.ob_model.specs.declared.reply.Answer.TheVariants.{Done};
 ghost use Rattle.ob_model.specs.Naming.{row_of, IsWayUp, path_text};
@@ -8,7 +8,10 @@ ghost use Rattle.ob_model.specs.Step.{QueriesName, QueriesLink};
 ghost use Rattle.ob_objects.specs.Named.{row_of_named};
 ghost use Rattle.ob_objects.specs.Store.{rows_of};
 ghost use Rattle.ob_space.specs.Namespace.{rows_alone};
+ghost use Rattle.ob_model.specs.declared.state.Wanted.TheVariants as wanted;
+ghost use Rattle.ob_model.specs.Types.{is_wanted_at};
 ghost use Rattle.ob_space.specs.Early.{is_use_refused};
+ghost use Rattle.ob_space.specs.Found.{at_handle};
 
 use crate::replies::with_text;
 use ob_base::{Handle, ObjId, Proc, Status};
@@ -102,7 +105,7 @@ fn path_text(alloc: Global, way: &[&[u8]]) -> Result<Vec<u8>, AllocError>
 ///
 /// Refusals, in their order: `ProcessGone` for a process that isn't live, `InvalidHandle` where the
 /// process has no such handle, and `ObjectTypeMismatch` where its object is no link. The only fault is
-/// out of memory, which the first two refusals don't take.
+/// out of memory, which the refusals don't take.
 ///
 /// Source: ZwQuerySymbolicLinkObject (Windows Driver Kit).
 pub fn query_link<T: TypeSet, H: HandleTable>(
@@ -113,6 +116,8 @@ pub fn query_link<T: TypeSet, H: HandleTable>(
     ensures step { IfOk result (λ reply.
         QueriesLink space.now process handle (Done reply) space.now) }
     ensures early { is_use_refused space.now process handle ≡ true → IsOk result }
+    ensures found { at_handle space.now process handle (λ h.
+        not (is_wanted_at T.procedures space.now h.object wanted.Link)) ≡ true → IsOk result }
 {
     if !is_live(space, process) {
         return Ok(status_alone(Status::ProcessGone));

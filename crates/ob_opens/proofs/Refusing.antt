@@ -27,16 +27,6 @@ use Rattle.ob_opens.proofs.MadeOpens.{made_there}
 true_apart : {A : Type 0} → true ≡ false → A
 true_apart e = cc
 
-pub not_true : false ≡ true → ⊥
-not_true e = cc
-
--- what makes an error a success never is, and what never is leads to anything
-pub isnt : {A : Type 0} → (A → false ≡ true) → A → ⊥
-isnt f a = not_true (f a)
-
-pub never : {A B : Type 0} → (A → ⊥) → A → B
-never f a = absurd (f a)
-
 -- the other ends of a lookup are no refusal
 pub no_refusal_at : (o : ℕ) (status : Status) → At o ≡ Refused status → ⊥
 no_refusal_at o status is = cc

@@ -15,6 +15,16 @@ use Rattle.ob_lookup.specs.Look.{MayWantMemory}
 use Rattle.ob_space.specs.Found.{LooksInPlace, IsNameRefused}
 use Rattle.ob_space.specs.Roots.{root_of}
 
+pub not_true : false ≡ true → ⊥
+not_true e = cc
+
+-- what makes an error a success never is, and what never is leads to anything
+pub isnt : {A : Type 0} → (A → false ≡ true) → A → ⊥
+isnt f a = not_true (f a)
+
+pub never : {A B : Type 0} → (A → ⊥) → A → B
+never f a = absurd (f a)
+
 over_is : (a b : Look) → Over a ≡ Over b → a ≡ b
 over_is a b same = cc
 
@@ -82,8 +92,11 @@ module _ {K T F I : Type 0} (g : Procedures K T F I) (s : State K T F I) (p : �
     none_refused wants (from, same, (end, (looks, apart), refused)) =
         apart (wants end (subst (λ (x : Option ℕ). LooksUp g s p mode zero x name end) (some_is from at (sym same ∙ is_root)) looks))
 
-    -- nor where a lookup with any number of reparses left ends with what isn't refused
-    pub end_refused : (n : ℕ) (look : Look) → LooksUp g s p mode n at name look → (refuses look ≡ true → ⊥) → IsNameRefused g s p mode root name refuses → ⊥
-    end_refused n look looked passes (from, same, (end, (looks, apart), refused)) =
+    -- and where a lookup with any number of reparses left ends, the name is refused there
+    pub at_its_end : (n : ℕ) (look : Look) → LooksUp g s p mode n at name look → IsNameRefused g s p mode root name refuses → refuses look ≡ true
+    at_its_end n look looked (from, same, (end, (looks, apart), refused)) =
         let there = subst (λ (x : Option ℕ). LooksUp g s p mode zero x name end) (some_is from at (sym same ∙ is_root)) looks in
-        passes (subst (λ (x : Look). refuses x ≡ true) (is_its_end n at name end look (there, apart) looked) refused)
+        subst (λ (x : Look). refuses x ≡ true) (is_its_end n at name end look (there, apart) looked) refused
+
+    pub end_refused : (n : ℕ) (look : Look) → LooksUp g s p mode n at name look → (refuses look ≡ true → ⊥) → IsNameRefused g s p mode root name refuses → ⊥
+    end_refused n look looked passes refused = passes (at_its_end n look looked refused)

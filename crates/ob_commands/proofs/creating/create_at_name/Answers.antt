@@ -1,5 +1,9 @@
 -- A create's name is looked up, and then the create is refused or done.
 use Rattle.std.proofs.Common.{ap, subst, refl}
+use Rattle.ob_model.specs.declared.terms.Mode.{Mode}
+use Rattle.ob_model.specs.Creates.{create_mode}
+use Rattle.ob_space.specs.Found.{is_create_refused_at}
+use Rattle.ob_space.proofs.InPlace.{at_its_end, never, end_refused, not_true}
 use Rattle.ob_model.specs.declared.reply.Answer.TheVariants.{Done}
 use Rattle.ob_model.specs.Looks.{At, Vacant, Refused, LooksUp, most_reparses}
 use Rattle.ob_lookup.specs.Look.{look_of}
@@ -39,3 +43,21 @@ returns-in-Vacant-clause-step g c =
     c.create_mode.result (Vacant c.in-Vacant.directory c.in-Vacant.component)
     (subst (λ look. LooksUp g.T.TypeSet.procedures s c.args.process c.create_mode.result most_reparses c.in-Ok.root c.args.name (look_of look)) c.in-Vacant.is c.in_ok-status.ensures.end)
     (making_of c.args.making) c.create_mode.ensures done) c.make_named.ensures.step
+
+pub returns-in-At-clause-found : goal.returns-in-At-clause-found
+returns-in-At-clause-found g c = λ refused.
+    let s = c.args.space.now in
+    let p = c.args.process in
+    c.open_there.ensures.early
+    (at_its_end g.T.TypeSet.procedures s p (create_mode c.args.attrs) c.args.root c.args.name (is_create_refused_at g.T.TypeSet.procedures s p c.args.attrs (making_of c.args.making)) c.in-Ok.root c.in-Ok.ensures most_reparses (At c.in-At.object)
+    (subst (λ (m : Mode). LooksUp g.T.TypeSet.procedures s p m most_reparses c.in-Ok.root c.args.name (At c.in-At.object)) c.create_mode.ensures
+    (subst (λ look. LooksUp g.T.TypeSet.procedures s p c.create_mode.result most_reparses c.in-Ok.root c.args.name (look_of look)) c.in-At.is c.in_ok-status.ensures.end)) refused)
+
+pub returns-in-Vacant-clause-found : goal.returns-in-Vacant-clause-found
+returns-in-Vacant-clause-found g c =
+    let s = c.args.space.now in
+    let p = c.args.process in
+    let look = Vacant c.in-Vacant.directory c.in-Vacant.component in
+    never (end_refused g.T.TypeSet.procedures s p (create_mode c.args.attrs) c.args.root c.args.name (is_create_refused_at g.T.TypeSet.procedures s p c.args.attrs (making_of c.args.making)) c.in-Ok.root c.in-Ok.ensures most_reparses look
+    (subst (λ (m : Mode). LooksUp g.T.TypeSet.procedures s p m most_reparses c.in-Ok.root c.args.name look) c.create_mode.ensures
+    (subst (λ look. LooksUp g.T.TypeSet.procedures s p c.create_mode.result most_reparses c.in-Ok.root c.args.name (look_of look)) c.in-Vacant.is c.in_ok-status.ensures.end)) not_true)

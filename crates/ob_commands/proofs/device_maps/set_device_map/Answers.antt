@@ -1,10 +1,13 @@
 -- The map is set, and what its old directory held up goes; where there was no map, nothing does.
-use Rattle.std.proofs.Common.{◌≡◌, ◌∙◌, true, false, ap, refl, sym, subst}
+use Rattle.std.proofs.Common.{◌≡◌, ◌∙◌, not, true, false, ap, refl, sym, subst}
 use Rattle.std.specs.Prelude.{Some, None}
 use Rattle.ob_model.specs.declared.reply.Answer.TheVariants.{Done}
 use Rattle.ob_model.specs.Maps.{with_map}
 use Rattle.ob_model.specs.Settle.{IsSettled, settle}
 use Rattle.ob_model.proofs.Staying.{settled_itself}
+use Rattle.ob_model.specs.State.{is_directory}
+use Rattle.ob_space.proofs.InPlace.{never}
+use Rattle.ob_commands.proofs.Passed.{passes_handle}
 use Rattle.ob_space.specs.Namespace.{parts}
 use Rattle.ob_space.specs.Orderly.{IsOrderly}
 use Rattle.ob_life.specs.Settling.{with_handle_to}
@@ -63,3 +66,9 @@ returns-then-not-is_directory-clause-step g c =
     no_directory g.T.TypeSet.procedures c.args.space.now c.args.space.now c.args.process c.args.handle (Done c.status_alone-then-not-is_directory.result) c.in-Some.held
     (sym c.is_live.ensures ∙ c.if-not-is_live.false) (sym c.in-Some.ensures)
     (directory_shown c.space.view_is c.in-Some.held.object false (sym c.if-not-is_directory.true ∙ c.is_directory.ensures)) (ap Done c.status_alone-then-not-is_directory.ensures) refl
+
+pub returns-in_err-set_map-clause-found : goal.returns-in_err-set_map-clause-found
+returns-in_err-set_map-clause-found g c =
+    let s = c.args.space.now in
+    never (passes_handle s c.args.process c.args.handle c.in-Some.held c.in-Some.ensures (λ h. not (is_directory s h.object))
+    (ap not (directory_shown c.space.view_is c.in-Some.held.object true (sym c.if-not-is_directory.false ∙ c.is_directory.ensures))))

@@ -6,11 +6,12 @@ use Rattle.ob_model.specs.declared.reply.Answer.TheVariants.{Done}
 use Rattle.ob_model.specs.Looks as machine
 use Rattle.ob_model.specs.Parses.{LooksAgain}
 use Rattle.ob_model.specs.PendingOpens.{without_pending}
+use Rattle.ob_space.proofs.InPlace.{isnt, never, not_true}
 use Rattle.ob_opens.proofs.FoundOpen.{found_open}
 use Rattle.ob_opens.proofs.OpensAgain.{gone_again}
 use Rattle.ob_opens.specs.Waiting.{answer_of}
 use Rattle.ob_opens.proofs.Resumed.{looked}
-use Rattle.ob_opens.proofs.Refusing.{isnt, never, not_true, no_refusal_at, no_refusal_parse, passes_again, passes_brought, wants_again}
+use Rattle.ob_opens.proofs.Refusing.{no_refusal_at, no_refusal_parse, passes_again, passes_brought, wants_again}
 use Rattle.ob_space.specs.Found.{is_open_refused_at, is_refused_at}
 use Rattle.ob_lookup.specs.Look.{MayWantMemory}
 use Rattle.ob_model.specs.Procedures.{EndsReparse}

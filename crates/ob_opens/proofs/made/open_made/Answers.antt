@@ -12,11 +12,12 @@ use Rattle.ob_model.specs.Settle.{IsSettled, settle}
 use Rattle.ob_model.specs.State.{State}
 use Rattle.ob_model.specs.Types.{is_wanted}
 use Rattle.ob_space.proofs.Results.{of_ok, of_err}
+use Rattle.ob_space.proofs.InPlace.{isnt, never}
 use Rattle.ob_opens.proofs.FoundOpen.{found_open}
 use Rattle.ob_opens.proofs.MadeGoes.{ticket_free}
 use Rattle.ob_opens.proofs.MadeOpens.{made_asker_gone, made_other_type, made_refused, made_given, made_settled}
 use Rattle.ob_opens.proofs.MadePut.{ticket_drawn, of_on_err}
-use Rattle.ob_opens.proofs.Refusing.{isnt, never, passes_brought}
+use Rattle.ob_opens.proofs.Refusing.{passes_brought}
 use Rattle.ob_model.specs.Procedures.{EndsMade}
 use Rattle.ob_model.specs.declared.terms.GrantOptions.{GrantOptions}
 use Rattle.ob_opens.proofs.made.open_made.Goals as goal

@@ -3,12 +3,11 @@ use Rattle.std.proofs.Common.{◌≡◌, true, ap, sym, ◌∙◌, subst, refl, 
 use Rattle.ob_model.specs.declared.reply.Answer.TheVariants.{Done}
 use Rattle.ob_model.specs.Looks.{At, Parse, Refused, LooksUp, most_reparses}
 use Rattle.ob_model.specs.Opens.{Begins, open_mode, options_by}
-use Rattle.ob_opens.proofs.Refusing.{isnt, never, not_true}
 use Rattle.ob_lookup.specs.Look.{look_of}
 use Rattle.ob_opens.specs.Waiting.{answer_of}
 use Rattle.ob_space.proofs.Naming.{judged_live, opens_served, opens_looked}
 use Rattle.ob_space.proofs.Looked.{root_stands}
-use Rattle.ob_space.proofs.InPlace.{end_refused}
+use Rattle.ob_space.proofs.InPlace.{end_refused, isnt, never, not_true}
 use Rattle.ob_space.specs.Found.{is_open_refused_at, is_refused_at}
 use Rattle.ob_model.specs.declared.terms.Mode.{Mode}
 use Rattle.ob_opens.proofs.open.open_name.Goals as goal

@@ -9,9 +9,10 @@ use Rattle.ob_model.specs.declared.terms.Reason.TheVariants.{Opened}
 use Rattle.ob_model.specs.Settle.{settle}
 use Rattle.ob_model.specs.State.{State}
 use Rattle.ob_space.specs.Namespace.{parts, state_of}
+use Rattle.ob_space.proofs.InPlace.{isnt, never}
 use Rattle.ob_opens.proofs.Endings.{asker_gone, other_type, grant_refused, grant_given}
 use Rattle.ob_opens.proofs.Pinning.{opens_orderly}
-use Rattle.ob_opens.proofs.Refusing.{isnt, never, passes_at, passes_brought}
+use Rattle.ob_opens.proofs.Refusing.{passes_at, passes_brought}
 use Rattle.ob_space.specs.Found.{is_grant_refused}
 use Rattle.ob_model.specs.Procedures.{EndsItself}
 use Rattle.ob_model.specs.Opens.{options_by}

@@ -6,9 +6,10 @@ use Rattle.ob_model.specs.Grants.{Grants}
 use Rattle.ob_model.specs.PendingOpens.{without_pending}
 use Rattle.ob_model.specs.declared.terms.Reason.TheVariants.{Opened}
 use Rattle.ob_model.specs.Settle.{settle}
+use Rattle.ob_space.proofs.InPlace.{isnt, never}
 use Rattle.ob_opens.proofs.FoundOpen.{found_open}
 use Rattle.ob_opens.proofs.OpensAgain.{found_other_type, found_refused, found_given, granted_is_settled, live_there}
-use Rattle.ob_opens.proofs.Refusing.{isnt, never, passes_at}
+use Rattle.ob_opens.proofs.Refusing.{passes_at}
 use Rattle.ob_space.specs.Found.{is_grant_refused, is_refused_at}
 use Rattle.ob_model.specs.Opens.{options_by}
 use Rattle.ob_model.specs.declared.state.Pending.{Pending}
