@@ -13,6 +13,8 @@ ghost use Rattle.ob_model.specs.Opening.{opening};
 ghost use Rattle.ob_model.specs.Sound.{IsSound};
 ghost use Rattle.ob_model.specs.Step.{Step};
 ghost use Rattle.ob_space.specs.Early.{TakesNoMemory, is_refused_early};
+ghost use Rattle.ob_space.specs.Found.{IsRefusedAtFound};
+ghost use Rattle.ob_opens.specs.Refusing.{IsBroughtRefused};
 ghost use Rattle.ob_model.specs.Refusals.{answers};
 ghost use Rattle.ob_types.specs.Parse.{asked_of};
 ghost use Rattle.ob_model.specs.PendingOpens.{pending_of};
@@ -85,13 +87,17 @@ impl<T: TypeSet, H: HandleTable> Core<T, H> {
     /// process, and making an object permanent or temporary take no memory, nor does a command that is
     /// refused before its lookup, so these never fail: where the process is gone, the flags, the other
     /// parameters or the bytes or the length of the name are refused, the process lacks the handle that it
-    /// names, or no process more may live.
+    /// names, or no process more may live. Nor does one that is refused at what it finds, before the set is asked:
+    /// another type, a name that is taken, a handle that isn't granted, no handle or object more for what has no
+    /// name, another than a directory for a map, the target of what is no link; where its name, looked up with no reparse
+    /// left, ends at that object or in a refusal, so that nothing is copied.
     pub fn start(&mut self, process: Proc, command: &Command<T::Kind>) -> Result<Started<T>, Fault>
         ensures step { IfOk result (λ started.
             Step T.procedures self.old (Start process command.now) (answer_of started) self.new) }
         ensures parse { IfOk result (λ started. IfParsing started (IsParseOf self.new)) }
         ensures without_memory { TakesNoMemory command.now → IsOk result }
         ensures early { is_refused_early self.old process command.now ≡ true → IsOk result }
+        ensures found { IsRefusedAtFound T.procedures self.old process command.now → IsOk result }
         ensures err { OnErr result (self.new ≡ self.old) }
         ensures memory { IfErr result (λ fault. fault ≡ Memory) }
     {
@@ -107,7 +113,8 @@ impl<T: TypeSet, H: HandleTable> Core<T, H> {
     ///
     /// The faults hand the parse back, and then nothing has changed: `Refused` with `InvalidParameter` exactly where the
     /// parse is a stranger's, as `abandon` says; and `Memory`, where memory was wanted. A parse that found no
-    /// memory, or was refused, takes none.
+    /// memory, or was refused, takes none, nor does one whose process is gone, or which leads, without a copy of a
+    /// name, to what isn't opened for another reason than the set's.
     ///
     /// Source: Windows Internals, Object Manager (parse methods; object retention); that a parse is judged when it is
     /// brought, and the order of refusals, are this profile.
@@ -118,6 +125,8 @@ impl<T: TypeSet, H: HandleTable> Core<T, H> {
         ensures awaited { IfOk result (λ _. IsAwaited T.procedures self.old (asked_of parsed)) }
         ensures parse { IfOk result (λ started. IfParsing started (IsParseOf self.new)) }
         ensures without_memory { opens_nothing parsed.outcome ≡ true
+            → IsAwaited T.procedures self.old (asked_of parsed) → IsOk result }
+        ensures early { IsBroughtRefused T.procedures self.old parsed.ticket parsed.outcome
             → IsAwaited T.procedures self.old (asked_of parsed) → IsOk result }
         ensures err { OnErr result (self.new ≡ self.old) }
         ensures fault { IfErr result (λ back.

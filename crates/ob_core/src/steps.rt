@@ -4,6 +4,7 @@ ghost use Rattle.std.specs.Prelude.{◌≡◌, true, IsOk, IfOk, IfErr, OnErr};
 ghost use Rattle.ob_model.specs.declared.reply.Event.TheVariants.{Start};
 ghost use Rattle.ob_model.specs.Step.{Step};
 ghost use Rattle.ob_space.specs.Early.{TakesNoMemory, is_refused_early};
+ghost use Rattle.ob_space.specs.Found.{IsRefusedAtFound};
 ghost use Rattle.ob_space.specs.Orderly.{IsBetweenSteps, IsOrderly};
 ghost use Rattle.ob_opens.specs.Waiting.{answer_of, IfParsing, IsParseOf};
 
@@ -33,6 +34,7 @@ pub(crate) fn step_for<T: TypeSet, H: HandleTable>(
     ensures parse { IfOk result (λ started. IfParsing started (IsParseOf space.new)) }
     ensures without_memory { TakesNoMemory command.now → IsOk result }
     ensures early { is_refused_early space.old process command.now ≡ true → IsOk result }
+    ensures found { IsRefusedAtFound T.procedures space.old process command.now → IsOk result }
     ensures err { OnErr result (space.new ≡ space.old) }
 {
     match command {

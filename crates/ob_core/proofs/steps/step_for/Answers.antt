@@ -6,6 +6,8 @@ use Rattle.ob_model.specs.declared.state.Wanted.{Wanted}
 use Rattle.ob_model.specs.declared.state.Wanted.TheVariants as wanted
 use Rattle.ob_model.specs.Opens.{type_wanted}
 use Rattle.ob_model.specs.Step.{Step, OpensName}
+use Rattle.ob_space.specs.Found.{IsRefusedAtFound}
+use Rattle.ob_space.proofs.InPlace.{isnt, never}
 use Rattle.ob_space.proofs.Results.{IfOk-map}
 use Rattle.ob_model.specs.declared.reply.Answer.TheVariants.{Done}
 use Rattle.ob_opens.specs.Waiting.{answer_of}
@@ -30,3 +32,8 @@ pub returns-in_ok-duplicate-in-Duplicate-clause-step : goal.returns-in_ok-duplic
 returns-in_ok-duplicate-in-Duplicate-clause-step g c =
     subst (λ (command : Command _). Step g.T.TypeSet.procedures c.args.space.now (Start c.args.process command) (Done c.in_ok-duplicate-in-Duplicate.field-0) c.duplicate.new.space) (sym c.in-Duplicate.is)
     c.in_ok-duplicate-in-Duplicate.ensures.step
+
+pub returns-in_err-duplicate-in-Duplicate-clause-found : goal.returns-in_err-duplicate-in-Duplicate-clause-found
+returns-in_err-duplicate-in-Duplicate-clause-found g c = λ refused.
+    never (isnt c.in_err-duplicate-in-Duplicate.ensures.found)
+    (subst (λ (command : Command _). IsRefusedAtFound g.T.TypeSet.procedures c.args.space.now c.args.process command) c.in-Duplicate.is refused)
