@@ -300,7 +300,7 @@ gives_up_goes_on m (step ∷ steps) s t n p sound other waits (inr (parse, k, u,
     (goes_on_waiting s u step.0 step.1 n p sound (subst (IsNoEnd n) (sym asked) other) made waits) h
 
 falters_goes_on : (event : Event StandardKind) (steps : Steps) (s t : Space) (n p : ℕ) → IsSound s → IsNoEnd n event → WaitsUnder s n p → Falters standard event steps s t → WaitsUnder t n p
-falters_goes_on event [] s t n p sound other waits same = subst (λ x. WaitsUnder x n p) (sym same) waits
+falters_goes_on event [] s t n p sound other waits (same, may) = subst (λ x. WaitsUnder x n p) (sym same) waits
 falters_goes_on event (step ∷ steps) s t n p sound other waits (m, u, asked, answered, made, h) =
     gives_up_goes_on m steps u t n p (step_sound standard s u step.0 step.1 sound made) (drawn_apart s u step.0 m n p sound (subst (λ a. Step standard s step.0 a u) answered made) waits)
     (goes_on_waiting s u step.0 step.1 n p sound (subst (IsNoEnd n) (sym asked) other) made waits) h
@@ -345,7 +345,7 @@ answered_waiting s t words p request c steps reply tickets sound chain waiting =
 
 pub unanswered_waiting : (s t : Space) (words : Words) (p : ℕ) (request : Request (List ℕ)) (steps : Steps) (tickets : List ℕ) → IsSound s
     → WantsMemory request p words steps s t → AreWaiting s words tickets → AreWaiting t words tickets
-unanswered_waiting s t words p request steps tickets sound (inl (none, same)) waiting = subst (λ x. AreWaiting x words tickets) (sym same) waiting
+unanswered_waiting s t words p request steps tickets sound (inl (none, same, grows)) waiting = subst (λ x. AreWaiting x words tickets) (sym same) waiting
 unanswered_waiting s t words p request steps tickets sound (inr (c, command, falters)) waiting =
     moved_waiting s t words tickets (λ n q waits. falters_goes_on (Start p c) steps s t n q sound tt waits falters) waiting
 
@@ -405,7 +405,7 @@ carried_waiting s t words p (pending.Drop word) event (Ticket m) tickets sound m
 -- ---- sound states
 
 pub wanting_sound : (s t : Space) (words : Words) (p : ℕ) (request : Request (List ℕ)) (steps : Steps) → IsSound s → WantsMemory request p words steps s t → IsSound t
-wanting_sound s t words p request steps sound (inl (none, same)) = subst IsSound (sym same) sound
+wanting_sound s t words p request steps sound (inl (none, same, grows)) = subst IsSound (sym same) sound
 wanting_sound s t words p request steps sound (inr (c, command, falters)) = falters_sound standard (Start p c) steps s t sound falters
 
 pub stopped_sound : (s t : Space) (words words' : Words) (p : ℕ) (line : PendingForm (List ℕ)) (steps : Steps) → IsSound s → FindsNone line words p steps s t words' → IsSound t
@@ -427,5 +427,5 @@ first_waiting s = record {
 
 pub unanswered_await : (s t : Space) (words : Words) (p : ℕ) (request : Request (List ℕ)) (steps : Steps) (parses : List (ToRun StandardFace)) → IsSound s
     → WantsMemory request p words steps s t → AreAwaited s parses → AreAwaited t parses
-unanswered_await s t words p request steps parses sound (inl (none, same)) awaited = subst (λ x. AreAwaited x parses) (sym same) awaited
+unanswered_await s t words p request steps parses sound (inl (none, same, grows)) awaited = subst (λ x. AreAwaited x parses) (sym same) awaited
 unanswered_await s t words p request steps parses sound (inr (c, command, falters)) awaited = falters_all_await standard p c steps s t parses sound falters awaited

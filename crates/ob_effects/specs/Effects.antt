@@ -15,20 +15,22 @@ use Rattle.ob_lines.specs.declared.form.Form.{Form}
 use Rattle.ob_lines.specs.declared.form.Form.TheVariants.{Nothing, Stat, Asks, Waits}
 use Rattle.ob_lines.specs.declared.pending.PendingForm.{PendingForm}
 use Rattle.ob_lines.specs.declared.request.Request.{Request}
+use Rattle.ob_lines.specs.declared.request.Request.TheVariants.{CreateDirectory, CreateLink, CreateObject, OpenDirectory, OpenLink, OpenObject, Close, QueryLink, QueryName, QueryDirectory, Duplicate, MakeTemporary, MakePermanent, SetDeviceMap, NewProcess, ExitProcess}
 use Rattle.ob_effects.specs.declared.outcome.LineOutcome.{LineOutcome}
 use Rattle.ob_effects.specs.declared.outcome.LineOutcome.TheVariants as outcome
 use Rattle.ob_effects.specs.declared.notice.Notice.{Notice}
 use Rattle.ob_effects.specs.declared.notice.Notice.TheVariants as notice
 use Rattle.ob_requests.specs.Words.{Words}
 use Rattle.ob_requests.specs.Commands.{IsCommand, words_after}
+use Rattle.ob_requests.specs.Room.{Grows}
 use Rattle.ob_standard_core.specs.Machine.{Space, counts_of}
 use Rattle.ob_effects.specs.Waiting.{Steps, word_of, is_waiting, told_instead, IsEvent, words_answered, FindsNone}
 
 -- A request of a process found no memory, with these words and in the state s: before its first step, so that there is
--- none; or while its command was run to its reply, by these steps, which lead to the state t.
+-- none, for its texts or its words; or while its command was run to its reply, by these steps, which lead to the state t.
 abbrev pub WantsMemory : Request (List ℕ) → ℕ → Words → Steps → Space → Space → Type 0
 WantsMemory request process words steps s t =
-    ((steps ≡ []) × (t ≡ s)) ⊎ ((c : Command StandardKind) × IsCommand request words process c × Falters standard (Start process c) steps s t)
+    ((steps ≡ []) × (t ≡ s) × Grows request) ⊎ ((c : Command StandardKind) × IsCommand request words process c × Falters standard (Start process c) steps s t)
 
 -- a request of a process was asked with these words, and its command run to this reply by steps of the machine
 abbrev pub IsAsked : Request (List ℕ) → ℕ → Words → Space → Reply → Space → Type 0
@@ -93,3 +95,40 @@ IsDone (Some Nothing) words s o words' s' = (o ≡ outcome.Idle) × (words' ≡ 
 IsDone (Some Stat) words s o words' s' = (o ≡ outcome.Counted (counts_of s)) × (words' ≡ words) × (s' ≡ s)
 IsDone (Some (Asks process request)) words s o words' s' = IsRequestDone request (words.processes process) words s o words' s'
 IsDone (Some (Waits process pending)) words s o words' s' = IsWaitDone pending (words.processes process) words s o words' s'
+
+-- a request takes no memory: a close, the end of a process, and what makes an object permanent or temporary
+abbrev pub TakesNone : Request (List ℕ) → Type 0
+TakesNone (CreateDirectory place attrs word) = ⊥
+TakesNone (CreateLink place attrs target word) = ⊥
+TakesNone (CreateObject kind place attrs args word) = ⊥
+TakesNone (OpenDirectory name attrs word) = ⊥
+TakesNone (OpenLink name attrs word) = ⊥
+TakesNone (OpenObject want name attrs word) = ⊥
+TakesNone (Close handle) = Unit {0}
+TakesNone (QueryLink handle) = ⊥
+TakesNone (QueryName handle) = ⊥
+TakesNone (QueryDirectory handle room mode) = ⊥
+TakesNone (Duplicate handle to inherit word) = ⊥
+TakesNone (MakeTemporary handle) = Unit {0}
+TakesNone (MakePermanent handle) = Unit {0}
+TakesNone (SetDeviceMap handle) = ⊥
+TakesNone (NewProcess inherit child) = ⊥
+TakesNone ExitProcess = Unit {0}
+
+-- nor does a line that asks for one, or for nothing, or for what is counted
+abbrev pub IsLineWithoutMemory : Option (Form (List ℕ)) → Type 0
+IsLineWithoutMemory None = Unit {0}
+IsLineWithoutMemory (Some Nothing) = Unit {0}
+IsLineWithoutMemory (Some Stat) = Unit {0}
+IsLineWithoutMemory (Some (Asks process request)) = TakesNone request
+IsLineWithoutMemory (Some (Waits process pending)) = ⊥
+
+-- what became of a line isn't that it found no memory
+abbrev pub FoundMemory : LineOutcome → Type 0
+FoundMemory outcome.Idle = Unit {0}
+FoundMemory (outcome.Counted counts) = Unit {0}
+FoundMemory (outcome.Replied reply) = Unit {0}
+FoundMemory outcome.Pending = Unit {0}
+FoundMemory (outcome.Told notice) = Unit {0}
+FoundMemory outcome.NoLine = Unit {0}
+FoundMemory outcome.NoMemory = ⊥

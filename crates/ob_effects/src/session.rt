@@ -4,7 +4,7 @@ ghost use Rattle.std.specs.Prelude.{◌≡◌, IfOk, OnErr, IfSome};
 ghost use Rattle.ob_lines.specs.Grammar.{HasTexts, FormHasTexts, form_seen, request_seen};
 ghost use Rattle.ob_lines.specs.Script.{found_seen};
 ghost use Rattle.ob_requests.specs.Tables.{words_in};
-ghost use Rattle.ob_effects.specs.Effects.{IsAnswered, IsUnanswered, IsRequestDone, IsDone};
+ghost use Rattle.ob_effects.specs.Effects.{FoundMemory, IsAnswered, IsLineWithoutMemory, IsUnanswered, IsRequestDone, IsDone, TakesNone};
 ghost use Rattle.ob_effects.specs.Kept.{IsFirst, IsSession, space_of, words_of};
 ghost use Rattle.ob_effects.specs.Waiting.{Steps, GiveAllUp};
 
@@ -42,13 +42,15 @@ impl Session {
     }
 
     /// Does what a line of this form says; none: a line that is no script line, which does nothing. What wants memory
-    /// comes before the first step, or its open is given up: so no reply is lost. (this profile)
+    /// comes before the first step, or its open is given up: so no reply is lost. A close, the end of a process, and a line
+    /// that makes an object permanent or temporary want none. (this profile)
     pub fn perform(&mut self, form: Option<Form<&[u8]>>) -> LineOutcome
         requires kept { IsSession self.old }
         requires texts { IfSome form (λ form. FormHasTexts (form_seen form)) }
         ensures kept { IsSession self.new }
         ensures done { IsDone (found_seen form.entry) (words_of self.old) (space_of self.old) result
             (words_of self.new) (space_of self.new) }
+        ensures without_memory { IsLineWithoutMemory (found_seen form.entry) → FoundMemory result }
     {
         match form {
             None => LineOutcome::NoLine,
@@ -86,6 +88,7 @@ impl Session {
         ensures kept { IsSession self.new }
         ensures done { IsRequestDone (request_seen request.entry) process (words_of self.old)
             (space_of self.old) result (words_of self.new) (space_of self.new) }
+        ensures without_memory { TakesNone (request_seen request.entry) → FoundMemory result }
     {
         self.core.state_is_sound();
         match reply_to(&mut self.core, &mut self.words, process, request) {

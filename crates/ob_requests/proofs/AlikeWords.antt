@@ -32,7 +32,7 @@ use Rattle.ob_parts.specs.declared.handle.HandleForm.{HandleForm}
 use Rattle.ob_lines.specs.declared.request.Request.{Request}
 use Rattle.ob_lines.specs.declared.request.Request.TheVariants.{CreateDirectory, CreateLink, CreateObject, OpenDirectory, OpenLink, OpenObject, Close, QueryLink, QueryName, QueryDirectory, Duplicate, MakeTemporary, MakePermanent, SetDeviceMap, NewProcess, ExitProcess}
 use Rattle.ob_parts.specs.Parts.{offset_value}
-use Rattle.ob_requests.specs.Words.{Words, with_number, with_own, with_number_of, with_process, with_words, with_word, without_words, with_context, is_among, handed_on}
+use Rattle.ob_requests.specs.Words.{Words, with_number, with_own, with_number_of, with_process, with_words, with_word, without_words, is_among, handed_on}
 use Rattle.ob_requests.specs.Commands.{kind_meant, handle_meant, is_success, given_handle, with_child, with_page, IsCommand, words_after}
 use Rattle.ob_requests.specs.Alike.{AreAlikeValues, unset, set, AreAlikeWords}
 use Rattle.ob_requests.proofs.Alike.{offset_small, key_of_value, key_of_zero, own_key, asks_alike}

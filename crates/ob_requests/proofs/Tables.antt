@@ -10,7 +10,7 @@ use Rattle.std.proofs.lemmas.Slice.Eq.{bytes_eq-Decides}
 use Rattle.indexmap.specs.IndexMap.{IndexMap, insert_entry, set_value_at}
 use Rattle.indexmap.proofs.MapLemmas.{Found-position}
 use Rattle.ob_requests.specs.Words.{with_number}
-use Rattle.ob_requests.specs.Tables.{number_among, number_or, has_word, IsAt, IsKept}
+use Rattle.ob_requests.specs.Tables.{number_among, number_or, IsAt, IsKept}
 
 abbrev Entries : Type 0 → Type 0
 Entries N = List (Vec ℕ Global × N)

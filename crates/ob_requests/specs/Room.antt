@@ -4,6 +4,8 @@
 use Rattle.std.specs.Prelude.{◌≡◌, ℕ, true, List}
 use Rattle.ob_lines.specs.declared.change.Change.{Change}
 use Rattle.ob_lines.specs.declared.change.Change.TheVariants as change
+use Rattle.ob_lines.specs.declared.request.Request.{Request}
+use Rattle.ob_lines.specs.Changes.{change_of}
 use Rattle.ob_requests.specs.declared.words.Words.{Words}
 use Rattle.ob_requests.specs.Tables.{HasRoom, has_word, words_in}
 
@@ -16,3 +18,18 @@ HasRoomFor words process (change.GivesUp word) = Unit {0}
 HasRoomFor words process (change.TurnsPage word) = HasRoom words.contexts process word
 HasRoomFor words process change.GivesAllUp = Unit {0}
 HasRoomFor words process (change.SetsProcess word inherit) = has_word words.processes word ≡ true
+
+-- room is made for what is changed: where a word is set, or the context of its page
+abbrev pub NeedsRoom : Change (List ℕ) → Type 0
+NeedsRoom change.Nothing = ⊥
+NeedsRoom (change.Sets word) = Unit {0}
+NeedsRoom (change.SetsFor to word) = Unit {0}
+NeedsRoom (change.GivesUp word) = ⊥
+NeedsRoom (change.TurnsPage word) = Unit {0}
+NeedsRoom change.GivesAllUp = ⊥
+NeedsRoom (change.SetsProcess word inherit) = Unit {0}
+
+-- A request takes memory before its command is started: for that room, or for the texts in it, which are those of
+-- creates and opens.
+abbrev pub Grows : Request (List ℕ) → Type 0
+Grows request = NeedsRoom (change_of request)

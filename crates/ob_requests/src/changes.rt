@@ -1,9 +1,9 @@
 //! The words that a reply changes, and the room for them.
 
-ghost use Rattle.std.specs.Prelude.{◌≡◌, OnOk};
+ghost use Rattle.std.specs.Prelude.{◌≡◌, OnOk, OnErr};
 ghost use Rattle.ob_lines.specs.Changes.{change_seen};
 ghost use Rattle.ob_requests.specs.Commands.{applied, given_handle, given_process, with_page};
-ghost use Rattle.ob_requests.specs.Room.{HasRoomFor};
+ghost use Rattle.ob_requests.specs.Room.{HasRoomFor, NeedsRoom};
 ghost use Rattle.ob_requests.specs.Tables.{words_in, HasRoom};
 
 use crate::words::Words;
@@ -14,10 +14,12 @@ use std::alloc::AllocError;
 
 impl Words {
     /// Makes room for what a reply to a process changes, so that no reply is lost for lack of memory; but a child's own
-    /// words have none yet. No word changes. The only fault is out of memory. Source: this profile.
+    /// words have none yet. No word changes. The only fault is out of memory, where a word is set, or the context of its page.
+    /// Source: this profile.
     pub fn make_room(&mut self, process: Proc, change: Change<&[u8]>) -> Result<(), AllocError>
         ensures same { words_in self.new ≡ words_in self.old }
         ensures room { OnOk result (HasRoomFor self.new process (change_seen change.entry)) }
+        ensures needs { OnErr result (NeedsRoom (change_seen change.entry)) }
     {
         match change {
             Change::Nothing => Ok(()),

@@ -1,9 +1,10 @@
 //! The command that a request spells.
 
-ghost use Rattle.std.specs.Prelude.{◌≡◌, ◌+◌, min, IfOk};
+ghost use Rattle.std.specs.Prelude.{◌≡◌, ◌+◌, min, IfOk, OnErr};
 ghost use Rattle.ob_parts.specs.Parts.{offset_value, text_of, name_seen, place_seen, handle_seen};
 ghost use Rattle.ob_lines.specs.Grammar.{HasPlaceText, HasTexts, request_seen};
 ghost use Rattle.ob_parts.specs.Text.{IsText, Spells};
+ghost use Rattle.ob_requests.specs.Room.{Grows};
 ghost use Rattle.ob_requests.specs.Tables.{words_in};
 ghost use Rattle.ob_requests.specs.Commands.{greatest_named, kind_meant, handle_meant, root_of, IsCommand, IsCreateDirectory, IsCreateLink, IsCreateObject, IsOpenDirectory, IsOpenLink, IsOpenObject, IsPlace};
 
@@ -30,12 +31,13 @@ pub struct Asker<'a> {
 /// The command that a request spells, or out of memory. (this profile)
 pub type Asked = Result<Command<StandardKind>, AllocError>;
 
-/// The command that a request of a process spells, with the words of the script. The only fault is want
-/// of memory. Source: this profile.
+/// The command that a request of a process spells, with the words of the script. The only fault is out of memory, for
+/// the texts of a create or an open. Source: this profile.
 pub fn command_of(asker: &Asker<'_>, request: Request<&[u8]>) -> Asked
     requires texts { HasTexts (request_seen request) }
-    ensures { IfOk result (IsCommand (request_seen request.entry)
+    ensures command { IfOk result (IsCommand (request_seen request.entry)
         (words_in asker.now.words.now) asker.now.process) }
+    ensures grows { OnErr result (Grows (request_seen request.entry)) }
 {
     match request {
         Request::CreateDirectory { place, attrs, .. } => create_directory(asker, place, attrs),

@@ -123,7 +123,7 @@ module _ {K T F I : Type 0} (g : Procedures K T F I) where
 
   pub falters_awaits : (event : Event K) (steps : List (Made K)) (s t : State K T F I) (parse : ToRun F)
       → IsSound s → IsNoEnd parse.ticket event → IsParseOf s parse → Falters g event steps s t → IsParseOf t parse
-  falters_awaits event [] s t parse sound other h same = subst (λ (w : State K T F I). IsParseOf w parse) (sym same) h
+  falters_awaits event [] s t parse sound other h (same, may) = subst (λ (w : State K T F I). IsParseOf w parse) (sym same) h
   falters_awaits event (step ∷ steps) s t parse sound other h (n, u, asked, answered, made, does) =
       let first : Step g s event step.1 u = subst (λ e. Step g s e step.1 u) asked made in
       let ticketed : Step g s event (Ticket n) u = subst (λ a. Step g s event a u) answered first in

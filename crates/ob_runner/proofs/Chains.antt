@@ -36,7 +36,7 @@ module _ {K T F I : Type 0} (g : Procedures K T F I) where
       gives_up_sound m steps u t (step_sound g s u step.0 step.1 sound made) h
 
   pub falters_sound : (event : Event K) (steps : List (Made K)) (s t : State K T F I) → IsSound s → Falters g event steps s t → IsSound t
-  falters_sound event [] s t sound same = subst IsSound (sym same) sound
+  falters_sound event [] s t sound (same, may) = subst IsSound (sym same) sound
   falters_sound event (step ∷ steps) s t sound (n, u, asked, answered, made, h) =
       gives_up_sound n steps u t (step_sound g s u step.0 step.1 sound made) h
 
@@ -88,7 +88,7 @@ module _ {K T F I : Type 0} (g : Procedures K T F I) where
 
   pub falters_run : (event : Event K) (steps : List (Made K)) (s t : State K T F I) (count : ℕ) (rest : List (Entry K)) (w : State K T F I)
       → Falters g event steps s t → RunFrom g t (behind count steps) rest w → RunFrom g s count (entered count steps ++ rest) w
-  falters_run event [] s t count rest w same run = subst (λ x. RunFrom g x count rest w) same run
+  falters_run event [] s t count rest w (same, may) run = subst (λ x. RunFrom g x count rest w) same run
   falters_run event (step ∷ steps) s t count rest w (n, u, asked, answered, made, h) run = (u, refl, made, gives_up_run n steps u t (count + 1) rest w h run)
 
 -- they are of these entries

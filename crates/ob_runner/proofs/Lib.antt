@@ -11,3 +11,4 @@ pub mod Results
 pub mod Kept
 pub mod Beside
 pub mod Repeated
+pub mod Memory

@@ -2,7 +2,7 @@
 -- memory is wanted on the way, and what waits is given up.
 --
 -- Source: Windows Internals, Object Manager (parse methods); that a parse is run between two steps is this profile.
-use Rattle.std.specs.Prelude.{◌≡◌, ℕ, List, [], ◌∷◌, ◌⊎◌}
+use Rattle.std.specs.Prelude.{◌≡◌, ℕ, true, List, [], ◌∷◌, ◌⊎◌}
 use Rattle.ob_base.specs.declared.status.Status.TheVariants.{Success}
 use Rattle.ob_model.specs.declared.reply.Answer.{Answer}
 use Rattle.ob_model.specs.declared.reply.Answer.TheVariants.{Done, Ticket}
@@ -16,6 +16,8 @@ use Rattle.ob_model.specs.Refusals.{answers}
 use Rattle.ob_model.specs.Run.{Entry}
 use Rattle.ob_model.specs.State.{State}
 use Rattle.ob_model.specs.Step.{Step}
+use Rattle.ob_space.specs.Early.{TakesNoMemory, is_refused_early}
+use Rattle.ob_space.specs.Found.{IsRefusedAtFound}
 
 -- a step that was made: its event, and what it was answered
 abbrev pub Made : Type 0 → Type 0
@@ -54,10 +56,17 @@ module _ {K T F I : Type 0} (g : Procedures K T F I) where
       ⊎ ((parse : ParseRun) × (m : ℕ) × (u : State K T F I) × HasRun parse × (step.0 ≡ Resume n parse) × (step.1 ≡ Ticket m)
       × Step g s step.0 step.1 u × GivesUp m steps u t)
 
+  -- The step of an event may want memory: a command that takes some, and isn't refused before anything grows; and the
+  -- end of a parse, but not an abandon.
+  abbrev pub MayFalter : State K T F I → Event K → Type 0
+  MayFalter s (Start p command) = (TakesNoMemory command → ⊥) × (is_refused_early s p command ≡ true → ⊥) × (IsRefusedAtFound g s p command → ⊥)
+  MayFalter s (Resume n parse) = Unit {0}
+  MayFalter s (Abandon n parse) = ⊥
+
   -- Memory was wanted while an event was run to its reply: at once, and then no step was made, or behind a ticket,
   -- and then the open that waits is given up.
   abbrev pub Falters : Event K → List (Made K) → State K T F I → State K T F I → Type 0
-  Falters event [] s t = t ≡ s
+  Falters event [] s t = (t ≡ s) × MayFalter s event
   Falters event (step ∷ steps) s t =
       (n : ℕ) × (u : State K T F I) × (step.0 ≡ event) × (step.1 ≡ Ticket n) × Step g s step.0 step.1 u × GivesUp n steps u t
 

@@ -1,8 +1,9 @@
 //! A command from its start to its reply.
 
-ghost use Rattle.std.specs.Prelude.{◌≡◌, List, IfOk, OnErr};
+ghost use Rattle.std.specs.Prelude.{◌≡◌, List, IsOk, IfOk, OnErr};
 ghost use Rattle.ob_model.specs.declared.reply.Event.TheVariants.{Start, Resume};
 ghost use Rattle.ob_model.specs.declared.reply.ParseRun.{ParseRun};
+ghost use Rattle.ob_space.specs.Early.{TakesNoMemory};
 ghost use Rattle.ob_opens.specs.Waiting.{IsParseOf};
 ghost use Rattle.ob_runner.specs.Completes.{Made, HasRun, Completes, GivesUp, Falters};
 
@@ -18,8 +19,9 @@ use std::alloc::{AllocError, Global};
 /// brought, and so is each that the open waits for then: at most 33, since each takes one of the 32 reparses of a
 /// name. Nothing else is done between these steps.
 ///
-/// The only fault is out of memory. Where it came before the first step, nothing has changed; where an open waits for a
-/// parse, that open is given up, which is a step of its own. A parse that finds no memory is no fault: its open is answered
+/// The only fault is out of memory. Where it came before the first step, nothing has changed, and the command is none that
+/// is refused before anything grows; where an open waits for a parse, that open is given up, which is a step of its own.
+/// There is none for a close, the end of a process, and making an object permanent or temporary. A parse that finds no memory is no fault: its open is answered
 /// `NoMemory`.
 ///
 /// Source: Windows Internals, Object Manager (parse methods); that a parse is run between two steps is this profile.
@@ -33,6 +35,7 @@ pub fn run_command<T: TypeSet, H: HandleTable>(
         × Completes T.procedures (Start process command.now) steps core.old reply core.new) }
     ensures faltered { OnErr result ((steps : List (Made T.Kind))
         × Falters T.procedures (Start process command.now) steps core.old core.new) }
+    ensures without_memory { TakesNoMemory command.now → IsOk result }
 {
     match core.start(process, command) {
         Ok(Started::Done(reply)) => Ok(reply),

@@ -111,7 +111,7 @@ finals_total s words tickets count sound waiting =
 
 pub wanting_run : (s s' : Space) (words : Words) (p : ℕ) (request : Request (List ℕ)) (steps : Steps) (count : ℕ) → WantsMemory request p words steps s s'
     → (entries : Entries) (t : Space) → RunFrom standard s' (count_behind count steps) entries t → RunFrom standard s count (entered count steps ++ entries) t
-wanting_run s s' words p request steps count (inl (none, same)) entries t run =
+wanting_run s s' words p request steps count (inl (none, same, grows)) entries t run =
     subst (λ x. RunFrom standard s count (entered count x ++ entries) t) (sym none)
     (subst (λ x. RunFrom standard x count entries t) same (subst (λ x. RunFrom standard s' (count_behind count x) entries t) none run))
 wanting_run s s' words p request steps count (inr (c, command, falters)) entries t run = falters_run standard (Start p c) steps s s' count entries t falters run

@@ -1,6 +1,6 @@
 //! The core over the standard set.
 
-ghost use Rattle.std.specs.Prelude.{◌≡◌, List, IfOk, OnErr};
+ghost use Rattle.std.specs.Prelude.{◌≡◌, List, IsOk, IfOk, OnErr};
 ghost use Rattle.std.specs.Option.{is_some, option_map};
 ghost use Rattle.ob_choices.specs.Choice.{revalued};
 ghost use Rattle.ob_core.specs.Reached.{IsJustGiven, IsReached};
@@ -11,6 +11,7 @@ ghost use Rattle.ob_model.specs.Opening.{opening};
 ghost use Rattle.ob_model.specs.Sound.{IsSound};
 ghost use Rattle.ob_model.specs.State.{held_of};
 ghost use Rattle.ob_runner.specs.Completes.{Made, Completes, Falters};
+ghost use Rattle.ob_space.specs.Early.{TakesNoMemory};
 ghost use Rattle.ob_standard.specs.Standard.{IsFresh, StandardKind, Standard as StandardSet, standard};
 ghost use Rattle.ob_standard_core.specs.Machine.{counts_of};
 
@@ -53,7 +54,7 @@ impl StandardCore {
 
     /// Runs a command of a process to its reply, and each parse that it waits for meanwhile, with nothing else done between
     /// these steps. The only fault is out of memory: before the first step, where nothing has changed, or behind steps
-    /// that give the open up.
+    /// that give the open up. There is none for a close, the end of a process, and making an object permanent or temporary.
     ///
     /// Source: Windows Internals, Object Manager (parse methods); that a parse is run between two steps is this profile.
     pub fn run(
@@ -66,6 +67,7 @@ impl StandardCore {
             × Completes standard (Start process command.now) steps self.old reply self.new) }
         ensures faltered { OnErr result ((steps : List (Made StandardKind))
             × Falters standard (Start process command.now) steps self.old self.new) }
+        ensures without_memory { TakesNoMemory command.now → IsOk result }
     {
         run_command(&mut self.core, alloc, process, command)
     }

@@ -19,7 +19,7 @@ returns-in_err-begun-clause-stopped c =
       (
         inr (
           c.in_ok-command.command,
-          subst (λ (w : Words). IsOpenObject c.args.asked.0 (name_seen c.args.asked.1) c.args.asked.2 (w.values c.args.process) c.in_ok-command.command) same c.in_ok-command.ensures,
+          subst (λ (w : Words). IsOpenObject c.args.asked.0 (name_seen c.args.asked.1) c.args.asked.2 (w.values c.args.process) c.in_ok-command.command) same c.in_ok-command.ensures.command,
           faltered.1,
         ),
         same,
@@ -33,7 +33,7 @@ returns-clause-carried c =
         Start c.args.process c.in_ok-command.command,
         (
           c.in_ok-command.command,
-          subst (λ (w : Words). IsOpenObject c.args.asked.0 (name_seen c.args.asked.1) c.args.asked.2 (w.values c.args.process) c.in_ok-command.command) same c.in_ok-command.ensures,
+          subst (λ (w : Words). IsOpenObject c.args.asked.0 (name_seen c.args.asked.1) c.args.asked.2 (w.values c.args.process) c.in_ok-command.command) same c.in_ok-command.ensures.command,
           refl,
         ),
         c.in_ok-begun.ensures.begun,

@@ -7,6 +7,7 @@ use Rattle.ob_requests.specs.Tables.{words_in}
 use Rattle.ob_standard.specs.Standard.{standard}
 use Rattle.ob_effects.specs.Kept.{AreWaiting}
 use Rattle.ob_effects.proofs.Awaiting.{answered_waiting, unanswered_waiting, unanswered_await}
+use Rattle.ob_effects.proofs.Memory.{never_unanswered}
 use Rattle.ob_effects.proofs.session.Session.answer.Goals as goal
 
 pub returns-in-Ok-clause-kept : goal.returns-in-Ok-clause-kept
@@ -34,3 +35,7 @@ returns-in-Err-clause-kept c =
           (unanswered_waiting s t (words_in c.args.self.now.words) c.args.process (request_seen c.args.request) wanting.0 (tickets_of parses) c.state_is_sound.ensures wanting.1 c.requires.kept.waiting);
       awaited = unanswered_await s t (words_in c.args.self.now.words) c.args.process (request_seen c.args.request) wanting.0 parses c.state_is_sound.ensures wanting.1 c.requires.kept.awaited;
     }
+
+pub returns-in-Err-clause-without_memory : goal.returns-in-Err-clause-without_memory
+returns-in-Err-clause-without_memory c = λ takes.
+    never_unanswered (request_seen c.args.request) c.args.process (words_in c.args.self.now.words) c.args.self.now.core c.reply_to.new.core takes c.in-Err.ensures.wanting

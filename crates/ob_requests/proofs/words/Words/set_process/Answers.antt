@@ -1,7 +1,5 @@
 -- The word has its number, and all others stay.
-use Rattle.std.proofs.Common.{ap, ◌∙◌, ℕ}
-use Rattle.ob_requests.specs.Tables.{number_in, numbers_or, words_in}
-use Rattle.ob_requests.specs.Words.{with_process}
+use Rattle.ob_requests.specs.Tables.{number_in, numbers_or}
 use Rattle.ob_requests.proofs.Written.{process_set}
 use Rattle.ob_requests.proofs.words.Words.set_process.Goals as goal
 
