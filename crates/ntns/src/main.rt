@@ -13,7 +13,7 @@ fn main(rt: HostRuntime) -> ExitCode {
     let mut reader = rt.stdin();
     let mut writer = rt.stdout();
     let mut errors = rt.stderr();
-    let end = match env::args(&rt) {
+    let (end, _told) = match env::args(&rt) {
         Ok(words) => match words.collect::<Vec<String>>(alloc) {
             Ok(words) => serve(
                 &rt,

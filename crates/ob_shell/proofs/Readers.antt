@@ -33,9 +33,9 @@ exactly_after old mid new text limit so_far stop = record {
 pub stops_behind : (fault : ShellFault) (old mid new : Option (List ℕ)) (text : List ℕ) (limit : ℕ) → ReadsUpTo old mid text limit
     → StopsReadingAfter limit (length text) fault mid new → StopsReadingAt limit fault old new
 stops_behind TooLong old mid new text limit so_far stop = exactly_after old mid new text limit so_far stop
-stops_behind Read old mid new text limit so_far stop = at_most_after old mid new text limit so_far stop
+stops_behind (Read unread) old mid new text limit so_far stop = at_most_after old mid new text limit so_far stop
 stops_behind Memory old mid new text limit so_far stop = at_most_after old mid new text limit so_far stop
-stops_behind Write old mid new text limit so_far stop = absurd stop
+stops_behind (Write unwritten) old mid new text limit so_far stop = absurd stop
 stops_behind Mismatch old mid new text limit so_far stop = absurd stop
 
 -- the same, with the text's length by another name

@@ -35,9 +35,9 @@ pub record TakesExactly (old new : Option (List ℕ)) (count : ℕ) : Type 0 whe
 -- or, where a read failed or memory was wanting, no more than those. No other fault comes
 abbrev pub StopsReadingAt : ℕ → ShellFault → Option (List ℕ) → Option (List ℕ) → Type 0
 StopsReadingAt limit TooLong old new = TakesExactly old new (limit + 1)
-StopsReadingAt limit Read old new = TakesAtMost old new limit
+StopsReadingAt limit (Read unread) old new = TakesAtMost old new limit
 StopsReadingAt limit Memory old new = TakesAtMost old new limit
-StopsReadingAt limit Write old new = ⊥
+StopsReadingAt limit (Write unwritten) old new = ⊥
 StopsReadingAt limit Mismatch old new = ⊥
 
 -- the same, of the reading of a script
@@ -47,16 +47,16 @@ StopsReading fault old new = StopsReadingAt SCRIPT_LIMIT fault old new
 -- the same as the first, for a reading that goes on behind the bytes that it has already
 abbrev pub StopsReadingAfter : (limit had : ℕ) → ShellFault → Option (List ℕ) → Option (List ℕ) → Type 0
 StopsReadingAfter limit had TooLong old new = TakesExactly old new (limit + 1 - had)
-StopsReadingAfter limit had Read old new = TakesAtMost old new (limit - had)
+StopsReadingAfter limit had (Read unread) old new = TakesAtMost old new (limit - had)
 StopsReadingAfter limit had Memory old new = TakesAtMost old new (limit - had)
-StopsReadingAfter limit had Write old new = ⊥
+StopsReadingAfter limit had (Write unwritten) old new = ⊥
 StopsReadingAfter limit had Mismatch old new = ⊥
 
 -- how the reading of what is above the limit ends: it is told as too long, unless a read failed or memory
 -- was wanting before
 abbrev pub StopsLong : ShellFault → Type 0
 StopsLong TooLong = Unit {0}
-StopsLong Read = Unit {0}
+StopsLong (Read unread) = Unit {0}
 StopsLong Memory = Unit {0}
-StopsLong Write = ⊥
+StopsLong (Write unwritten) = ⊥
 StopsLong Mismatch = ⊥

@@ -42,8 +42,8 @@ GathersRun old new script has end =
 -- what a writer holds after a fault of a run of the script: a beginning of what it plays after a fault of
 -- the writer, and no more than before after want of memory; no other fault comes
 abbrev pub StopsPlaying : List ℕ → ShellFault → Option (List ℕ) → Option (List ℕ) → Type 0
-StopsPlaying script fault.Write old new = PlaysPartTo old new script
+StopsPlaying script (fault.Write unwritten) old new = PlaysPartTo old new script
 StopsPlaying script fault.Memory old new = new ≡ old
-StopsPlaying script fault.Read old new = ⊥
+StopsPlaying script (fault.Read unread) old new = ⊥
 StopsPlaying script fault.TooLong old new = ⊥
 StopsPlaying script fault.Mismatch old new = ⊥

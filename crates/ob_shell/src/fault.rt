@@ -1,22 +1,26 @@
 //! The faults that end a run of the shell.
 
 ghost use Rattle.std.specs.Prelude.{◌≡◌};
-ghost use Rattle.ob_shell.specs.declared.fault.ShellFault.TheVariants.{Memory};
-ghost use Rattle.ob_shell.specs.Fault.{fault_text_of};
+ghost use Rattle.std.specs.IoError.{error_kind};
+ghost use Rattle.ob_shell.specs.declared.fault.ShellFault.TheVariants.{Write, Memory};
+ghost use Rattle.ob_shell.specs.Fault.{fault_text_of, unread_of};
 
+use crate::writing::Unwritten;
 use std::alloc::{AllocError, AllocFailed};
+use std::io;
+use std::io::ErrorKind;
 use thiserror::Error;
 
 /// Why a run of the shell ended before its script did. What stands after one is said by the call
 /// that tells it. (this profile)
-#[derive(Clone, Copy, PartialEq, Eq, Debug, Error)]
+#[derive(PartialEq, Eq, Debug, Drop, Error)]
 #[error("{}", self.text())]
 pub enum ShellFault {
     /// A read of the input failed, or was interrupted.
-    Read,
+    Read(Unread),
     /// A write of the output failed, was interrupted, or took no byte. A beginning of the output
     /// was written.
-    Write,
+    Write(Unwritten),
     /// The input is longer than the shell reads.
     TooLong,
     /// Memory was wanted and there was none.
@@ -33,8 +37,8 @@ impl ShellFault {
         ensures { result.now ≡ fault_text_of self.now }
     {
         match self {
-            ShellFault::Read => "cannot read",
-            ShellFault::Write => "cannot write",
+            ShellFault::Read(_) => "cannot read",
+            ShellFault::Write(_) => "cannot write",
             ShellFault::TooLong => "input too long",
             ShellFault::Memory => "want of memory",
             ShellFault::Mismatch => "journal mismatch",
@@ -42,7 +46,30 @@ impl ShellFault {
     }
 }
 
-/// Want of memory is the fault `Memory`, so that `?` passes it on.
+/// Why input was not read: the kind of the error that a reader, or what opens one, answered. (this profile)
+#[derive(PartialEq, Eq, Debug, Drop)]
+pub struct Unread {
+    kind: ErrorKind,
+}
+
+impl From<io::Error> for Unread {
+    ghost from_gives = { λ error unread. unread ≡ unread_of (error_kind error) };
+
+    fn from(error: io::Error) -> Unread {
+        Unread { kind: error.kind() }
+    }
+}
+
+/// What was not written is the fault `Write`, so that `?` passes it on.
+impl From<Unwritten> for ShellFault {
+    ghost from_gives = { λ unwritten fault. fault ≡ Write unwritten };
+
+    fn from(unwritten: Unwritten) -> ShellFault {
+        ShellFault::Write(unwritten)
+    }
+}
+
+/// So is want of memory the fault `Memory`.
 impl From<AllocError> for ShellFault {
     ghost from_gives = { λ _ fault. fault ≡ Memory };
 
@@ -51,7 +78,7 @@ impl From<AllocError> for ShellFault {
     }
 }
 
-/// So is an element that found no memory to be stored in; the element is dropped.
+/// And an element that found no memory to be stored in; the element is dropped.
 impl<T: Drop> From<AllocFailed<T>> for ShellFault {
     ghost from_gives = { λ _ fault. fault ≡ Memory };
 

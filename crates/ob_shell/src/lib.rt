@@ -8,8 +8,8 @@ mod reading;
 mod run;
 mod writing;
 
-pub use fault::ShellFault;
+pub use fault::{ShellFault, Unread};
 pub use laws::{offsets_are_added_in_full, shown_law};
 pub use reading::{SCRIPT_LIMIT, read_all, read_script};
 pub use run::{Ending, run_script};
-pub use writing::write_out;
+pub use writing::{Unwritten, write_out};

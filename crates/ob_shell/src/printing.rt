@@ -1,14 +1,12 @@
 //! Writing what became of a line.
 
-ghost use Rattle.std.specs.Prelude.{◌≡◌, ◌≤◌, ◌++◌, vec_capacity, OnOk, OnErr, IfErr};
-ghost use Rattle.ob_shell.specs.declared.fault.ShellFault.TheVariants.{Write};
+ghost use Rattle.std.specs.Prelude.{◌≡◌, ◌≤◌, ◌++◌, vec_capacity, OnOk, OnErr};
 ghost use Rattle.ob_shell.specs.Writing.{AppendsFront, Gathers};
 ghost use Rattle.ob_output.specs.Printed.{output_line, status_text, printed_bytes, entry_text, entries_text, given_text, reply_text};
 ghost use Rattle.ob_shell.specs.Running.{outcome_text};
 ghost use Rattle.ob_model.specs.declared.reply.Given.TheVariants.{Text};
 
-use crate::fault::ShellFault;
-use crate::writing::gather;
+use crate::writing::{Unwritten, gather};
 use ob_base::Status;
 use ob_effects::LineOutcome;
 use ob_model::{Entries, Given, Listed, Reply};
@@ -24,11 +22,10 @@ pub fn write_outcome<W: Write>(
     block: &mut Vec<u8>,
     number: u64,
     outcome: &LineOutcome,
-) -> Result<(), ShellFault>
+) -> Result<(), Unwritten>
     requires { 192 ≤ vec_capacity block.old }
     ensures ok { OnOk result (Gathers (W.contents writer.old)
         (W.contents writer.new) block.old.items (outcome_text number outcome.now) block.new.items) }
-    ensures fault { IfErr result (λ fault. fault ≡ Write) }
     ensures front { OnErr result (AppendsFront (W.contents writer.old) (W.contents writer.new)
         (block.old.items ++ outcome_text number outcome.now)) }
     ensures capacity { vec_capacity block.old ≤ vec_capacity block.new }
@@ -64,12 +61,11 @@ fn write_reply<W: Write>(
     block: &mut Vec<u8>,
     number: u64,
     reply: &Reply,
-) -> Result<(), ShellFault>
+) -> Result<(), Unwritten>
     requires { 192 ≤ vec_capacity block.old }
     ensures ok { OnOk result (Gathers (W.contents writer.old)
         (W.contents writer.new) block.old.items (output_line number
         (reply_text reply.now)) block.new.items) }
-    ensures fault { IfErr result (λ fault. fault ≡ Write) }
     ensures front { OnErr result (AppendsFront (W.contents writer.old) (W.contents writer.new)
         (block.old.items ++ output_line number (reply_text reply.now))) }
     ensures capacity { vec_capacity block.old ≤ vec_capacity block.new }
@@ -90,12 +86,11 @@ fn write_text<W: Write>(
     number: u64,
     status: Status,
     text: &[u8],
-) -> Result<(), ShellFault>
+) -> Result<(), Unwritten>
     requires { 192 ≤ vec_capacity block.old }
     ensures ok { OnOk result (Gathers (W.contents writer.old)
         (W.contents writer.new) block.old.items
         (output_line number (status_text status ++ given_text (Text text.now))) block.new.items) }
-    ensures fault { IfErr result (λ fault. fault ≡ Write) }
     ensures front { OnErr result (AppendsFront (W.contents writer.old) (W.contents writer.new)
         (block.old.items ++ output_line number (status_text status
         ++ given_text (Text text.now)))) }
@@ -113,12 +108,11 @@ fn write_page<W: Write>(
     number: u64,
     status: Status,
     entries: &Entries,
-) -> Result<(), ShellFault>
+) -> Result<(), Unwritten>
     requires { 192 ≤ vec_capacity block.old }
     ensures ok { OnOk result (Gathers (W.contents writer.old)
         (W.contents writer.new) block.old.items
         (output_line number (status_text status ++ entries_text entries.now)) block.new.items) }
-    ensures fault { IfErr result (λ fault. fault ≡ Write) }
     ensures front { OnErr result (AppendsFront (W.contents writer.old) (W.contents writer.new)
         (block.old.items ++ output_line number (status_text status ++ entries_text entries.now))) }
     ensures capacity { vec_capacity block.old ≤ vec_capacity block.new }
@@ -133,11 +127,10 @@ fn write_entries<W: Write>(
     writer: &mut W,
     block: &mut Vec<u8>,
     entries: &[Listed],
-) -> Result<(), ShellFault>
+) -> Result<(), Unwritten>
     requires { 192 ≤ vec_capacity block.old }
     ensures ok { OnOk result (Gathers (W.contents writer.old)
         (W.contents writer.new) block.old.items (entries_text entries.now) block.new.items) }
-    ensures fault { IfErr result (λ fault. fault ≡ Write) }
     ensures front { OnErr result (AppendsFront (W.contents writer.old) (W.contents writer.new)
         (block.old.items ++ entries_text entries.now)) }
     ensures capacity { vec_capacity block.old ≤ vec_capacity block.new }
@@ -153,11 +146,10 @@ fn write_entry<W: Write>(
     writer: &mut W,
     block: &mut Vec<u8>,
     entry: &Listed,
-) -> Result<(), ShellFault>
+) -> Result<(), Unwritten>
     requires { 192 ≤ vec_capacity block.old }
     ensures ok { OnOk result (Gathers (W.contents writer.old)
         (W.contents writer.new) block.old.items (entry_text entry.now) block.new.items) }
-    ensures fault { IfErr result (λ fault. fault ≡ Write) }
     ensures front { OnErr result (AppendsFront (W.contents writer.old) (W.contents writer.new)
         (block.old.items ++ entry_text entry.now)) }
     ensures capacity { vec_capacity block.old ≤ vec_capacity block.new }
@@ -173,11 +165,10 @@ fn write_printed<W: Write>(
     writer: &mut W,
     block: &mut Vec<u8>,
     text: &[u8],
-) -> Result<(), ShellFault>
+) -> Result<(), Unwritten>
     requires { 192 ≤ vec_capacity block.old }
     ensures ok { OnOk result (Gathers (W.contents writer.old)
         (W.contents writer.new) block.old.items (printed_bytes text.now) block.new.items) }
-    ensures fault { IfErr result (λ fault. fault ≡ Write) }
     ensures front { OnErr result (AppendsFront (W.contents writer.old) (W.contents writer.new)
         (block.old.items ++ printed_bytes text.now)) }
     ensures capacity { vec_capacity block.old ≤ vec_capacity block.new }
@@ -188,18 +179,17 @@ fn write_printed<W: Write>(
         let part = printed_part(&rest[..count]);
         match gather(writer, block, part.as_slice()) {
             Ok(()) => rest = &rest[count..],
-            Err(fault) => return Err(fault),
+            Err(unwritten) => return Err(unwritten),
         }
     }
     Ok(())
 }
 
 // Writes the bytes of a text as they are, by way of the block.
-fn write_plain<W: Write>(writer: &mut W, block: &mut Vec<u8>, text: &[u8]) -> Result<(), ShellFault>
+fn write_plain<W: Write>(writer: &mut W, block: &mut Vec<u8>, text: &[u8]) -> Result<(), Unwritten>
     requires { 192 ≤ vec_capacity block.old }
     ensures ok { OnOk result (Gathers (W.contents writer.old)
         (W.contents writer.new) block.old.items text.now block.new.items) }
-    ensures fault { IfErr result (λ fault. fault ≡ Write) }
     ensures front { OnErr result (AppendsFront (W.contents writer.old) (W.contents writer.new)
         (block.old.items ++ text.now)) }
     ensures capacity { vec_capacity block.old ≤ vec_capacity block.new }

@@ -3,7 +3,7 @@
 ghost use Rattle.std.specs.Prelude.{◌≡◌, ◌+◌, ◌<◌, ◌≤◌, ◌^◌, IfOk, IfErr, OnOk, IsErr, IfSome, IsErrOf, length, vec_len};
 ghost use Rattle.ob_shell.specs.Reading.{ReadsWhole, ReadsMore, StopsReading, StopsReadingAfter, StopsReadingAt};
 
-use crate::ShellFault;
+use crate::fault::{ShellFault, Unread};
 use std::alloc::Global;
 use std::io::Read;
 
@@ -86,10 +86,10 @@ fn take_more<R: Read>(reader: &mut R, text: &mut Vec<u8>, limit: usize) -> Resul
     let left = limit - text.len();
     let asked = if left < CHUNK { left + 1 } else { CHUNK };
     match reader.read(&mut chunk[..asked]) {
-        Err(_) => Err(ShellFault::Read),
+        Err(error) => Err(ShellFault::Read(Unread::from(error))),
         Ok(count) if left < count => Err(ShellFault::TooLong),
         Ok(count) => match text.extend_from_slice(&chunk[..count]) {
-            Err(_) => Err(ShellFault::Memory),
+            Err(want) => Err(ShellFault::from(want)),
             Ok(()) => Ok(count),
         },
     }

@@ -1,6 +1,7 @@
 //! The run of a script.
 
-ghost use Rattle.std.specs.Prelude.{◌≡◌, ◌≢◌, ◌+◌, ◌<◌, ◌≤◌, [], ◌++◌, length, vec_capacity, IfOk, IfErr, OnOk, OnErr, IsErr, IfSome, IsErrOf};
+ghost use Rattle.std.specs.Prelude.{◌≡◌, ◌≢◌, ◌+◌, ◌<◌, ◌≤◌, false, [], ◌++◌, length, vec_capacity, IfOk, IfErr, OnOk, OnErr, IsErr, IfSome, IsErrOf};
+ghost use Rattle.ob_shell.specs.Fault.{is_unwritten};
 ghost use Rattle.ob_shell.specs.Reading.{StopsLong, TakesAtMost};
 ghost use Rattle.ob_shell.specs.Writing.{AppendsFront, Gathers};
 ghost use Rattle.ob_shell.specs.Shown.{PlaysTo, PlaysPartTo};
@@ -10,7 +11,7 @@ ghost use Rattle.ob_shell.specs.Running.{outcome_text, outcome_end, GathersRun, 
 use crate::fault::ShellFault;
 use crate::printing::write_outcome;
 use crate::reading::{SCRIPT_LIMIT, read_script};
-use crate::writing::write_out;
+use crate::writing::{Unwritten, write_out};
 use ob_effects::{LineOutcome, Session};
 use ob_lines::read_line;
 use std::alloc::Global;
@@ -52,11 +53,12 @@ pub fn run_script<R: Read, W: Write>(
 
     // After a fault of the writer: a beginning of what lines of the script from its first on play, and not all
     // of it; and where the whole script is run, it plays that and goes on from there, or has ended there.
-    ensures part { IsErrOf result ShellFault.Write → IfSome (R.remaining reader.old) (λ script.
+    ensures part { (unwritten : _) → IsErrOf result (ShellFault.Write unwritten) →
+        IfSome (R.remaining reader.old) (λ script.
         PlaysPartTo (W.contents writer.old) (W.contents writer.new) script) }
 
     // After any other fault nothing was written.
-    ensures unwritten { IfErr result (λ fault. fault ≢ ShellFault.Write →
+    ensures unwritten { IfErr result (λ fault. is_unwritten fault ≡ false →
         W.contents writer.new ≡ W.contents writer.old) }
 
     // Those are all the faults that there are.
@@ -96,7 +98,7 @@ fn run_text<W: Write>(alloc: Global, script: &[u8], writer: &mut W) -> Result<En
     match run_lines(alloc, script, writer, &mut block) {
         Ok(ending) => match write_out(writer, block.as_slice()) {
             Ok(()) => Ok(ending),
-            Err(unwritten) => Err(unwritten),
+            Err(unwritten) => Err(ShellFault::Write(unwritten)),
         },
         Err(fault) => Err(fault),
     }
@@ -124,7 +126,10 @@ fn run_lines<W: Write>(
     };
     let ended = play(&mut session, script, writer, block);
     session.end();
-    ended
+    match ended {
+        Ok(ending) => Ok(ending),
+        Err(unwritten) => Err(ShellFault::Write(unwritten)),
+    }
 }
 
 // Runs the lines of a script in a session in which nothing was done, and gathers what they show in the block.
@@ -133,7 +138,7 @@ fn play<W: Write>(
     script: &[u8],
     writer: &mut W,
     block: &mut Vec<u8>,
-) -> Result<Ending, ShellFault>
+) -> Result<Ending, Unwritten>
     requires first { IsFirst session.old }
     requires kept { IsSession session.old }
     requires script { length script.now ≤ SCRIPT_LIMIT }
@@ -143,8 +148,8 @@ fn play<W: Write>(
     ensures played { IfOk result (λ ending.
         GathersRun (W.contents writer.old)
         (W.contents writer.new) script.now block.new.items ending) }
-    ensures fault { IfErr result (λ fault.
-        StopsPlaying script.now fault (W.contents writer.old) (W.contents writer.new)) }
+    ensures part { OnErr result
+        (PlaysPartTo (W.contents writer.old) (W.contents writer.new) script.now) }
 {
     let mut rest = script;
     let mut number: u64 = 0;
@@ -154,7 +159,7 @@ fn play<W: Write>(
         match show(writer, block, number, outcome) {
             Ok(None) => {}
             Ok(Some(ending)) => return Ok(ending),
-            Err(fault) => return Err(fault),
+            Err(unwritten) => return Err(unwritten),
         }
         rest = behind;
     }
@@ -167,19 +172,18 @@ fn show<W: Write>(
     block: &mut Vec<u8>,
     number: u64,
     outcome: LineOutcome,
-) -> Result<Option<Ending>, ShellFault>
+) -> Result<Option<Ending>, Unwritten>
     requires { 192 ≤ vec_capacity block.old }
     ensures ending { IfOk result (λ ending. ending ≡ outcome_end number outcome) }
     ensures ok { OnOk result (Gathers (W.contents writer.old)
         (W.contents writer.new) block.old.items (outcome_text number outcome) block.new.items) }
-    ensures fault { IfErr result (λ fault. fault ≡ ShellFault.Write) }
     ensures front { OnErr result (AppendsFront (W.contents writer.old) (W.contents writer.new)
         (block.old.items ++ outcome_text number outcome)) }
     ensures capacity { vec_capacity block.old ≤ vec_capacity block.new }
 {
     match write_outcome(writer, block, number, &outcome) {
         Ok(()) => Ok(ending_of(number, &outcome)),
-        Err(fault) => Err(fault),
+        Err(unwritten) => Err(unwritten),
     }
 }
 

@@ -1,41 +1,47 @@
 //! Writing the output: in blocks, each of them once.
 
-ghost use Rattle.std.specs.Prelude.{◌≡◌, ◌+◌, ◌≤◌, ◌++◌, length, vec_len, vec_capacity, OnOk, OnErr, IfErr};
+ghost use Rattle.std.specs.Prelude.{◌≡◌, ◌+◌, ◌≤◌, ◌++◌, length, vec_len, vec_capacity, OnOk, OnErr};
 ghost use Rattle.std.specs.Io.KnownBytes.{Appends};
 ghost use Rattle.ob_shell.specs.Writing.{AppendsFront, Gathers};
 
-use crate::ShellFault;
-use std::io::Write;
+use std::io::{ErrorKind, Write};
+
+/// Why bytes were not written: the kind of the error that a writer answered, or that it took no byte. Only a write
+/// that failed so makes one, and none is made twice: what holds one has met such a write. (this profile)
+#[derive(PartialEq, Eq, Debug, Drop)]
+pub struct Unwritten {
+    kind: ErrorKind,
+}
 
 /// Writes the bytes, all and in order, and nothing else.
 ///
-/// Each write is made once: one that is interrupted, that fails or that takes no byte is the fault
-/// `Write`, the only one. After it a beginning of the bytes was written, and not all of them. It
+/// Each write is made once: one that is interrupted, that fails or that takes no byte is the only fault.
+/// After it a beginning of the bytes was written, and not all of them. It
 /// returns whatever the writer does; no bytes are written without a call of the writer. The writer
 /// is not flushed. (this profile)
-pub fn write_out<W: Write>(writer: &mut W, bytes: &[u8]) -> Result<(), ShellFault>
+pub fn write_out<W: Write>(writer: &mut W, bytes: &[u8]) -> Result<(), Unwritten>
     ensures ok { OnOk result (Appends (W.contents writer.old) (W.contents writer.new) bytes.now) }
-    ensures fault { IfErr result (λ fault. fault ≡ ShellFault.Write) }
     ensures front { OnErr result
         (AppendsFront (W.contents writer.old) (W.contents writer.new) bytes.now) }
 {
     let mut rest = bytes;
     while !rest.is_empty() {
         match writer.write(rest) {
-            Ok(0) => return Err(ShellFault::Write),
+            Ok(0) => return Err(Unwritten {
+                kind: ErrorKind::WriteZero,
+            }),
             Ok(count) => rest = &rest[count..],
-            Err(_) => return Err(ShellFault::Write),
+            Err(error) => return Err(Unwritten { kind: error.kind() }),
         }
     }
     Ok(())
 }
 
 // Gathers the bytes in a block. Where the block has no room for them, it is written and emptied first.
-pub fn gather<W: Write>(writer: &mut W, block: &mut Vec<u8>, bytes: &[u8]) -> Result<(), ShellFault>
+pub fn gather<W: Write>(writer: &mut W, block: &mut Vec<u8>, bytes: &[u8]) -> Result<(), Unwritten>
     requires { length bytes.now ≤ vec_capacity block.old }
     ensures ok { OnOk result (Gathers (W.contents writer.old)
         (W.contents writer.new) block.old.items bytes.now block.new.items) }
-    ensures fault { IfErr result (λ fault. fault ≡ ShellFault.Write) }
     ensures front { OnErr result
         (AppendsFront (W.contents writer.old) (W.contents writer.new) (block.old.items
         ++ bytes.now)) }
@@ -51,6 +57,6 @@ pub fn gather<W: Write>(writer: &mut W, block: &mut Vec<u8>, bytes: &[u8]) -> Re
     }
     match block.extend_from_slice(bytes) {
         Ok(()) => Ok(()),
-        Err(_) => Err(ShellFault::Write),
+        Err(_) => unreachable!(),
     }
 }

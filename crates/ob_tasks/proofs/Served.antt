@@ -6,14 +6,15 @@ use Rattle.clap.specs.declared.error.kind.ErrorKind.TheVariants.{OutOfMemory}
 use Rattle.ob_words.specs.Plan.{ntns}
 use Rattle.ob_tasks.specs.declared.end.End.{End}
 use Rattle.ob_tasks.specs.Opening.{Opened}
+use Rattle.ob_tasks.specs.Perform.{Told}
 use Rattle.ob_tasks.specs.Serve.{Refuses, Serves}
 
 -- a fault that the parser states for the words, or want of memory, is told as its kind is
-pub serves_fault : (gives : Text → Opened → Type 0) (words : List Text) (fault : Error) (end : End) (input written written' told told' : Option (List ℕ))
+pub serves_fault : (gives : Text → Opened → Type 0) (words : List Text) (fault : Error) (end : End) (line : Told) (input written written' told told' : Option (List ℕ))
     → HasKind (fault_of ntns words) fault → (takes ntns words ≡ true → kind_of fault ≡ OutOfMemory)
-    → Refuses (kind_of fault) end written written' told told' → Serves gives words end input written written' told told'
-serves_fault gives words fault end input written written' told told' (inl want) taken refused = inr (inr (refused.want want))
-serves_fault gives words fault end input written written' told told' (inr stated) taken refused = inr (inl (record {
+    → Refuses (kind_of fault) end line written written' told told' → Serves gives words end line input written written' told told'
+serves_fault gives words fault end line input written written' told told' (inl want) taken refused = inr (inr (refused.want want))
+serves_fault gives words fault end line input written written' told told' (inr stated) taken refused = inr (inl (record {
   kind = kind_of fault;
   stated = stated;
   taken = taken;

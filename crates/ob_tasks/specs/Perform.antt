@@ -1,8 +1,8 @@
 -- How a task is done: how it ends, and what it says on standard error.
 -- Source: this profile.
-use Rattle.std.specs.Prelude.{◌≡◌, ◌≢◌, ◌<◌, ◌⊎◌, ℕ, List, ◌++◌, length, Option, Some, None, Result, Ok, Err, IfOk, IfErr, IsErr, IsErrOf, IfSome, codes}
+use Rattle.std.specs.Prelude.{◌≡◌, ◌≢◌, ◌<◌, ℕ, false, List, ◌++◌, length, Option, Some, None, Result, Ok, Err, IfOk, IfErr, OnOk, OnErr, IsErr, IsErrOf, IfSome, codes}
 use Rattle.std.specs.Io.KnownBytes.{Appends, Keeps}
-use Rattle.ob_shell.specs.Fault.{fault_text_of}
+use Rattle.ob_shell.specs.Fault.{fault_text_of, is_unwritten}
 use Rattle.ob_shell.specs.Reading.{StopsLong}
 use Rattle.ob_shell.specs.Shown.{PlaysTo, PlaysPartTo}
 use Rattle.ob_shell.specs.Writing.{AppendsFront}
@@ -10,6 +10,7 @@ use Rattle.ob_shell.specs.declared.fault.ShellFault.{ShellFault}
 use Rattle.ob_shell.specs.declared.fault.ShellFault.TheVariants.{Memory, Write, TooLong, Mismatch}
 use Rattle.ob_shell.specs.declared.reading.TheConstants.{SCRIPT_LIMIT}
 use Rattle.ob_shell.specs.declared.run.Ending.{Ending}
+use Rattle.ob_shell.specs.declared.writing.Unwritten.{Unwritten}
 use Rattle.ob_tasks.specs.declared.end.Ended.{Ended}
 use Rattle.ob_tasks.specs.declared.end.Ended.TheVariants as ended
 use Rattle.ob_threads.specs.Written.{IsWritten}
@@ -24,13 +25,15 @@ use Rattle.ob_words.specs.declared.planning.Task.TheVariants.{Script, Run, Threa
 abbrev pub line_of : List ℕ → List ℕ
 line_of text = codes "ntns: " ++ text ++ codes "\n"
 
--- the line was written, or a beginning of it where a write failed
-abbrev pub Says : List ℕ → Option (List ℕ) → Option (List ℕ) → Type 0
-Says text told told' = Appends told told' (line_of text) ⊎ AppendsFront told told' (line_of text)
+-- What a call answers of what it had to say on standard error: that all of it was written, or what a write that failed
+-- made, and nothing else makes.
+abbrev pub Told : Type 0
+Told = Result (Unit {0}) Unwritten
 
--- a fault's line was
-abbrev pub Complains : ShellFault → Option (List ℕ) → Option (List ℕ) → Type 0
-Complains fault told told' = Says (fault_text_of fault) told told'
+-- a fault's line was written whole; or, where a write failed, a beginning of it, and not all
+pub record Complains (fault : ShellFault) (line : Told) (told told' : Option (List ℕ)) : Type 0 where
+  pub whole : OnOk line (Appends told told' (line_of (fault_text_of fault)))
+  pub part : OnErr line (AppendsFront told told' (line_of (fault_text_of fault)))
 
 -- what standard error has to say of how a task ended, since the output doesn't: a fault, and of a run with workers, whose output
 -- is a journal, that a step found no memory or was refused
@@ -54,15 +57,16 @@ SaysFront None told told' = ⊥
 SaysFront (Some text) told told' = AppendsFront told told' (line_of text)
 
 -- so standard error is left by a task
-abbrev pub Tells : Result Ended ShellFault → Option (List ℕ) → Option (List ℕ) → Type 0
-Tells outcome told told' = SaysWhole (text_told outcome) told told' ⊎ SaysFront (text_told outcome) told told'
+pub record Tells (outcome : Result Ended ShellFault) (line : Told) (told told' : Option (List ℕ)) : Type 0 where
+  pub whole : OnOk line (SaysWhole (text_told outcome) told told')
+  pub part : OnErr line (SaysFront (text_told outcome) told told')
 
 -- the run of the script on the input: what was written is what the script plays, or a beginning of it
 -- after a fault of writing, or nothing after any other fault; a script that is too long isn't run
 pub record RunsScript (outcome : Result Ending ShellFault) (input written written' : Option (List ℕ)) : Type 0 where
   pub played : IfOk outcome (λ ending. IfSome input (λ script. PlaysTo written written' script ending))
-  pub part : IsErrOf outcome Write → IfSome input (λ script. PlaysPartTo written written' script)
-  pub unwritten : IfErr outcome (λ fault. fault ≢ Write → written' ≡ written)
+  pub part : (unwritten : Unwritten) → IsErrOf outcome (Write unwritten) → IfSome input (λ script. PlaysPartTo written written' script)
+  pub unwritten : IfErr outcome (λ fault. is_unwritten fault ≡ false → written' ≡ written)
   pub too_long : IsErrOf outcome TooLong → IfSome input (λ script. SCRIPT_LIMIT < length script)
   pub faults : IfErr outcome (λ fault. fault ≢ Mismatch)
   pub refused : IfSome input (λ script. SCRIPT_LIMIT < length script → IsErr outcome)
@@ -97,6 +101,6 @@ Runs (Threads file) outcome input written written' = OfThreads (λ ran. IsWritte
 Runs (Replay file) outcome input written written' = OfReplay (λ ran. Replays ran input written written') outcome
 
 -- the task, to this outcome, with its input, and what was written before and after
-pub record Performs (task : Task) (outcome : Result Ended ShellFault) (input written written' told told' : Option (List ℕ)) : Type 0 where
+pub record Performs (task : Task) (outcome : Result Ended ShellFault) (line : Told) (input written written' told told' : Option (List ℕ)) : Type 0 where
   pub run : Runs task outcome input written written'
-  pub told_end : Tells outcome told told'
+  pub told_end : Tells outcome line told told'

@@ -1,41 +1,50 @@
 -- How the program ends where its words name no task.
 -- Source: this profile.
-use Rattle.std.specs.Prelude.{◌≡◌, ◌⊎◌, ℕ, List, Option, Err}
+use Rattle.std.specs.Prelude.{◌≡◌, ◌⊎◌, ℕ, List, Option, Ok, Err, OnOk, OnErr}
 use Rattle.std.specs.Io.KnownBytes.{Appends, Keeps}
 use Rattle.clap.specs.declared.error.kind.ErrorKind.{ErrorKind}
 use Rattle.clap.specs.declared.error.kind.ErrorKind.TheVariants as kind
+use Rattle.ob_shell.specs.Writing.{AppendsFront}
 use Rattle.ob_shell.specs.declared.fault.ShellFault.TheVariants.{Memory, Write}
+use Rattle.ob_shell.specs.declared.writing.Unwritten.{Unwritten}
 use Rattle.ob_tasks.specs.declared.end.End.{End}
 use Rattle.ob_tasks.specs.declared.end.End.TheVariants.{Task, Mistake, Help}
-use Rattle.ob_tasks.specs.Perform.{Complains}
+use Rattle.ob_tasks.specs.Perform.{Complains, Told}
 
 -- memory was wanting, and standard error says so
-pub record Starves (end : End) (written written' told told' : Option (List ℕ)) : Type 0 where
+pub record Starves (end : End) (line : Told) (written written' told told' : Option (List ℕ)) : Type 0 where
   pub ended : end ≡ Task (Err Memory)
   pub silent : Keeps written written'
-  pub complained : Complains Memory told told'
+  pub complained : Complains Memory line told told'
 
 -- some text was written
 abbrev pub Writes : Option (List ℕ) → Option (List ℕ) → Type 0
 Writes old new = (text : List ℕ) × Appends old new text
 
--- a mistake in the words, with text on standard error alone
-pub record Blames (end : End) (written written' told told' : Option (List ℕ)) : Type 0 where
+-- a beginning of some text was, and not all of it
+abbrev pub WritesFront : Option (List ℕ) → Option (List ℕ) → Type 0
+WritesFront old new = (text : List ℕ) × AppendsFront old new text
+
+-- a mistake in the words, with text on standard error alone, whole or, where a write failed, in part
+pub record Blames (end : End) (line : Told) (written written' told told' : Option (List ℕ)) : Type 0 where
   pub ended : end ≡ Mistake
   pub silent : Keeps written written'
-  pub told_mistake : Writes told told'
+  pub told_mistake : OnOk line (Writes told told')
+  pub told_part : OnErr line (WritesFront told told')
 
 -- help that was asked for, with text on standard output alone
-pub record Helps (end : End) (written written' told told' : Option (List ℕ)) : Type 0 where
+pub record Helps (end : End) (line : Told) (written written' told told' : Option (List ℕ)) : Type 0 where
   pub ended : end ≡ Help
+  pub nothing_owed : line ≡ Ok tt
   pub told_help : Writes written written'
   pub silent : Keeps told told'
 
--- help that could not be written, and standard error says so
-pub record Fails (end : End) (written written' told told' : Option (List ℕ)) : Type 0 where
-  pub ended : end ≡ Task (Err Write)
-  pub told_some : Writes written written'
-  pub complained : Complains Write told told'
+-- help that could not be written, as a write told, and standard error says so
+pub record Fails (end : End) (line : Told) (written written' told told' : Option (List ℕ)) : Type 0 where
+  pub unwritten : Unwritten
+  pub ended : end ≡ Task (Err (Write unwritten))
+  pub told_part : WritesFront written written'
+  pub complained : Complains (Write unwritten) line told told'
 
 -- what the words asked for: help or the version
 abbrev pub IsRequest : ErrorKind → Type 0

@@ -12,7 +12,7 @@ use Rattle.ob_tasks.specs.declared.end.End.{End}
 use Rattle.ob_tasks.specs.declared.end.End.TheVariants as ends
 use Rattle.ob_tasks.specs.declared.end.Ended.{Ended}
 use Rattle.ob_tasks.specs.Opening.{Follows, Opened, opened_as}
-use Rattle.ob_tasks.specs.Perform.{Performs}
+use Rattle.ob_tasks.specs.Perform.{Performs, Told}
 use Rattle.ob_words.specs.Plan.{Named, named, ntns, replay, script, run, task_of, threads}
 use Rattle.ob_tasks.specs.Refuse.{Blames, Fails, Helps, IsRequest, Starves}
 use Rattle.ob_words.specs.declared.planning.Task.{Task}
@@ -27,43 +27,43 @@ abbrev pub Gives : {F I : Type 0} → Once F (Bor Text × Unit {0}) (Result I Er
 Gives {F} {I} calls opener remaining path gave = (opened : Result I Error) × FnOnceReturnsAt calls opener path opened × (gave ≡ opened_as remaining opened)
 
 -- the task is done over the file of this path, or the fault of opening it is told
-pub record ServesFile (gives : Text → Opened → Type 0) (path : Text) (task : Task) (outcome : Result Ended ShellFault) (written written' told told' : Option (List ℕ)) : Type 0 where
+pub record ServesFile (gives : Text → Opened → Type 0) (path : Text) (task : Task) (outcome : Result Ended ShellFault) (line : Told) (written written' told told' : Option (List ℕ)) : Type 0 where
   pub opened : Opened
   pub given : gives path opened
-  pub done : Follows opened task outcome written written' told told'
+  pub done : Follows opened task outcome line written written' told told'
 
 -- the task is done over the input, or over the file that it names
-abbrev pub ServesNamed : (Text → Opened → Type 0) → Named → Task → Result Ended ShellFault → Option (List ℕ) → Option (List ℕ) → Option (List ℕ) → Option (List ℕ) → Option (List ℕ) → Type 0
-ServesNamed gives script task outcome input written written' told told' = Performs task outcome input written written' told told'
-ServesNamed gives (run path) task outcome input written written' told told' = ServesFile gives path task outcome written written' told told'
-ServesNamed gives (threads path) task outcome input written written' told told' = ServesFile gives path task outcome written written' told told'
-ServesNamed gives (replay path) task outcome input written written' told told' = ServesFile gives path task outcome written written' told told'
+abbrev pub ServesNamed : (Text → Opened → Type 0) → Named → Task → Result Ended ShellFault → Told → Option (List ℕ) → Option (List ℕ) → Option (List ℕ) → Option (List ℕ) → Option (List ℕ) → Type 0
+ServesNamed gives script task outcome line input written written' told told' = Performs task outcome line input written written' told told'
+ServesNamed gives (run path) task outcome line input written written' told told' = ServesFile gives path task outcome line written written' told told'
+ServesNamed gives (threads path) task outcome line input written written' told told' = ServesFile gives path task outcome line written written' told told'
+ServesNamed gives (replay path) task outcome line input written written' told told' = ServesFile gives path task outcome line written written' told told'
 
 -- the words have no fault, and name the task that is done
-pub record ServesTask (gives : Text → Opened → Type 0) (words : List Text) (end : End) (input written written' told told' : Option (List ℕ)) : Type 0 where
+pub record ServesTask (gives : Text → Opened → Type 0) (words : List Text) (end : End) (line : Told) (input written written' told told' : Option (List ℕ)) : Type 0 where
   pub task : Task
   pub outcome : Result Ended ShellFault
   pub asked : task_of (subcommand_of ntns words) ≡ Some (named task)
   pub faultless : fault_of ntns words ≡ []
   pub ended : end ≡ ends.Task outcome
-  pub done : ServesNamed gives (named task) task outcome input written written' told told'
+  pub done : ServesNamed gives (named task) task outcome line input written written' told told'
 
 -- how a fault of this kind is told
-pub record Refuses (kind : ErrorKind) (end : End) (written written' told told' : Option (List ℕ)) : Type 0 where
-  pub want : kind ≡ OutOfMemory → Starves end written written' told told'
-  pub help : IsRequest kind → Helps end written written' told told'
-      ⊎ (Fails end written written' told told' ⊎ Starves end written written' told told')
+pub record Refuses (kind : ErrorKind) (end : End) (line : Told) (written written' told told' : Option (List ℕ)) : Type 0 where
+  pub want : kind ≡ OutOfMemory → Starves end line written written' told told'
+  pub help : IsRequest kind → Helps end line written written' told told'
+      ⊎ (Fails end line written written' told told' ⊎ Starves end line written written' told told')
   pub mistake : kind ≢ OutOfMemory → (IsRequest kind → ⊥)
-      → Blames end written written' told told' ⊎ Starves end written written' told told'
+      → Blames end line written written' told told' ⊎ Starves end line written written' told told'
 
 -- the words have a fault, which is told; words that the parser takes have none but want of memory
-pub record ServesFault (words : List Text) (end : End) (written written' told told' : Option (List ℕ)) : Type 0 where
+pub record ServesFault (words : List Text) (end : End) (line : Told) (written written' told told' : Option (List ℕ)) : Type 0 where
   pub kind : ErrorKind
   pub stated : IsAmong kind (fault_of ntns words)
   pub taken : takes ntns words ≡ true → kind ≡ OutOfMemory
-  pub refused : Refuses kind end written written' told told'
+  pub refused : Refuses kind end line written written' told told'
 
 -- a task is done, or a fault of the words is told, or memory was wanting before
-abbrev pub Serves : (Text → Opened → Type 0) → List Text → End → Option (List ℕ) → Option (List ℕ) → Option (List ℕ) → Option (List ℕ) → Option (List ℕ) → Type 0
-Serves gives words end input written written' told told' = ServesTask gives words end input written written' told told'
-    ⊎ (ServesFault words end written written' told told' ⊎ Starves end written written' told told')
+abbrev pub Serves : (Text → Opened → Type 0) → List Text → End → Told → Option (List ℕ) → Option (List ℕ) → Option (List ℕ) → Option (List ℕ) → Option (List ℕ) → Type 0
+Serves gives words end line input written written' told told' = ServesTask gives words end line input written written' told told'
+    ⊎ (ServesFault words end line written written' told told' ⊎ Starves end line written written' told told')

@@ -19,7 +19,7 @@ pub enum Ended {
 }
 
 /// How the program ends. (this profile)
-#[derive(Clone, Copy, PartialEq, Eq, Debug)]
+#[derive(PartialEq, Eq, Debug, Drop)]
 pub enum End {
     /// A task was done to this ending, or a fault ended it. Memory that was wanting before there was a
     /// task, a file that could not be opened and help that could not be written are such faults too.

@@ -6,7 +6,7 @@ ghost use Rattle.ob_tasks.specs.Opening.{Follows, fault_of_opening, opened_as};
 
 use crate::end::Ended;
 use crate::performing::{complain, perform};
-use ob_shell::ShellFault;
+use ob_shell::{ShellFault, Unread, Unwritten};
 use ob_words::Task;
 use std::alloc::Global;
 use std::io;
@@ -14,7 +14,7 @@ use std::io::{Error, ErrorKind, Read, Write};
 use std::sync::Wait;
 use std::thread::Threads;
 
-/// Does the task over the file, where it was opened, and tells how it ended.
+/// Does the task over the file, where it was opened, and tells what [`perform`] tells.
 ///
 /// A file that could not be opened is told on `errors`, and nothing is written: as out of memory where
 /// the opening wanted it, and else as an input that cannot be read. (this profile)
@@ -25,27 +25,27 @@ pub fn perform_opened<H: Threads + Wait + Sync, I: Read + Drop, W: Write, E: Wri
     opened: io::Result<I>,
     writer: &mut W,
     errors: &mut E,
-) -> Result<Ended, ShellFault>
-    ensures { Follows (opened_as I.remaining opened) task.entry result
+) -> (Result<Ended, ShellFault>, Result<(), Unwritten>)
+    ensures { Follows (opened_as I.remaining opened) task.entry (result.0) (result.1)
         (W.contents writer.old) (W.contents writer.new)
         (E.contents errors.old) (E.contents errors.new) }
 {
     match opened {
         Ok(mut reader) => perform(rt, alloc, task, &mut reader, writer, errors),
-        Err(fault) => {
-            let fault = opening_fault(&fault);
-            let _ = complain(errors, fault);
-            Err(fault)
+        Err(error) => {
+            let fault = opening_fault(error);
+            let told = complain(errors, &fault);
+            (Err(fault), told)
         }
     }
 }
 
 // What a fault of opening a file is to the program.
-fn opening_fault(fault: &Error) -> ShellFault
-    ensures { result ≡ fault_of_opening (error_kind fault.now) }
+fn opening_fault(error: Error) -> ShellFault
+    ensures { result ≡ fault_of_opening (error_kind error) }
 {
-    match fault.kind() {
+    match error.kind() {
         ErrorKind::OutOfMemory => ShellFault::Memory,
-        _ => ShellFault::Read,
+        _ => ShellFault::Read(Unread::from(error)),
     }
 }

@@ -10,7 +10,7 @@ ghost use Rattle.ob_tasks.specs.Perform.{Complains, Performs, Runs, SaysFront, S
 ghost use Rattle.ob_threads.specs.Written.{IsWritten};
 
 use crate::end::{End, Ended};
-use ob_shell::{ShellFault, run_script, write_out};
+use ob_shell::{ShellFault, Unwritten, run_script, write_out};
 use ob_threads::{ThreadsEnding, run_threads};
 use ob_verdict::run_replay;
 use ob_words::Task;
@@ -21,13 +21,14 @@ use std::sync::Wait;
 use std::sync::ledger::Blank;
 use std::thread::Threads;
 
-/// Does the task, and tells how it ended: the ending of its kind of run, the verdict on a journal, or the fault that ended the task.
+/// Does the task, and tells how it ended: the ending of its kind of run, the verdict on a journal, or the fault that ended the task; and
+/// whether what standard error has to say of that was written whole.
 ///
 /// The input is the reader, which is standard input or the file that was opened for the task, and
 /// the output goes to the writer. To `errors` goes one line, `ntns: ` and the text of the fault that
 /// is answered, or, where a run with workers had a step that found no memory or was refused, a text that says
-/// so; an end that the output tells has none. A fault of writing that line is not told, and changes no
-/// answer. (this profile)
+/// so; an end that the output tells has none. A fault of writing that line changes no
+/// ending. (this profile)
 pub fn perform<H: Threads + Wait + Sync, R: Read, W: Write, E: Write>(
     rt: &H,
     alloc: Global,
@@ -35,14 +36,14 @@ pub fn perform<H: Threads + Wait + Sync, R: Read, W: Write, E: Write>(
     reader: &mut R,
     writer: &mut W,
     errors: &mut E,
-) -> Result<Ended, ShellFault>
-    ensures { Performs task.entry result (R.remaining reader.old)
+) -> (Result<Ended, ShellFault>, Result<(), Unwritten>)
+    ensures { Performs task.entry (result.0) (result.1) (R.remaining reader.old)
         (W.contents writer.old) (W.contents writer.new)
         (E.contents errors.old) (E.contents errors.new) }
 {
     let outcome = run_task(rt, alloc, task, reader, writer);
-    let _ = tell(errors, &outcome);
-    outcome
+    let told = tell(errors, &outcome);
+    (outcome, told)
 }
 
 // Runs what the task asks for, and tells nothing of it.
@@ -86,44 +87,44 @@ fn run_workers<H: Threads + Wait + Sync, R: Read, W: Write>(
 }
 
 // Tells how a task ended, where the output doesn't, and answers whether all of that was written, as `complain` does.
-fn tell<E: Write>(errors: &mut E, outcome: &Result<Ended, ShellFault>) -> Result<(), ShellFault>
+fn tell<E: Write>(errors: &mut E, outcome: &Result<Ended, ShellFault>) -> Result<(), Unwritten>
     ensures ok { OnOk result
         (SaysWhole (text_told outcome.now) (E.contents errors.old) (E.contents errors.new)) }
     ensures front { OnErr result
         (SaysFront (text_told outcome.now) (E.contents errors.old) (E.contents errors.new)) }
 {
     match outcome {
-        Ok(Ended::Threads(ThreadsEnding::NoMemoryAt(_))) => complain(errors, ShellFault::Memory),
+        Ok(Ended::Threads(ThreadsEnding::NoMemoryAt(_))) => complain(errors, &ShellFault::Memory),
         Ok(Ended::Threads(ThreadsEnding::RefusedAt(_))) => say(errors, "step refused"),
         Ok(_) => Ok(()),
-        Err(fault) => complain(errors, *fault),
+        Err(fault) => complain(errors, fault),
     }
 }
 
 /// Tells that memory was wanting before there was a task. (this profile)
-pub fn starve<E: Write>(errors: &mut E) -> End
-    ensures end { result ≡ ends.Task (Err Memory) }
-    ensures told { Complains Memory (E.contents errors.old) (E.contents errors.new) }
+pub fn starve<E: Write>(errors: &mut E) -> (End, Result<(), Unwritten>)
+    ensures end { result.0 ≡ ends.Task (Err Memory) }
+    ensures told { Complains Memory (result.1) (E.contents errors.old) (E.contents errors.new) }
 {
-    let _ = complain(errors, ShellFault::Memory);
-    End::Task(Err(ShellFault::Memory))
+    let told = complain(errors, &ShellFault::Memory);
+    (End::Task(Err(ShellFault::Memory)), told)
 }
 
-/// Writes the line that tells the fault: `ntns: `, its text and LF. The only fault is `Write`, where a
-/// write fails: then a beginning of the line stands, and nothing more is tried. It takes no memory.
-/// (this profile)
-pub fn complain<E: Write>(errors: &mut E, fault: ShellFault) -> Result<(), ShellFault>
+/// Writes the line that tells the fault: `ntns: `, its text and LF. Where a write fails, a beginning of the
+/// line stands, and nothing more is tried. It takes no memory. (this profile)
+pub fn complain<E: Write>(errors: &mut E, fault: &ShellFault) -> Result<(), Unwritten>
     ensures ok { OnOk result
-        (Appends (E.contents errors.old) (E.contents errors.new) (line_of (fault_text_of fault))) }
+        (Appends (E.contents errors.old) (E.contents errors.new) (line_of
+        (fault_text_of fault.now))) }
     ensures front { OnErr result
         (AppendsFront (E.contents errors.old) (E.contents errors.new) (line_of
-        (fault_text_of fault))) }
+        (fault_text_of fault.now))) }
 {
     say(errors, fault.text())
 }
 
 // Writes the line that tells a text, as `complain` does.
-fn say<E: Write>(errors: &mut E, text: &str) -> Result<(), ShellFault>
+fn say<E: Write>(errors: &mut E, text: &str) -> Result<(), Unwritten>
     ensures ok { OnOk result
         (Appends (E.contents errors.old) (E.contents errors.new) (line_of text.now)) }
     ensures front { OnErr result

@@ -8,11 +8,12 @@ use crate::end::End;
 use crate::performing::{complain, starve};
 use clap::Error;
 use clap::error::ErrorKind;
-use ob_shell::{ShellFault, write_out};
+use ob_shell::{ShellFault, Unwritten, write_out};
 use std::alloc::Global;
 use std::io::Write;
 
-/// Tells the fault of the words, and how the program ends with it.
+/// Tells the fault of the words, and how the program ends with it; and whether what standard error has to say was
+/// written whole.
 ///
 /// Want of memory, of the parser or for the text, is the fault `Memory`, told on `errors`. Help that
 /// was asked for goes to the writer; where it cannot be written, that is the fault `Write`. The text
@@ -23,22 +24,22 @@ pub fn refuse<W: Write, E: Write>(
     fault: &Error,
     writer: &mut W,
     errors: &mut E,
-) -> End
+) -> (End, Result<(), Unwritten>)
     ensures want { kind_of fault.now ≡ ErrorKind.OutOfMemory →
-        Starves result (W.contents writer.old) (W.contents writer.new)
+        Starves (result.0) (result.1) (W.contents writer.old) (W.contents writer.new)
         (E.contents errors.old) (E.contents errors.new) }
     ensures help { IsRequest (kind_of fault.now) →
-        Helps result (W.contents writer.old) (W.contents writer.new)
+        Helps (result.0) (result.1) (W.contents writer.old) (W.contents writer.new)
         (E.contents errors.old) (E.contents errors.new)
-        ⊎ (Fails result (W.contents writer.old) (W.contents writer.new)
+        ⊎ (Fails (result.0) (result.1) (W.contents writer.old) (W.contents writer.new)
         (E.contents errors.old) (E.contents errors.new)
-        ⊎ Starves result (W.contents writer.old) (W.contents writer.new)
+        ⊎ Starves (result.0) (result.1) (W.contents writer.old) (W.contents writer.new)
         (E.contents errors.old) (E.contents errors.new)) }
     ensures mistake { kind_of fault.now ≢ ErrorKind.OutOfMemory →
         (IsRequest (kind_of fault.now) → ⊥) →
-        Blames result (W.contents writer.old) (W.contents writer.new)
+        Blames (result.0) (result.1) (W.contents writer.old) (W.contents writer.new)
         (E.contents errors.old) (E.contents errors.new)
-        ⊎ Starves result (W.contents writer.old) (W.contents writer.new)
+        ⊎ Starves (result.0) (result.1) (W.contents writer.old) (W.contents writer.new)
         (E.contents errors.old) (E.contents errors.new) }
 {
     if fault.kind() == ErrorKind::OutOfMemory {
@@ -48,14 +49,15 @@ pub fn refuse<W: Write, E: Write>(
         return starve(errors);
     };
     if fault.use_stderr() {
-        let _ = write_out(errors, text.as_bytes());
-        return End::Mistake;
+        let told = write_out(errors, text.as_bytes());
+        return (End::Mistake, told);
     }
     match write_out(writer, text.as_bytes()) {
-        Ok(()) => End::Help,
-        Err(_) => {
-            let _ = complain(errors, ShellFault::Write);
-            End::Task(Err(ShellFault::Write))
+        Ok(()) => (End::Help, Ok(())),
+        Err(unwritten) => {
+            let fault = ShellFault::Write(unwritten);
+            let told = complain(errors, &fault);
+            (End::Task(Err(fault)), told)
         }
     }
 }

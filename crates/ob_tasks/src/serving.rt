@@ -7,6 +7,7 @@ use crate::end::End;
 use crate::opening::perform_opened;
 use crate::performing::perform;
 use crate::refusing::refuse;
+use ob_shell::Unwritten;
 use ob_words::{Task, plan};
 use std::alloc::Global;
 use std::convert::AsStr;
@@ -15,7 +16,8 @@ use std::io::{Read, Write};
 use std::sync::Wait;
 use std::thread::Threads;
 
-/// Does what the words ask for, and tells how the program ends. The first word is the program's name.
+/// Does what the words ask for, and tells how the program ends, and whether what standard error has to say was
+/// written whole. The first word is the program's name.
 ///
 /// Where the words name a task and have no fault, it is done: `Script` over the reader, and `Run`,
 /// `Threads` and `Replay` over the file that `opener` gives for their path. Nothing else is opened: `opener` need only be
@@ -39,21 +41,24 @@ pub fn serve<
     reader: &mut R,
     writer: &mut W,
     errors: &mut E,
-) -> End
+) -> (End, Result<(), Unwritten>)
     requires { (path : _) → AsksFor (map S.text words.now) path.now → O.pre opener path }
-    ensures { Serves (Gives O.FnOnce opener I.remaining) (map S.text words.now) result
+    ensures { Serves (Gives O.FnOnce opener I.remaining) (map S.text words.now) (result.0) (result.1)
         (R.remaining reader.old)
         (W.contents writer.old) (W.contents writer.new)
         (E.contents errors.old) (E.contents errors.new) }
 {
     match plan(alloc, words) {
-        Ok(task) => End::Task(match task {
-            Task::Script => perform(rt, alloc, task, reader, writer, errors),
-            Task::Run(file) | Task::Threads(file) | Task::Replay(file) => {
-                let opened = opener(file);
-                perform_opened(rt, alloc, task, opened, writer, errors)
-            }
-        }),
+        Ok(task) => {
+            let (outcome, told) = match task {
+                Task::Script => perform(rt, alloc, task, reader, writer, errors),
+                Task::Run(file) | Task::Threads(file) | Task::Replay(file) => {
+                    let opened = opener(file);
+                    perform_opened(rt, alloc, task, opened, writer, errors)
+                }
+            };
+            (End::Task(outcome), told)
+        }
         Err(fault) => refuse(alloc, &fault, writer, errors),
     }
 }

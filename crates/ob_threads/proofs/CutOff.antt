@@ -5,18 +5,15 @@ use Rattle.std.specs.Io.KnownBytes.{Appends}
 use Rattle.serde_json.specs.Written.{compact_text}
 use Rattle.ob_journal.specs.Lines.{entry_line, entry_lines, entry_value, header_line, journal_lines}
 use Rattle.ob_model.specs.Run.{Entry}
-use Rattle.ob_shell.specs.declared.fault.ShellFault.{ShellFault}
-use Rattle.ob_shell.specs.declared.fault.ShellFault.TheVariants as fault
 use Rattle.ob_shell.specs.Writing.{AppendsFront}
 use Rattle.ob_shell.proofs.Writers.{append-front, front-append}
 use Rattle.ob_standard.specs.Standard.{StandardKind, standard}
-use Rattle.ob_threads.specs.Written.{IsCutOff}
 
 -- a write failed behind a front
-pub cut_by : (f : ShellFault) (old mid new : Option (List ℕ)) (front piece rest whole : List ℕ) → f ≡ fault.Write → whole ≡ front ++ (piece ++ rest) → Appends old mid front → AppendsFront mid new piece
-    → IsCutOff f old new whole
-cut_by f old mid new front piece rest whole is split written cut =
-    subst (λ x. IsCutOff x old new whole) (sym is) (subst (AppendsFront old new) (sym split) (append-front old mid new front (piece ++ rest) written (front-append mid new piece rest cut)))
+pub cut_by : (old mid new : Option (List ℕ)) (front piece rest whole : List ℕ) → whole ≡ front ++ (piece ++ rest) → Appends old mid front → AppendsFront mid new piece
+    → AppendsFront old new whole
+cut_by old mid new front piece rest whole split written cut =
+    subst (AppendsFront old new) (sym split) (append-front old mid new front (piece ++ rest) written (front-append mid new piece rest cut))
 
 -- memory was wanted there
 pub wants : (old mid : Option (List ℕ)) (front back whole : List ℕ) → whole ≡ front ++ back → back ≢ [] → Appends old mid front → AppendsFront old mid whole

@@ -1,7 +1,7 @@
 -- What a run of a script with workers writes.
 --
 -- Source: this profile.
-use Rattle.std.specs.Prelude.{◌≡◌, ◌≢◌, ◌<◌, ◌⊎◌, ℕ, List, length, Option, Result, IfOk, IfErr, IfSome, IsErr, IsErrOf, codes}
+use Rattle.std.specs.Prelude.{◌≡◌, ◌≢◌, ◌<◌, ◌⊎◌, ℕ, false, List, length, Option, Result, IfOk, IfErr, IfSome, IsErr, IsErrOf, codes}
 use Rattle.std.specs.Io.KnownBytes.{Appends}
 use Rattle.ob_journal.specs.Lines.{journal_lines}
 use Rattle.ob_lines.specs.Lines.{lines_of}
@@ -10,6 +10,7 @@ use Rattle.ob_output.specs.Printed.{output_line}
 use Rattle.ob_shell.specs.declared.fault.ShellFault.{ShellFault}
 use Rattle.ob_shell.specs.declared.fault.ShellFault.TheVariants as fault
 use Rattle.ob_shell.specs.declared.reading.TheConstants.{SCRIPT_LIMIT}
+use Rattle.ob_shell.specs.Fault.{is_unwritten}
 use Rattle.ob_shell.specs.Writing.{AppendsFront}
 use Rattle.ob_standard.specs.Standard.{Standard, standard}
 use Rattle.ob_standard_core.specs.Machine.{Space}
@@ -40,9 +41,9 @@ Writes old new script end = (text : List ℕ) × IsOutput script end text × App
 
 -- where a fault cut a text off, a beginning of it was written, and not all of it
 abbrev pub IsCutOff : ShellFault → Option (List ℕ) → Option (List ℕ) → List ℕ → Type 0
-IsCutOff fault.Write old new text = AppendsFront old new text
+IsCutOff (fault.Write unwritten) old new text = AppendsFront old new text
 IsCutOff fault.Memory old new text = AppendsFront old new text
-IsCutOff fault.Read old new text = ⊥
+IsCutOff (fault.Read unread) old new text = ⊥
 IsCutOff fault.TooLong old new text = ⊥
 IsCutOff fault.Mismatch old new text = ⊥
 
@@ -55,6 +56,6 @@ WritesPart fault old new script = (new ≡ old) ⊎ ((text : List ℕ) × (end :
 pub record IsWritten (outcome : Result ThreadsEnding ShellFault) (input written written' : Option (List ℕ)) : Type 0 where
   pub whole : IfOk outcome (λ ending. IfSome input (λ script. Writes written written' script ending))
   pub part : IfErr outcome (λ f. IfSome input (λ script. WritesPart f written written' script))
-  pub unwritten : IfErr outcome (λ f. f ≢ fault.Write → f ≢ fault.Memory → written' ≡ written)
+  pub unwritten : IfErr outcome (λ f. is_unwritten f ≡ false → f ≢ fault.Memory → written' ≡ written)
   pub too_long : IsErrOf outcome fault.TooLong → IfSome input (λ script. SCRIPT_LIMIT < length script)
   pub refused : IfSome input (λ script. SCRIPT_LIMIT < length script → IsErr outcome)

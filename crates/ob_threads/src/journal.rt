@@ -1,15 +1,16 @@
 //! Writing a journal.
 
-ghost use Rattle.std.specs.Prelude.{OnOk, IfErr, codes};
+ghost use Rattle.std.specs.Prelude.{OnOk, OnErr, IfErr, codes};
 ghost use Rattle.std.specs.Io.KnownBytes.{Appends};
 ghost use Rattle.ob_journal.specs.Lines.{journal_lines};
 ghost use Rattle.ob_output.specs.Printed.{output_line};
+ghost use Rattle.ob_shell.specs.Writing.{AppendsFront};
 ghost use Rattle.ob_standard.specs.Standard.{standard};
 ghost use Rattle.ob_threads.specs.Written.{IsCutOff};
 
 use ob_journal::{Entry, write_header, write_line};
 use ob_output::text_line;
-use ob_shell::{ShellFault, write_out};
+use ob_shell::{ShellFault, Unwritten, write_out};
 use ob_standard::{Standard, StandardKind};
 use std::alloc::Global;
 use std::io::Write;
@@ -31,31 +32,28 @@ pub(crate) fn write_journal<W: Write>(
     let Ok(header) = write_header(alloc, seats) else {
         return Err(ShellFault::Memory);
     };
-    if let Err(fault) = write_out(writer, header.as_slice()) {
-        return Err(fault);
+    if let Err(unwritten) = write_out(writer, header.as_slice()) {
+        return Err(ShellFault::Write(unwritten));
     }
     for entry in journal {
         let Ok(line) = write_line::<Standard>(alloc, entry) else {
             return Err(ShellFault::Memory);
         };
-        if let Err(fault) = write_out(writer, line.as_slice()) {
-            return Err(fault);
+        if let Err(unwritten) = write_out(writer, line.as_slice()) {
+            return Err(ShellFault::Write(unwritten));
         }
     }
     Ok(())
 }
 
-/// Writes the line that tells which line of a script is bad. The only fault is `Write`, behind which a beginning of it stands.
-pub(crate) fn write_bad_line<W: Write>(writer: &mut W, number: u64) -> Result<(), ShellFault>
+/// Writes the line that tells which line of a script is bad. Where a write fails, a beginning of it stands.
+pub(crate) fn write_bad_line<W: Write>(writer: &mut W, number: u64) -> Result<(), Unwritten>
     ensures written { OnOk result (Appends (W.contents writer.old) (W.contents writer.new)
         (output_line number (codes "not a script line"))) }
-    ensures cut_off { IfErr result (λ fault.
-        IsCutOff fault (W.contents writer.old) (W.contents writer.new) (output_line number
+    ensures cut_off { OnErr result
+        (AppendsFront (W.contents writer.old) (W.contents writer.new) (output_line number
         (codes "not a script line"))) }
 {
     let line = text_line(number, b"not a script line");
-    match write_out(writer, line.as_slice()) {
-        Ok(()) => Ok(()),
-        Err(fault) => Err(fault),
-    }
+    write_out(writer, line.as_slice())
 }

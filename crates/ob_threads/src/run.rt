@@ -1,6 +1,6 @@
 //! The run of a script with workers.
 
-ghost use Rattle.std.specs.Prelude.{◌≡◌, ◌≢◌, ◌⊎◌, ◌≤◌, ◌<◌, ◌+◌, IfOk, IfErr, IfSome, IsErr, IsErrOf, OnOk, length, map, All};
+ghost use Rattle.std.specs.Prelude.{◌≡◌, ◌≢◌, false, ◌⊎◌, ◌≤◌, ◌<◌, ◌+◌, IfOk, IfErr, IfSome, IsErr, IsErrOf, OnOk, length, map, All};
 ghost use Rattle.std.specs.List.{range_with_len};
 ghost use Rattle.ob_model.specs.Run.{Run};
 ghost use Rattle.ob_standard.specs.Standard.{Standard as StandardSet, standard};
@@ -8,6 +8,7 @@ ghost use Rattle.ob_standard_core.specs.Machine.{Space};
 ghost use Rattle.ob_locked.specs.Opened.{fresh_pass, fresh_passes, most_seats};
 ghost use Rattle.ob_worker_lines.specs.Parts.{IsFault, lines_in};
 ghost use Rattle.ob_lines.specs.Lines.{lines_of};
+ghost use Rattle.ob_shell.specs.Fault.{is_unwritten};
 ghost use Rattle.ob_threads.specs.Played.{ArePasses, ArePlayedBy, IsPlayedOf};
 ghost use Rattle.ob_threads.specs.Worked.{CanRun};
 ghost use Rattle.ob_threads.specs.Written.{Writes, WritesPart};
@@ -54,7 +55,7 @@ pub fn run_threads<H: Threads + Wait + Sync, L: Ledger + Send + Sync, R: Read, W
     // After a fault it is a beginning of one, and of most faults nothing.
     ensures part { IfErr result (λ fault. IfSome (R.remaining reader.old) (λ script.
         WritesPart fault (W.contents writer.old) (W.contents writer.new) script)) }
-    ensures unwritten { IfErr result (λ fault. fault ≢ ShellFault.Write → fault ≢ ShellFault.Memory
+    ensures unwritten { IfErr result (λ fault. is_unwritten fault ≡ false → fault ≢ ShellFault.Memory
         →
         W.contents writer.new ≡ W.contents writer.old) }
 
@@ -86,7 +87,7 @@ fn run_text<H: Threads + Wait + Sync, L: Ledger + Send + Sync, W: Write>(
         Writes (W.contents writer.old) (W.contents writer.new) script.now ending) }
     ensures part { IfErr result (λ fault.
         WritesPart fault (W.contents writer.old) (W.contents writer.new) script.now) }
-    ensures unwritten { IfErr result (λ fault. fault ≢ ShellFault.Write → fault ≢ ShellFault.Memory
+    ensures unwritten { IfErr result (λ fault. is_unwritten fault ≡ false → fault ≢ ShellFault.Memory
         → W.contents writer.new ≡ W.contents writer.old) }
     ensures fault { IfErr result (λ fault. fault ≢ ShellFault.TooLong) }
 {
@@ -115,14 +116,14 @@ fn tell<W: Write>(
         Writes (W.contents writer.old) (W.contents writer.new) script.now ending) }
     ensures part { IfErr result (λ fault.
         WritesPart fault (W.contents writer.old) (W.contents writer.new) script.now) }
-    ensures unwritten { IfErr result (λ fault. fault ≢ ShellFault.Write → fault ≢ ShellFault.Memory
+    ensures unwritten { IfErr result (λ fault. is_unwritten fault ≡ false → fault ≢ ShellFault.Memory
         → W.contents writer.new ≡ W.contents writer.old) }
     ensures fault { IfErr result (λ fault. fault ≢ ShellFault.TooLong) }
 {
     match fault {
         CutFault::BadLine(number) => match write_bad_line(writer, number) {
             Ok(()) => Ok(ThreadsEnding::BadLine(number)),
-            Err(fault) => Err(fault),
+            Err(unwritten) => Err(ShellFault::Write(unwritten)),
         },
         CutFault::Memory => Err(ShellFault::Memory),
     }

@@ -1,17 +1,19 @@
 -- What is told of a journal that was read, and where it is written.
 --
 -- Source: this profile.
-use Rattle.std.specs.Prelude.{◌≡◌, ◌≢◌, ◌<◌, ℕ, List, ◌++◌, length, Option, Result, IfOk, IfErr, IfSome, IsErr, IsErrOf, codes}
+use Rattle.std.specs.Prelude.{◌≡◌, ◌≢◌, ◌<◌, ℕ, false, List, ◌++◌, length, Option, Result, IfOk, IfErr, IfSome, IsErr, IsErrOf, codes}
 use Rattle.std.specs.Fmt.{decimal}
 use Rattle.std.specs.Io.KnownBytes.{Appends}
 use Rattle.ob_replay.specs.declared.report.Cause.{Cause}
 use Rattle.ob_replay.specs.declared.report.Cause.TheVariants as cause
 use Rattle.ob_replay.specs.declared.report.Report.{Report}
 use Rattle.ob_replay.specs.Journal.{IsAccepted, StopsAt}
+use Rattle.ob_shell.specs.Fault.{is_unwritten}
 use Rattle.ob_shell.specs.Reading.{StopsLong}
 use Rattle.ob_shell.specs.Writing.{AppendsFront}
 use Rattle.ob_shell.specs.declared.fault.ShellFault.{ShellFault}
 use Rattle.ob_shell.specs.declared.fault.ShellFault.TheVariants as fault
+use Rattle.ob_shell.specs.declared.writing.Unwritten.{Unwritten}
 use Rattle.ob_verdict.specs.declared.verdict.Verdict.{Verdict}
 use Rattle.ob_verdict.specs.declared.verdict.Verdict.TheVariants as verdict
 use Rattle.ob_verdict.specs.declared.run.TheConstants.{JOURNAL_LIMIT}
@@ -50,8 +52,8 @@ WritesPart old new journal = (told : Verdict) × (line : List ℕ) × TellsVerdi
 -- or nothing after any other fault; a journal that is too long isn't checked, and no other is called so.
 pub record Replays (outcome : Result Verdict ShellFault) (input written written' : Option (List ℕ)) : Type 0 where
   pub verdict : IfOk outcome (λ told. IfSome input (λ journal. WritesVerdict written written' journal told))
-  pub part : IsErrOf outcome fault.Write → IfSome input (λ journal. WritesPart written written' journal)
-  pub unwritten : IfErr outcome (λ f. f ≢ fault.Write → written' ≡ written)
+  pub part : (unwritten : Unwritten) → IsErrOf outcome (fault.Write unwritten) → IfSome input (λ journal. WritesPart written written' journal)
+  pub unwritten : IfErr outcome (λ f. is_unwritten f ≡ false → written' ≡ written)
   pub too_long : IsErrOf outcome fault.TooLong → IfSome input (λ journal. JOURNAL_LIMIT < length journal)
   pub faults : IfErr outcome (λ f. f ≢ fault.Mismatch)
   pub refused : IfSome input (λ journal. JOURNAL_LIMIT < length journal → IsErr outcome)

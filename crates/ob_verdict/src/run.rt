@@ -1,6 +1,7 @@
 //! The check of a journal that a reader has.
 
-ghost use Rattle.std.specs.Prelude.{◌≡◌, ◌≢◌, ◌+◌, ◌<◌, ◌≤◌, length, IfOk, IfErr, IsErr, IfSome, IsErrOf};
+ghost use Rattle.std.specs.Prelude.{◌≡◌, ◌≢◌, ◌+◌, ◌<◌, ◌≤◌, false, length, IfOk, IfErr, IsErr, IfSome, IsErrOf};
+ghost use Rattle.ob_shell.specs.Fault.{is_unwritten};
 ghost use Rattle.ob_shell.specs.Reading.{StopsLong, TakesAtMost};
 ghost use Rattle.ob_verdict.specs.Verdict.{WritesPart, WritesVerdict};
 
@@ -27,9 +28,10 @@ pub fn run_replay<R: Read, W: Write>(
         WritesVerdict (W.contents writer.old) (W.contents writer.new) journal verdict)) }
 
     // After a fault of the writer it is a beginning of that line, and not all of it; after any other nothing.
-    ensures part { IsErrOf result ShellFault.Write → IfSome (R.remaining reader.old) (λ journal.
+    ensures part { (unwritten : _) → IsErrOf result (ShellFault.Write unwritten) →
+        IfSome (R.remaining reader.old) (λ journal.
         WritesPart (W.contents writer.old) (W.contents writer.new) journal) }
-    ensures unwritten { IfErr result (λ fault. fault ≢ ShellFault.Write →
+    ensures unwritten { IfErr result (λ fault. is_unwritten fault ≡ false →
         W.contents writer.new ≡ W.contents writer.old) }
 
     // Those are all the faults that there are.

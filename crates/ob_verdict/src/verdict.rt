@@ -1,7 +1,8 @@
 //! Verdicts, and the lines that tell them.
 
-ghost use Rattle.std.specs.Prelude.{◌≡◌, ◌≢◌, ◌⊎◌, IfOk, IfErr, IsErrOf, string_bytes};
+ghost use Rattle.std.specs.Prelude.{◌≡◌, ◌⊎◌, true, false, IfOk, IfErr, IsErrOf, string_bytes};
 ghost use Rattle.std.specs.Io.KnownBytes.{Appends};
+ghost use Rattle.ob_shell.specs.Fault.{is_unwritten};
 ghost use Rattle.ob_shell.specs.Writing.{AppendsFront};
 ghost use Rattle.ob_verdict.specs.Verdict.{accepted_line as line_of_entries, cause_text as text_of, refused_line as line_of_cause, WritesPart, WritesVerdict};
 
@@ -30,12 +31,12 @@ pub fn write_verdict<W: Write>(
 ) -> Result<Verdict, ShellFault>
     ensures verdict { IfOk result (λ verdict.
         WritesVerdict (W.contents writer.old) (W.contents writer.new) journal.now verdict) }
-    ensures part { IsErrOf result ShellFault.Write →
+    ensures part { (unwritten : _) → IsErrOf result (ShellFault.Write unwritten) →
         WritesPart (W.contents writer.old) (W.contents writer.new) journal.now }
-    ensures unwritten { IfErr result (λ fault. fault ≢ ShellFault.Write →
+    ensures unwritten { IfErr result (λ fault. is_unwritten fault ≡ false →
         W.contents writer.new ≡ W.contents writer.old) }
     ensures faults { IfErr result (λ fault. (fault ≡ ShellFault.Memory)
-        ⊎ (fault ≡ ShellFault.Write)) }
+        ⊎ (is_unwritten fault ≡ true)) }
 {
     match check_journal(alloc, journal) {
         Ok(report) => {

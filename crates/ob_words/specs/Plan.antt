@@ -1,8 +1,11 @@
 -- The program's words: what the parser knows of the program, and the task that words name.
 -- Source: this profile. The parser's own words are those of the crate clap.
 use Rattle.std.specs.Prelude.{◌≡◌, ◌⊎◌, List, [], ◌∷◌, Option, Some, None, codes, if◌then◌else◌, option_map, true}
+use Rattle.std.specs.Borrow.{Bor}
 use Rattle.std.specs.Str.{bytes_eq}
 use Rattle.clap.specs.Words.{App, Row, Rule, Text, first_of, new_app, new_rule, with_rule, with_subcommand}
+use Rattle.clap.specs.declared.builder.command.Command.{Command}
+use Rattle.clap.specs.declared.builder.command.Command.TheViews.{out-Command}
 use Rattle.clap.specs.declared.error.kind.ErrorKind.{ErrorKind}
 use Rattle.clap.specs.declared.error.kind.ErrorKind.TheVariants as kind
 use Rattle.ob_words.specs.declared.planning.Task.{Task}
@@ -27,6 +30,30 @@ replay_app = with_rule (new_app (codes "replay")) file_rule
 -- the program: it has the subcommands `run`, `threads` and `replay`, what the parser adds to ask for help, and nothing else
 abbrev pub ntns : App
 ntns = with_subcommand (with_subcommand (with_subcommand (new_app (codes "ntns")) run_app.top) threads_app.top) replay_app.top
+
+-- a text that help shows, where there is one
+abbrev pub text_of : Option (Bor Text) → Option Text
+text_of text = option_map (λ t. t.now) text
+
+-- what help says that a command does
+abbrev pub about_of : Command → Option Text
+about_of command = text_of (out-Command command).about
+
+-- so it says of the program, of each subcommand, and of the path
+abbrev pub ntns_about : Text
+ntns_about = codes "Runs a script of namespace commands, by default from standard input, and prints one reply a line"
+
+abbrev pub run_about : Text
+run_about = codes "Runs the script in FILE"
+
+abbrev pub threads_about : Text
+threads_about = codes "Runs the script with workers in FILE, and prints its journal"
+
+abbrev pub replay_about : Text
+replay_about = codes "Checks the journal in FILE, and prints the verdict"
+
+abbrev pub file_help : Text
+file_help = codes "The path of the file, taken as it is"
 
 -- a task by its words
 pub data Named : Type 0 where

@@ -3,7 +3,7 @@
 ghost use Rattle.std.specs.Prelude.{◌≡◌, ◌≤◌, true, false, Some, IfOk, IfErr, length, map, option_map};
 ghost use Rattle.clap.specs.Words.{FailsBy, app_of, fault_of, kind_of, rule_of, subcommand_of, subcommand_rows_of, takes};
 ghost use Rattle.clap.specs.declared.builder.command.Command.TheViews.{out-Command as fields_of};
-ghost use Rattle.ob_words.specs.Plan.{IsMistakeOrWant, Spells, file_rule, named, ntns, replay_app, run_app, task_of, threads_app};
+ghost use Rattle.ob_words.specs.Plan.{IsMistakeOrWant, Spells, about_of, file_help, file_rule, named, ntns, ntns_about, replay_about, replay_app, run_about, run_app, task_of, text_of, threads_about, threads_app};
 
 use clap::error::ErrorKind;
 use clap::{Arg, ArgMatches, Command, Error};
@@ -93,54 +93,56 @@ pub fn unreadable(alloc: Global) -> Error
 
 // The program as the parser sees it.
 fn program<'a>(alloc: Global) -> Result<Command<'a>, AllocError>
-    ensures { IfOk result (λ command. app_of command ≡ ntns) }
+    ensures app { IfOk result (λ command. app_of command ≡ ntns) }
+    ensures about { IfOk result (λ command. about_of command ≡ Some ntns_about) }
 {
     let run = run_command(alloc)?;
     let threads = threads_command(alloc)?;
     let replay = replay_command(alloc)?;
-    Command::new(alloc, "ntns")
-        .about(
-            "Runs a script of namespace commands, by default from standard input, and prints one reply a line",
-        )
+    let program = Command::new(alloc, "ntns")
         .subcommand(run)?
         .subcommand(threads)?
-        .subcommand(replay)
+        .subcommand(replay)?;
+    Ok(program.about(
+        "Runs a script of namespace commands, by default from standard input, and prints one reply a line",
+    ))
 }
 
 // The subcommand `run`.
 fn run_command<'a>(alloc: Global) -> Result<Command<'a>, AllocError>
     ensures app { IfOk result (λ command. app_of command ≡ run_app) }
     ensures local { IfOk result (λ command. (fields_of command).has_globals ≡ false) }
+    ensures about { IfOk result (λ command. about_of command ≡ Some run_about) }
 {
-    Command::new(alloc, "run")
-        .about("Runs the script in FILE")
-        .arg(file_argument(alloc))
+    let run = Command::new(alloc, "run").arg(file_argument(alloc))?;
+    Ok(run.about("Runs the script in FILE"))
 }
 
 // The subcommand `threads`.
 fn threads_command<'a>(alloc: Global) -> Result<Command<'a>, AllocError>
     ensures app { IfOk result (λ command. app_of command ≡ threads_app) }
     ensures local { IfOk result (λ command. (fields_of command).has_globals ≡ false) }
+    ensures about { IfOk result (λ command. about_of command ≡ Some threads_about) }
 {
-    Command::new(alloc, "threads")
-        .about("Runs the script with workers in FILE, and prints its journal")
-        .arg(file_argument(alloc))
+    let threads = Command::new(alloc, "threads").arg(file_argument(alloc))?;
+    Ok(threads.about("Runs the script with workers in FILE, and prints its journal"))
 }
 
 // The subcommand `replay`.
 fn replay_command<'a>(alloc: Global) -> Result<Command<'a>, AllocError>
     ensures app { IfOk result (λ command. app_of command ≡ replay_app) }
     ensures local { IfOk result (λ command. (fields_of command).has_globals ≡ false) }
+    ensures about { IfOk result (λ command. about_of command ≡ Some replay_about) }
 {
-    Command::new(alloc, "replay")
-        .about("Checks the journal in FILE, and prints the verdict")
-        .arg(file_argument(alloc))
+    let replay = Command::new(alloc, "replay").arg(file_argument(alloc))?;
+    Ok(replay.about("Checks the journal in FILE, and prints the verdict"))
 }
 
 // The path that a subcommand takes.
 fn file_argument<'a>(alloc: Global) -> Arg<'a>
     ensures rule { rule_of result ≡ file_rule }
     ensures local { result.global ≡ false }
+    ensures help { text_of result.help ≡ Some file_help }
 {
     Arg::new(alloc, "FILE")
         .required(true)

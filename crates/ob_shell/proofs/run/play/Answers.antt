@@ -1,16 +1,9 @@
 -- Each line's outcome stands behind what was run and written before it.
-use Rattle.std.proofs.Common.{◌≡◌, sym, ◌∙◌, arith, subst, List, ℕ, Option}
-use Rattle.ob_shell.specs.declared.fault.ShellFault.{ShellFault}
-use Rattle.ob_shell.specs.declared.fault.ShellFault.TheVariants.{Write}
+use Rattle.std.proofs.Common.{sym, ◌∙◌, arith}
 use Rattle.ob_lines.specs.Script.{found_seen}
 use Rattle.ob_effects.specs.Kept.{words_of, space_of}
-use Rattle.ob_shell.specs.Shown.{PlaysPartTo}
-use Rattle.ob_shell.specs.Running.{StopsPlaying}
 use Rattle.ob_shell.proofs.Behind.{stands_first, stands_more, stands_end, stands_part, stands_last}
 use Rattle.ob_shell.proofs.run.play.Goals as goal
-
-stopped : (script : List ℕ) (f : ShellFault) (old new : Option (List ℕ)) → f ≡ Write → PlaysPartTo old new script → StopsPlaying script f old new
-stopped script f old new e p = let P : ShellFault → Type 0 = λ x. StopsPlaying script x old new in subst P (sym e) p
 
 pub loop-form-init : goal.loop-form-init
 loop-form-init g c = (
@@ -30,13 +23,12 @@ returns-in-Ok-Some-clause-played g c =
     (words_of c.loop-form.session) (words_of c.perform-outcome.new.self) (space_of c.loop-form.session) (space_of c.perform-outcome.new.self) c.perform-outcome.result c.in-Ok-Some.ending
     c.loop-form.invariant.0 c.in-Some.ensures.found c.perform-outcome.ensures.done (sym c.in-Ok-Some.field-0-is ∙ c.in-Ok-Some.ensures.ending) c.in-Ok-Some.ensures.ok
 
-pub returns-in-Err-clause-fault : goal.returns-in-Err-clause-fault
-returns-in-Err-clause-fault g c =
-    stopped c.args.script.now c.in-Err.fault (g.W.Write.contents c.args.writer.now) (g.W.Write.contents c.show.new.writer) c.in-Err.ensures.fault
-    (stands_part (g.W.Write.contents c.args.writer.now) (g.W.Write.contents c.loop-form.writer) (g.W.Write.contents c.show.new.writer)
+pub returns-in-Err-clause-part : goal.returns-in-Err-clause-part
+returns-in-Err-clause-part g c =
+    stands_part (g.W.Write.contents c.args.writer.now) (g.W.Write.contents c.loop-form.writer) (g.W.Write.contents c.show.new.writer)
     c.loop-form.block.items c.args.script.now c.loop-form.rest.now c.in-Some.behind.now (found_seen c.in-Some.form) c.loop-form.number
     (words_of c.loop-form.session) (words_of c.perform-outcome.new.self) (space_of c.loop-form.session) (space_of c.perform-outcome.new.self) c.perform-outcome.result
-    c.loop-form.invariant.0 c.in-Some.ensures.found c.perform-outcome.ensures.done c.in-Err.ensures.front)
+    c.loop-form.invariant.0 c.in-Some.ensures.found c.perform-outcome.ensures.done c.in-Err.ensures.front
 
 pub loop-form-preserved : goal.loop-form-preserved
 loop-form-preserved g c = (

@@ -10,8 +10,8 @@ use Rattle.ob_threads.proofs.journal.write_journal.Goals as goal
 
 pub returns-in-Err-clause-cut_off : goal.returns-in-Err-clause-cut_off
 returns-in-Err-clause-cut_off g c =
-    cut_by c.in-Err.fault (g.W.Write.contents c.args.writer.now) (g.W.Write.contents c.args.writer.now) (g.W.Write.contents c.write_out.new.writer) [] (header_line c.args.seats)
-    (entry_lines standard.type_name c.args.journal.now) (journal_lines standard.type_name c.args.seats c.args.journal.now) c.in-Err.ensures.fault refl (Appends-nil _)
+    cut_by (g.W.Write.contents c.args.writer.now) (g.W.Write.contents c.args.writer.now) (g.W.Write.contents c.write_out.new.writer) [] (header_line c.args.seats)
+    (entry_lines standard.type_name c.args.journal.now) (journal_lines standard.type_name c.args.seats c.args.journal.now) refl (Appends-nil _)
     (subst (AppendsFront (g.W.Write.contents c.args.writer.now) (g.W.Write.contents c.write_out.new.writer)) (c.as_slice.ensures.value ∙ c.in-Ok.ensures) c.in-Err.ensures.front)
 
 pub returns-in_default-write_line-clause-cut_off : goal.returns-in_default-write_line-clause-cut_off
@@ -27,8 +27,8 @@ returns-in-Err-write_out-clause-cut_off g c =
     let es = c.args.journal.now in
     let i = c.loop-entry.entry-index in
     let e = c.entry-item.result in
-    cut_by c.in-Err-write_out.fault (g.W.Write.contents c.args.writer.now) (g.W.Write.contents c.loop-entry.writer) (g.W.Write.contents c.write_out-in-loop-entry.new.writer)
-    (journal_lines type_name c.args.seats (take i es)) (entry_line type_name e) (entry_lines type_name (drop (suc i) es)) (journal_lines type_name c.args.seats es) c.in-Err-write_out.ensures.fault
+    cut_by (g.W.Write.contents c.args.writer.now) (g.W.Write.contents c.loop-entry.writer) (g.W.Write.contents c.write_out-in-loop-entry.new.writer)
+    (journal_lines type_name c.args.seats (take i es)) (entry_line type_name e) (entry_lines type_name (drop (suc i) es)) (journal_lines type_name c.args.seats es)
     (journal_split es i e c.loop-entry-test.true c.entry-item.is c.args.seats) c.loop-entry.invariant
     (subst (AppendsFront (g.W.Write.contents c.loop-entry.writer) (g.W.Write.contents c.write_out-in-loop-entry.new.writer)) (c.as_slice-in-loop-entry.ensures.value ∙ c.in-Ok-write_line.ensures) c.in-Err-write_out.ensures.front)
 

@@ -6,7 +6,7 @@ use Rattle.ob_verdict.specs.declared.verdict.Verdict.TheVariants.{Refused}
 use Rattle.ob_verdict.proofs.verdict.write_verdict.Goals as goal
 
 pub returns-in_err-write_out-in-Err-Refused-clause-part : goal.returns-in_err-write_out-in-Err-Refused-clause-part
-returns-in_err-write_out-in-Err-Refused-clause-part g c is_write = (
+returns-in_err-write_out-in-Err-Refused-clause-part g c unwritten is_write = (
   Refused,
   string_bytes c.in_ok-line-in-Err-Refused.line,
   (c.in-Err-Refused.line, c.in-Err-Refused.cause, subst (IsFault c.args.journal.now) c.in-Err-Refused.field-0-is c.in-Err-Refused.ensures.fault, c.in_ok-line-in-Err-Refused.ensures),

@@ -8,16 +8,16 @@ use Rattle.ob_words.proofs.planning.plan.Goals as goal
 pub unreachable-requires : goal.unreachable-requires
 unreachable-requires g c =
     let parsed = c.in-Ok-try_get_matches_from.ensures in
-    some_task (map g.S.AsStr.text c.args.words.now) (subcommand_rows_of c.in-Ok-try_get_matches_from.matches) (faultless_as_stated _ _ c.in-Ok.ensures parsed.kinds) (used_as_stated _ _ _ c.in-Ok.ensures parsed.matches) c.in-None.ensures
+    some_task (map g.S.AsStr.text c.args.words.now) (subcommand_rows_of c.in-Ok-try_get_matches_from.matches) (faultless_as_stated _ _ c.in-Ok.ensures.app parsed.kinds) (used_as_stated _ _ _ c.in-Ok.ensures.app parsed.matches) c.in-None.ensures
 
 pub returns-in-Some-clause-spelled : goal.returns-in-Some-clause-spelled
 returns-in-Some-clause-spelled g c =
     let parsed = c.in-Ok-try_get_matches_from.ensures in
-    task_is_spelled (map g.S.AsStr.text c.args.words.now) (subcommand_rows_of c.in-Ok-try_get_matches_from.matches) (named c.in-Some.task) (faultless_as_stated _ _ c.in-Ok.ensures parsed.kinds) (used_as_stated _ _ _ c.in-Ok.ensures parsed.matches) c.in-Some.ensures
+    task_is_spelled (map g.S.AsStr.text c.args.words.now) (subcommand_rows_of c.in-Ok-try_get_matches_from.matches) (named c.in-Some.task) (faultless_as_stated _ _ c.in-Ok.ensures.app parsed.kinds) (used_as_stated _ _ _ c.in-Ok.ensures.app parsed.matches) c.in-Some.ensures
 
 pub returns-in-Err-try_get_matches_from-clause-memory : goal.returns-in-Err-try_get_matches_from-clause-memory
-returns-in-Err-try_get_matches_from-clause-memory g c = takes_as_stated _ _ _ c.in-Ok.ensures c.in-Err-try_get_matches_from.ensures.passes
+returns-in-Err-try_get_matches_from-clause-memory g c = takes_as_stated _ _ _ c.in-Ok.ensures.app c.in-Err-try_get_matches_from.ensures.passes
 
 pub returns-in-Err-try_get_matches_from-clause-alone : goal.returns-in-Err-try_get_matches_from-clause-alone
 returns-in-Err-try_get_matches_from-clause-alone g c =
-    λ short. takes_as_stated _ _ _ c.in-Ok.ensures c.in-Err-try_get_matches_from.ensures.passes (takes_alone g.S.AsStr.text c.args.words.now short)
+    λ short. takes_as_stated _ _ _ c.in-Ok.ensures.app c.in-Err-try_get_matches_from.ensures.passes (takes_alone g.S.AsStr.text c.args.words.now short)

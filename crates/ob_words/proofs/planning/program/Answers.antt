@@ -1,0 +1,21 @@
+-- Each subcommand is added to the app, of which what help says is no part.
+use Rattle.std.proofs.Common.{◌≡◌, ◌∙◌, ap, false}
+use Rattle.clap.specs.Built.{AddsSubcommand}
+use Rattle.clap.specs.Simple.{app_of_fields, shape_of}
+use Rattle.clap.specs.Words.{App, app_of, with_subcommand}
+use Rattle.clap.specs.declared.builder.command.Command.{Command}
+use Rattle.clap.specs.declared.builder.command.Command.TheViews.{out-Command}
+use Rattle.ob_words.proofs.planning.program.Goals as goal
+
+-- an app to which a subcommand without arguments for all is added
+added : (old sub new : Command) (had app : App) → AddsSubcommand old sub new → app_of old ≡ had → app_of sub ≡ app → (out-Command sub).has_globals ≡ false
+    → app_of new ≡ with_subcommand had app.top
+added old sub new had app adds is own local =
+    adds.shape local ∙ (ap (λ a. with_subcommand a (shape_of sub)) is ∙ ap (λ a. with_subcommand had a.top) own)
+
+pub returns-clause-app : goal.returns-clause-app
+returns-clause-app c =
+    let run = added _ _ _ _ _ c.in_ok-subcommand.ensures c.new.ensures.app c.in_ok-run.ensures.app c.in_ok-run.ensures.local in
+    let threads = added _ _ _ _ _ c.in_ok-subcommand-2.ensures run c.in_ok-threads.ensures.app c.in_ok-threads.ensures.local in
+    let replay = added _ _ _ _ _ c.in_ok-program.ensures threads c.in_ok-replay.ensures.app c.in_ok-replay.ensures.local in
+    ap app_of_fields c.about.ensures ∙ replay
