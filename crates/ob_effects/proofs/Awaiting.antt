@@ -26,7 +26,8 @@ use Rattle.ob_runner.specs.declared.begun.Begun.TheVariants as begun
 use Rattle.ob_runner.specs.Begun.{AreAwaited, answer_in, with_begun, without}
 use Rattle.ob_runner.proofs.Awaited.{falters_all_await}
 use Rattle.ob_runner.proofs.Numbers.{ticket_is_next}
-use Rattle.ob_runner.proofs.Pending.{IsNoEnd, step_pending}
+use Rattle.ob_runner.specs.Begun.{IsNoEnd}
+use Rattle.ob_runner.proofs.Pending.{step_pending}
 use Rattle.ob_runner.specs.Completes.{Leads, HasRun, Completes, GivesUp, Falters}
 use Rattle.ob_runner.proofs.Chains.{falters_sound, gives_up_sound}
 use Rattle.ob_runner.proofs.Fewer.{BeginsFor, WaitsFor, start_begins, step_begins}

@@ -24,9 +24,9 @@ use Rattle.ob_model.proofs.Steps.{step_sound}
 use Rattle.ob_types.specs.Parse.{ToRun}
 use Rattle.ob_opens.specs.Waiting.{IsParseOf}
 use Rattle.ob_runner.specs.Completes.{Made, Leads, HasRun, Completes, GivesUp, Falters}
-use Rattle.ob_runner.specs.Begun.{AreAwaited, tickets_of}
+use Rattle.ob_runner.specs.Begun.{AreAwaited, IsNoEnd, StayAwaited, tickets_of}
 use Rattle.ob_runner.proofs.Numbers.{ticket_is_next}
-use Rattle.ob_runner.proofs.Pending.{IsNoEnd, found_passes, step_pending}
+use Rattle.ob_runner.proofs.Pending.{found_passes, step_pending}
 
 module _ {K T F I : Type 0} (g : Procedures K T F I) where
   -- a parse that an open waits for is one in each step that doesn't end that open
@@ -86,6 +86,9 @@ module _ {K T F I : Type 0} (g : Procedures K T F I) where
       → IsSound s → All (λ parse. IsNoEnd parse.ticket event) parses → Step g s event answer t → AreAwaited s parses → AreAwaited t parses
   all_await s t event answer parses sound others does h =
       λ k d within. step_awaits g s t event answer (get_or parses k d) sound (others k d within) does (h k d within)
+
+  pub stay_awaited : StayAwaited g
+  stay_awaited = all_await
 
   pub start_all_await : (s t : State K T F I) (p : ℕ) (c : Command K) (answer : Answer) (parses : List (ToRun F)) → IsSound s → Step g s (Start p c) answer t → AreAwaited s parses → AreAwaited t parses
   start_all_await s t p c answer parses sound does h = all_await s t (Start p c) answer parses sound (λ k d within. tt) does h

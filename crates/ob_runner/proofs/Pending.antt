@@ -38,6 +38,7 @@ use Rattle.ob_model.proofs.Settled.{alive_from_pin, object_of-settle}
 use Rattle.ob_model.proofs.SoundPaths.{find_of, of_some}
 use Rattle.ob_model.proofs.Soundness.{find_id-map, opened_object-id, opened_object-is_directory, closed_object-id, closed_object-is_directory}
 use Rattle.ob_model.proofs.Turned.{turned_object-id, turned_object-is_directory, turned_either}
+use Rattle.ob_runner.specs.Begun.{IsNoEnd}
 
 -- what is found passes
 pub found_passes : {X : Type 0} (test : X → Bool) (xs : List X) (x : X) → find test xs ≡ Some x → test x ≡ true
@@ -78,12 +79,6 @@ face_found x = option_and_then face_in (option_map (λ y. y.body) x)
 faceless : {F I : Type 0} (found : Option (Object F I)) (f : F) → found ≡ None → face_found found ≡ Some f → ⊥
 faceless None f e is = cc
 faceless (Some x) f e is = cc
-
--- an event isn't the end of the open of this ticket
-abbrev pub IsNoEnd : {K : Type 0} → ℕ → Event K → Type 0
-IsNoEnd k (Start p command) = Unit {0}
-IsNoEnd k (Resume n parse) = n ≢ k
-IsNoEnd k (Abandon n parse) = n ≢ k
 
 -- faces stay where objects change otherwise
 module _ {F I : Type 0} (f : Object F I → Object F I) (same : (x : Object F I) → face_in (f x).body ≡ face_in x.body) where

@@ -2,11 +2,13 @@
 --
 -- Source: Windows Internals, Object Manager (parse methods); that a parse is run between two steps, and the tickets, are
 -- this profile.
-use Rattle.std.specs.Prelude.{◌≡◌, ℕ, ◌==◌, not, List, [], ◌∷◌, ◌++◌, filter, map, All}
+use Rattle.std.specs.Prelude.{◌≡◌, ◌≢◌, ℕ, ◌==◌, not, List, [], ◌∷◌, ◌++◌, filter, map, All}
 use Rattle.ob_base.specs.declared.status.Status.TheVariants.{Success}
 use Rattle.ob_model.specs.declared.reply.Answer.{Answer}
 use Rattle.ob_model.specs.declared.reply.Answer.TheVariants.{Done, Ticket}
-use Rattle.ob_model.specs.declared.reply.Event.TheVariants.{Abandon}
+use Rattle.ob_model.specs.declared.reply.Event.{Event}
+use Rattle.ob_model.specs.declared.reply.Event.TheVariants.{Start, Resume, Abandon}
+use Rattle.ob_model.specs.Sound.{IsSound}
 use Rattle.ob_model.specs.declared.reply.ParseRun.TheVariants as run
 use Rattle.ob_model.specs.Procedures.{Procedures}
 use Rattle.ob_model.specs.Refusals.{answers}
@@ -48,3 +50,15 @@ with_begun (Waits n) tickets = tickets ++ n ∷ []
 abbrev pub GivesAllUp : {K T F I : Type 0} → Procedures K T F I → List ℕ → State K T F I → State K T F I → Type 0
 GivesAllUp g [] s t = t ≡ s
 GivesAllUp {K} {T} {F} {I} g (n ∷ tickets) s t = (u : State K T F I) × Step g s (Abandon n run.Unrun) (answers Success) u × GivesAllUp g tickets u t
+
+-- an event isn't the end of the open of this ticket
+abbrev pub IsNoEnd : {K : Type 0} → ℕ → Event K → Type 0
+IsNoEnd k (Start p command) = Unit {0}
+IsNoEnd k (Resume n parse) = n ≢ k
+IsNoEnd k (Abandon n parse) = n ≢ k
+
+-- parses that opens wait for are still those that they wait for behind each step that doesn't end these opens
+abbrev pub StayAwaited : {K T F I : Type 0} → Procedures K T F I → Type 0
+StayAwaited {K} {T} {F} {I} g =
+    (s t : State K T F I) (event : Event K) (answer : Answer) (parses : List (ToRun F)) → IsSound s → All (λ parse. IsNoEnd parse.ticket event) parses
+    → Step g s event answer t → AreAwaited s parses → AreAwaited t parses
