@@ -28,7 +28,7 @@ from functools import cache
 from pathlib import Path
 
 from crates import folder_of, listed
-from edits import Unfit, file_of, functions_named, read_edit, without_comments
+from edits import Unfit, closing, file_of, functions_named, read_edit, without_comments
 from rests import rests_on, sum_of
 
 NAME = "RECORD"
@@ -145,16 +145,27 @@ def lacking(folder):
 
 
 @cache
-def bare(text):
-    """The sum of a text without imports, comments and layout, and without whose own a function is."""
-    words = without_comments(IMPORT.sub("", text).replace("pub(crate) fn", "pub fn"))
-    return sum_of(words.replace("; }", " }").replace("[ | ", "[ "))
+def pieces(text):
+    """The sums of the parts of a text, without imports, comments and layout: of a source file each clause that says what holds behind a function, with its
+    function, and what is left between those; of any other each part between empty lines."""
+    if re.search(r"(?m)^\s*(?:pub )?(?:use Rattle|mod )|^--", text) and not re.search(r"\bfn\b", text):
+        return frozenset(map(sum_of, filter(None, (" ".join(IMPORT.sub("", re.sub(r"(?m)^\s*--.*$", "", part)).split()) for part in re.split(r"\n\s*\n", text)))))
+    words = without_comments(IMPORT.sub("", text).replace("pub(crate) fn", "pub fn")).replace("; }", " }")
+    found, owner, last = set(), "", 0
+    for clause in re.finditer(r"\bfn (\w+)|\bensures\b[^{]*\{", words):
+        if clause[1]:
+            owner = clause[1]
+        elif clause.start() >= last:
+            found.add(sum_of("between", words[last : clause.start()].strip()))
+            last = closing(words, clause.end() - 1) + 1
+            found.add(sum_of("clause", owner, words[clause.end() : last]))
+    return frozenset(found | {sum_of("between", words[last:].strip())})
 
 
 def essence_of(crate, path):
-    """What an edit is and rests on, without places, imports and layout: the sum of the edit, and those of the texts in its crate and below."""
+    """What an edit is and rests on, without places, imports and layout: the sum of the edit, and those of the parts in its crate and below."""
     rests = rests_of(crate, path)
-    own, below = ({bare(text) for home, _, text in rests if (home == crate) == inside} for inside in (True, False))
+    own, below = (frozenset().union(*(pieces(text) for home, _, text in rests if (home == crate) == inside)) for inside in (True, False))
     return sum_of(path.stem, re.sub(r"(?m)^file: .*$", "", path.read_text())), own, below
 
 
@@ -195,9 +206,8 @@ def carry(tree):
     known, taken = told_by(tree), {"whole": 0, "older": 0}
     for crate, path in untold():
         edit, own, below = essence_of(crate, path)
-        kind, texts = known.get(edit, ("", set()))
-        if kind and own <= texts:
-            kind = "older" if texts != own | below else kind
+        kind, parts = known.get(edit, ("", set()))
+        if kind and parts <= own | below:
             taken[kind] += 1
             put(crate, path, kind)
     return taken
