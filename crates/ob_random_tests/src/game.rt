@@ -3,12 +3,9 @@
 ghost use Rattle.std.specs.Prelude.{◌≡◌, [], OnOk};
 ghost use Rattle.ob_runner.specs.Begun.{AreAwaited, tickets_of, with_begun, without};
 
-use crate::asks::{Ask, Deed, Kind, Turn};
-use crate::dice::Dice;
-use crate::model::Model;
-use crate::names::{Name, text};
 use ob_base::{Fault, Handle, Proc};
 use ob_core::{Bytes, Command, Core, OpenTable, Place};
+use ob_flat::{Ask, Deed, Dice, Kind, Model, Name, Turn, text};
 use ob_runner::{Begun, Waits, begin_open, drop_open, end_open, give_all_up};
 use ob_types::TypeSet;
 use std::alloc::{AllocError, Global};
@@ -319,7 +316,17 @@ pub(crate) fn agreed<S: Played>(
     count: u32,
 ) -> Result<u32, Fault> {
     let mut model = Model::new(alloc)?;
-    let mut core: Core<S, OpenTable> = Core::new(alloc, set)?;
-    let done = agreed_in(&mut core, &mut model, state, count)?;
-    Ok(done)
+    agreed_beside(&mut model, set, state, count)
+}
+
+// The same beside a model of the opening state.
+fn agreed_beside<S: Played>(
+    model: &mut Model,
+    set: S,
+    state: u64,
+    count: u32,
+) -> Result<u32, Fault> {
+    let mut core: Core<S, OpenTable> = Core::new(model.alloc, set)?;
+    let done = agreed_in(&mut core, model, state, count);
+    Ok(done?)
 }

@@ -9,11 +9,11 @@ ghost use Rattle.std.specs.Prelude.{OnOk};
 ghost use Rattle.ob_runner.specs.Begun.{AreAwaited};
 ghost use Rattle.ob_runner.specs.Repeated.{AreAllKept};
 
-use crate::run::answer;
+use crate::run::entry_of;
 use crate::told::Told;
 use ob_base::{Handle, Proc};
 use ob_journal::{Entry, write_line};
-use ob_model::{Answer, Command, Event, Given, Reply};
+use ob_model::{Answer, Command, Event, Given};
 use ob_reader::{Gift, Line, Said, read_header, read_line};
 use ob_replay::Cause;
 use ob_standard::{Standard, StandardKind};
@@ -94,19 +94,12 @@ fn choice_in(core: &StandardCore, line: &Line) -> Option<Handle> {
     (!core.holds(process, handle)).then_some(handle)
 }
 
-// An answer with this value in place of that of its new handle.
-fn with_value(answer: Answer, value: Handle) -> Answer {
-    match answer {
-        Answer::Done(
-            Reply {
-                status,
-                given: Given::Handle(_),
-            },
-        ) => Answer::Done(Reply {
-            status,
-            given: Given::Handle(value),
-        }),
-        other => other,
+// Puts this value in place of that of the new handle of an answer.
+fn choose(answer: &mut Answer, value: Handle) {
+    if let Answer::Done(reply) = answer
+        && let Given::Handle(given) = &mut reply.given
+    {
+        *given = value;
     }
 }
 
@@ -116,36 +109,54 @@ fn is_spelled(alloc: Global, entry: &Entry<StandardKind>, text: &[u8]) -> Result
     Ok(line.len() == text.len().wrapping_add(1) && line.as_slice().get(..text.len()) == Some(text))
 }
 
-// What is seen of the line of an entry, where its new handle may have this value.
+// What is seen of the line of an entry, where its new handle may have this value, which it has then.
 fn compare(
     alloc: Global,
-    entry: Entry<StandardKind>,
+    entry: &mut Entry<StandardKind>,
     text: &[u8],
     value: Option<Handle>,
 ) -> Result<Seen, AllocError> {
-    if is_spelled(alloc, &entry, text)? {
+    if is_spelled(alloc, entry, text)? {
         return Ok(Seen::Same);
     }
     let Some(value) = value else {
         return Ok(Seen::Refused(Cause::Reply));
     };
-    let Entry {
-        number,
-        seat,
-        step,
-        reply,
-    } = entry;
-    let chosen = Entry {
-        number,
-        seat,
-        step,
-        reply: with_value(reply, value),
-    };
-    Ok(if is_spelled(alloc, &chosen, text)? {
+    choose(&mut entry.reply, value);
+    Ok(if is_spelled(alloc, entry, text)? {
         Seen::Chosen
     } else {
         Seen::Refused(Cause::Reply)
     })
+}
+
+// Why a line isn't that of the entry of this number, where that is seen before its step is made.
+fn refused_early(line: &Line, seats: u32, number: u64) -> Option<Cause> {
+    if line.number != number {
+        return Some(Cause::Number);
+    }
+    (line.seat >= u64::from(seats)).then_some(Cause::Seat)
+}
+
+// Makes the step of a line, and compares its entry with the text.
+fn play_step(
+    core: &mut StandardCore,
+    waits: &mut StandardWaits,
+    alloc: Global,
+    line: Line,
+    text: &[u8],
+) -> Result<Seen, AllocError>
+    requires awaited { AreAwaited core.old waits.old }
+    requires all { AreAllKept core.old waits.old }
+    ensures awaited { AreAwaited core.new waits.new }
+    ensures all { OnOk result (AreAllKept core.new waits.new) }
+{
+    let value = choice_in(core, &line);
+    let place = (line.number, u32::try_from(line.seat).unwrap_or(u32::MAX));
+    match entry_of(core, waits, alloc, place, line.step)? {
+        Some(mut entry) => compare(alloc, &mut entry, text, value),
+        None => Ok(Seen::Refused(Cause::Ticket)),
+    }
 }
 
 // Plays a line, which is to tell the entry of this number.
@@ -165,25 +176,10 @@ fn play_line(
     let Some(line) = read_line(alloc, text)? else {
         return Ok(Seen::Refused(Cause::Syntax));
     };
-    if line.number != number {
-        return Ok(Seen::Refused(Cause::Number));
+    match refused_early(&line, seats, number) {
+        Some(cause) => Ok(Seen::Refused(cause)),
+        None => play_step(core, waits, alloc, line, text),
     }
-    let seat = match u32::try_from(line.seat) {
-        Ok(seat) if seat < seats => seat,
-        _ => return Ok(Seen::Refused(Cause::Seat)),
-    };
-    let value = choice_in(core, &line);
-    let step = line.step;
-    let Some(reply) = answer(core, waits, alloc, &step)? else {
-        return Ok(Seen::Refused(Cause::Ticket));
-    };
-    let entry = Entry {
-        number,
-        seat,
-        step,
-        reply,
-    };
-    compare(alloc, entry, text, value)
 }
 
 // Plays at most 1,000 lines behind the header, up to one that isn't its entry's: the number of the last, and what is seen of it.

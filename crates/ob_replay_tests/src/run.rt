@@ -71,44 +71,87 @@ const NAMES: [&'static str; 12] = [
     r"\\No\\X",
 ];
 
+// The forms of steps at random. A `$` and a letter stand for what is drawn: `f` flags, `h` a handle, `n` a name, `o` the process to
+// which a handle goes, `p` a process, and `t` a ticket.
+const FORMS: [&'static str; 16] = [
+    r#"{"flags":$f,"name":"$n","op":"dir","proc":$p,"root":null}"#,
+    r#"{"flags":$f,"name":"$n","op":"link","proc":$p,"root":null,"target":"$n"}"#,
+    r#"{"args":"1","flags":$f,"kind":"Mutant","name":"$n","op":"make","proc":$p,"root":null}"#,
+    r#"{"flags":$f,"name":"$n","op":"opendir","proc":$p,"root":null}"#,
+    r#"{"flags":$f,"name":"$n","op":"open","proc":$p,"root":null,"want":null}"#,
+    r#"{"handle":$h,"op":"close","proc":$p}"#,
+    r#"{"handle":$h,"op":"name","proc":$p}"#,
+    r#"{"handle":$h,"op":"temp","proc":$p}"#,
+    r#"{"handle":$h,"op":"map","proc":$p}"#,
+    r#"{"handle":$h,"inherit":true,"op":"dup","proc":$p,"to":$o}"#,
+    r#"{"context":0,"handle":$h,"op":"list","proc":$p,"restart":false,"room":40,"single":false}"#,
+    r#"{"inherit":true,"op":"new","proc":$p}"#,
+    r#"{"op":"exit","proc":$p}"#,
+    r#"{"op":"abandon","parse":"ran","ticket":$t}"#,
+    r#"{"op":"resume","parse":"nomem","ticket":$t}"#,
+    r#"{"op":"resume","parse":"ran","ticket":$t}"#,
+];
+
+// Which form each of 24 throws gives.
+const THROWS: [usize; 24] = [
+    0, 0, 0, 1, 2, 2, 3, 4, 4, 4, 4, 4, 5, 6, 7, 8, 9, 9, 10, 11, 12, 13, 14, 15,
+];
+
+// What is drawn for a step.
+#[derive(Clone, Copy)]
+struct Drawn {
+    process: u64,
+    to: u64,
+    handle: u64,
+    ticket: u64,
+    name: &'static str,
+    flags: u64,
+}
+
+// What is drawn for the letter that a part of a form begins with; nothing where that is none.
+fn spelled(alloc: Global, drawn: Drawn, part: &str) -> Result<String, AllocError> {
+    let number = match part.as_bytes().first() {
+        Some(b'f') => drawn.flags,
+        Some(b'h') => drawn.handle,
+        Some(b'o') => drawn.to,
+        Some(b'p') => drawn.process,
+        Some(b't') => drawn.ticket,
+        Some(b'n') => return String::from_str(alloc, drawn.name),
+        _ => return Ok(String::new(alloc)),
+    };
+    format!(in alloc; "{number}")
+}
+
+// A form with what is drawn in its places. The first part begins with the brace of the form, the others with a letter.
+fn filled(alloc: Global, form: &str, drawn: Drawn) -> Result<String, AllocError> {
+    let mut text = String::from_str(alloc, "{")?;
+    for part in form.split('$') {
+        let spelled = spelled(alloc, drawn, part)?;
+        text.push_str(spelled.as_str())?;
+        text.push_str(part.get(1..).unwrap_or(""))?;
+    }
+    Ok(text)
+}
+
 // A step at random, as a text.
 fn any_step(alloc: Global, dice: &mut Dice) -> Result<String, AllocError> {
     let (process, to) = (1 + dice.below(5), 1 + dice.below(4));
     let (handle, ticket) = (4 * (1 + dice.below(12)), 8 + dice.below(72));
     let name = NAMES[dice.below(12) as usize];
     let flags = [0, 0, 2, 16, 32, 64, 128, 256, 1][dice.below(9) as usize];
-    match dice.below(24) {
-        0..=2 => format!(in alloc;
-            "{{\"flags\":{flags},\"name\":\"{name}\",\"op\":\"dir\",\"proc\":{process},\"root\":null}}"
-        ),
-        3 => format!(in alloc;
-            "{{\"flags\":{flags},\"name\":\"{name}\",\"op\":\"link\",\"proc\":{process},\"root\":null,\"target\":\"{name}\"}}"
-        ),
-        4..=5 => format!(in alloc;
-            "{{\"args\":\"1\",\"flags\":{flags},\"kind\":\"Mutant\",\"name\":\"{name}\",\"op\":\"make\",\"proc\":{process},\"root\":null}}"
-        ),
-        6 => format!(in alloc;
-            "{{\"flags\":{flags},\"name\":\"{name}\",\"op\":\"opendir\",\"proc\":{process},\"root\":null}}"
-        ),
-        7..=11 => format!(in alloc;
-            "{{\"flags\":{flags},\"name\":\"{name}\",\"op\":\"open\",\"proc\":{process},\"root\":null,\"want\":null}}"
-        ),
-        12 => format!(in alloc; "{{\"handle\":{handle},\"op\":\"close\",\"proc\":{process}}}"),
-        13 => format!(in alloc; "{{\"handle\":{handle},\"op\":\"name\",\"proc\":{process}}}"),
-        14 => format!(in alloc; "{{\"handle\":{handle},\"op\":\"temp\",\"proc\":{process}}}"),
-        15 => format!(in alloc; "{{\"handle\":{handle},\"op\":\"map\",\"proc\":{process}}}"),
-        16..=17 => format!(in alloc;
-            "{{\"handle\":{handle},\"inherit\":true,\"op\":\"dup\",\"proc\":{process},\"to\":{to}}}"
-        ),
-        18 => format!(in alloc;
-            "{{\"context\":0,\"handle\":{handle},\"op\":\"list\",\"proc\":{process},\"restart\":false,\"room\":40,\"single\":false}}"
-        ),
-        19 => format!(in alloc; "{{\"inherit\":true,\"op\":\"new\",\"proc\":{process}}}"),
-        20 if to == 4 => format!(in alloc; "{{\"op\":\"exit\",\"proc\":{process}}}"),
-        21 => format!(in alloc; "{{\"op\":\"abandon\",\"parse\":\"ran\",\"ticket\":{ticket}}}"),
-        22 => format!(in alloc; "{{\"op\":\"resume\",\"parse\":\"nomem\",\"ticket\":{ticket}}}"),
-        _ => format!(in alloc; "{{\"op\":\"resume\",\"parse\":\"ran\",\"ticket\":{ticket}}}"),
-    }
+    let drawn = Drawn {
+        process,
+        to,
+        handle,
+        ticket,
+        name,
+        flags,
+    };
+    let form = match dice.below(24) {
+        20 if to != 4 => 15,
+        throw => THROWS[throw as usize],
+    };
+    filled(alloc, FORMS.get(form).unwrap_or(&""), drawn)
 }
 
 // Whether a step may be made.
@@ -127,8 +170,8 @@ fn may_be(core: &StandardCore, step: &Event<StandardKind>) -> bool
     }
 }
 
-/// Makes a step, and gives what it is answered; nothing where it can't be made.
-pub(crate) fn answer(
+// Makes a step, and gives what it is answered; nothing where it can't be made.
+fn answer(
     core: &mut StandardCore,
     waits: &mut StandardWaits,
     alloc: Global,
@@ -145,6 +188,46 @@ pub(crate) fn answer(
     Ok(Some(waits.repeat(core, alloc, step)?))
 }
 
+/// Makes a step, and gives its entry under a number and a seat; nothing where it can't be made.
+pub(crate) fn entry_of(
+    core: &mut StandardCore,
+    waits: &mut StandardWaits,
+    alloc: Global,
+    place: (u64, u32),
+    step: Event<StandardKind>,
+) -> Result<Option<Entry<StandardKind>>, AllocError>
+    requires awaited { AreAwaited core.old waits.old }
+    requires all { AreAllKept core.old waits.old }
+    ensures awaited { AreAwaited core.new waits.new }
+    ensures all { OnOk result (AreAllKept core.new waits.new) }
+{
+    let (number, seat) = place;
+    let Some(reply) = answer(core, waits, alloc, &step)? else {
+        return Ok(None);
+    };
+    Ok(Some(Entry {
+        number,
+        seat,
+        step,
+        reply,
+    }))
+}
+
+// The step that a text tells; nothing where it tells none.
+fn step_of(
+    alloc: Global,
+    number: u64,
+    step: &str,
+) -> Result<Option<Event<StandardKind>>, AllocError> {
+    let text = format!(in alloc;
+        "{{\"n\":{number},\"reply\":{{\"status\":0}},\"seat\":0,\"step\":{step}}}"
+    )?;
+    match read_line(alloc, text.as_bytes())? {
+        Some(line) => Ok(Some(line.step)),
+        None => Ok(None),
+    }
+}
+
 // Makes the step that a text tells, and gives the line of its entry; nothing where it can't be made.
 fn play(
     core: &mut StandardCore,
@@ -158,23 +241,13 @@ fn play(
     ensures awaited { AreAwaited core.new waits.new }
     ensures all { OnOk result (AreAllKept core.new waits.new) }
 {
-    let text = format!(in alloc;
-        "{{\"n\":{number},\"reply\":{{\"status\":0}},\"seat\":0,\"step\":{step}}}"
-    )?;
-    let Some(line) = read_line(alloc, text.as_bytes())? else {
+    let Some(step) = step_of(alloc, number, step)? else {
         return Ok(None);
     };
-    let step = line.step;
-    let Some(reply) = answer(core, waits, alloc, &step)? else {
-        return Ok(None);
-    };
-    let entry = Entry {
-        number,
-        seat: (number % 3) as u32,
-        step,
-        reply,
-    };
-    Ok(Some(write_line::<Standard>(alloc, &entry)?))
+    match entry_of(core, waits, alloc, (number, (number % 3) as u32), step)? {
+        Some(entry) => Ok(Some(write_line::<Standard>(alloc, &entry)?)),
+        None => Ok(None),
+    }
 }
 
 // The step of a run that is tried behind so many: one of the first, or any.
