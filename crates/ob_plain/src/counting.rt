@@ -11,9 +11,6 @@ use crate::Plain;
 use ob_types::{ParseAnswer, Reason, Refusal, TypeSet};
 use std::alloc::{AllocError, Global};
 
-/// The standard set: the plain types, counted. (this profile)
-pub type Standard = Counting<Plain>;
-
 /// A set of types with the numbers of the opens that it accepted, the closes and the deletes since
 /// it was made. Each number stops at the greatest u64. (this profile)
 #[derive(Debug, Drop)]

@@ -13,7 +13,7 @@ mod plain;
 mod recorder;
 
 pub use calls::{Call, CallKind, first_calls_are_kept};
-pub use counting::{Counting, Standard, accepted_opens_count};
+pub use counting::{Counting, accepted_opens_count};
 pub use limit::{limit_of, limits_are_decimal};
 pub use path::Path;
 pub use pieces::{LONGEST_ARGUMENTS, cut, is_readable, split};

@@ -2,7 +2,7 @@
 
 use crate::objects::{hand_over_laws, inner, is_of_kind, refusal};
 use crate::tables::fields;
-use ob_plain::{Counting, Plain, PlainFace, PlainInner, PlainKind, Standard, limit_of};
+use ob_plain::{Counting, Plain, PlainFace, PlainInner, PlainKind, limit_of};
 use ob_types::{ParseAnswer, Reason, TypeSet, close_last, is_one_kind, open_or_leave};
 use std::alloc::Global;
 
@@ -89,11 +89,11 @@ fn is_so<T: TypeSet<Kind = PlainKind, Face = PlainFace>>(
 
 #[test]
 fn limits_and_kinds_are_those_of_the_table(rt: HostRuntime) {
-    hand_over_laws::<Standard>();
+    hand_over_laws::<Counting<Plain>>();
     assert!(rt; limit_of(b"1 ").is_none());
     for line in PLAIN.trim().lines() {
         assert!(rt; is_so::<Plain>(rt.alloc(), line) == Some(true), "{line}");
-        assert!(rt; is_so::<Standard>(rt.alloc(), line) == Some(true), "{line}");
+        assert!(rt; is_so::<Counting<Plain>>(rt.alloc(), line) == Some(true), "{line}");
     }
 }
 

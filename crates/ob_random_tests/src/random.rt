@@ -3,7 +3,7 @@
 use crate::draw::{any_process, next};
 use crate::game::{Played, agreed};
 use ob_flat::{Ask, Dice, INHERIT, Kind, Model, Name, PERMANENT, Path, Turn};
-use ob_plain::{Counting, Plain, PlainKind, Standard};
+use ob_plain::{Counting, Plain, PlainKind};
 use std::env;
 use std::test::Fail;
 
@@ -12,7 +12,7 @@ const GAME: u32 = 2_500;
 
 /// A game begins with what the first process makes: the directories `\2` and `\3`, and the link `\3\3` to the directory
 /// in which it stands.
-impl Played for Standard {
+impl Played for Counting<Plain> {
     fn kind(of: Kind) -> PlainKind {
         match of {
             Kind::Mutant => PlainKind::Mutant,
