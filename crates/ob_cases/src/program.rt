@@ -3,11 +3,13 @@
 use crate::runs::{Input, Output, Streams, assert_cases, performs};
 use clap::error::ErrorKind;
 use ob_tasks::{
-    End, Ended, Ending, ShellFault, ThreadsEnding, Verdict, complain, perform_opened, serve, starve,
+    End, Ended, Ending, ShellFault, ThreadsEnding, Unread, Verdict, complain, perform_opened,
+    serve, starve,
 };
 use ob_words::{Task, plan, unreadable};
 use std::alloc::{AllocError, Global};
-use std::fs;
+use std::io::Error;
+use std::{fs, io};
 
 // Words, with bars between them, and the task that they name, or their mistake, of a kind where that is said.
 const PLANS: &'static str = r"ntns => script
@@ -327,8 +329,8 @@ fn a_file_that_cannot_be_read_is_told(rt: HostRuntime) {
     let Streams { output, errors, .. } = &mut streams;
     let opened = Ok(Input::Broken);
     let task = Task::Run("one");
-    let outcome = perform_opened(&rt, rt.alloc(), task, opened, output, errors);
-    assert!(rt; End::Task(outcome).status() == 1);
+    let (outcome, told) = perform_opened(&rt, rt.alloc(), task, opened, output, errors);
+    assert!(rt; End::Task(outcome).status() == 1 && told == Ok(()));
     assert!(rt; streams.hold(b"", b"ntns: cannot read\n"));
 }
 
@@ -344,7 +346,7 @@ fn what_the_system_does_not_open_or_read_is_told(rt: HostRuntime) {
         } = &mut streams;
         let words = ["ntns", "run", path];
         let opener = |named| fs::open(&rt, named);
-        let end = serve(
+        let (end, told) = serve(
             &rt,
             rt.alloc(),
             words.as_slice(),
@@ -353,7 +355,7 @@ fn what_the_system_does_not_open_or_read_is_told(rt: HostRuntime) {
             output,
             errors,
         );
-        assert!(rt; end.status() == 1, "at {path:?}");
+        assert!(rt; end.status() == 1 && told == Ok(()), "at {path:?}");
         assert!(rt; streams.hold(b"", b"ntns: cannot read\n"), "at {path:?}");
     }
 }
@@ -364,12 +366,12 @@ fn a_mistake_that_cannot_be_told_ends_with_2_and_help_that_cannot_be_written_wit
 ) {
     let mut streams = Streams::new(rt.alloc(), Input::Bytes(b""));
     streams.errors.is_broken = true;
-    let end = streams.serve(&rt, rt.alloc(), &["ntns", "run"]);
-    assert!(rt; end.status() == 2 && streams.hold(b"", b""));
+    let (end, told) = streams.serve(&rt, rt.alloc(), &["ntns", "run"]);
+    assert!(rt; end.status() == 2 && told.is_err() && streams.hold(b"", b""));
     streams.errors.is_broken = false;
     streams.output.is_broken = true;
-    let end = streams.serve(&rt, rt.alloc(), &["ntns", "--help"]);
-    assert!(rt; end.status() == 1 && streams.hold(b"", b"ntns: cannot write\n"));
+    let (end, told) = streams.serve(&rt, rt.alloc(), &["ntns", "--help"]);
+    assert!(rt; end.status() == 1 && told == Ok(()) && streams.hold(b"", b"ntns: cannot write\n"));
 }
 
 #[test]
@@ -377,11 +379,13 @@ fn words_that_are_no_text_end_with_2_and_want_of_memory_with_1(rt: HostRuntime) 
     let told: &[u8] =
         b"error: invalid UTF-8 was detected in one or more arguments\n\nUsage: ntns [COMMAND]\n\nFor more information, try '--help'.\n";
     let mut streams = Streams::new(rt.alloc(), Input::Bytes(b""));
-    let end = streams.refuse(rt.alloc(), &unreadable(rt.alloc()));
-    assert!(rt; end.status() == 2 && streams.hold(b"", told));
+    let (end, line) = streams.refuse(rt.alloc(), &unreadable(rt.alloc()));
+    assert!(rt; end.status() == 2 && line == Ok(()) && streams.hold(b"", told));
     streams.errors.bytes.clear();
-    let end = streams.refuse(rt.alloc(), &clap::Error::from(AllocError));
-    assert!(rt; end.status() == 1 && streams.hold(b"", b"ntns: want of memory\n"));
+    let (end, line) = streams.refuse(rt.alloc(), &clap::Error::from(AllocError));
+    assert!(rt;
+        end.status() == 1 && line == Ok(()) && streams.hold(b"", b"ntns: want of memory\n")
+    );
 }
 
 #[test]
@@ -393,8 +397,8 @@ fn the_input_of_a_run_is_its_script_and_faults_end_with_1(rt: HostRuntime) {
     assert!(rt; performs(&rt, rt.alloc(), Task::Script, Input::Broken, 1, b"", told));
     let mut streams = Streams::new(rt.alloc(), Input::Endless);
     streams.errors.is_broken = true;
-    let end = streams.perform(&rt, rt.alloc(), Task::Script);
-    assert!(rt; end.status() == 1 && streams.hold(b"", b""));
+    let (end, told) = streams.perform(&rt, rt.alloc(), Task::Script);
+    assert!(rt; end.status() == 1 && told.is_err() && streams.hold(b"", b""));
 }
 
 #[test]
@@ -413,8 +417,8 @@ fn a_verdict_that_cannot_be_written_ends_with_1(rt: HostRuntime) {
     );
     let mut streams = Streams::new(rt.alloc(), Input::Bytes(b""));
     streams.output.is_broken = true;
-    let end = streams.perform(&rt, rt.alloc(), Task::Replay("one"));
-    assert!(rt; end.status() == 1 && streams.hold(b"", b"ntns: cannot write\n"));
+    let (end, told) = streams.perform(&rt, rt.alloc(), Task::Replay("one"));
+    assert!(rt; end.status() == 1 && told == Ok(()) && streams.hold(b"", b"ntns: cannot write\n"));
 }
 
 #[test]
@@ -422,9 +426,9 @@ fn a_script_on_standard_input_opens_no_file(rt: HostRuntime) {
     let table: [&[&str]; 2] = [&["ntns"], &["ntns", "--"]];
     for words in table {
         let mut streams = Streams::new(rt.alloc(), Input::Bytes(b"stat\n"));
-        let end = streams.serve(&rt, rt.alloc(), words);
+        let (end, told) = streams.serve(&rt, rt.alloc(), words);
         assert!(rt;
-            end == End::Task(Ok(Ended::Script(Ending::Done))),
+            end == End::Task(Ok(Ended::Script(Ending::Done))) && told == Ok(()),
             "at {words:?}"
         );
         assert!(rt;
@@ -436,6 +440,7 @@ fn a_script_on_standard_input_opens_no_file(rt: HostRuntime) {
 
 #[test]
 fn statuses_follow_the_end(rt: HostRuntime) {
+    let unread = ShellFault::Read(Unread::from(Error::from(io::ErrorKind::Other)));
     let table = [
         (End::Task(Ok(Ended::Script(Ending::Done))), 0),
         (End::Task(Ok(Ended::Script(Ending::BadLine(1)))), 1),
@@ -452,7 +457,7 @@ fn statuses_follow_the_end(rt: HostRuntime) {
         ),
         (End::Task(Ok(Ended::Replay(Verdict::Accepted))), 0),
         (End::Task(Ok(Ended::Replay(Verdict::Refused))), 3),
-        (End::Task(Err(ShellFault::Read)), 1),
+        (End::Task(Err(unread)), 1),
         (End::Task(Err(ShellFault::Memory)), 1),
         (End::Mistake, 2),
         (End::Help, 0),
@@ -465,11 +470,11 @@ fn statuses_follow_the_end(rt: HostRuntime) {
 #[test]
 fn faults_have_their_lines(rt: HostRuntime) {
     let mut errors = Output::new(rt.alloc());
-    assert!(rt; starve(&mut errors) == End::Task(Err(ShellFault::Memory)));
-    assert!(rt; complain(&mut errors, ShellFault::TooLong) == Ok(()));
-    assert!(rt; complain(&mut errors, ShellFault::Mismatch) == Ok(()));
+    assert!(rt; starve(&mut errors) == (End::Task(Err(ShellFault::Memory)), Ok(())));
+    assert!(rt; complain(&mut errors, &ShellFault::TooLong) == Ok(()));
+    assert!(rt; complain(&mut errors, &ShellFault::Mismatch) == Ok(()));
     let told = b"ntns: want of memory\nntns: input too long\nntns: journal mismatch\n";
     assert!(rt; errors.bytes.as_slice() == told.as_slice());
     errors.is_broken = true;
-    assert!(rt; complain(&mut errors, ShellFault::Memory) == Err(ShellFault::Write));
+    assert!(rt; complain(&mut errors, &ShellFault::Memory).is_err());
 }

@@ -1,6 +1,6 @@
 //! Runs of the program over streams in memory, and cases that a text tells.
 
-use ob_tasks::{End, perform, refuse, serve};
+use ob_tasks::{End, Unwritten, perform, refuse, serve};
 use ob_words::Task;
 use std::alloc::{AllocError, Global};
 use std::io;
@@ -83,15 +83,16 @@ impl<'a> Streams<'a> {
         rt: &H,
         alloc: Global,
         task: Task<'_>,
-    ) -> End {
-        End::Task(perform(
+    ) -> (End, Result<(), Unwritten>) {
+        let (outcome, told) = perform(
             rt,
             alloc,
             task,
             &mut self.input,
             &mut self.output,
             &mut self.errors,
-        ))
+        );
+        (End::Task(outcome), told)
     }
 
     /// Serves the words, over the files of the tests.
@@ -100,7 +101,7 @@ impl<'a> Streams<'a> {
         rt: &H,
         alloc: Global,
         words: &[&str],
-    ) -> End {
+    ) -> (End, Result<(), Unwritten>) {
         let Streams {
             input,
             output,
@@ -115,7 +116,11 @@ impl<'a> Streams<'a> {
     }
 
     /// Tells a fault of the words.
-    pub(crate) fn refuse(&mut self, alloc: Global, fault: &clap::Error) -> End {
+    pub(crate) fn refuse(
+        &mut self,
+        alloc: Global,
+        fault: &clap::Error,
+    ) -> (End, Result<(), Unwritten>) {
         refuse(alloc, fault, &mut self.output, &mut self.errors)
     }
 
@@ -152,8 +157,8 @@ pub(crate) fn performs<H: Threads + Wait + Sync>(
     errors: &[u8],
 ) -> bool {
     let mut streams = Streams::new(alloc, input);
-    let end = streams.perform(rt, alloc, task);
-    end.status() == status && streams.hold(output, errors)
+    let (end, told) = streams.perform(rt, alloc, task);
+    end.status() == status && told == Ok(()) && streams.hold(output, errors)
 }
 
 // Whether words, with bars between them, over an empty input, end with this status and leave this.
@@ -167,8 +172,8 @@ fn serves<H: Threads + Wait + Sync>(
 ) -> Option<bool> {
     let words: Vec<&str> = words.split('|').collect(alloc).ok()?;
     let mut streams = Streams::new(alloc, Input::Bytes(b""));
-    let end = streams.serve(rt, alloc, words.as_slice());
-    Some(end.status() == status && streams.hold(output, errors))
+    let (end, told) = streams.serve(rt, alloc, words.as_slice());
+    Some(end.status() == status && told == Ok(()) && streams.hold(output, errors))
 }
 
 // Puts a text behind bytes so many times, or for `successes` a success of each line up to this one.

@@ -1,10 +1,9 @@
 //! The shell's public functions over streams that trickle and fail, and its faults in words.
 
 use crate::streams::{End, Lasts, Sip, Tally, Trickle};
-use ob_shell::{Ending, ShellFault, read_script, run_script, write_out};
+use ob_shell::{Ending, ShellFault, Unread, read_script, run_script, write_out};
 use std::alloc::{AllocError, Global};
-use std::io::{ErrorKind, Read, repeat};
-use std::test::Fail;
+use std::io::{Error, ErrorKind, Read, repeat};
 
 const READ: &'static [u8] = b"p1 close a\n# two lines\n";
 
@@ -55,12 +54,19 @@ fn reads_what_memory_holds_and_what_comes_byte_after_byte(rt: HostRuntime) {
     assert!(rt; gives(rt.alloc(), &mut slow, READ));
 }
 
+// Whether an outcome is the fault of a read that failed so.
+fn is_unread<T: Drop>(outcome: Result<T, ShellFault>, kind: ErrorKind) -> bool {
+    match outcome {
+        Ok(_) => false,
+        Err(fault) => fault == ShellFault::Read(Unread::from(Error::from(kind))),
+    }
+}
+
 // Whether a fault of the reader's call is told, and the reader stands behind the calls before it.
 fn read_fails_at(alloc: Global, call: usize, kind: ErrorKind, lasts: Lasts) -> bool {
     let mut failing = Trickle::new(READ, call, kind, lasts);
     let outcome = read_script(alloc, &mut failing);
-    matches!(&outcome, Err(ShellFault::Read))
-        && failing.rest().len() == READ.len().saturating_sub(call)
+    is_unread(outcome, kind) && failing.rest().len() == READ.len().saturating_sub(call)
 }
 
 #[test]
@@ -108,7 +114,7 @@ fn writes_to_memory_and_byte_after_byte(rt: HostRuntime) {
 fn write_fails_at(alloc: Global, call: usize, end: End, lasts: Lasts) -> bool {
     let mut failing = Sip::new(alloc, call, end, lasts);
     let outcome = write_out(&mut failing, WRITTEN);
-    outcome == Err(ShellFault::Write) && Some(failing.taken()) == WRITTEN.get(..call)
+    outcome.is_err() && Some(failing.taken()) == WRITTEN.get(..call)
 }
 
 #[test]
@@ -138,7 +144,7 @@ fn run_fails_to_read_at(alloc: Global, call: usize, kind: ErrorKind, lasts: Last
     let mut reader = Trickle::new(SCRIPT, call, kind, lasts);
     let mut writer = slow_writer(alloc);
     let outcome = run_script(alloc, &mut reader, &mut writer);
-    outcome == Err(ShellFault::Read)
+    is_unread(outcome, kind)
         && writer.taken().is_empty()
         && reader.rest().len() == SCRIPT.len().saturating_sub(call)
 }
@@ -162,7 +168,7 @@ fn run_fails_to_write_at(alloc: Global, call: usize, end: End, lasts: Lasts) -> 
     let mut reader = slow_reader(SCRIPT);
     let mut writer = Sip::new(alloc, call, end, lasts);
     let outcome = run_script(alloc, &mut reader, &mut writer);
-    outcome == Err(ShellFault::Write) && Some(writer.taken()) == SHOWN.get(..call)
+    matches!(&outcome, Err(ShellFault::Write(_))) && Some(writer.taken()) == SHOWN.get(..call)
 }
 
 #[test]
@@ -208,22 +214,29 @@ fn output_is_written_in_blocks(rt: HostRuntime) {
     }
 }
 
-const FAULTS: [(ShellFault, &'static str); 5] = [
-    (ShellFault::Read, "cannot read"),
-    (ShellFault::Write, "cannot write"),
-    (ShellFault::TooLong, "input too long"),
-    (ShellFault::Memory, "want of memory"),
-    (ShellFault::Mismatch, "journal mismatch"),
-];
+// Whether a fault has this text, and prints it.
+fn prints(alloc: Global, fault: &ShellFault, text: &str) -> bool {
+    match format!(in alloc; "{fault}") {
+        Ok(printed) => fault.text() == text && printed.as_str() == text,
+        Err(_) => false,
+    }
+}
 
 #[test]
-fn faults_print_their_texts(rt: HostRuntime) -> Result<(), Fail> {
-    for (fault, text) in FAULTS {
-        assert_eq!(rt; fault.text(), text);
-        let printed = format!(in rt.alloc(); "{fault}")?;
-        assert_eq!(rt; printed.as_str(), text);
+fn faults_print_their_texts(rt: HostRuntime) {
+    let alloc = rt.alloc();
+    let unread = ShellFault::Read(Unread::from(Error::from(ErrorKind::Other)));
+    assert!(rt; prints(alloc, &unread, "cannot read"));
+    assert!(rt; prints(alloc, &ShellFault::TooLong, "input too long"));
+    assert!(rt; prints(alloc, &ShellFault::Memory, "want of memory"));
+    assert!(rt; prints(alloc, &ShellFault::Mismatch, "journal mismatch"));
+    let mut full = Sip::new(alloc, 0, End::NoByte, Lasts::Always);
+    match write_out(&mut full, WRITTEN) {
+        Ok(()) => assert!(rt; false, "a full writer took all"),
+        Err(unwritten) => {
+            assert!(rt; prints(alloc, &ShellFault::from(unwritten), "cannot write"));
+        }
     }
-    Ok(())
 }
 
 fn stored(alloc: Global, byte: u8) -> Result<usize, ShellFault> {
