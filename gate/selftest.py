@@ -154,7 +154,13 @@ def faults_of_carried(folder):
     known, own, below = essence(small, SOURCE)
     yield "records: an edit alone rests on its own crate", bool(own) and not below
     yield "records: imports, places and layout change nothing", essence(low, "use ob_base::Status;\n" + SOURCE.replace("    2 ", "        2 ")) == (known, own, below)
-    yield "records: a contract does", essence(low, SOURCE.replace("≡ 1", "≡ 3"))[1] != own
+    yield "records: a contract does", not own <= essence(low, SOURCE.replace("≡ 1", "≡ 3"))[1]
+    yield "records: a clause that is gained leaves the rest as it was", own < essence(low, SOURCE.replace("1 }", "1 }\n    ensures { result < 2 }"))[1]
+    yield "records: what is asked besides doesn't", not own <= essence(low, SOURCE.replace("    ensures", "    requires { 0 < 1 }\n    ensures"))[1]
+    yield "records: nor does another body", not own <= essence(low, SOURCE.replace("    2 //", "    4 //"))[1]
+    said = "-- one\nuse Rattle.std.specs.Prelude.{ℕ}\n\none : ℕ\none = 1\n"
+    yield "records: a definition that is gained leaves the others as they were", records.pieces(said) < records.pieces(said + "\ntwo : ℕ\ntwo = 2\n")
+    yield "records: one that changes doesn't", not records.pieces(said) <= records.pieces(said.replace("= 1", "= 2"))
     essence(low, SOURCE)
     yield "records: what is used of another crate lies below", bool(essence(small, SOURCE.replace("-> u8 {\n    2", "-> u8 {\n    ob_low::one() + 1"))[2])
     records.told_by = lambda tree: {known: ("whole", set())}
