@@ -18,7 +18,7 @@ p1 open Event "\@\l@\@" - =g | SUCCESS
 p1 name g | SUCCESS "\@\@""#;
 
 // A target is told as it was handed in, whatever it leads to.
-const TARGETS: &'static str = r#"p1 link "\L" I "@" =l | SUCCESS
+const TARGETS: &'static str = r#"p1 link "\L" - "@" =l | SUCCESS
 p1 target l | SUCCESS "@"
 p1 openlink "\L" - =m | SUCCESS
 p1 target m | SUCCESS "@""#;

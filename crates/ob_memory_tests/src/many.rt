@@ -155,6 +155,6 @@ fn first_missing_anew(alloc: Global, count: usize) -> Result<Option<usize>, Allo
 
 #[test]
 fn each_of_many_names_in_a_directory_is_found(rt: HostRuntime) -> Result<(), Fail> {
-    assert_eq!(rt; first_missing_anew(rt.alloc(), 20_000)?, None);
+    assert_eq!(rt; first_missing_anew(rt.alloc(), 50_000)?, None);
     Ok(())
 }
