@@ -93,7 +93,10 @@ fn limits_and_kinds_are_those_of_the_table(rt: HostRuntime) {
     assert!(rt; limit_of(b"1 ").is_none());
     for line in PLAIN.trim().lines() {
         assert!(rt; is_so::<Plain>(rt.alloc(), line) == Some(true), "{line}");
-        assert!(rt; is_so::<Counting<Plain>>(rt.alloc(), line) == Some(true), "{line}");
+        assert!(rt;
+            is_so::<Counting<Plain>>(rt.alloc(), line) == Some(true),
+            "{line}"
+        );
     }
 }
 
