@@ -70,8 +70,8 @@ def closing(text, start):
 
 
 def type_name(text):
-    """The name of a type without its path, its references and its parameters."""
-    text = re.sub(r"<.*", "", text.strip(), flags=re.S)
+    """The name of a type without its path, its references and its parameters; the prover calls the error of `io` by both names."""
+    text = re.sub(r"<.*", "", text.strip(), flags=re.S).replace("io::Error", "IoError")
     return text.lstrip("&").strip().split("::")[-1].split()[-1]
 
 
