@@ -1,4 +1,4 @@
-//! Many handles that a child inherits, and many names in one directory.
+//! Many handles that a child inherits, and many names in two directories.
 
 use either::Either;
 use ob_base::{Handle, Proc, Status};
@@ -123,16 +123,25 @@ fn close(alloc: Global, core: &mut StandardCore, handle: Handle) -> Option<()> {
     Some(())
 }
 
-// Makes a directory of this number in the root, which stays.
+// The path of the directory of this number: in the root where it is even, and else in the first of all.
+fn path_of(alloc: Global, number: usize) -> Option<String> {
+    if number % 2 == 0 {
+        format!(in alloc; "\\{number}").ok()
+    } else {
+        format!(in alloc; "\\0\\{number}").ok()
+    }
+}
+
+// Makes the directory of this number, which stays.
 fn make_one(alloc: Global, core: &mut StandardCore, number: usize) -> Option<()> {
-    let name = format!(in alloc; "\\{number}").ok()?;
+    let name = path_of(alloc, number)?;
     let made = make(alloc, core, false, name.as_str(), PERMANENT)?;
     close(alloc, core, made)
 }
 
-// Whether the directory of this number is found, and told by its name.
+// Whether the directory of this number is found, and told by its path.
 fn finds_one(alloc: Global, core: &mut StandardCore, number: usize) -> Option<bool> {
-    let name = format!(in alloc; "\\{number}").ok()?;
+    let name = path_of(alloc, number)?;
     let handle = open(alloc, core, name.as_str(), 0)?;
     let Given::Text(path) = given(alloc, core, &Command::QueryName { handle })? else {
         return None;
@@ -154,7 +163,9 @@ fn first_missing_anew(alloc: Global, count: usize) -> Result<Option<usize>, Allo
 }
 
 #[test]
-fn each_of_many_names_in_a_directory_is_found(rt: HostRuntime) -> Result<(), Fail> {
-    assert_eq!(rt; first_missing_anew(rt.alloc(), 50_000)?, None);
+fn each_of_a_hundred_thousand_names_in_two_directories_is_found(
+    rt: HostRuntime,
+) -> Result<(), Fail> {
+    assert_eq!(rt; first_missing_anew(rt.alloc(), 100_000)?, None);
     Ok(())
 }
