@@ -20,7 +20,7 @@ use ob_handles::HandleTable;
 use ob_lookup::Look;
 use ob_model::{Mode, Place, Reply};
 use ob_names::Name;
-use ob_space::{Space, Spot, is_live, judge_create, look_up, open_at, root_object, status_alone};
+use ob_space::{Space, is_live, judge_create, look_up, open_at, root_object, status_alone};
 use ob_types::TypeSet;
 use std::alloc::AllocError;
 
@@ -37,8 +37,8 @@ use std::alloc::AllocError;
 ///
 /// A refusal changes nothing, but for the last: a new object that the set refuses to open is deleted, and its number
 /// stays drawn. The only fault is out of memory, and then nothing has changed; what is refused before the lookup takes none, nor does
-/// what is refused at an object that is there, before the set is asked, where the lookup copies nothing, or without a
-/// name since no handle or object more fits.
+/// what is refused at what the name leads to, before the set is asked, where the lookup follows no link, or without a name
+/// since no handle or object more fits.
 ///
 /// It asks that the state is orderly, settled and sound, and leaves it orderly.
 ///
@@ -110,13 +110,7 @@ fn create_at_name<T: TypeSet, H: HandleTable>(
         Look::Vacant {
             directory,
             component,
-        } => {
-            let spot = Spot {
-                directory,
-                name: component,
-            };
-            make_named(space, process, spot, attrs, making)
-        }
+        } => make_named(space, process, directory, component, attrs, making),
         Look::Parse { .. } => unreachable!(),
     }
 }

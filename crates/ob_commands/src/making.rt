@@ -15,8 +15,9 @@ ghost use Rattle.ob_space.specs.Placing.{spot_of, IsVacantSpot, IsVacant};
 ghost use Rattle.ob_commands.specs.Making.{making_of};
 ghost use Rattle.ob_space.specs.Orderly.{IsOrderly, IsIdleBody};
 
-use ob_base::{Attrs, Proc, Status};
+use ob_base::{Attrs, ObjId, Proc, Status};
 use ob_handles::HandleTable;
+use ob_lookup::Remainder;
 use ob_model::{Bytes, Reply, Wanted};
 use ob_names::{Name, NameBuf};
 use ob_objects::{StoredBody, StoredObject};
@@ -78,11 +79,12 @@ pub(crate) fn is_fit<K>(making: &Making<'_, K>) -> bool
     }
 }
 
-/// Makes an object at a name that is free in a directory, and opens a handle to it.
+/// Makes an object at a component that is free in a directory, and opens a handle to it.
 pub(crate) fn make_named<T: TypeSet, H: HandleTable>(
     space: &mut Space<T, H>,
     process: Proc,
-    spot: Spot,
+    directory: ObjId,
+    component: Remainder<'_>,
     attrs: Attrs,
     making: Making<'_, T::Kind>,
 ) -> Result<Reply, AllocError>
@@ -90,17 +92,21 @@ pub(crate) fn make_named<T: TypeSet, H: HandleTable>(
     requires settled { IsSettled space.old }
     requires live { is_live space.old process ≡ true }
     requires fit { machine.is_fit (making_of making) ≡ true }
-    requires vacant { IsVacant space.old spot.directory spot.name }
+    requires vacant { IsVacant space.old directory component }
     ensures orderly { IsOrderly T.idle space.new }
     ensures step { IfOk result (λ reply.
         machine.Makes T.procedures space.old process attrs (making_of making.entry) (Some
-        (spot.directory, spot.name))
+        (directory, component.entry))
         (Done reply) space.new) }
+    ensures full { (is_table_full space.old process || is_store_full space.old
+        || is_stampless space.old) ≡ true → IsOk result }
     ensures err { OnErr result (space.new ≡ space.old) }
 {
     if is_full(space, process) || is_stampless(space) {
         return Ok(status_alone(Status::InsufficientResources));
     }
+    let name = component.into_name(space.alloc)?;
+    let spot = Spot { directory, name };
     make_in_room(space, process, Some(spot), attrs, making)
 }
 

@@ -88,9 +88,9 @@ impl<T: TypeSet, H: HandleTable> Core<T, H> {
     /// refused before its lookup, so these never fail: where the process is gone, the flags, the other
     /// parameters or the bytes or the length of the name are refused, the process lacks the handle that it
     /// names, or no process more may live. Nor does one that is refused at what it finds, before the set is asked:
-    /// another type, a name that is taken, a handle that isn't granted, no handle or object more for what has no
-    /// name, another than a directory for a map, the target of what is no link; where its name, looked up with no reparse
-    /// left, ends at that object or in a refusal, so that nothing is copied.
+    /// another type, a name that is taken, a handle that isn't granted, no handle, object or number more for what is to be
+    /// made or for an open that would wait, another than a directory for a map, the target of what is no link; where the
+    /// lookup of its name follows no link, so that nothing is copied.
     pub fn start(&mut self, process: Proc, command: &Command<T::Kind>) -> Result<Started<T>, Fault>
         ensures step { IfOk result (λ started.
             Step T.procedures self.old (Start process command.now) (answer_of started) self.new) }
@@ -113,8 +113,8 @@ impl<T: TypeSet, H: HandleTable> Core<T, H> {
     ///
     /// The faults hand the parse back, and then nothing has changed: `Refused` with `InvalidParameter` exactly where the
     /// parse is a stranger's, as `abandon` says; and `Memory`, where memory was wanted. A parse that found no
-    /// memory, or was refused, takes none, nor does one whose process is gone, or which leads, without a copy of a
-    /// name, to what isn't opened for another reason than the set's.
+    /// memory, or was refused, takes none, nor does one whose process is gone, or which leads, by a text whose lookup
+    /// follows no link, to what isn't opened for another reason than the set's, or to a parse for which no more fits.
     ///
     /// Source: Windows Internals, Object Manager (parse methods; object retention); that a parse is judged when it is
     /// brought, and the order of refusals, are this profile.

@@ -6,3 +6,4 @@ pub mod Judged
 pub mod Turns
 pub mod Walked
 pub mod Turned
+pub mod Upheld

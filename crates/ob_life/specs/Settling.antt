@@ -16,6 +16,10 @@ module _ {K T F I : Type 0} where
   is_held_up s o =
       (o == root_id) || has_handle s o || is_pinned s o || is_mapped s o || (is_permanent s o && has_name s o) || list_any (λ r. r.directory == o) s.rows
 
+  -- a handle to the object is left, or it is permanent and has a name
+  abbrev pub is_upheld : State K T F I → ℕ → Bool
+  is_upheld s o = has_handle s o || (is_permanent s o && has_name s o)
+
   -- the state without the names of an object that don't stay
   abbrev pub without_names : State K T F I → ℕ → State K T F I
   without_names s o = record s {

@@ -8,7 +8,7 @@ ghost use Rattle.ob_space.specs.Namespace.{listed, with_opens, none_running, run
 ghost use Rattle.ob_space.specs.Orderly.{IsOrderly, IsIdleBody, IsIdleUnheld};
 ghost use Rattle.ob_handles.specs.Counts.{is_listed};
 ghost use Rattle.ob_model.specs.Sound.{IsSound};
-ghost use Rattle.ob_life.specs.Settling.{is_held_up, settled_one, settled_unless, AreSettled, StaysBut, with_handle_to, without_names, without_object};
+ghost use Rattle.ob_life.specs.Settling.{is_held_up, is_upheld, settled_one, settled_unless, AreSettled, StaysBut, with_handle_to, without_names, without_object};
 
 use ob_base::ObjId;
 use ob_handles::{HandleTable, Touched};
@@ -24,7 +24,8 @@ use ob_types::TypeSet;
 ///
 /// It asks that the state is orderly, and that with one handle more to the object it is settled, so that
 /// nothing else can go: a directory that stays by a name in it has no name itself. It
-/// leaves an orderly state. No memory is taken, and no other object is looked at.
+/// leaves an orderly state. No memory is taken, and no other object is looked at; where a handle to the object is left,
+/// or it is permanent and has a name, nothing is settled.
 ///
 /// Source: Windows Internals, Object Manager (object retention); that it is judged once, at the end of
 /// a step, and the order of the deletes are this profile.
@@ -34,6 +35,9 @@ pub fn settle_after_loss<T: TypeSet, H: HandleTable>(space: &mut Space<T, H>, ob
     ensures orderly { IsOrderly T.idle space.new }
     ensures settled { space.new ≡ settle T.procedures space.old }
 {
+    if is_upheld(space, object) {
+        return;
+    }
     // The length tells what holds of every store.
     let _ = space.store.len();
     let place = space.store.place_of(object);
@@ -41,6 +45,15 @@ pub fn settle_after_loss<T: TypeSet, H: HandleTable>(space: &mut Space<T, H>, ob
     if let Some(place) = place {
         settle_one(space, place.directory);
     }
+}
+
+/// Whether a handle to an object is left, or it is permanent and has a name: then it goes by no loss, nor does
+/// the directory of its name.
+fn is_upheld<T: TypeSet, H: HandleTable>(space: &Space<T, H>, object: ObjId) -> bool
+    ensures { result ≡ is_upheld space.now object }
+{
+    has_handle(&space.processes, object)
+        || (space.store.is_permanent(object) && space.store.has_name(object))
 }
 
 /// Settles after a process has ended: of the objects that its handles led to, each that is neither

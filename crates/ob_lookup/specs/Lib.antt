@@ -1,3 +1,4 @@
 pub mod Closed
 pub mod Walk
 pub mod Look
+pub mod Remainder

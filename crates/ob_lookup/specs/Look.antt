@@ -58,13 +58,12 @@ abbrev pub turn_of : Next → Turn
 turn_of (next.Over end) = Ended (look_of end)
 turn_of (next.Again text) = Restarted text
 
--- The ends of a lookup with no reparse left for which a lookup with any number left may want memory: a
--- vacant place, whose component is copied, an object that is to parse, for which the rest is, and the refusal
--- in place of a text that a link makes.
+-- The ends of a lookup with no reparse left for which a lookup with any number left may want memory: the
+-- refusal in place of a text that a link makes.
 abbrev pub MayWantMemory : machine.Look → Type 0
 MayWantMemory (machine.At id) = ⊥
-MayWantMemory (machine.Vacant directory component) = Unit {0}
-MayWantMemory (machine.Parse id rest n) = Unit {0}
+MayWantMemory (machine.Vacant directory component) = ⊥
+MayWantMemory (machine.Parse id rest n) = ⊥
 MayWantMemory (machine.Refused status) = status ≡ ReparseLimit
 
 -- the same of what comes of a stop, with no reparse left

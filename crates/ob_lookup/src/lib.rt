@@ -11,4 +11,4 @@ mod walk;
 
 pub use closed::{closed_stays, sound_has_views, sound_is_closed};
 pub use lookup::look;
-pub use terms::Look;
+pub use terms::{Look, Remainder};

@@ -10,7 +10,7 @@ ghost use Rattle.ob_lookup.specs.Walk.{directory_of, place_of, text_of};
 ghost use Rattle.ob_lookup.specs.Look.{look_of, turn_of, IfAgain, LooksAgain, Goes, LooksUpIn, WalkMayWantMemory, NameMayWantMemory};
 
 use crate::Look;
-use crate::next::{Next, at_stop};
+use crate::next::{Next, at_stop, with_own_bytes};
 use crate::start::{Beginning, Start, absolute, begin};
 use crate::walk::walk;
 use ob_base::{ObjId, Status};
@@ -49,22 +49,23 @@ use std::alloc::{AllocError, Global};
 /// be nothing, is for its parse procedure, and so is the whole of a name relative to it. A create never asks it:
 /// to a create it is as any other object.
 ///
-/// The only fault is `Memory`, for a text that a link makes, for a vacant component, or for what is to be parsed.
-/// So there is none where no link is followed, no vacant place is found and no object is to parse: where the
-/// name, looked up with no reparse left, ends at an object or in another refusal than `ReparseLimit`.
+/// What it leaves of the name, a vacant component or what is to be parsed, is lent from it, or is its own where a
+/// link was followed. The only fault is `Memory`, for a text that a link makes, and for what is left of one. So there
+/// is none where no link is followed: where the name, looked up with no reparse left, ends otherwise than by
+/// `ReparseLimit`.
 ///
 /// Source: Windows Internals, Object Manager (object names, symbolic links, parse methods, session namespace);
 /// OBJECT_ATTRIBUTES structure (Windows Driver Kit). The refusals and their order, and the rule on creates
 /// behind `\??`, are this profile.
-pub fn look<T: TypeSet>(
+pub fn look<'a, T: TypeSet>(
     alloc: Global,
     store: &Store<T>,
     view: View,
     root: Option<ObjId>,
-    name: Name<'_>,
+    name: Name<'a>,
     mode: Mode,
     budget: u32,
-) -> Result<Look, AllocError>
+) -> Result<Look<'a>, AllocError>
     requires closed { IsClosed store.now }
     requires view { IsViewThere store.now view }
     requires root { IsRootThere store.now root }
@@ -73,7 +74,7 @@ pub fn look<T: TypeSet>(
     ensures wants { OnErr result
         (NameMayWantMemory T.procedures store.now view mode root name.entry) }
 {
-    let start = match begin(alloc, store, &view, root, name, mode, budget)? {
+    let start = match begin(store, &view, root, name, mode, budget) {
         Beginning::Walk(start) => start,
         Beginning::Over(look) => return Ok(look),
     };
@@ -90,14 +91,14 @@ pub fn look<T: TypeSet>(
 }
 
 /// Walks once, and does what is to be done where the walk stops.
-fn look_from<T: TypeSet>(
+fn look_from<'a, T: TypeSet>(
     alloc: Global,
     store: &Store<T>,
     view: &View,
-    start: Start<'_>,
+    start: Start<'a>,
     mode: Mode,
     left: u32,
-) -> Result<Next, AllocError>
+) -> Result<Next<'a>, AllocError>
     requires closed { IsClosed store.now }
     requires view { IsViewThere store.now view.now }
     requires directory { IsSome (directory_at store.now (directory_of view.now start.place)) }
@@ -116,15 +117,15 @@ fn look_from<T: TypeSet>(
     at_stop(alloc, walk(store, view, start, mode.fold), mode, left)
 }
 
-/// Looks up a text that a reparse made.
-fn look_again<T: TypeSet>(
+/// Looks up a text that a reparse made. What is left of it then has bytes of its own.
+fn look_again<'a, T: TypeSet>(
     alloc: Global,
     store: &Store<T>,
     view: &View,
     text: Name<'_>,
     mode: Mode,
     left: u32,
-) -> Result<Next, AllocError>
+) -> Result<Next<'a>, AllocError>
     requires closed { IsClosed store.now }
     requires view { IsViewThere store.now view.now }
     ensures left { IfOk result (λ next. IfAgain next (0 < left)) }
@@ -135,7 +136,10 @@ fn look_again<T: TypeSet>(
         → LooksAgain T.procedures s p mode left text.entry end) }
 {
     match absolute(view, text, mode.create) {
-        Some(start) => look_from(alloc, store, view, start, mode, left),
+        Some(start) => {
+            let next = look_from(alloc, store, view, start, mode, left)?;
+            with_own_bytes(alloc, next)
+        }
         None => Ok(Next::Over(Look::Refused(Status::ObjectPathSyntaxBad))),
     }
 }

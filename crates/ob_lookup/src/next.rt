@@ -2,32 +2,32 @@
 
 ghost use Rattle.std.specs.Prelude.{◌≡◌, IfOk, IfErr, OnErr};
 ghost use Rattle.ob_model.specs.Looks as machine;
-ghost use Rattle.ob_lookup.specs.Look.{look_of, other_at, next_at, turn_at, turn_of, MayWantMemory, TurnMayWantMemory};
+ghost use Rattle.ob_lookup.specs.Look.{look_of, other_at, next_at, turn_at, turn_of, TurnMayWantMemory};
 
-use crate::Look;
 use crate::start::ROOT;
 use crate::walk::Stop;
+use crate::{Look, Remainder};
 use ob_base::{Fault, ObjId, Status};
-use ob_model::{Bytes, Mode};
+use ob_model::Mode;
 use ob_names::{Name, NameBuf, substitute};
 use std::alloc::{AllocError, Global};
 
 /// What comes of a stop.
 #[derive(Drop)]
-pub(crate) enum Next {
+pub(crate) enum Next<'a> {
     /// The lookup is over.
-    Over(Look),
+    Over(Look<'a>),
     /// This text, which a reparse made, is to be looked up.
     Again(NameBuf),
 }
 
 /// What is done at a stop, with so many reparses left.
-pub(crate) fn at_stop(
+pub(crate) fn at_stop<'a>(
     alloc: Global,
-    stop: Stop<'_>,
+    stop: Stop<'a, '_>,
     mode: Mode,
     left: u32,
-) -> Result<Next, AllocError>
+) -> Result<Next<'a>, AllocError>
     ensures turn { IfOk result (λ next. turn_of next
         ≡ turn_at left (next_at mode left stop.entry)) }
     ensures wants { OnErr result (TurnMayWantMemory (turn_at 0 (next_at mode 0 stop.entry))) }
@@ -37,57 +37,47 @@ pub(crate) fn at_stop(
             directory,
             component,
             last,
-        } => Ok(Next::Over(at_miss(alloc, mode, directory, component, last)?)),
+        } => Ok(Next::Over(at_miss(mode, directory, component, last))),
         Stop::Directory(id) => Ok(Next::Over(Look::At(id))),
         Stop::Link { id, target, rest } => at_link(alloc, mode, left, id, target, rest),
         Stop::Other { id, rest, parses } => {
             let asked = parses && !mode.create;
-            Ok(Next::Over(at_other(alloc, left, id, rest, asked)?))
+            Ok(Next::Over(at_other(left, id, rest, asked)))
         }
     }
 }
 
 /// What a lookup ends with where a component is missed.
-fn at_miss(
-    alloc: Global,
-    mode: Mode,
-    directory: ObjId,
-    component: Name<'_>,
-    last: bool,
-) -> Result<Look, AllocError>
-    ensures end { IfOk result (λ look.
-        machine.at_miss mode directory component.entry last ≡ machine.Over (look_of look)) }
-    ensures wants { OnErr result
-        (machine.at_miss mode directory component.entry last
-        ≡ machine.Over (machine.Vacant directory component.entry)) }
+fn at_miss(mode: Mode, directory: ObjId, component: Name<'_>, last: bool) -> Look<'_>
+    ensures { machine.at_miss mode directory component.entry last
+        ≡ machine.Over (look_of result) }
 {
     let bytes = component.as_slice();
     if bytes.is_empty() {
-        Ok(Look::Refused(Status::ObjectNameInvalid))
+        Look::Refused(Status::ObjectNameInvalid)
     } else if !last {
-        Ok(Look::Refused(Status::ObjectPathNotFound))
+        Look::Refused(Status::ObjectPathNotFound)
     } else if !mode.create {
-        Ok(Look::Refused(Status::ObjectNameNotFound))
+        Look::Refused(Status::ObjectNameNotFound)
     } else if directory == ROOT && bytes == b"??".as_slice() {
-        Ok(Look::Refused(Status::ObjectNameInvalid))
+        Look::Refused(Status::ObjectNameInvalid)
     } else {
-        let component = NameBuf::from_name(alloc, component)?;
-        Ok(Look::Vacant {
+        Look::Vacant {
             directory,
-            component,
-        })
+            component: Remainder::lent(component),
+        }
     }
 }
 
 /// What is done at a link: it is what was named, or it is followed.
-fn at_link(
+fn at_link<'a>(
     alloc: Global,
     mode: Mode,
     left: u32,
     id: ObjId,
     target: Name<'_>,
     rest: Name<'_>,
-) -> Result<Next, AllocError>
+) -> Result<Next<'a>, AllocError>
     ensures turn { IfOk result (λ next. turn_of next
         ≡ turn_at left (machine.at_link mode id target.entry rest.entry)) }
     ensures wants { OnErr result
@@ -101,7 +91,12 @@ fn at_link(
 }
 
 /// What comes of a link that is followed.
-fn follow(alloc: Global, left: u32, target: Name<'_>, rest: Name<'_>) -> Result<Next, AllocError>
+fn follow<'a>(
+    alloc: Global,
+    left: u32,
+    target: Name<'_>,
+    rest: Name<'_>,
+) -> Result<Next<'a>, AllocError>
     ensures turn { IfOk result (λ next. turn_of next
         ≡ turn_at left (machine.Follow target.entry rest.entry)) }
 {
@@ -116,27 +111,28 @@ fn follow(alloc: Global, left: u32, target: Name<'_>, rest: Name<'_>) -> Result<
 }
 
 /// What a lookup ends with at an object of the set, which is asked to parse the rest or not.
-fn at_other(
-    alloc: Global,
-    left: u32,
-    id: ObjId,
-    rest: Name<'_>,
-    asked: bool,
-) -> Result<Look, AllocError>
-    ensures end { IfOk result (λ look. look_of look ≡ other_at asked id rest.entry left) }
-    ensures wants { OnErr result (MayWantMemory (other_at asked id rest.entry 0)) }
+fn at_other(left: u32, id: ObjId, rest: Name<'_>, asked: bool) -> Look<'_>
+    ensures { look_of result ≡ other_at asked id rest.entry left }
 {
     if asked {
-        let rest = Bytes::from_slice(alloc, rest.as_slice())?;
-        return Ok(Look::Parse {
+        Look::Parse {
             object: id,
-            rest,
+            rest: Remainder::lent(rest),
             left,
-        });
-    }
-    if rest.as_slice().is_empty() {
-        Ok(Look::At(id))
+        }
+    } else if rest.as_slice().is_empty() {
+        Look::At(id)
     } else {
-        Ok(Look::Refused(Status::ObjectTypeMismatch))
+        Look::Refused(Status::ObjectTypeMismatch)
+    }
+}
+
+/// The same with bytes of its own, where a lookup is over and leaves some. The only fault is out of memory.
+pub(crate) fn with_own_bytes<'a>(alloc: Global, next: Next<'_>) -> Result<Next<'a>, AllocError>
+    ensures turn { IfOk result (λ owned. turn_of owned ≡ turn_of next.entry) }
+{
+    match next {
+        Next::Over(look) => Ok(Next::Over(look.with_own_bytes(alloc)?)),
+        Next::Again(text) => Ok(Next::Again(text)),
     }
 }

@@ -1,22 +1,21 @@
 //! Where a walk begins.
 
-ghost use Rattle.std.specs.Prelude.{◌≡◌, ◌&&◌, not, ◌∷◌, ℕ, IsSome, IfOk, OnErr};
+ghost use Rattle.std.specs.Prelude.{◌≡◌, ◌&&◌, not, ◌∷◌, ℕ, IsSome};
 ghost use Rattle.std.specs.Option.{option_map, is_some};
 ghost use Rattle.ob_model.specs.Names.{separator, begins_with_separator};
 ghost use Rattle.ob_model.specs.Paths as paths;
 ghost use Rattle.ob_objects.specs.Store.{directory_at};
 ghost use Rattle.ob_lookup.specs.Closed.{IsClosed, IsRootThere, IsViewThere};
-ghost use Rattle.ob_lookup.specs.Look.{IfWalk, Begins, NameMayWantMemory};
+ghost use Rattle.ob_lookup.specs.Look.{IfWalk, Begins};
 ghost use Rattle.ob_lookup.specs.Walk.{local_of, directory_of, place_of, text_of, start_behind_view, root_origin, absolute_origin, parses_at};
 
-use crate::Look;
+use crate::{Look, Remainder};
 use ob_base::{ObjId, Status};
 use ob_devmap::View;
-use ob_model::{Bytes, Mode};
+use ob_model::Mode;
 use ob_names::{Component, Name, first};
 use ob_objects::{Store, StoredBody};
 use ob_types::TypeSet;
-use std::alloc::{AllocError, Global};
 
 /// The root directory, which `\` names.
 pub(crate) const ROOT: ObjId = ObjId(1);
@@ -46,7 +45,7 @@ pub(crate) enum Beginning<'a> {
     /// With a walk.
     Walk(Start<'a>),
     /// It is over.
-    Over(Look),
+    Over(Look<'a>),
 }
 
 /// A view's local directory: that of the device map, or the global one where there is no map.
@@ -136,45 +135,40 @@ fn from_root<'a>(text: Name<'a>) -> Option<Start<'a>>
 /// Where a name begins: where the absolute name does, else at the object of the root handle, which must be a
 /// directory, or be one whose kind parses, and then it is asked to parse the name, but not by a create.
 pub(crate) fn begin<'a, T: TypeSet>(
-    alloc: Global,
     store: &Store<T>,
     view: &View,
     root: Option<ObjId>,
     name: Name<'a>,
     mode: Mode,
     left: u32,
-) -> Result<Beginning<'a>, AllocError>
+) -> Beginning<'a>
     requires closed { IsClosed store.now }
     requires view { IsViewThere store.now view.now }
     requires root { IsRootThere store.now root }
-    ensures directory { IfOk result (λ beginning. IfWalk beginning (λ start.
-        IsSome (directory_at store.now (directory_of view.now start.place)))) }
-    ensures begins { IfOk result (λ beginning.
-        Begins T.procedures store.now view.now mode left root name.entry beginning) }
-    ensures wants { OnErr result
-        (NameMayWantMemory T.procedures store.now view.now mode root name.entry) }
+    ensures directory { IfWalk result (λ start.
+        IsSome (directory_at store.now (directory_of view.now start.place))) }
+    ensures begins { Begins T.procedures store.now view.now mode left root name.entry result }
 {
     let Some(id) = root else {
         let Some(start) = absolute(view, name, mode.create) else {
-            return Ok(Beginning::Over(Look::Refused(Status::ObjectPathSyntaxBad)));
+            return Beginning::Over(Look::Refused(Status::ObjectPathSyntaxBad));
         };
-        return Ok(Beginning::Walk(start));
+        return Beginning::Walk(start);
     };
     if begins_with_separator(name.as_slice()) {
-        return Ok(Beginning::Over(Look::Refused(Status::ObjectPathSyntaxBad)));
+        return Beginning::Over(Look::Refused(Status::ObjectPathSyntaxBad));
     }
     if is_directory(store, id) {
-        return Ok(Beginning::Walk(relative(id, name)));
+        return Beginning::Walk(relative(id, name));
     }
     if !is_asked(store, id, mode) {
-        return Ok(Beginning::Over(Look::Refused(Status::ObjectTypeMismatch)));
+        return Beginning::Over(Look::Refused(Status::ObjectTypeMismatch));
     }
-    let rest = Bytes::from_slice(alloc, name.as_slice())?;
-    Ok(Beginning::Over(Look::Parse {
+    Beginning::Over(Look::Parse {
         object: id,
-        rest,
+        rest: Remainder::lent(name),
         left,
-    }))
+    })
 }
 
 /// Whether an object is asked to parse a name relative to it: its kind parses, and nothing is to be created.

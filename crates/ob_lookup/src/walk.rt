@@ -19,7 +19,7 @@ use ob_objects::{Store, StoredBody};
 use ob_types::TypeSet;
 
 /// Where a walk stops.
-pub(crate) enum Stop<'a> {
+pub(crate) enum Stop<'a, 's> {
     /// At a directory in which a component is empty or names nothing.
     Missed {
         /// The directory.
@@ -36,7 +36,7 @@ pub(crate) enum Stop<'a> {
         /// The link.
         id: ObjId,
         /// Its target.
-        target: Name<'a>,
+        target: Name<'s>,
         /// What follows it in the text.
         rest: Name<'a>,
     },
@@ -52,12 +52,12 @@ pub(crate) enum Stop<'a> {
 }
 
 /// Walks a text from a place. A view is searched for the first component alone.
-pub(crate) fn walk<'a, T: TypeSet>(
-    store: &'a Store<T>,
+pub(crate) fn walk<'a, 's, T: TypeSet>(
+    store: &'s Store<T>,
     view: &View,
     start: Start<'a>,
     fold: bool,
-) -> Stop<'a>
+) -> Stop<'a, 's>
     requires closed { IsClosed store.now }
     requires view { IsViewThere store.now view.now }
     requires directory { IsSome (directory_at store.now (directory_of view.now start.place)) }

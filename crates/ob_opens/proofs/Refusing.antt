@@ -20,7 +20,7 @@ use Rattle.ob_model.specs.State.{State, is_live}
 use Rattle.ob_model.specs.Types.{is_wanted_at}
 use Rattle.ob_lookup.specs.Look.{MayWantMemory}
 use Rattle.ob_space.specs.Found.{is_grant_refused, is_refused_at, IsRefusedWhereFound}
-use Rattle.ob_space.proofs.InPlace.{is_its_end}
+use Rattle.ob_space.proofs.InPlace.{IgnoresLeft, is_refused_then}
 use Rattle.ob_opens.specs.Refusing.{IsEndRefused, IsBroughtRefused}
 use Rattle.ob_opens.proofs.MadeOpens.{made_there}
 
@@ -51,7 +51,7 @@ module _ {K T F I : Type 0} (g : Procedures K T F I) (s : State K T F I) where
       go (inr end) = passes end
 
   -- a text that is looked up again with an end that isn't refused isn't refused at another
-  module _ (p : ℕ) (mode : Mode) (text : List ℕ) (refuses : Look → Bool) (look : Look) (passes : refuses look ≡ true → ⊥) (there : (status : Status) → look ≡ Refused status → ⊥) where
+  module _ (p : ℕ) (mode : Mode) (text : List ℕ) (refuses : Look → Bool) (ignores : IgnoresLeft refuses) (look : Look) (passes : refuses look ≡ true → ⊥) (there : (status : Status) → look ≡ Refused status → ⊥) where
     pub passes_again : (n : ℕ) → LooksAgain g s p mode n text look → (n ≡ 0) ⊎ IsRefusedWhereFound g s p mode None text refuses → ⊥
     passes_again zero looks refused = there ReparseLimit looks
     passes_again (suc n) looks (inl none) = let apart : suc n ≡ 0 = none in cc
@@ -59,7 +59,7 @@ module _ {K T F I : Type 0} (g : Procedures K T F I) (s : State K T F I) where
       where
         go : (long : Bool) → MatchBool long (look ≡ Refused NameTooLong) (LooksUp g s p mode n None text look) → ⊥
         go true is = there NameTooLong is
-        go false looks = passes (subst (λ (x : Look). refuses x ≡ true) (is_its_end g s p mode n None text end look in_place looks) refused)
+        go false looks = passes (is_refused_then g s p mode refuses ignores n None text end look in_place looks refused)
 
   -- nor is it where its lookup may want memory, and a reparse is left
   pub wants_again : (p : ℕ) (mode : Mode) (text : List ℕ) (refuses : Look → Bool) (n : ℕ) → 0 < n

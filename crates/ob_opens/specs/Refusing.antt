@@ -25,7 +25,7 @@ module _ {K T F I : Type 0} (g : Procedures K T F I) where
   IsEndRefused s x (Some EndsItself) = is_refused_at g s x.process (options_by x.attrs) x.wanted x.object ≡ true
   IsEndRefused s x (Some (EndsMade face inner)) = is_instance_refused s x face inner ≡ true
   IsEndRefused s x (Some (EndsReparse text)) =
-      (x.left ≡ 0) ⊎ IsRefusedWhereFound g (without_pending s x.ticket) x.process (open_mode x.wanted x.attrs) None text (is_open_refused_at g s x.process x.attrs x.wanted)
+      (x.left ≡ 0) ⊎ IsRefusedWhereFound g (without_pending s x.ticket) x.process (open_mode x.wanted x.attrs) None text (is_open_refused_at g (without_pending s x.ticket) x.process x.attrs x.wanted)
   IsEndRefused s x (Some (EndsRefused k)) = Unit {0}
 
   -- so is the open of a ticket, also where the process that asked is gone

@@ -1,9 +1,10 @@
 //! An open whose parse ended with a text that is to be looked up.
 
-ghost use Rattle.std.specs.Prelude.{◌≡◌, Some, IsOk, IfOk, IfErr, OnErr, IsSome, MatchOption};
+ghost use Rattle.std.specs.Prelude.{◌≡◌, true, Some, IsOk, IfOk, IfErr, OnErr, IsSome, MatchOption};
 ghost use Rattle.ob_model.specs.Parses.{Resumes};
-ghost use Rattle.ob_model.specs.PendingOpens.{pending_of};
+ghost use Rattle.ob_model.specs.PendingOpens.{pending_of, without_pending};
 ghost use Rattle.ob_model.specs.Procedures.{EndsReparse};
+ghost use Rattle.ob_model.specs.State.{is_store_full};
 ghost use Rattle.ob_opens.specs.Again.{OpensAgain};
 ghost use Rattle.ob_model.specs.Looks as machine;
 ghost use Rattle.ob_space.specs.Looking.{IsParsing};
@@ -11,22 +12,21 @@ ghost use Rattle.ob_space.specs.Orderly.{IsBetweenSteps, IsOrderly};
 ghost use Rattle.ob_opens.specs.Refusing.{IsBroughtRefused};
 ghost use Rattle.ob_opens.specs.Waiting.{answer_of, IfParsing, IsParseOf};
 
-use crate::begin::face_at;
+use crate::begin::{face_at, text_of};
 use crate::reparse::{begin_again, mode_of_open, open_found, refuse_open};
 use crate::started::Started;
 use crate::unpin::end_parse;
 use ob_base::{ObjId, Status};
 use ob_handles::HandleTable;
-use ob_lookup::Look;
-use ob_model::{Answer, Bytes};
+use ob_lookup::{Look, Remainder};
 use ob_names::Name;
-use ob_space::{Space, is_live, look_up_again, status_alone};
+use ob_space::{Space, is_full_without, is_live, look_up_again, status_alone};
 use ob_types::{Parsing, TypeSet};
 use std::alloc::AllocError;
 
 /// Looks up the text that the parse of a pending open ended with, in the state as it is now, and does what that leads
 /// to: the object that it names is opened, the refusal is told, or another parse is waited for. What is refused before the
-/// set is asked takes no memory where the lookup copies nothing.
+/// set is asked takes no memory where the lookup follows no link.
 pub(crate) fn look_again<T: TypeSet, H: HandleTable>(
     space: &mut Space<T, H>,
     ticket: u64,
@@ -64,12 +64,13 @@ pub(crate) fn look_again<T: TypeSet, H: HandleTable>(
 }
 
 /// The open of a ticket is pending again, under another one: its caller is to run the parse of this object over this
-/// rest, with so many reparses left.
+/// rest, with so many reparses left. Refused with `InsufficientResources` where there are 1,048,576 objects and other
+/// pending opens, or no number is left; then the open ends, and no memory was taken.
 fn begin_anew<T: TypeSet, H: HandleTable>(
     space: &mut Space<T, H>,
     ticket: u64,
     object: ObjId,
-    rest: Bytes,
+    rest: Remainder<'_>,
     left: u32,
 ) -> Result<Started<T>, AllocError>
     requires between { IsBetweenSteps T.idle space.old }
@@ -77,15 +78,19 @@ fn begin_anew<T: TypeSet, H: HandleTable>(
     requires parses { IsParsing T.procedures space.old object }
     ensures orderly { IsOrderly T.idle space.new }
     ensures begun { IfOk result (λ started.
-        OpensAgain T.procedures space.old ticket (machine.Parse object rest left)
+        OpensAgain T.procedures space.old ticket (machine.Parse object rest.entry left)
         (answer_of started) space.new) }
     ensures parse { IfOk result (λ started. IfParsing started (IsParseOf space.new)) }
+    ensures full { is_store_full (without_pending space.old ticket) ≡ true → IsOk result }
     ensures unchanged { OnErr result (space.new ≡ space.old) }
 {
-    let face = face_at(space, object)?;
-    let copy = Bytes::from_slice(space.alloc, rest.as_slice())?;
-    match begin_again(space, ticket, object, rest, left)? {
-        Answer::Ticket(next) => Ok(Started::Parsing(Parsing::new(next, face, copy))),
-        Answer::Done(reply) => Ok(Started::Done(reply)),
+    if is_full_without(space, ticket) {
+        let status = Status::InsufficientResources;
+        return Ok(Started::Done(refuse_open(space, ticket, status)));
     }
+    let face = face_at(space, object)?;
+    let asked = text_of(space.alloc, &rest)?;
+    let kept = text_of(space.alloc, &rest)?;
+    let next = begin_again(space, ticket, object, kept, left)?;
+    Ok(Started::Parsing(Parsing::new(next, face, asked)))
 }

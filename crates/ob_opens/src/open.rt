@@ -43,7 +43,7 @@ pub fn type_wanted<K: Copy>(want: Option<K>) -> Wanted<K>
 /// is asked for, and those of a grant. One that would wait is refused with `InsufficientResources` where there
 /// are 1,048,576 objects and pending opens, or no number is left. The only fault is out of memory, and then nothing
 /// has changed; what is refused before the lookup takes none, nor does what is refused at its end, before the set is
-/// asked, where the lookup copies nothing.
+/// asked, where the lookup follows no link.
 ///
 /// It asks that the state is orderly, settled and sound, and leaves it orderly.
 ///

@@ -1,13 +1,15 @@
 //! An open that waits for a parse.
 
-ghost use Rattle.std.specs.Prelude.{◌≡◌, IfOk, OnErr};
+ghost use Rattle.std.specs.Prelude.{◌≡◌, false, IfOk, OnErr};
+ghost use Rattle.ob_model.specs.declared.reply.Answer.TheVariants.{Ticket};
 ghost use Rattle.ob_model.specs.Opens.{Begins};
+ghost use Rattle.ob_model.specs.State.{is_store_full};
 ghost use Rattle.ob_space.specs.Orderly.{IsBetweenSteps, IsOrderly};
 
-use ob_base::{ObjId, Proc, Status};
+use ob_base::{ObjId, Proc};
 use ob_handles::HandleTable;
-use ob_model::{Answer, Bytes, Given, Pending, Reply, Wanted};
-use ob_space::{Space, is_store_full};
+use ob_model::{Bytes, Pending, Wanted};
+use ob_space::Space;
 use ob_types::TypeSet;
 use std::alloc::AllocError;
 
@@ -23,12 +25,11 @@ pub(crate) struct OpenRequest<K> {
 }
 
 /// An open that reached a parsing object is pending from now on: what follows that object in the name waits
-/// for its parse, with so many reparses left, and the answer is its ticket, which is the next number. The
+/// for its parse, with so many reparses left, under a ticket, which is the next number and is handed back. The
 /// object stays as long as the open is pending.
 ///
-/// It asks that the state is orderly, sound and settled, and leaves it so. Refused with
-/// `InsufficientResources` where there are 1,048,576 objects and pending opens, or no number is left; then
-/// nothing has changed. So it is where memory is wanted.
+/// It asks that the state is orderly, sound and settled, and leaves it so; and that one more fits beside the objects
+/// and pending opens, and a number is left. The only fault is out of memory, and then nothing has changed.
 ///
 /// Source: Windows Internals, Object Manager (parse methods; object retention). That the parse is run between
 /// two steps, and the ticket, are this profile.
@@ -38,20 +39,15 @@ pub(crate) fn begin_parse<T: TypeSet, H: HandleTable>(
     object: ObjId,
     rest: Bytes,
     left: u32,
-) -> Result<Answer, AllocError>
+) -> Result<u64, AllocError>
     requires between { IsBetweenSteps T.idle space.old }
+    requires room { is_store_full space.old ≡ false }
     ensures orderly { IsOrderly T.idle space.new }
-    ensures begun { IfOk result (λ answer.
+    ensures begun { IfOk result (λ ticket.
         Begins T.procedures space.old request.process request.attrs request.wanted object rest left
-        answer space.new) }
+        (Ticket ticket) space.new) }
     ensures unchanged { OnErr result (space.new ≡ space.old) }
 {
-    if is_store_full(space) {
-        return Ok(Answer::Done(Reply {
-            status: Status::InsufficientResources,
-            given: Given::Nothing,
-        }));
-    }
     let ticket = space.next_id;
     space.pending.insert(Pending {
         ticket,
@@ -63,5 +59,5 @@ pub(crate) fn begin_parse<T: TypeSet, H: HandleTable>(
         wanted: request.wanted,
     })?;
     space.next_id = ticket + 1;
-    Ok(Answer::Ticket(ticket))
+    Ok(ticket)
 }

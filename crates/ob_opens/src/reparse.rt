@@ -1,13 +1,13 @@
 //! An open whose parse ended with a name that was looked up again.
 
-ghost use Rattle.std.specs.Prelude.{◌≡◌, ℕ, true, IsSome, IsOk, IfOk, IfErr, OnErr, MatchOption};
+ghost use Rattle.std.specs.Prelude.{◌≡◌, true, false, IsSome, IsOk, IfOk, IfErr, OnErr, MatchOption};
 ghost use Rattle.ob_model.specs.declared.reply.Answer.TheVariants.{Done, Ticket};
 ghost use Rattle.ob_model.specs.Looks.{At, Parse, Refused};
 ghost use Rattle.ob_model.specs.Opens.{open_mode, options_by};
 ghost use Rattle.ob_model.specs.PendingOpens.{face_of, pending_of, without_pending};
 ghost use Rattle.ob_model.specs.Refusals.{answers};
 ghost use Rattle.ob_model.specs.Settle.{IsSettled, settle};
-ghost use Rattle.ob_model.specs.State.{is_live};
+ghost use Rattle.ob_model.specs.State.{is_live, is_store_full};
 ghost use Rattle.ob_space.specs.Found.{is_refused_at};
 ghost use Rattle.ob_space.specs.Orderly.{IsBetweenSteps, IsOrderly};
 ghost use Rattle.ob_opens.specs.Again.{OpensAgain};
@@ -16,8 +16,8 @@ use crate::pinned::{options_by, refuse};
 use crate::unpin::end_parse;
 use ob_base::{Attrs, ObjId, Status};
 use ob_handles::HandleTable;
-use ob_model::{Answer, Bytes, Given, Mode, Pending, Reply, Wanted};
-use ob_space::{Space, grant, is_full_without, is_wanted_at, with_handle};
+use ob_model::{Bytes, Mode, Pending, Reply, Wanted};
+use ob_space::{Space, grant, is_wanted_at, with_handle};
 use ob_types::{Reason, TypeSet};
 use std::alloc::AllocError;
 
@@ -110,13 +110,13 @@ pub(crate) fn open_found<T: TypeSet, H: HandleTable>(
 }
 
 /// An open whose parse ended with a name that leads to an object which is to parse waits again, with what follows
-/// that object in the name and so many reparses left: under a new ticket, which is the next number, and is the
-/// answer. The open of the old ticket is pending no longer, and what it alone held goes. What it held and the new
+/// that object in the name and so many reparses left: under a new ticket, which is the next number, and is handed
+/// back. The open of the old ticket is pending no longer, and what it alone held goes. What it held and the new
 /// one pins stays as it is.
 ///
-/// It asks that an open is pending under this ticket, and that the state is orderly, sound and settled, and leaves
-/// it orderly. Refused with `InsufficientResources` where there are 1,048,576 objects and other pending opens, or
-/// no number is left; then the open ends. Where memory is wanted nothing has changed: the open is still pending.
+/// It asks that an open is pending under this ticket, that one more fits beside the objects and the other pending opens
+/// and a number is left, and that the state is orderly, sound and settled, and leaves it orderly. The only fault is out of
+/// memory, and then nothing has changed: the open is still pending.
 ///
 /// Source: Windows Internals, Object Manager (parse methods; object retention). That a parse has a ticket of its
 /// own, and that the old open takes no room, are this profile.
@@ -126,22 +126,21 @@ pub(crate) fn begin_again<T: TypeSet, H: HandleTable>(
     object: ObjId,
     rest: Bytes,
     left: u32,
-) -> Result<Answer, AllocError>
+) -> Result<u64, AllocError>
     requires between { IsBetweenSteps T.idle space.old }
     requires pending { IsSome (pending_of space.old ticket) }
+    requires room { is_store_full (without_pending space.old ticket) ≡ false }
     ensures orderly { IsOrderly T.idle space.new }
-    ensures opened { IfOk result (λ answer.
-        OpensAgain T.procedures space.old ticket (Parse object rest left) answer space.new) }
+    ensures opened { IfOk result (λ next.
+        OpensAgain T.procedures space.old ticket (Parse object rest left) (Ticket next)
+        space.new) }
 
     // Its parse can be run: it is the one that the new ticket waits for.
-    ensures pins { IfOk result (λ answer. (n : ℕ) → answer ≡ Ticket n →
-        MatchOption (pending_of space.new n) ⊥ (λ x. (x.rest ≡ rest) × (x.object ≡ object))
+    ensures pins { IfOk result (λ next. MatchOption (pending_of space.new next) ⊥ (λ x.
+        (x.rest ≡ rest) × (x.object ≡ object))
         × (face_of space.new object ≡ face_of space.old object)) }
     ensures unchanged { OnErr result (space.new ≡ space.old) }
 {
-    if is_full_without(space, ticket) {
-        return Ok(Answer::Done(refuse(space, ticket, Status::InsufficientResources)));
-    }
     let Some(pending) = space.pending.get(ticket) else {
         unreachable!();
     };
@@ -158,5 +157,5 @@ pub(crate) fn begin_again<T: TypeSet, H: HandleTable>(
     space.pending.insert(again)?;
     space.next_id = next + 1;
     end_parse(space, ticket);
-    Ok(Answer::Ticket(next))
+    Ok(next)
 }

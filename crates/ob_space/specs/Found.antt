@@ -15,7 +15,7 @@ use Rattle.ob_model.specs.declared.state.Wanted.{Wanted}
 use Rattle.ob_model.specs.declared.state.Wanted.TheVariants as wanted
 use Rattle.ob_model.specs.declared.terms.GrantOptions.{GrantOptions}
 use Rattle.ob_model.specs.declared.terms.Mode.{Mode}
-use Rattle.ob_model.specs.Creates.{Making, MakesDirectory, MakesLink, MakesObject, create_mode, type_made}
+use Rattle.ob_model.specs.Creates.{Making, MakesDirectory, MakesLink, MakesObject, create_mode, is_stampless, type_made}
 use Rattle.ob_model.specs.Grants.{first_refusal, is_exclusive, has_other_holder, is_table_full}
 use Rattle.ob_model.specs.Looks.{Look, At, Vacant, Parse, Refused, LooksUp}
 use Rattle.ob_model.specs.Opens.{open_mode, options_by, type_wanted}
@@ -48,22 +48,22 @@ module _ {K T F I : Type 0} (g : Procedures K T F I) where
   abbrev pub is_refused_at : State K T F I → ℕ → GrantOptions → Wanted K → ℕ → Bool
   is_refused_at s p asked wanted o = not (is_wanted_at g s o wanted) || is_grant_refused s p o asked
 
-  -- an open is refused where its lookup ends so
+  -- an open is refused where its lookup ends so; one that would wait where no object or pending open more fits
   abbrev pub is_open_refused_at : State K T F I → ℕ → ℕ → Wanted K → Look → Bool
   is_open_refused_at s p attrs wanted (At o) = is_refused_at s p (options_by attrs) wanted o
   is_open_refused_at s p attrs wanted (Vacant d c) = false
-  is_open_refused_at s p attrs wanted (Parse o rest n) = false
+  is_open_refused_at s p attrs wanted (Parse o rest n) = is_store_full s
   is_open_refused_at s p attrs wanted (Refused status) = true
 
-  -- so is a create, also for a name that is taken
+  -- so is a create, also for a name that is taken, or where no handle, object or name more fits
   abbrev pub is_create_refused_at : State K T F I → ℕ → ℕ → Making K → Look → Bool
   is_create_refused_at s p attrs making (At o) = not (has_flag open_if_flag attrs) || is_refused_at s p (options_by attrs) (type_made making) o
-  is_create_refused_at s p attrs making (Vacant d c) = false
+  is_create_refused_at s p attrs making (Vacant d c) = is_table_full s p || is_store_full s || is_stampless s
   is_create_refused_at s p attrs making (Parse o rest n) = false
   is_create_refused_at s p attrs making (Refused status) = true
 
-  -- A name is looked up to this end, and nothing is copied on the way: with no reparse left it ends at an object, or in
-  -- a refusal that asks for no reparse.
+  -- A name is looked up to this end, and nothing is copied on the way: with no reparse left it ends so, and not by a
+  -- link that is to be followed.
   abbrev pub LooksInPlace : State K T F I → ℕ → Mode → Option ℕ → List ℕ → Look → Type 0
   LooksInPlace s p mode root name end = LooksUp g s p mode 0 root name end × (MayWantMemory end → ⊥)
 

@@ -29,18 +29,18 @@ const MOST_REPARSES: u32 = 32;
 ///
 /// It asks that the state is sound, so that every name in it leads somewhere, and that the root object
 /// is there. A vacant place is told only to a create, and then a name may be put there; an object that is to parse
-/// only to an open, and then its kind does. Nothing is changed. The only fault is out of memory: none where the
-/// name, looked up with no reparse left, ends at an object or in another refusal than `ReparseLimit`, however long it is.
+/// only to an open, and then its kind does. Nothing is changed. The only fault is out of memory: none where no link is
+/// followed, so that the name, looked up with no reparse left, ends otherwise than by `ReparseLimit`, however long it is.
 ///
 /// Source: Windows Internals, Object Manager (object names, symbolic links, parse methods, session namespace);
 /// the limit is this profile.
-pub fn look_up<T: TypeSet, H: HandleTable>(
+pub fn look_up<'a, T: TypeSet, H: HandleTable>(
     space: &Space<T, H>,
     process: Proc,
     root: Option<ObjId>,
-    name: Name<'_>,
+    name: Name<'a>,
     mode: Mode,
-) -> Result<Look, AllocError>
+) -> Result<Look<'a>, AllocError>
     requires sound { IsSound space.now }
     requires root { IsRoot space.now root }
     ensures end { IfOk result (λ look.
@@ -65,13 +65,13 @@ pub fn look_up<T: TypeSet, H: HandleTable>(
 ///
 /// Source: Windows Internals, Object Manager (parse methods, symbolic links); that a parse's text takes one of
 /// the reparses of its lookup, and is looked up in the state as it is when the parse has ended, are this profile.
-pub fn look_up_again<T: TypeSet, H: HandleTable>(
+pub fn look_up_again<'a, T: TypeSet, H: HandleTable>(
     space: &Space<T, H>,
     process: Proc,
-    text: Name<'_>,
+    text: Name<'a>,
     mode: Mode,
     left: u32,
-) -> Result<Look, AllocError>
+) -> Result<Look<'a>, AllocError>
     requires sound { IsSound space.now }
     ensures end { IfOk result (λ look. (ticket : ℕ) →
         LooksAgain T.procedures (without_pending space.now ticket) process mode left text.entry
@@ -92,14 +92,14 @@ pub fn look_up_again<T: TypeSet, H: HandleTable>(
 }
 
 /// Looks a name up with so many reparses left, whatever opens are pending.
-fn look_with<T: TypeSet, H: HandleTable>(
+fn look_with<'a, T: TypeSet, H: HandleTable>(
     space: &Space<T, H>,
     process: Proc,
     root: Option<ObjId>,
-    name: Name<'_>,
+    name: Name<'a>,
     mode: Mode,
     left: u32,
-) -> Result<Look, AllocError>
+) -> Result<Look<'a>, AllocError>
     requires sound { IsSound space.now }
     requires root { IsRoot space.now root }
     ensures end { IfOk result (λ look. (opens : List (Pending T.Kind)) →

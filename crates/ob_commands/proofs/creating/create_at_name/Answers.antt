@@ -3,7 +3,7 @@ use Rattle.std.proofs.Common.{ap, subst, refl}
 use Rattle.ob_model.specs.declared.terms.Mode.{Mode}
 use Rattle.ob_model.specs.Creates.{create_mode}
 use Rattle.ob_space.specs.Found.{is_create_refused_at}
-use Rattle.ob_space.proofs.InPlace.{at_its_end, never, end_refused, not_true}
+use Rattle.ob_space.proofs.InPlace.{at_its_end, create_ignores}
 use Rattle.ob_model.specs.declared.reply.Answer.TheVariants.{Done}
 use Rattle.ob_model.specs.Looks.{At, Vacant, Refused, LooksUp, most_reparses}
 use Rattle.ob_lookup.specs.Look.{look_of}
@@ -49,15 +49,16 @@ returns-in-At-clause-found g c = λ refused.
     let s = c.args.space.now in
     let p = c.args.process in
     c.open_there.ensures.early
-    (at_its_end g.T.TypeSet.procedures s p (create_mode c.args.attrs) c.args.root c.args.name (is_create_refused_at g.T.TypeSet.procedures s p c.args.attrs (making_of c.args.making)) c.in-Ok.root c.in-Ok.ensures most_reparses (At c.in-At.object)
+    (at_its_end g.T.TypeSet.procedures s p (create_mode c.args.attrs) c.args.root c.args.name (is_create_refused_at g.T.TypeSet.procedures s p c.args.attrs (making_of c.args.making)) (create_ignores g.T.TypeSet.procedures s p c.args.attrs (making_of c.args.making)) c.in-Ok.root c.in-Ok.ensures most_reparses (At c.in-At.object)
     (subst (λ (m : Mode). LooksUp g.T.TypeSet.procedures s p m most_reparses c.in-Ok.root c.args.name (At c.in-At.object)) c.create_mode.ensures
     (subst (λ look. LooksUp g.T.TypeSet.procedures s p c.create_mode.result most_reparses c.in-Ok.root c.args.name (look_of look)) c.in-At.is c.in_ok-status.ensures.end)) refused)
 
 pub returns-in-Vacant-clause-found : goal.returns-in-Vacant-clause-found
-returns-in-Vacant-clause-found g c =
+returns-in-Vacant-clause-found g c = λ refused.
     let s = c.args.space.now in
     let p = c.args.process in
     let look = Vacant c.in-Vacant.directory c.in-Vacant.component in
-    never (end_refused g.T.TypeSet.procedures s p (create_mode c.args.attrs) c.args.root c.args.name (is_create_refused_at g.T.TypeSet.procedures s p c.args.attrs (making_of c.args.making)) c.in-Ok.root c.in-Ok.ensures most_reparses look
+    c.make_named.ensures.full
+    (at_its_end g.T.TypeSet.procedures s p (create_mode c.args.attrs) c.args.root c.args.name (is_create_refused_at g.T.TypeSet.procedures s p c.args.attrs (making_of c.args.making)) (create_ignores g.T.TypeSet.procedures s p c.args.attrs (making_of c.args.making)) c.in-Ok.root c.in-Ok.ensures most_reparses look
     (subst (λ (m : Mode). LooksUp g.T.TypeSet.procedures s p m most_reparses c.in-Ok.root c.args.name look) c.create_mode.ensures
-    (subst (λ look. LooksUp g.T.TypeSet.procedures s p c.create_mode.result most_reparses c.in-Ok.root c.args.name (look_of look)) c.in-Vacant.is c.in_ok-status.ensures.end)) not_true)
+    (subst (λ look. LooksUp g.T.TypeSet.procedures s p c.create_mode.result most_reparses c.in-Ok.root c.args.name (look_of look)) c.in-Vacant.is c.in_ok-status.ensures.end)) refused)

@@ -2,7 +2,12 @@
 use Rattle.std.proofs.Common.{◌∙◌, refl, sym}
 use Rattle.ob_space.proofs.Shown.{shown}
 use Rattle.ob_life.proofs.Walked.{closed_alone, closed_both, closed_unheld, settled_is_orderly}
+use Rattle.ob_life.proofs.Upheld.{nothing_goes}
 use Rattle.ob_life.proofs.settle.settle_after_loss.Goals as goal
+
+pub returns-then-is_upheld-clause-settled : goal.returns-then-is_upheld-clause-settled
+returns-then-is_upheld-clause-settled g c =
+    nothing_goes c.args.space.now c.args.object (sym c.is_upheld.ensures ∙ c.if-is_upheld.true) g.T.TypeSet.procedures c.requires.kept
 
 pub settle_one-requires-in-Some-after_bounds : goal.settle_one-requires-in-Some-after_bounds
 settle_one-requires-in-Some-after_bounds g c κs within =

@@ -8,16 +8,16 @@ use Rattle.ob_lookup.proofs.lookup.look.Goals as goal
 
 pub returns-in_err-next-clause-wants : goal.returns-in_err-next-clause-wants
 returns-in_err-next-clause-wants g c =
-    on_any_err _ c.from_residual-in_err-next.result
+    on_any_err _ c.from_residual.result
     (λ s p end shows of looks.
-    let begins = subst (λ (b : Beginning). Begins g.T.TypeSet.procedures c.args.store.now c.args.view c.args.mode c.args.budget c.args.root c.args.name b) c.in-Walk.is c.in_ok-start.ensures.begins in
+    let begins = subst (λ (b : Beginning). Begins g.T.TypeSet.procedures c.args.store.now c.args.view c.args.mode c.args.budget c.args.root c.args.name b) c.in-Walk.is c.begin.ensures.begins in
     let found = c.in_err-next.ensures.wants s p shows of in
     only_wants g.T.TypeSet.procedures s p c.args.mode c.args.root c.args.name end found.0 looks
     (begins s p 0 found.0 shows of found.2) found.1)
 
 pub loop-next-init : goal.loop-next-init
 loop-next-init g c =
-    let begins = subst (λ (b : Beginning). Begins g.T.TypeSet.procedures c.args.store.now c.args.view c.args.mode c.args.budget c.args.root c.args.name b) c.in-Walk.is c.in_ok-start.ensures.begins in
+    let begins = subst (λ (b : Beginning). Begins g.T.TypeSet.procedures c.args.store.now c.args.view c.args.mode c.args.budget c.args.root c.args.name b) c.in-Walk.is c.begin.ensures.begins in
     record {
       left = c.in_ok-next.ensures.left;
       goes = λ s p end shows of goes. begins s p c.args.budget end shows of (c.in_ok-next.ensures.goes s p end shows of goes);

@@ -7,7 +7,6 @@ use Rattle.ob_lookup.specs.Closed.{IsRootThere}
 use Rattle.ob_lookup.specs.Walk.{place_of, text_of, parses_at}
 use Rattle.ob_lookup.proofs.Begins.{refuses_other, asks_there, begins_there, asked_parts}
 use Rattle.ob_lookup.proofs.Starts.{start_there}
-use Rattle.ob_lookup.proofs.Turns.{on_any_err, only_wants}
 use Rattle.ob_lookup.proofs.start.begin.Goals as goal
 
 pub returns-in_default-clause-directory : goal.returns-in_default-clause-directory
@@ -28,21 +27,11 @@ returns-then-not-is_asked-clause-begins g c = λ s p shows of.
     (subst (λ (r : Option ℕ). IsRootThere c.args.store.now r) c.in-Some.is c.requires.root) (sym c.is_directory.ensures ∙ c.if-is_directory.false)
     (sym c.is_asked.ensures ∙ c.if-not-is_asked.true))
 
-pub returns-in_err-rest-clause-wants : goal.returns-in_err-rest-clause-wants
-returns-in_err-rest-clause-wants g c =
-    on_any_err _ c.from_residual.result
-    (λ s p end shows of looks.
-    let inner = ap begins_with_separator (sym c.as_slice.ensures.bytes) ∙ sym c.begins_with_separator.ensures ∙ c.if-begins_with_separator.false in
-    let asked = asked_parts c.args.mode.create (parses_at g.T.TypeSet.procedures c.args.store.now c.in-Some.id) (sym c.is_asked.ensures ∙ c.if-not-is_asked.false) in
-    only_wants g.T.TypeSet.procedures s p c.args.mode c.args.root c.args.name end (machine.Parse c.in-Some.id c.args.name 0) looks
-    (subst (λ (r : Option ℕ). machine.LooksUp g.T.TypeSet.procedures s p c.args.mode 0 r c.args.name (machine.Parse c.in-Some.id c.args.name 0)) (sym c.in-Some.is)
-    (asks_there g.T.TypeSet.procedures c.args.store.now c.in-Some.id c.args.name inner s p c.args.mode 0 shows asked.0 asked.1)) tt)
-
 pub returns-clause-begins : goal.returns-clause-begins
 returns-clause-begins g c = λ s p shows of.
     let inner = ap begins_with_separator (sym c.as_slice.ensures.bytes) ∙ sym c.begins_with_separator.ensures ∙ c.if-begins_with_separator.false in
     let asked = asked_parts c.args.mode.create (parses_at g.T.TypeSet.procedures c.args.store.now c.in-Some.id) (sym c.is_asked.ensures ∙ c.if-not-is_asked.false) in
-    let whole : c.args.name ≡ c.in_ok-rest.rest = sym c.as_slice-2.ensures.bytes ∙ sym c.in_ok-rest.ensures in
-    subst (λ (r : Option ℕ). machine.LooksUp g.T.TypeSet.procedures s p c.args.mode c.args.left r c.args.name (machine.Parse c.in-Some.id c.in_ok-rest.rest c.args.left)) (sym c.in-Some.is)
+    let whole : c.args.name ≡ c.lent.result = sym c.lent.ensures in
+    subst (λ (r : Option ℕ). machine.LooksUp g.T.TypeSet.procedures s p c.args.mode c.args.left r c.args.name (machine.Parse c.in-Some.id c.lent.result c.args.left)) (sym c.in-Some.is)
     (subst (λ (rest : List ℕ). machine.LooksUp g.T.TypeSet.procedures s p c.args.mode c.args.left (Some c.in-Some.id) c.args.name (machine.Parse c.in-Some.id rest c.args.left)) whole
     (asks_there g.T.TypeSet.procedures c.args.store.now c.in-Some.id c.args.name inner s p c.args.mode c.args.left shows asked.0 asked.1))

@@ -1,19 +1,27 @@
 -- The parse is that of the open which waits for it.
 use Rattle.std.proofs.Common.{◌∙◌, List, ℕ, sym, subst}
 use Rattle.std.specs.Arc.{arc_value}
-use Rattle.ob_model.specs.declared.reply.Answer.{Answer}
+use Rattle.ob_model.specs.declared.reply.Answer.TheVariants.{Ticket}
 use Rattle.ob_model.specs.Opens.{Begins}
 use Rattle.ob_opens.specs.Waiting.{IsParseOf}
 use Rattle.ob_opens.proofs.Begun.{awaits}
 use Rattle.ob_opens.proofs.begin.begin.Goals as goal
 
-pub returns-in-Ticket-clause-parse : goal.returns-in-Ticket-clause-parse
-returns-in-Ticket-clause-parse g c =
+pub returns-clause-begun : goal.returns-clause-begun
+returns-clause-begun g c =
     let s = c.args.space.now in
     let t = c.begin_parse.new.space in
-    let copied = c.in_ok-copy.ensures ∙ c.as_slice.ensures in
+    let asks = c.args.request in
+    subst (λ (rest : List ℕ). Begins g.T.TypeSet.procedures s asks.process asks.attrs asks.wanted c.args.object rest c.args.left (Ticket c.in_ok-ticket.ticket) t) c.in_ok-kept.ensures
+    c.in_ok-ticket.ensures.begun
+
+pub returns-clause-parse : goal.returns-clause-parse
+returns-clause-parse g c =
+    let s = c.args.space.now in
+    let t = c.begin_parse.new.space in
+    let asks = c.args.request in
+    let same = c.in_ok-asked.ensures ∙ sym c.in_ok-kept.ensures in
     subst (λ parse. IsParseOf t parse) (sym c.new.ensures)
-    (subst (λ (rest : List ℕ). IsParseOf t (record { ticket = c.in-Ticket.ticket; face = arc_value c.in_ok-face.face; rest = rest })) (sym copied)
-    (awaits g.T.TypeSet.procedures s t c.args.request.process c.args.request.attrs c.args.request.wanted c.args.object c.args.rest c.args.left (arc_value c.in_ok-face.face) c.in-Ticket.ticket c.requires.between.sound c.requires.between.settled
-    c.in_ok-face.ensures.face
-    (subst (λ (answer : Answer). Begins g.T.TypeSet.procedures s c.args.request.process c.args.request.attrs c.args.request.wanted c.args.object c.args.rest c.args.left answer t) c.in-Ticket.is c.in_ok-ticket.ensures.begun)))
+    (subst (λ (rest : List ℕ). IsParseOf t (record { ticket = c.in_ok-ticket.ticket; face = arc_value c.in_ok-face.face; rest = rest })) (sym same)
+    (awaits g.T.TypeSet.procedures s t asks.process asks.attrs asks.wanted c.args.object c.in_ok-kept.kept c.args.left (arc_value c.in_ok-face.face) c.in_ok-ticket.ticket c.requires.between.sound c.requires.between.settled
+    c.in_ok-face.ensures.face c.in_ok-ticket.ensures.begun))

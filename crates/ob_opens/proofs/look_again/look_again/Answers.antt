@@ -6,7 +6,7 @@ use Rattle.ob_model.specs.declared.reply.Answer.TheVariants.{Done}
 use Rattle.ob_model.specs.Looks as machine
 use Rattle.ob_model.specs.Parses.{LooksAgain}
 use Rattle.ob_model.specs.PendingOpens.{without_pending}
-use Rattle.ob_space.proofs.InPlace.{isnt, never, not_true}
+use Rattle.ob_space.proofs.InPlace.{isnt, never, open_ignores}
 use Rattle.ob_opens.proofs.FoundOpen.{found_open}
 use Rattle.ob_opens.proofs.OpensAgain.{gone_again}
 use Rattle.ob_opens.specs.Waiting.{answer_of}
@@ -65,7 +65,7 @@ returns-in_err-status-clause-early g c =
     let x = c.in-Some.pending.now in
     let u = without_pending s x.ticket in
     never (passes_brought g.T.TypeSet.procedures s c.args.ticket x (Some (EndsReparse c.args.text)) (found_open c.space.view_is c.args.ticket _ c.in-Some.ensures) (sym c.is_live.ensures ∙ c.if-not-is_live.false)
-    (wants_again g.T.TypeSet.procedures u x.process (open_mode x.wanted x.attrs) c.args.text (is_open_refused_at g.T.TypeSet.procedures s x.process x.attrs x.wanted) x.left c.in_err-status.ensures.left
+    (wants_again g.T.TypeSet.procedures u x.process (open_mode x.wanted x.attrs) c.args.text (is_open_refused_at g.T.TypeSet.procedures u x.process x.attrs x.wanted) x.left c.in_err-status.ensures.left
     (subst (λ (m : Mode). (end : machine.Look) → machine.LooksUp g.T.TypeSet.procedures u x.process m 0 None c.args.text end → MayWantMemory end) c.mode_of_open-mode.ensures (c.in_err-status.ensures.wants x.ticket))))
 
 pub returns-in_err-open_found-in-At-clause-early : goal.returns-in_err-open_found-in-At-clause-early
@@ -76,7 +76,7 @@ returns-in_err-open_found-in-At-clause-early g c =
     let found = found_open c.space.view_is c.args.ticket _ c.in-Some.ensures in
     let look = machine.At c.in-At.object in
     never (passes_brought g.T.TypeSet.procedures s c.args.ticket x (Some (EndsReparse c.args.text)) found (sym c.is_live.ensures ∙ c.if-not-is_live.false)
-    (passes_again g.T.TypeSet.procedures u x.process (open_mode x.wanted x.attrs) c.args.text (is_open_refused_at g.T.TypeSet.procedures s x.process x.attrs x.wanted) look
+    (passes_again g.T.TypeSet.procedures u x.process (open_mode x.wanted x.attrs) c.args.text (is_open_refused_at g.T.TypeSet.procedures u x.process x.attrs x.wanted) (open_ignores g.T.TypeSet.procedures u x.process x.attrs x.wanted) look
     (isnt (λ refused. c.in_err-open_found-in-At.ensures.early
     (subst (λ (o : Option (Pending _)). MatchOption o ⊥ (λ y. is_refused_at g.T.TypeSet.procedures s y.process (options_by y.attrs) y.wanted c.in-At.object ≡ true)) (sym found) refused)))
     (no_refusal_at c.in-At.object) x.left
@@ -90,7 +90,7 @@ returns-in_err-begun-in-Parse-clause-early g c =
     let u = without_pending s x.ticket in
     let look = machine.Parse c.in-Parse.object c.in-Parse.rest c.in-Parse.left in
     never (passes_brought g.T.TypeSet.procedures s c.args.ticket x (Some (EndsReparse c.args.text)) (found_open c.space.view_is c.args.ticket _ c.in-Some.ensures) (sym c.is_live.ensures ∙ c.if-not-is_live.false)
-    (passes_again g.T.TypeSet.procedures u x.process (open_mode x.wanted x.attrs) c.args.text (is_open_refused_at g.T.TypeSet.procedures s x.process x.attrs x.wanted) look not_true
+    (passes_again g.T.TypeSet.procedures u x.process (open_mode x.wanted x.attrs) c.args.text (is_open_refused_at g.T.TypeSet.procedures u x.process x.attrs x.wanted) (open_ignores g.T.TypeSet.procedures u x.process x.attrs x.wanted) look (isnt c.in_err-begun-in-Parse.ensures.full)
     (no_refusal_parse c.in-Parse.object c.in-Parse.rest c.in-Parse.left) x.left
     (subst (λ (m : Mode). LooksAgain g.T.TypeSet.procedures u x.process m x.left c.args.text look) c.mode_of_open-mode.ensures
     (subst (λ look. LooksAgain g.T.TypeSet.procedures u x.process c.mode_of_open-mode.result x.left c.args.text (look_of look)) c.in-Parse.is (c.in_ok-status.ensures.end x.ticket)))))

@@ -7,7 +7,7 @@ use Rattle.ob_lookup.specs.Look.{look_of}
 use Rattle.ob_opens.specs.Waiting.{answer_of}
 use Rattle.ob_space.proofs.Naming.{judged_live, opens_served, opens_looked}
 use Rattle.ob_space.proofs.Looked.{root_stands}
-use Rattle.ob_space.proofs.InPlace.{end_refused, isnt, never, not_true}
+use Rattle.ob_space.proofs.InPlace.{end_refused, isnt, never, open_ignores}
 use Rattle.ob_space.specs.Found.{is_open_refused_at, is_refused_at}
 use Rattle.ob_model.specs.declared.terms.Mode.{Mode}
 use Rattle.ob_opens.proofs.open.open_name.Goals as goal
@@ -70,7 +70,7 @@ returns-in_err-reply-in-At-clause-found g c =
     let wanted = c.args.wanted in
     let attrs = c.args.attrs in
     let mode = c.open_mode-mode.result in
-    never (end_refused g.T.TypeSet.procedures s p (open_mode wanted attrs) c.args.root name (is_open_refused_at g.T.TypeSet.procedures s p attrs wanted) root c.in-Ok-root_object.ensures most_reparses (At c.in-At.object)
+    never (end_refused g.T.TypeSet.procedures s p (open_mode wanted attrs) c.args.root name (is_open_refused_at g.T.TypeSet.procedures s p attrs wanted) (open_ignores g.T.TypeSet.procedures s p attrs wanted) root c.in-Ok-root_object.ensures most_reparses (At c.in-At.object)
     (subst (λ (m : Mode). LooksUp g.T.TypeSet.procedures s p m most_reparses root name (At c.in-At.object)) (c.open_mode-mode.ensures ∙ ap (open_mode wanted) c.in-Ok.ensures.0)
     (subst (λ (bytes : List ℕ). LooksUp g.T.TypeSet.procedures s p mode most_reparses root bytes (At c.in-At.object)) c.new.ensures
     (subst (λ look. LooksUp g.T.TypeSet.procedures s p mode most_reparses root c.new.result (look_of look)) c.in-At.is c.in_ok-status.ensures.end)))
@@ -86,8 +86,8 @@ returns-in_err-begun-in-Parse-clause-found g c =
     let attrs = c.args.attrs in
     let mode = c.open_mode-mode.result in
     let look = Parse c.in-Parse.object c.in-Parse.rest c.in-Parse.left in
-    never (end_refused g.T.TypeSet.procedures s p (open_mode wanted attrs) c.args.root name (is_open_refused_at g.T.TypeSet.procedures s p attrs wanted) root c.in-Ok-root_object.ensures most_reparses look
+    never (end_refused g.T.TypeSet.procedures s p (open_mode wanted attrs) c.args.root name (is_open_refused_at g.T.TypeSet.procedures s p attrs wanted) (open_ignores g.T.TypeSet.procedures s p attrs wanted) root c.in-Ok-root_object.ensures most_reparses look
     (subst (λ (m : Mode). LooksUp g.T.TypeSet.procedures s p m most_reparses root name look) (c.open_mode-mode.ensures ∙ ap (open_mode wanted) c.in-Ok.ensures.0)
     (subst (λ (bytes : List ℕ). LooksUp g.T.TypeSet.procedures s p mode most_reparses root bytes look) c.new.ensures
     (subst (λ look. LooksUp g.T.TypeSet.procedures s p mode most_reparses root c.new.result (look_of look)) c.in-Parse.is c.in_ok-status.ensures.end)))
-    not_true)
+    (isnt c.in_err-begun-in-Parse.ensures.full))

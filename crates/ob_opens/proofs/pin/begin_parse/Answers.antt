@@ -1,5 +1,5 @@
 -- The open is pending under the next number, and nothing goes.
-use Rattle.std.proofs.Common.{◌∙◌, ◌+◌, sym, arith}
+use Rattle.std.proofs.Common.{◌+◌, arith}
 use Rattle.ob_space.specs.Namespace.{parts, state_of}
 use Rattle.ob_opens.proofs.Pinning.{begins, pending_orderly}
 use Rattle.ob_opens.proofs.pin.begin_parse.Goals as goal
@@ -14,5 +14,5 @@ returns-clause-begun g c =
     rw (← c.space.view_is) (
     let s = state_of g.row.T-Kind.Denot (parts c.space.inside) in
     begins g.T.TypeSet.procedures s c.args.request.process c.args.request.attrs c.args.request.wanted c.args.object c.args.rest c.args.left
-    (rw (← c.space.view_is) at (sym c.is_store_full.ensures ∙ c.if-is_store_full.false)) (rw (← c.space.view_is) at c.requires.between.settled) (record s { pending = c.insert.new.self; next_id = s.next_id + 1 })
+    (rw (← c.space.view_is) at c.requires.room) (rw (← c.space.view_is) at c.requires.between.settled) (record s { pending = c.insert.new.self; next_id = s.next_id + 1 })
     (λ i. record s { pending = c.in_ok-insert.ensures.last i; next_id = s.next_id + 1 }))

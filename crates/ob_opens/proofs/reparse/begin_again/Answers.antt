@@ -1,21 +1,16 @@
 -- The new open is pending in place of the old one.
 use Rattle.std.proofs.Common.{◌∙◌, ◌+◌, ap, sym, subst, arith}
-use Rattle.ob_model.specs.declared.reply.Answer.TheVariants.{Done, Ticket}
+use Rattle.ob_model.specs.declared.reply.Answer.TheVariants.{Ticket}
 use Rattle.ob_model.specs.Looks.{Parse}
 use Rattle.ob_model.specs.PendingOpens.{without_pending}
 use Rattle.ob_model.specs.Settle.{IsSettled, settle}
 use Rattle.ob_model.specs.State.{State}
 use Rattle.ob_space.specs.Namespace.{parts, state_of}
 use Rattle.ob_opens.specs.Again.{OpensAgain}
-use Rattle.ob_opens.proofs.BegunAgain.{full_there, put_beside, begins_again, pins_again}
+use Rattle.ob_opens.proofs.BegunAgain.{put_beside, begins_again, pins_again}
 use Rattle.ob_opens.proofs.FoundOpen.{found_open}
 use Rattle.ob_opens.proofs.Pinning.{pending_orderly, pending_settled}
 use Rattle.ob_opens.proofs.reparse.begin_again.Goals as goal
-
-pub returns-then-is_full_without-clause-opened : goal.returns-then-is_full_without-clause-opened
-returns-then-is_full_without-clause-opened g c =
-    full_there g.T.TypeSet.procedures c.args.space.now c.args.ticket c.args.object c.args.left c.args.rest (Done c.refuse.result) c.refuse.new.space
-    c.requires.pending (sym c.is_full_without.ensures ∙ c.if-is_full_without.true) c.refuse.ensures.answer c.refuse.ensures.ended
 
 pub end_parse-requires-clause-orderly : goal.end_parse-requires-clause-orderly
 end_parse-requires-clause-orderly g c κs within =
@@ -39,14 +34,14 @@ returns-clause-opened g c =
     subst (λ n. OpensAgain g.T.TypeSet.procedures s c.args.ticket (Parse c.args.object c.args.rest c.args.left) (Ticket n) c.end_parse.new.space) (ap (λ (t : State _ _ _ _). t.next_id) (sym c.space.view_is))
     (begins_again g.T.TypeSet.procedures s c.args.ticket x found c.args.object c.args.rest c.args.left c.requires.between.sound c.end_parse.new.space
     (c.end_parse.ensures.ended ∙ ap (λ (t : State _ _ _ _). settle g.T.TypeSet.procedures (without_pending t c.args.ticket)) put)
-    (sym c.is_full_without.ensures ∙ c.if-is_full_without.false))
+    c.requires.room)
 
 pub returns-clause-pins : goal.returns-clause-pins
-returns-clause-pins g c = λ n same.
+returns-clause-pins g c =
     let s = c.args.space.now in
     let x = c.in-Some.pending.now in
     let found = found_open c.space.view_is c.args.ticket _ c.in-Some.ensures in
     let put = put_beside g.T.TypeSet.procedures s c.args.ticket x found c.args.object c.args.rest c.args.left (state_of g.row.T-Kind.Denot (parts c.space.inside)) c.space.view_is c.insert.new.self c.in_ok-insert.ensures.last in
     pins_again g.T.TypeSet.procedures s c.args.ticket x found c.args.object c.args.rest c.args.left c.requires.between.sound c.end_parse.new.space
     (c.end_parse.ensures.ended ∙ ap (λ (t : State _ _ _ _). settle g.T.TypeSet.procedures (without_pending t c.args.ticket)) put)
-    n (ap (λ (t : State _ _ _ _). Ticket t.next_id) (sym c.space.view_is) ∙ same)
+    c.next (ap (λ (t : State _ _ _ _). Ticket t.next_id) (sym c.space.view_is))
