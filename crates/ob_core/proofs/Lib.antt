@@ -2,3 +2,4 @@ pub mod Opened
 pub mod Revalued
 pub mod Stepped
 pub mod Reached
+pub mod Referents

@@ -11,6 +11,7 @@
 #![tactic(auto)]
 
 mod namespace;
+mod referent;
 mod steps;
 
 pub use namespace::Core;
@@ -20,3 +21,4 @@ pub use ob_model::{
 };
 pub use ob_opens::Started;
 pub use ob_types::{Brought, Parsed, Parsing};
+pub use referent::Referent;

@@ -1,6 +1,6 @@
 //! The namespace: commands in, replies out.
 
-ghost use Rattle.std.specs.Prelude.{◌≡◌, ◌↔◌, length, true, false, IsTrue, IsOk, IfOk, IfErr, OnErr};
+ghost use Rattle.std.specs.Prelude.{◌≡◌, ◌↔◌, length, not, true, false, IsTrue, IsOk, IfOk, IfErr, OnErr};
 ghost use Rattle.ob_base.specs.declared.Fault.TheVariants.{Memory};
 ghost use Rattle.ob_base.specs.declared.status.Status.TheVariants.{Success};
 ghost use Rattle.ob_model.specs.declared.reply.Event.TheVariants.{Start, Resume, Abandon};
@@ -9,10 +9,11 @@ ghost use Rattle.ob_model.specs.State.{held_of, table_size};
 ghost use Rattle.ob_model.specs.Grants.{IsFreeValue};
 ghost use Rattle.ob_choices.specs.Choice.{revalued};
 ghost use Rattle.ob_core.specs.Reached.{IsJustGiven, IsReached};
+ghost use Rattle.ob_core.specs.Referent.{body_lent, referent_at};
 ghost use Rattle.ob_model.specs.Opening.{opening};
 ghost use Rattle.ob_model.specs.Sound.{IsSound};
 ghost use Rattle.ob_model.specs.Step.{Step};
-ghost use Rattle.ob_space.specs.Early.{TakesNoMemory, is_refused_early};
+ghost use Rattle.ob_space.specs.Early.{TakesNoMemory, is_refused_early, lacks_handle};
 ghost use Rattle.ob_space.specs.Found.{IsRefusedAtFound};
 ghost use Rattle.ob_opens.specs.Refusing.{IsBroughtRefused};
 ghost use Rattle.ob_model.specs.Refusals.{answers};
@@ -21,13 +22,14 @@ ghost use Rattle.ob_model.specs.PendingOpens.{pending_of};
 ghost use Rattle.ob_types.specs.Brought.{run_of, run_of_end, brought as end_of};
 ghost use Rattle.ob_opens.specs.Waiting.{answer_of, IfParsing, IsParseOf, IsAwaited, IsNotTaken, opens_nothing};
 
+use crate::referent::{Referent, referent_of};
 use crate::steps::step_for;
-use ob_base::{Fault, Handle, Proc};
+use ob_base::{Fault, Handle, ObjId, Proc};
 use ob_handles::HandleTable;
 use ob_model::{Command, Held};
 use ob_opens::{Started, abandon, resume};
 use ob_processes::{PendingOpens, Processes};
-use ob_space::{Space, opening_store};
+use ob_space::{Space, held_of, opening_store};
 use ob_types::{Brought, Parsed, TypeSet};
 use std::alloc::{AllocError, Global};
 use std::marker::Model;
@@ -229,6 +231,24 @@ impl<T: TypeSet, H: HandleTable> Core<T, H> {
         ensures { result ≡ is_some (held_of self.now process handle) }
     {
         self.space.processes.get(process, handle).is_some()
+    }
+
+    /// What a handle of a process leads to, whose low two bits are ignored: the object's id, and what it is. None exactly
+    /// where the process has no such handle. Takes no memory.
+    ///
+    /// Source: ObReferenceObjectByHandle (Windows Driver Kit).
+    pub fn referent(
+        &self,
+        process: Proc,
+        handle: Handle,
+    ) -> Option<(ObjId, Referent<'_, T::Face, T::Inner>)>
+        ensures lent { option_map (λ led. (led.0, body_lent led.1)) result
+            ≡ referent_at self.now process handle }
+        ensures exact { is_some result ≡ not (lacks_handle self.now process handle) }
+    {
+        let held = held_of(&self.space, process, handle)?;
+        let referent = referent_of(&self.space, held.object)?;
+        Some((held.object, referent))
     }
 
     /// The number that the next process gets, whichever makes it: above those of all that ever were. None

@@ -57,6 +57,18 @@ const SHARED: &'static str =
 1 exit            | SUCCESS
 1 exit            | PROCESS_GONE
 1 begin not       | PROCESS_GONE
+# a handle leads to its object until it is closed, and no other process by it | 7 3 1 0 0
+1 make directory \D 0      | SUCCESS
+1 make first \E 0          | SUCCESS
+1 open directory \ 0       | SUCCESS
+1 open any \DosDevices 100 | SUCCESS
+1 leads 0                  | directory 7
+1 leads 1                  | object 8
+1 leads 2                  | directory 1
+1 leads 3                  | link 3
+2 leads 1                  | nothing
+1 close 0                  | SUCCESS
+1 leads 0                  | nothing
 # a value that was given up is used again for another handle | 6 0 3 3 2
 1 make first \E 0 | SUCCESS
 1 open first \E 0 | SUCCESS

@@ -15,10 +15,12 @@
 //!
 //! What is told is a status, and the number of a type's refusal; of a list also the last byte of each of the first three names,
 //! `.` where there is none, and the context. `has` tells how many handles a process has, and `holds` whether it has one of exactly
-//! this value.
+//! this value; `leads` what such a handle leads to, and its id.
 
 use ob_base::{Fault, Handle, Proc, Status};
-use ob_core::{Brought, Bytes, Command, Core, Entries, Given, OpenTable, Place, Reply, Started};
+use ob_core::{
+    Brought, Bytes, Command, Core, Entries, Given, OpenTable, Place, Referent, Reply, Started,
+};
 use ob_plain::{Counting, Plain, PlainKind};
 use ob_types::TypeSet;
 use std::alloc::Global;
@@ -275,6 +277,24 @@ fn answered<T: TypeSet>(
     (is_page && is_status(answered.status, status, second)).then_some(answered.handle)
 }
 
+// Whether a handle of a process leads to what this tells: `nothing`, or a `directory`, a `link` or an `object`, and its id.
+fn is_led_to<T: TypeSet>(
+    core: &Core<T, OpenTable>,
+    process: Proc,
+    handle: Handle,
+    told: Line<'_>,
+) -> bool {
+    let Some((id, referent)) = core.referent(process, handle) else {
+        return told[0] == "nothing";
+    };
+    let what = match referent {
+        Referent::Directory => "directory",
+        Referent::Link(_) => "link",
+        Referent::Other { .. } => "object",
+    };
+    what == told[0] && told[1].parse().ok() == Some(id.0)
+}
+
 // The same of a step that may ask for nothing.
 fn taken<T: TypeSet>(
     alloc: Global,
@@ -290,6 +310,10 @@ fn taken<T: TypeSet>(
         "holds" => {
             let handle = Handle(asked[2].parse().ok()?);
             core.holds(process, handle) == (told[0] == "true")
+        }
+        "leads" => {
+            let handle = given_to(given, asked[2].parse().ok()?);
+            is_led_to(core, process, handle, told)
         }
         _ => return answered(alloc, core, kinds, process, asked, given, told),
     };

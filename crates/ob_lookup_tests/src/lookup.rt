@@ -65,7 +65,7 @@ fn end_of(text: &str) -> End<'_> {
     }
 }
 
-fn is_end(look: &Look, end: End<'_>) -> bool {
+fn is_end(look: &Look<'_>, end: End<'_>) -> bool {
     match (look, end) {
         (Look::At(id), End::At(wanted)) => id.0 == wanted,
         (

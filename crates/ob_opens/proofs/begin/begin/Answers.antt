@@ -3,6 +3,7 @@ use Rattle.std.proofs.Common.{◌∙◌, List, ℕ, sym, subst}
 use Rattle.std.specs.Arc.{arc_value}
 use Rattle.ob_model.specs.declared.reply.Answer.TheVariants.{Ticket}
 use Rattle.ob_model.specs.Opens.{Begins}
+use Rattle.ob_types.specs.Parse.{ToRun}
 use Rattle.ob_opens.specs.Waiting.{IsParseOf}
 use Rattle.ob_opens.proofs.Begun.{awaits}
 use Rattle.ob_opens.proofs.begin.begin.Goals as goal
@@ -12,8 +13,9 @@ returns-clause-begun g c =
     let s = c.args.space.now in
     let t = c.begin_parse.new.space in
     let asks = c.args.request in
-    subst (λ (rest : List ℕ). Begins g.T.TypeSet.procedures s asks.process asks.attrs asks.wanted c.args.object rest c.args.left (Ticket c.in_ok-ticket.ticket) t) c.in_ok-kept.ensures
-    c.in_ok-ticket.ensures.begun
+    subst (λ (parse : ToRun _). Begins g.T.TypeSet.procedures s asks.process asks.attrs asks.wanted c.args.object c.args.rest c.args.left (Ticket parse.ticket) t) (sym c.new.ensures)
+    (subst (λ (rest : List ℕ). Begins g.T.TypeSet.procedures s asks.process asks.attrs asks.wanted c.args.object rest c.args.left (Ticket c.in_ok-ticket.ticket) t) c.in_ok-kept.ensures
+    c.in_ok-ticket.ensures.begun)
 
 pub returns-clause-parse : goal.returns-clause-parse
 returns-clause-parse g c =

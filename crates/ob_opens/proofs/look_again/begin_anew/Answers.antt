@@ -3,6 +3,7 @@ use Rattle.std.proofs.Common.{◌∙◌, List, ℕ, sym, subst}
 use Rattle.std.specs.Arc.{arc_value}
 use Rattle.ob_model.specs.declared.reply.Answer.TheVariants.{Done, Ticket}
 use Rattle.ob_model.specs.Looks.{Parse}
+use Rattle.ob_types.specs.Parse.{ToRun}
 use Rattle.ob_opens.specs.Again.{OpensAgain}
 use Rattle.ob_opens.specs.Waiting.{IsParseOf}
 use Rattle.ob_opens.proofs.BegunAgain.{full_there}
@@ -18,8 +19,9 @@ pub returns-clause-begun : goal.returns-clause-begun
 returns-clause-begun g c =
     let s = c.args.space.now in
     let t = c.begin_again.new.space in
-    subst (λ (rest : List ℕ). OpensAgain g.T.TypeSet.procedures s c.args.ticket (Parse c.args.object rest c.args.left) (Ticket c.in_ok-next.next) t) c.in_ok-kept.ensures
-    c.in_ok-next.ensures.opened
+    subst (λ (parse : ToRun _). OpensAgain g.T.TypeSet.procedures s c.args.ticket (Parse c.args.object c.args.rest c.args.left) (Ticket parse.ticket) t) (sym c.new.ensures)
+    (subst (λ (rest : List ℕ). OpensAgain g.T.TypeSet.procedures s c.args.ticket (Parse c.args.object rest c.args.left) (Ticket c.in_ok-next.next) t) c.in_ok-kept.ensures
+    c.in_ok-next.ensures.opened)
 
 pub returns-clause-parse : goal.returns-clause-parse
 returns-clause-parse g c =

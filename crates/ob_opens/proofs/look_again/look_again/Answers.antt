@@ -1,12 +1,14 @@
 -- The asker is gone, or what the lookup of the text leads to is done.
-use Rattle.std.proofs.Common.{◌≡◌, ◌∙◌, true, Option, None, Some, ap, sym, subst}
+use Rattle.std.proofs.Common.{◌≡◌, ◌∙◌, ℕ, true, Option, None, Some, ap, sym, subst}
 use Rattle.std.specs.Prelude.{MatchOption}
 use Rattle.ob_lookup.specs.Look.{look_of}
 use Rattle.ob_model.specs.declared.reply.Answer.TheVariants.{Done}
 use Rattle.ob_model.specs.Looks as machine
 use Rattle.ob_model.specs.Parses.{LooksAgain}
 use Rattle.ob_model.specs.PendingOpens.{without_pending}
+use Rattle.ob_model.specs.State.{is_store_full}
 use Rattle.ob_space.proofs.InPlace.{isnt, never, open_ignores}
+use Rattle.ob_opens.proofs.Endings.{its_ticket}
 use Rattle.ob_opens.proofs.FoundOpen.{found_open}
 use Rattle.ob_opens.proofs.OpensAgain.{gone_again}
 use Rattle.ob_opens.specs.Waiting.{answer_of}
@@ -88,9 +90,11 @@ returns-in_err-begun-in-Parse-clause-early g c =
     let s = c.args.space.now in
     let x = c.in-Some.pending.now in
     let u = without_pending s x.ticket in
+    let found = found_open c.space.view_is c.args.ticket _ c.in-Some.ensures in
     let look = machine.Parse c.in-Parse.object c.in-Parse.rest c.in-Parse.left in
-    never (passes_brought g.T.TypeSet.procedures s c.args.ticket x (Some (EndsReparse c.args.text)) (found_open c.space.view_is c.args.ticket _ c.in-Some.ensures) (sym c.is_live.ensures ∙ c.if-not-is_live.false)
-    (passes_again g.T.TypeSet.procedures u x.process (open_mode x.wanted x.attrs) c.args.text (is_open_refused_at g.T.TypeSet.procedures u x.process x.attrs x.wanted) (open_ignores g.T.TypeSet.procedures u x.process x.attrs x.wanted) look (isnt c.in_err-begun-in-Parse.ensures.full)
+    never (passes_brought g.T.TypeSet.procedures s c.args.ticket x (Some (EndsReparse c.args.text)) found (sym c.is_live.ensures ∙ c.if-not-is_live.false)
+    (passes_again g.T.TypeSet.procedures u x.process (open_mode x.wanted x.attrs) c.args.text (is_open_refused_at g.T.TypeSet.procedures u x.process x.attrs x.wanted) (open_ignores g.T.TypeSet.procedures u x.process x.attrs x.wanted) look
+    (subst (λ (n : ℕ). is_store_full (without_pending s n) ≡ true → ⊥) (sym (its_ticket g.T.TypeSet.procedures s c.args.ticket x found)) (isnt c.in_err-begun-in-Parse.ensures.full))
     (no_refusal_parse c.in-Parse.object c.in-Parse.rest c.in-Parse.left) x.left
     (subst (λ (m : Mode). LooksAgain g.T.TypeSet.procedures u x.process m x.left c.args.text look) c.mode_of_open-mode.ensures
     (subst (λ look. LooksAgain g.T.TypeSet.procedures u x.process c.mode_of_open-mode.result x.left c.args.text (look_of look)) c.in-Parse.is (c.in_ok-status.ensures.end x.ticket)))))

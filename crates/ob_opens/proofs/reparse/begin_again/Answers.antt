@@ -44,4 +44,4 @@ returns-clause-pins g c =
     let put = put_beside g.T.TypeSet.procedures s c.args.ticket x found c.args.object c.args.rest c.args.left (state_of g.row.T-Kind.Denot (parts c.space.inside)) c.space.view_is c.insert.new.self c.in_ok-insert.ensures.last in
     pins_again g.T.TypeSet.procedures s c.args.ticket x found c.args.object c.args.rest c.args.left c.requires.between.sound c.end_parse.new.space
     (c.end_parse.ensures.ended ∙ ap (λ (t : State _ _ _ _). settle g.T.TypeSet.procedures (without_pending t c.args.ticket)) put)
-    c.next (ap (λ (t : State _ _ _ _). Ticket t.next_id) (sym c.space.view_is))
+    c.space.inside.next_id (ap (λ (t : State _ _ _ _). Ticket t.next_id) (sym c.space.view_is))
