@@ -8,8 +8,8 @@ use crate::DirEntry;
 use std::collections::btree_map::Range;
 use std::marker::Model;
 
-/// Entries of a directory by rising stamps, each lent: as many as are left of those that were asked for. A contract sees
-/// them as the list of the entries that are left. (this profile)
+/// Entries of a directory by rising stamps, each lent: as many as are left of those that were asked
+/// for. A contract sees them as the list of the entries that are left. (this profile)
 #[derive(Drop)]
 pub struct DirEntries<'a> {
     behind: Range<'a, u64, DirEntry>,

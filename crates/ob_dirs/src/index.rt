@@ -40,8 +40,10 @@ impl NameIndex {
     /// Puts a stamp under a hash, behind those that are there. Where memory is wanted nothing has changed.
     pub(crate) fn add(&mut self, hash: u64, stamp: u64) -> Result<(), AllocError>
         ensures last { OnOk result ((h : ℕ) → stamps_under self.new h
-            ≡ (if hash == h then stamps_under self.old h ++ stamp ∷ [] else stamps_under self.old h)) }
-        ensures unchanged { OnErr result ((h : ℕ) → stamps_under self.new h ≡ stamps_under self.old h) }
+            ≡ (if hash == h then stamps_under self.old h ++ stamp ∷ []
+            else stamps_under self.old h)) }
+        ensures unchanged { OnErr result ((h : ℕ)
+            → stamps_under self.new h ≡ stamps_under self.old h) }
     {
         if let Some(stamps) = self.buckets.get_mut(&hash) {
             stamps.push(stamp)?;
@@ -56,7 +58,8 @@ impl NameIndex {
     /// Takes a stamp away from under a hash, the first where it is there more than once. Takes no memory.
     pub(crate) fn take(&mut self, hash: u64, stamp: u64)
         ensures { (h : ℕ) → stamps_under self.new h
-            ≡ (if hash == h then remove_key (λ s. s == stamp) (stamps_under self.old h) else stamps_under self.old h) }
+            ≡ (if hash == h then remove_key (λ s. s == stamp) (stamps_under self.old h)
+            else stamps_under self.old h) }
     {
         let Some(stamps) = self.buckets.get_mut(&hash) else {
             return;
@@ -85,8 +88,8 @@ fn place_of(stamps: &[u64], stamp: u64) -> Option<usize>
     stamps.iter().position(|other| *other == stamp)
 }
 
-/// The hash of a name of any length and with any bytes: of its bytes, with `a` to `z` taken to `A` to `Z`. So two
-/// names that are equal, with regard to case or without, have the same. Takes no memory.
+/// The hash of a name of any length and with any bytes: of its bytes, with `a` to `z` taken to `A` to
+/// `Z`. So two names that are equal, with regard to case or without, have the same. Takes no memory.
 ///
 /// Source: this profile; the bytes are mixed as FNV-1a mixes them.
 pub(crate) fn name_hash(name: &[u8]) -> u64

@@ -37,8 +37,8 @@ impl Dir {
     /// A page of the directory behind a context, which may be any number: of the entries of a greater stamp,
     /// by rising stamps, as many as fit into the room, or the first alone for a single one. An entry takes
     /// 4 bytes of the room, and the lengths of its name and of the name of its object's type, which `len_of`
-    /// tells of one entry after another. Where the page begins is sought in the tree of stamps; then only what is
-    /// shown is looked at, and the first entry that isn't.
+    /// tells of one entry after another. Where the page begins is sought in the tree of stamps; then only what
+    /// is shown is looked at, and the first entry that isn't.
     ///
     /// The only fault is `Memory`. A page lends its entries and takes no memory, so it is always `Ok`.
     ///
@@ -89,7 +89,8 @@ fn fitting<F: FnMut(ObjId) -> usize>(
     requires counted { length behind < 2 ^ 63 }
     ensures fit { (type_name : ℕ → List ℕ) → TellsLengths (λ f id n g.
         F.step f id n g) len_of type_name
-        → result ≡ fit_of (map (shown_entry type_name) (values_of behind.entry)) 0 context room single }
+        → result
+        ≡ fit_of (map (shown_entry type_name) (values_of behind.entry)) 0 context room single }
     ensures within { result.count ≤ length behind.entry }
 {
     let mut fit = Fit {
