@@ -1,7 +1,9 @@
 pub mod Earliest
+pub mod Lists
 pub mod Removed
-pub mod Stamps
+pub mod Held
+pub mod Hashed
+pub mod Kept
+pub mod Pages
 pub mod Rows
 pub mod Laws
-pub mod Behind
-pub mod Pages

@@ -1,14 +1,15 @@
 -- Pages of a directory: what fits stands at the front of what is left, and what is given of a page is what is
 -- told of it.
-use Rattle.std.proofs.Common.{◌≡◌, ◌∙◌, ℕ, zero, suc, ◌-◌, ◌==◌, get_or, slice_get, nat_le, nat_lt, Bool, true, false, cond, List, [], ◌∷◌, length, take, map, Some, refl, ap, sym, arith, leb-true, leb-false, le-ltb, lt-ltb}
+use Rattle.std.proofs.Common.{◌≡◌, ◌∙◌, ℕ, zero, suc, ◌+◌, ◌-◌, nat_le, nat_lt, Bool, true, false, cond, not, ◌&&◌, List, [], ◌∷◌, length, take, map, None, Some, refl, ap, sym, subst, arith, leb-true, leb-false, le-ltb, lt-ltb}
 use Rattle.std.proofs.lemmas.Bool.{ne_eqb}
+use Rattle.std.proofs.lemmas.Bool.Decides.{nat_tests}
 use Rattle.std.proofs.lemmas.List.Elements.{All-head, All-tail}
-use Rattle.std.proofs.lemmas.Option.{get_or_from_slice_get}
 use Rattle.ob_base.specs.declared.status.Status.TheVariants.{Success, MoreEntries, NoMoreEntries, BufferTooSmall}
 use Rattle.ob_model.specs.Enumeration.{Shown, Page, room_of, fitting, last_stamp, page_of}
+use Rattle.ob_dirs.specs.declared.page.Fit.{Fit}
 use Rattle.ob_dirs.specs.declared.entry.DirEntry.{DirEntry}
 use Rattle.ob_dirs.specs.declared.page.DirPage.{DirPage}
-use Rattle.ob_dirs.specs.Page.{IsPage, TellsLengths, entries_behind, shown_entry, page_told, wanted_of, shown_of, page_status, last_stamp_of}
+use Rattle.ob_dirs.specs.Page.{IsPage, TellsLengths, entries_behind, fit_of, page_status, page_told, room_behind, shown_entry}
 
 -- ---- what fits
 
@@ -21,15 +22,6 @@ fitting_is_front room (e ∷ es) = go (fitting_is_front (room - room_of e) es) (
     go more true = ap (λ xs. e ∷ xs) more
     go more false = refl
 
--- what fits of the first alone is the first of what fits
-first_fits : (room : ℕ) (es : List Shown) → fitting room (take 1 es) ≡ take 1 (fitting room es)
-first_fits room [] = refl
-first_fits room (e ∷ es) = go (nat_le (room_of e) room)
-  where
-    go : (b : Bool) → cond b (e ∷ []) [] ≡ take 1 (cond b (e ∷ fitting (room - room_of e) es) [])
-    go true = refl
-    go false = refl
-
 pub map_take : {X Y : Type 0} (f : X → Y) (n : ℕ) (xs : List X) → map f (take n xs) ≡ take n (map f xs)
 map_take f zero xs = refl
 map_take f (suc n) [] = refl
@@ -41,33 +33,6 @@ take_is_front zero m xs = refl
 take_is_front (suc n) zero xs = refl
 take_is_front (suc n) (suc m) [] = refl
 take_is_front (suc n) (suc m) (x ∷ xs) = ap (λ ys. x ∷ ys) (take_is_front n m xs)
-
-some_is_front : {X : Type 0} (n : ℕ) (xs : List X) → take n xs ≡ take (length (take n xs)) xs
-some_is_front zero xs = refl
-some_is_front (suc n) [] = refl
-some_is_front (suc n) (x ∷ xs) = ap (λ ys. x ∷ ys) (some_is_front n xs)
-
--- of some entries those that fit are the first ones
-all_are_shown : {X : Type 0} (f : X → Shown) (xs : List X) (room fit : ℕ) → fit ≡ length (fitting room (map f xs)) → map f (take fit xs) ≡ fitting room (map f xs)
-all_are_shown f xs room fit fits = map_take f fit xs ∙ ap (λ n. take n (map f xs)) fits ∙ fitting_is_front room (map f xs)
-
--- of those that are wanted the ones that fit are shown
-pub wanted_are_shown : (f : DirEntry → Shown) (left wanted : List DirEntry) (room fit : ℕ) (single : Bool)
-    → wanted ≡ wanted_of left single → fit ≡ length (fitting room (map f wanted)) → map f (take fit wanted) ≡ shown_of (map f left) room single
-wanted_are_shown f left wanted room fit single is fits = all_are_shown f wanted room fit fits ∙ ap (λ es. fitting room (map f es)) is ∙ go single
-  where
-    go : (one : Bool) → fitting room (map f (wanted_of left one)) ≡ shown_of (map f left) room one
-    go true = ap (fitting room) (map_take f 1 left) ∙ first_fits room (map f left)
-    go false = refl
-
--- and they stand at the front of all that are left
-pub wanted_are_front : (left wanted : List DirEntry) (fit : ℕ) (single : Bool) → wanted ≡ wanted_of left single → take fit wanted ≡ take (length (take fit wanted)) left
-wanted_are_front left wanted fit single is =
-    ap (take fit) is ∙ go single ∙ ap (λ es. take (length (take fit es)) left) (sym is)
-  where
-    go : (one : Bool) → take fit (wanted_of left one) ≡ take (length (take fit (wanted_of left one))) left
-    go true = take_is_front fit 1 left
-    go false = some_is_front fit left
 
 -- ---- what is told of objects, one after another
 
@@ -84,120 +49,156 @@ told_first {F} Tells f g id n type_name tells step =
 
 -- ---- one page
 
--- the status where none of several entries is shown, and where some are
-status_of_none : (n : ℕ) (single : Bool) → page_status (suc n) 0 single ≡ BufferTooSmall
-status_of_none n single = ap (λ b. cond b NoMoreEntries (cond (0 == 0) BufferTooSmall (cond single Success (cond (nat_lt 0 (suc n)) MoreEntries Success)))) (ne_eqb (suc n) 0 (λ e. omega (arith, e)))
-
-status_of_some : (n m : ℕ) (single : Bool) → page_status (suc n) (suc m) single ≡ cond single Success (cond (nat_lt (suc m) (suc n)) MoreEntries Success)
-status_of_some n m single =
-    ap (λ b. cond b NoMoreEntries (cond (suc m == 0) BufferTooSmall (cond single Success (cond (nat_lt (suc m) (suc n)) MoreEntries Success)))) (ne_eqb (suc n) 0 (λ e. omega (arith, e)))
-    ∙ ap (λ b. cond b BufferTooSmall (cond single Success (cond (nat_lt (suc m) (suc n)) MoreEntries Success))) (ne_eqb (suc m) 0 (λ e. omega (arith, e)))
-
-abbrev pub page_shown : List Shown → ℕ → ℕ → Bool → Page
-page_shown left context room single = record {
-  status = page_status (length left) (length (shown_of left room single)) single;
-  entries = shown_of left room single;
-  context = last_stamp context (shown_of left room single);
-}
-
-pub page_is : (left : List Shown) (context room : ℕ) (single : Bool) → page_of left context room single ≡ page_shown left context room single
-page_is [] context room true = refl
-page_is [] context room false = refl
-page_is (e ∷ es) context room single = go (nat_le (room_of e) room) refl single
+-- how many fit, whether one is left behind them, and the stamp of the last
+fit_all : (es : List Shown) (count context room : ℕ)
+    → fit_of es count context room false
+    ≡ record { count = count + length (fitting room es); more = nat_lt (length (fitting room es)) (length es); context = last_stamp context (fitting room es) }
+fit_all [] count context room = ap (λ n. record { count = n; more = false; context = context }) (no_more count)
   where
-    fit : Bool → List Shown
-    fit b = cond b (e ∷ fitting (room - room_of e) es) []
+    no_more : (n : ℕ) → n ≡ n + 0
+    no_more n = omega arith
+fit_all (e ∷ es) count context room = go (nat_le (room_of e) room) (fit_all es (count + 1) e.stamp (room - room_of e))
+  where
+    fits : List Shown
+    fits = fitting (room - room_of e) es
 
-    shown : Bool → Bool → List Shown
-    shown b one = cond one (take 1 (fit b)) (fit b)
+    one_more : (n m : ℕ) → n + 1 + m ≡ n + suc m
+    one_more n m = omega arith
 
-    page : Bool → Bool → Page
-    page b one = record { status = page_status (suc (length es)) (length (shown b one)) one; entries = shown b one; context = last_stamp context (shown b one) }
+    both_more : (n m : ℕ) → nat_lt n m ≡ nat_lt (suc n) (suc m)
+    both_more n m = grind (arith, nat_tests)
+
+    one_is_left : (m : ℕ) → true ≡ nat_lt 0 (suc m)
+    one_is_left m = grind (arith, nat_tests)
+
+    no_more : (n : ℕ) → n ≡ n + 0
+    no_more n = omega arith
+
+    go : (b : Bool)
+        → fit_of es (count + 1) e.stamp (room - room_of e) false ≡ record { count = count + 1 + length fits; more = nat_lt (length fits) (length es); context = last_stamp e.stamp fits }
+        → cond b (fit_of es (count + 1) e.stamp (room - room_of e) false) (record { count = count; more = true; context = context })
+        ≡ record { count = count + length (cond b (e ∷ fits) []); more = nat_lt (length (cond b (e ∷ fits) [])) (suc (length es)); context = last_stamp context (cond b (e ∷ fits) []) }
+    go true more = more ∙ (λ i. record { count = one_more count (length fits) i; more = both_more (length fits) (length es) i; context = last_stamp e.stamp fits })
+    go false more = λ i. record { count = no_more count i; more = one_is_left (length es) i; context = context }
+
+-- what is told of a page by what fits
+abbrev pub Tells : Fit → Bool → Page → Type 0
+Tells fit single page = (page_status fit single ≡ page.status) × (fit.count ≡ length page.entries) × (fit.context ≡ page.context)
+
+some_are_shown : (n : ℕ) (more single : Bool) (context : ℕ) → page_status (record { count = suc n; more = more; context = context }) single ≡ cond (not single && more) MoreEntries Success
+some_are_shown n more single context = ap (λ b. cond b (cond more BufferTooSmall NoMoreEntries) (cond (not single && more) MoreEntries Success)) (ne_eqb (suc n) 0 (λ e. omega (arith, e)))
+
+pub fit_is_told : (es : List Shown) (context room : ℕ) (single : Bool) → Tells (fit_of es 0 context room single) single (page_of es context room single)
+fit_is_told [] context room single = (refl, refl, refl)
+fit_is_told (e ∷ es) context room single = go (nat_le (room_of e) room) refl single (fit_all es 1 e.stamp (room - room_of e))
+  where
+    fits : Bool → List Shown
+    fits b = cond b (e ∷ fitting (room - room_of e) es) []
+
+    fit : Bool → Bool → Fit
+    fit b one =
+        cond b (cond one (record { count = 1; more = false; context = e.stamp }) (fit_of es 1 e.stamp (room - room_of e) one))
+        (record { count = 0; more = true; context = context })
 
     told : Bool → Bool → Bool → Page
     told small b one =
         cond small (record { status = BufferTooSmall; entries = []; context = context })
         (cond one (record { status = Success; entries = e ∷ []; context = e.stamp })
-        (record { status = cond (nat_lt (length (fit b)) (suc (length es))) MoreEntries Success; entries = fit b; context = last_stamp context (fit b) }))
+        (record { status = cond (nat_lt (length (fits b)) (suc (length es))) MoreEntries Success; entries = fits b; context = last_stamp context (fits b) }))
 
-    go : (b : Bool) → nat_le (room_of e) room ≡ b → (one : Bool) → told (nat_lt room (room_of e)) b one ≡ page b one
-    go true fits one = ap (λ small. told small true one) (le-ltb room (room_of e) (leb-true (room_of e) room fits)) ∙ large one
+    one_more : (n : ℕ) → 1 + n ≡ suc n
+    one_more n = omega arith
+
+    both_more : (n m : ℕ) → nat_lt n m ≡ nat_lt (suc n) (suc m)
+    both_more n m = grind (arith, nat_tests)
+
+    go : (b : Bool) → nat_le (room_of e) room ≡ b → (one : Bool)
+        → fit_of es 1 e.stamp (room - room_of e) false
+        ≡ record { count = 1 + length (fitting (room - room_of e) es); more = nat_lt (length (fitting (room - room_of e) es)) (length es); context = last_stamp e.stamp (fitting (room - room_of e) es) }
+        → Tells (fit b one) one (told (nat_lt room (room_of e)) b one)
+    go true is one all = subst (λ small. Tells (fit true one) one (told small true one)) (sym (le-ltb room (room_of e) (leb-true (room_of e) room is))) (large one)
       where
-        large : (one : Bool) → told false true one ≡ page true one
-        large true = ap (λ status. record { status = status; entries = e ∷ []; context = e.stamp }) (sym (status_of_some (length es) 0 true))
+        shown : List Shown
+        shown = fitting (room - room_of e) es
+
+        given : Fit
+        given = record { count = suc (length shown); more = nat_lt (suc (length shown)) (suc (length es)); context = last_stamp e.stamp shown }
+
+        large : (one : Bool) → Tells (fit true one) one (told false true one)
+        large true = (refl, refl, refl)
         large false =
-            let all = e ∷ fitting (room - room_of e) es in
-            ap (λ status. record { status = status; entries = all; context = last_stamp context all }) (sym (status_of_some (length es) (length (fitting (room - room_of e) es)) false))
-    go false stops one = ap (λ small. told small false one) (lt-ltb room (room_of e) (leb-false (room_of e) room stops)) ∙ none one
-      where
-        none : (one : Bool) → told true false one ≡ page false one
-        none true = ap (λ status. record { status = status; entries = []; context = context }) (sym (status_of_none (length es) true))
-        none false = ap (λ status. record { status = status; entries = []; context = context }) (sym (status_of_none (length es) false))
+            subst (λ f. Tells f false (told false true false))
+            (sym (all ∙ (λ i. record { count = one_more (length shown) i; more = both_more (length shown) (length es) i; context = last_stamp e.stamp shown })))
+            (some_are_shown (length shown) (nat_lt (suc (length shown)) (suc (length es))) false (last_stamp e.stamp shown), refl, refl)
+    go false is one all = subst (λ small. Tells (fit false one) one (told small false one)) (sym (lt-ltb room (room_of e) (leb-false (room_of e) room is))) (refl, refl, refl)
 
 -- the entries that are told stand at the front of those that are left
 pub told_is_front : (left : List Shown) (context room : ℕ) (single : Bool)
     → (page_of left context room single).entries ≡ take (length (page_of left context room single).entries) left
-told_is_front left context room single =
-    told ∙ go single ∙ ap (λ (es : List Shown). take (length es) left) (sym told)
+told_is_front [] context room single = refl
+told_is_front (e ∷ es) context room single = go (nat_lt room (room_of e)) single
   where
-    told : (page_of left context room single).entries ≡ shown_of left room single
-    told = ap (λ (page : Page). page.entries) (page_is left context room single)
+    page : Bool → Bool → Page
+    page small one =
+        cond small (record { status = BufferTooSmall; entries = []; context = context })
+        (cond one (record { status = Success; entries = e ∷ []; context = e.stamp })
+        (record { status = cond (nat_lt (length (fitting room (e ∷ es))) (suc (length es))) MoreEntries Success; entries = fitting room (e ∷ es); context = last_stamp context (fitting room (e ∷ es)) }))
 
-    go : (one : Bool) → shown_of left room one ≡ take (length (shown_of left room one)) left
-    go true =
-        ap (take 1) (sym (fitting_is_front room left)) ∙ take_is_front 1 (length (fitting room left)) left
-        ∙ ap (λ (es : List Shown). take (length (take 1 es)) left) (fitting_is_front room left)
-    go false = sym (fitting_is_front room left)
+    go : (small one : Bool) → (page small one).entries ≡ take (length (page small one).entries) (e ∷ es)
+    go true one = refl
+    go false true = refl
+    go false false = sym (fitting_is_front room (e ∷ es))
 
-same_length : {X Y : Type 0} (f : X → Y) (xs : List X) → length (map f xs) ≡ length xs
-same_length f [] = refl
-same_length f (x ∷ xs) = ap suc (same_length f xs)
+-- ---- one step of the walk
 
--- the context behind the entries that are shown
-last_is : (f : DirEntry → Shown) → ((e : DirEntry) → (f e).stamp ≡ e.stamp) → (context : ℕ) (es : List DirEntry) → last_stamp context (map f es) ≡ last_stamp_of context es
-last_is f stamps context [] = refl
-last_is f stamps context (e ∷ es) = ap (λ n. last_stamp n (map f es)) (stamps e) ∙ last_is f stamps e.stamp es
+-- an entry doesn't fit, fits alone, or fits and the others are looked at
+stops : (taken room : ℕ) → None ≡ room_behind taken room → nat_le taken room ≡ false
+stops taken room none = go (nat_le taken room) refl none
+  where
+    go : (b : Bool) → nat_le taken room ≡ b → None ≡ cond b (Some (room - taken)) None → b ≡ false
+    go true e at = cc
+    go false e at = refl
 
--- it is that of the entry at the end
-last_at : (context : ℕ) (e : DirEntry) (es : List DirEntry) (d : DirEntry) → last_stamp_of context (e ∷ es) ≡ (get_or (e ∷ es) (length es) d).stamp
-last_at context e [] d = refl
-last_at context e (x ∷ es) d = last_at e.stamp x es d
+fits : (taken room less : ℕ) → Some less ≡ room_behind taken room → (nat_le taken room ≡ true) × (less ≡ room - taken)
+fits taken room less some = go (nat_le taken room) refl some
+  where
+    go : (b : Bool) → nat_le taken room ≡ b → Some less ≡ cond b (Some (room - taken)) None → (b ≡ true) × (less ≡ room - taken)
+    go true e at = (refl, cc)
+    go false e at = cc
 
-pub last_stamp_at : (context : ℕ) (es : List DirEntry) (last : DirEntry) → slice_get es (length es - 1) ≡ Some last → last.stamp ≡ last_stamp_of context es
-last_stamp_at context [] last is = cc
-last_stamp_at context (e ∷ es) last is =
-    let at : length (e ∷ es) - 1 ≡ length es = omega arith in
-    let there = get_or_from_slice_get (e ∷ es) (length es) last last (ap (slice_get (e ∷ es)) (sym at) ∙ is) in
-    ap (λ (x : DirEntry). x.stamp) (sym there) ∙ sym (last_at context e es last)
+pub stops_here : (e : Shown) (es : List Shown) (count context room : ℕ) (single : Bool) → None ≡ room_behind (room_of e) room
+    → fit_of (e ∷ es) count context room single ≡ record { count = count; more = true; context = context }
+stops_here e es count context room single none =
+    ap (λ b. cond b (cond single (record { count = count + 1; more = false; context = e.stamp }) (fit_of es (count + 1) e.stamp (room - room_of e) single)) (record { count = count; more = true; context = context }))
+    (stops (room_of e) room none)
+
+pub fits_alone : (e : Shown) (es : List Shown) (count context room less : ℕ) (single : Bool) → single ≡ true → Some less ≡ room_behind (room_of e) room
+    → fit_of (e ∷ es) count context room single ≡ record { count = count + 1; more = false; context = e.stamp }
+fits_alone e es count context room less single alone some =
+    ap (λ b. cond b (cond single (record { count = count + 1; more = false; context = e.stamp }) (fit_of es (count + 1) e.stamp (room - room_of e) single)) (record { count = count; more = true; context = context }))
+    ((fits (room_of e) room less some).0)
+    ∙ ap (λ b. cond b (record { count = count + 1; more = false; context = e.stamp }) (fit_of es (count + 1) e.stamp (room - room_of e) single)) alone
+
+pub goes_on : (e : Shown) (es : List Shown) (count context room less : ℕ) (single : Bool) → single ≡ false → Some less ≡ room_behind (room_of e) room
+    → fit_of (e ∷ es) count context room single ≡ fit_of es (count + 1) e.stamp less single
+goes_on e es count context room less single more some =
+    ap (λ b. cond b (cond single (record { count = count + 1; more = false; context = e.stamp }) (fit_of es (count + 1) e.stamp (room - room_of e) single)) (record { count = count; more = true; context = context }))
+    ((fits (room_of e) room less some).0)
+    ∙ ap (λ b. cond b (record { count = count + 1; more = false; context = e.stamp }) (fit_of es (count + 1) e.stamp (room - room_of e) single)) more
+    ∙ ap (λ n. fit_of es (count + 1) e.stamp n single) (sym ((fits (room_of e) room less some).1))
 
 -- ---- what is given
 
-module _ (type_name : ℕ → List ℕ) (entries left shown : List DirEntry) (context room : ℕ) (single : Bool)
-    (same : left ≡ entries_behind entries context) (shows : map (shown_entry type_name) shown ≡ shown_of (map (shown_entry type_name) left) room single) where
-  -- what is told of the page
-  told_is : page_told type_name entries context room single ≡ page_shown (map (shown_entry type_name) left) context room single
-  told_is =
-      ap (λ es. page_of (map (shown_entry type_name) es) context room single) (sym same)
-      ∙ page_is (map (shown_entry type_name) left) context room single
-
-  shown_told : (page_told type_name entries context room single).entries ≡ map (shown_entry type_name) shown
-  shown_told = ap (λ (page : Page). page.entries) told_is ∙ sym shows
-
-  pub is_page : (page : DirPage) → shown ≡ take (length shown) left → page.status ≡ page_status (length left) (length shown) single
-      → page.entries.now ≡ shown → page.context ≡ last_stamp_of context shown
-      → IsPage (page_told type_name entries context room single) (entries_behind entries context) page
-  is_page page front status_is entries_are context_is = record {
-    status = status_is ∙ counted ∙ sym (ap (λ (page : Page). page.status) told_is);
-    entries =
-        entries_are ∙ front
-        ∙ ap (λ n. take n left) (sym (ap length shown_told ∙ same_length (shown_entry type_name) shown))
-        ∙ ap (take (length (page_told type_name entries context room single).entries)) same;
-    context =
-        context_is ∙ sym (last_is (shown_entry type_name) (λ e. refl) context shown)
-        ∙ ap (last_stamp context) shows ∙ sym (ap (λ (page : Page). page.context) told_is);
-  }
-    where
-      counted : page_status (length left) (length shown) single ≡ page_status (length (map (shown_entry type_name) left)) (length (shown_of (map (shown_entry type_name) left) room single)) single
-      counted =
-          (λ i. page_status (sym (same_length (shown_entry type_name) left) i) (sym (same_length (shown_entry type_name) shown) i) single)
-          ∙ ap (λ (es : List Shown). page_status (length (map (shown_entry type_name) left)) (length es) single) shows
+pub is_page : (type_name : ℕ → List ℕ) (entries left : List DirEntry) (context room : ℕ) (single : Bool) (fit : Fit) (page : DirPage)
+    → left ≡ entries_behind entries context → fit ≡ fit_of (map (shown_entry type_name) left) 0 context room single
+    → page.status ≡ page_status fit single → page.entries ≡ take fit.count left → page.context ≡ fit.context
+    → IsPage (page_told type_name entries context room single) (entries_behind entries context) page
+is_page type_name entries left context room single fit page same fits status_is entries_are context_is =
+    let told = page_of (map (shown_entry type_name) left) context room single in
+    let tells : Tells fit single told = subst (λ f. Tells f single told) (sym fits) (fit_is_told (map (shown_entry type_name) left) context room single) in
+    let is : IsPage told left page = record {
+      status = status_is ∙ tells.0;
+      entries = entries_are ∙ ap (λ n. take n left) tells.1;
+      context = context_is ∙ tells.2;
+    } in
+    subst (λ (es : List DirEntry). IsPage (page_of (map (shown_entry type_name) es) context room single) es page) same is

@@ -1,2 +1,4 @@
 pub mod Dir
+pub mod Hashes
+pub mod Index
 pub mod Page

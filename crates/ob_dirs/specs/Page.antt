@@ -2,13 +2,14 @@
 --
 -- Sources: ZwQueryDirectoryObject (Windows Driver Kit) for the statuses and the context; that a context is a
 -- stamp, and the size of an entry, are this profile.
-use Rattle.std.specs.Prelude.{◌≡◌, ℕ, ◌-◌, Bool, ◌==◌, nat_le, nat_lt, if◌then◌else◌, List, [], ◌∷◌, length, take, map, filter, Option, Some, None, All}
+use Rattle.std.specs.Prelude.{◌≡◌, ℕ, ◌+◌, ◌-◌, Bool, true, false, ◌&&◌, not, ◌==◌, nat_le, nat_lt, if◌then◌else◌, List, [], ◌∷◌, length, take, map, filter, Option, Some, None, All}
 use Rattle.std.specs.List.{FoldsTo}
 use Rattle.ob_base.specs.declared.status.Status.{Status}
 use Rattle.ob_base.specs.declared.status.Status.TheVariants.{Success, MoreEntries, NoMoreEntries, BufferTooSmall}
-use Rattle.ob_model.specs.Enumeration.{Shown, Page, fitting, page_of}
+use Rattle.ob_model.specs.Enumeration.{Shown, Page, room_of, page_of}
 use Rattle.ob_dirs.specs.declared.entry.DirEntry.{DirEntry}
 use Rattle.ob_dirs.specs.declared.page.DirPage.{DirPage}
+use Rattle.ob_dirs.specs.declared.page.Fit.{Fit}
 
 -- what is told of objects, one after another from here on, are the lengths of these names of their types
 abbrev pub TellsLengths : {F : Type 0} → (F → ℕ → ℕ → F → Type 0) → F → (ℕ → List ℕ) → Type 0
@@ -31,7 +32,7 @@ page_told type_name entries context room single = page_of (map (shown_entry type
 -- from the first one on
 pub record IsPage (told : Page) (left : List DirEntry) (page : DirPage) : Type 0 where
   pub status : page.status ≡ told.status
-  pub entries : page.entries.now ≡ take (length told.entries) left
+  pub entries : page.entries ≡ take (length told.entries) left
   pub context : page.context ≡ told.context
 
 -- ---- on the way to a page
@@ -40,24 +41,19 @@ pub record IsPage (told : Page) (left : List DirEntry) (page : DirPage) : Type 0
 abbrev pub room_behind : ℕ → ℕ → Option ℕ
 room_behind taken room = if nat_le taken room then Some (room - taken) else None
 
--- of these entries those that a page shows where there is room for them: the first alone, or all
-abbrev pub wanted_of : List DirEntry → Bool → List DirEntry
-wanted_of left single = if single then take 1 left else left
+-- of these entries as many as fit into the room, from the first one on, or the first of them alone: how many are shown
+-- with the count before them, whether one that doesn't fit stands behind them, and the stamp of the last
+abbrev pub fit_of : List Shown → ℕ → ℕ → ℕ → Bool → Fit
+fit_of [] count context room single = record { count = count; more = false; context = context }
+fit_of (e ∷ es) count context room single =
+    if nat_le (room_of e) room then
+    (if single then record { count = count + 1; more = false; context = e.stamp }
+    else fit_of es (count + 1) e.stamp (room - room_of e) single)
+    else record { count = count; more = true; context = context }
 
--- of these entries those that a page shows: as many as fit, or the first of them alone
-abbrev pub shown_of : List Shown → ℕ → Bool → List Shown
-shown_of left room single = if single then take 1 (fitting room left) else fitting room left
-
--- the status of a page, by how many entries are left and how many are shown
-abbrev pub page_status : ℕ → ℕ → Bool → Status
-page_status left shown single =
-    if left == 0 then NoMoreEntries
-    else if shown == 0 then BufferTooSmall
-    else if single then Success
-    else if nat_lt shown left then MoreEntries
+-- the status of a page that shows so many entries
+abbrev pub page_status : Fit → Bool → Status
+page_status fit single =
+    if fit.count == 0 then (if fit.more then BufferTooSmall else NoMoreEntries)
+    else if not single && fit.more then MoreEntries
     else Success
-
--- the stamp of the last of these entries, or the context where there is none
-abbrev pub last_stamp_of : ℕ → List DirEntry → ℕ
-last_stamp_of context [] = context
-last_stamp_of context (e ∷ es) = last_stamp_of e.stamp es

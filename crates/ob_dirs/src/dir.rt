@@ -1,10 +1,15 @@
 //! A directory.
 
-ghost use Rattle.std.specs.Prelude.{◌≡◌, ◌≢◌, ◌<◌, ◌↔◌, ◌==◌, [], ◌∷◌, ◌++◌, length, filter, not};
+ghost use Rattle.std.specs.Prelude.{◌≡◌, ◌≢◌, ◌<◌, ◌^◌, ◌↔◌, ◌==◌, [], ◌∷◌, ◌++◌, length, filter, not};
 ghost use Rattle.std.specs.Prelude.{All, IfOk, IfErr, OnErr};
-ghost use Rattle.std.specs.List.{find, position};
+ghost use Rattle.std.specs.BTreeMap.{get};
+ghost use Rattle.std.specs.List.{find};
+ghost use Rattle.std.specs.Map.{values_of};
 ghost use Rattle.std.specs.Option.{option_copied, option_map};
-ghost use Rattle.ob_dirs.specs.Dir.{entry_found, is_named, IsDir};
+ghost use Rattle.std.specs.Ordering.{nat_cmp};
+ghost use Rattle.ob_dirs.specs.Dir.{entry_found, IsDir};
+ghost use Rattle.ob_dirs.specs.Index.{entry_named, first_named};
+ghost use Rattle.ob_dirs.specs.Page.{entries_behind};
 ghost use Rattle.ob_dirs.specs.Dir.{DirFindsWhatTheStateFinds, NotFoundIsFree};
 ghost use Rattle.ob_dirs.specs.Dir.{
   NoRowIsNoEntry,
@@ -13,11 +18,15 @@ ghost use Rattle.ob_dirs.specs.Dir.{
   EntryGoesWithItsRow,
 };
 
-use crate::DirEntry;
+use crate::index::{NameIndex, name_hash};
+use crate::{DirEntries, DirEntry};
 use ob_base::ObjId;
 use ob_names::{NameBuf, same};
 use std::alloc::{AllocError, Global};
+use std::collections::BTreeMap;
+use std::collections::btree_map::Range;
 use std::marker::Model;
+use std::ops::Bound;
 
 /// One object directory. A contract sees a `Dir` as the list of its entries, whose stamps rise
 /// strictly and whose spellings differ from one another; two names that only the case of letters
@@ -26,19 +35,21 @@ use std::marker::Model;
 /// Source: Windows Internals, Object Manager: object directories; the order is this profile.
 #[derive(Debug, Drop)]
 pub struct Dir {
-    entries: Vec<DirEntry>,
+    entries: BTreeMap<u64, DirEntry>,
+    names: NameIndex,
 }
 
 impl Model for Dir {
     ghost use Rattle.std.specs.Prelude.{List};
+    ghost use Rattle.std.specs.Map.{values_of};
     ghost use Rattle.ob_dirs.specs.declared.entry.DirEntry.{DirEntry};
-    ghost use Rattle.ob_dirs.specs.Dir.{IsDir};
+    ghost use Rattle.ob_dirs.specs.Index.{IsHeld};
 
     ghost Value = { List DirEntry };
 
-    ghost view = { λ dir. dir.entries.items };
+    ghost view = { λ dir. values_of dir.entries.entries };
 
-    ghost invariant = { λ dir. IsDir dir.entries.items };
+    ghost invariant = { λ dir. IsHeld dir.entries.entries dir.names };
 }
 
 impl Dir {
@@ -47,7 +58,8 @@ impl Dir {
         ensures { result ≡ [] }
     {
         Dir {
-            entries: Vec::new(alloc),
+            entries: BTreeMap::new(alloc),
+            names: NameIndex::new(alloc),
         }
     }
 
@@ -69,13 +81,22 @@ impl Dir {
     }
 
     /// The entries, by rising stamps. Takes no memory.
-    pub fn as_slice(&self) -> &[DirEntry]
-        ensures all { result.now ≡ self.now }
+    pub fn iter(&self) -> DirEntries<'_>
+        ensures all { result ≡ self.now }
 
         // What holds of every directory's entries.
         ensures entries { IsDir self.now }
     {
-        self.entries.as_slice()
+        DirEntries::new(self.entries.range(..), self.entries.len())
+    }
+
+    // The entries of a stamp above a context, by rising stamps.
+    pub(crate) fn behind(&self, context: u64) -> Range<'_, u64, DirEntry>
+        ensures entries { values_of result ≡ entries_behind self.now context }
+        ensures counted { length result < 2 ^ 63 }
+    {
+        self.entries
+            .range((Bound::Excluded(context), Bound::Unbounded))
     }
 
     /// What stands under a component, of any length and with any bytes: of the entries whose names
@@ -90,7 +111,8 @@ impl Dir {
             ≡ option_map (λ entry. (entry.stamp, entry.object))
             (entry_found self.now component.now fold) }
     {
-        let named = first_named(self.entries.as_slice(), component, fold);
+        let stamps = self.names.stamps_under(name_hash(component));
+        let named = first_named(&self.entries, stamps, component, fold);
         named.map(|entry| (entry.stamp, entry.object))
     }
 
@@ -108,23 +130,28 @@ impl Dir {
             ≡ self.old ++ record { stamp = stamp; name = name; object = object } ∷ []) }
         ensures unchanged { OnErr result (self.new ≡ self.old) }
     {
-        self.entries.push(DirEntry {
+        let hash = name_hash(name.as_slice());
+        self.names.add(hash, stamp)?;
+        let entry = DirEntry {
             stamp,
             name,
             object,
-        })?;
+        };
+        if self.entries.insert(stamp, entry).is_err() {
+            self.names.take(hash, stamp);
+            return Err(AllocError);
+        }
         Ok(())
     }
 
-    /// The entry of a stamp, which may be any number; `None` exactly where no entry has it. It is
-    /// sought by halves, since stamps rise. Takes no memory.
+    /// The entry of a stamp, which may be any number; `None` exactly where no entry has it. Takes no
+    /// memory.
     ///
     /// Source: the stamps are this profile.
     pub fn get(&self, stamp: u64) -> Option<&DirEntry>
         ensures { option_copied result ≡ find (λ entry. entry.stamp == stamp) self.now }
     {
-        let index = index_of(self.entries.as_slice(), stamp)?;
-        Some(&self.entries[index])
+        self.entries.get(&stamp)
     }
 
     /// Takes away the entry of a stamp, which may be any number, and hands it back; where no entry
@@ -136,28 +163,46 @@ impl Dir {
         ensures there { result ≡ find (λ entry. entry.stamp == stamp) self.old }
         ensures others { self.new ≡ filter (λ entry. not (entry.stamp == stamp)) self.old }
     {
-        let index = index_of(self.entries.as_slice(), stamp)?;
-        Some(self.entries.remove(index))
+        let entry = self.entries.remove(&stamp)?;
+        self.names.take(name_hash(entry.name.as_slice()), stamp);
+        Some(entry)
     }
 }
 
-// The first of some entries whose name is equal to a component, and none where no name is.
-fn first_named<'a>(entries: &'a [DirEntry], component: &[u8], fold: bool) -> Option<&'a DirEntry>
-    ensures { option_copied result ≡ find (is_named component.now fold) entries.now }
+// Of the entries that have these stamps, the first whose name is equal to a component; none where no name is.
+fn first_named<'a>(
+    entries: &'a BTreeMap<u64, DirEntry>,
+    stamps: &[u64],
+    component: &[u8],
+    fold: bool,
+) -> Option<&'a DirEntry>
+    ensures { option_copied result
+        ≡ first_named (get nat_cmp entries.now) component.now fold stamps.now }
 {
-    entries
-        .iter()
-        .find(|entry| same(entry.name.as_slice(), component, fold))
+    for stamp in stamps {
+        if let Some(entry) = entry_named(entries, *stamp, component, fold) {
+            return Some(entry);
+        }
+    }
+    None
 }
 
-// Where the entry of a stamp stands among those of a directory, and none where there is none.
-fn index_of(entries: &[DirEntry], stamp: u64) -> Option<usize>
-    requires { IsDir entries.now }
-    ensures { result ≡ position (λ entry. entry.stamp == stamp) entries.now }
+// The entry of a stamp, where its name is equal to a component.
+fn entry_named<'a>(
+    entries: &'a BTreeMap<u64, DirEntry>,
+    stamp: u64,
+    component: &[u8],
+    fold: bool,
+) -> Option<&'a DirEntry>
+    ensures { option_copied result
+        ≡ entry_named component.now fold (get nat_cmp entries.now stamp) }
 {
-    entries
-        .binary_search_by_key(&stamp, |entry| entry.stamp)
-        .ok()
+    let entry = entries.get(&stamp)?;
+    if same(entry.name.as_slice(), component, fold) {
+        Some(entry)
+    } else {
+        None
+    }
 }
 
 /// The law that a directory finds what the state finds. Where the rows of a state that stand in a

@@ -3,9 +3,12 @@
 #![tactic(auto)]
 
 mod dir;
+mod entries;
 mod entry;
+mod index;
 mod page;
 
 pub use dir::{Dir, dir_finds_what_the_state_finds, entries_follow_the_rows, not_found_is_free};
+pub use entries::DirEntries;
 pub use entry::DirEntry;
 pub use page::DirPage;

@@ -1,34 +1,33 @@
 //! Pages of a directory.
 
-ghost use Rattle.std.specs.Prelude.{◌≡◌, ◌≤◌, ℕ, List, length, map, take, IsOk, IfOk};
-ghost use Rattle.ob_model.specs.Enumeration.{fitting, room_of};
-ghost use Rattle.ob_dirs.specs.Dir.{IsDir};
+ghost use Rattle.std.specs.Prelude.{◌≡◌, ◌≤◌, ◌<◌, ◌^◌, ℕ, List, length, map, IsOk, IfOk};
+ghost use Rattle.std.specs.Map.{values_of};
+ghost use Rattle.ob_model.specs.Enumeration.{room_of};
 ghost use Rattle.ob_dirs.specs.Page.{
   IsPage,
+  fit_of,
   TellsLengths,
   entries_behind,
-  last_stamp_of,
   page_status,
   page_told,
   room_behind,
   shown_entry,
-  shown_of,
-  wanted_of,
 };
 
-use crate::{Dir, DirEntry};
+use crate::{Dir, DirEntries, DirEntry};
 use ob_base::{Fault, ObjId, Status};
+use std::collections::btree_map::Range;
 
 /// A page of a directory: its entries behind a context, as many as fit into a room.
 ///
 /// Source: ZwQueryDirectoryObject (Windows Driver Kit); that a context is a stamp is this profile.
-#[derive(Clone, Copy, Debug)]
+#[derive(Drop)]
 pub struct DirPage<'a> {
     /// `NoMoreEntries` where no entry is left, `BufferTooSmall` where the first doesn't fit, `MoreEntries`
     /// where more are left than are shown and not one alone was asked for, else `Success`.
     pub status: Status,
     /// The entries that are shown, by rising stamps: those of the directory, each with its name and its object.
-    pub entries: &'a [DirEntry],
+    pub entries: DirEntries<'a>,
     /// The stamp of the last entry shown, behind which the next page begins; where none is shown, the
     /// context that was used.
     pub context: u64,
@@ -38,8 +37,8 @@ impl Dir {
     /// A page of the directory behind a context, which may be any number: of the entries of a greater stamp,
     /// by rising stamps, as many as fit into the room, or the first alone for a single one. An entry takes
     /// 4 bytes of the room, and the lengths of its name and of the name of its object's type, which `len_of`
-    /// tells of one entry after another. Where the page begins is sought by halves; then only what is shown is
-    /// looked at, and the first entry that isn't.
+    /// tells of one entry after another. Where the page begins is sought in the tree of stamps; then only what
+    /// is shown is looked at, and the first entry that isn't.
     ///
     /// The only fault is `Memory`. A page lends its entries and takes no memory, so it is always `Ok`.
     ///
@@ -59,75 +58,61 @@ impl Dir {
             (entries_behind self.now context) page) }
         ensures no_memory { IsOk result }
     {
-        let left = behind(self.as_slice(), context);
-        let shown = shown_of(left, room as usize, single, len_of);
-        let status = page_status(left.len(), shown.len(), single);
-        let context = last_stamp(context, shown);
+        let behind = self.behind(context);
+        let fit = fitting(behind.clone()?, context, room as usize, single, len_of);
         Ok(DirPage {
-            status,
-            entries: shown,
-            context,
+            status: page_status(&fit, single),
+            entries: DirEntries::new(behind, fit.count),
+            context: fit.context,
         })
     }
 }
 
-// Of the entries of a directory, those of a stamp above a context.
-fn behind(entries: &[DirEntry], context: u64) -> &[DirEntry]
-    requires { IsDir entries.now }
-    ensures { result.now ≡ entries_behind entries.now context }
-{
-    let shown = entries.partition_point(|entry| entry.stamp <= context);
-    &entries[shown..]
+// How many entries a page shows from the first one on, whether one is left behind them, and the stamp of the last, or
+// the context before them where none is shown.
+#[derive(Drop)]
+struct Fit {
+    count: usize,
+    more: bool,
+    context: u64,
 }
 
-// Of these entries those that a page shows.
-fn shown_of<'a, F: FnMut(ObjId) -> usize>(
-    left: &'a [DirEntry],
+// Of these entries those that a page shows: as many as fit into the room, or the first of them alone.
+fn fitting<F: FnMut(ObjId) -> usize>(
+    mut behind: Range<'_, u64, DirEntry>,
+    context: u64,
     room: usize,
     single: bool,
-    len_of: F,
-) -> &'a [DirEntry]
-    requires { F.IsAlwaysCallable len_of }
-    ensures shown { (type_name : ℕ → List ℕ) → TellsLengths (λ f id n g.
+    mut len_of: F,
+) -> Fit
+    requires called { F.IsAlwaysCallable len_of }
+    requires counted { length behind < 2 ^ 63 }
+    ensures fit { (type_name : ℕ → List ℕ) → TellsLengths (λ f id n g.
         F.step f id n g) len_of type_name
-        → map (shown_entry type_name) result.now
-        ≡ shown_of (map (shown_entry type_name) left.now) room single }
-    ensures front { result.now ≡ take (length result.now) left.now }
+        → result
+        ≡ fit_of (map (shown_entry type_name) (values_of behind.entry)) 0 context room single }
+    ensures within { result.count ≤ length behind.entry }
 {
-    let wanted = wanted(left, single);
-    let fit = count_fitting(wanted, room, len_of);
-    &wanted[..fit]
-}
-
-// Those of these entries that a page shows where there is room for them: the first alone, or all.
-fn wanted(left: &[DirEntry], single: bool) -> &[DirEntry]
-    ensures { result.now ≡ wanted_of left.now single }
-{
-    if single && left.len() > 1 {
-        return &left[..1];
-    }
-    left
-}
-
-// How many of these entries fit into the room, from the first one on.
-fn count_fitting<F: FnMut(ObjId) -> usize>(left: &[DirEntry], room: usize, mut len_of: F) -> usize
-    requires { F.IsAlwaysCallable len_of }
-    ensures count { (type_name : ℕ → List ℕ) → TellsLengths (λ f id n g.
-        F.step f id n g) len_of type_name
-        → result ≡ length (fitting room (map (shown_entry type_name) left.now)) }
-    ensures within { result ≤ length left.now }
-{
-    let mut behind = left;
+    let mut fit = Fit {
+        count: 0,
+        more: false,
+        context,
+    };
     let mut free = room;
-    while let Some((entry, rest)) = behind.split_first() {
+    while let Some((_, entry)) = behind.next() {
         let type_length = len_of(entry.object);
         let Some(less) = room_behind(entry, type_length, free) else {
-            return left.len() - behind.len();
+            fit.more = true;
+            return fit;
         };
         free = less;
-        behind = rest;
+        fit.count += 1;
+        fit.context = entry.stamp;
+        if single {
+            return fit;
+        }
     }
-    left.len()
+    fit
 }
 
 // The room that is left behind an entry, whose type's name has this length; none where it doesn't fit.
@@ -141,28 +126,18 @@ fn room_behind(entry: &DirEntry, type_length: usize, room: usize) -> Option<usiz
     without_name.checked_sub(type_length)
 }
 
-// The status of a page, by how many entries are left and how many are shown.
-fn page_status(left: usize, shown: usize, single: bool) -> Status
-    ensures { result ≡ page_status left shown single }
+// The status of a page that shows so many entries.
+fn page_status(fit: &Fit, single: bool) -> Status
+    ensures { result ≡ page_status fit.now single }
 {
-    if left == 0 {
-        return Status::NoMoreEntries;
-    }
-    if shown == 0 {
+    if fit.count == 0 && fit.more {
         return Status::BufferTooSmall;
     }
-    if !single && shown < left {
+    if fit.count == 0 {
+        return Status::NoMoreEntries;
+    }
+    if !single && fit.more {
         return Status::MoreEntries;
     }
     Status::Success
-}
-
-// The context behind these entries: the stamp of the last, or the context before them.
-fn last_stamp(context: u64, shown: &[DirEntry]) -> u64
-    ensures { result ≡ last_stamp_of context shown.now }
-{
-    match shown.last() {
-        Some(entry) => entry.stamp,
-        None => context,
-    }
 }

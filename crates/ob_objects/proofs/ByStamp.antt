@@ -1,5 +1,5 @@
 -- Rows by rising stamps.
-use Rattle.std.proofs.Common.{◌<◌, List, [], ◌∷◌, arith}
+use Rattle.std.proofs.Common.{List, [], ◌∷◌, arith}
 use Rattle.std.proofs.lemmas.List.Kept.{AllPairs-cons}
 use Rattle.ob_model.specs.declared.state.Row.{Row}
 use Rattle.ob_model.proofs.Sorted as sorted

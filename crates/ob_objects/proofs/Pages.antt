@@ -1,6 +1,6 @@
 -- Pages of a directory of a store: the entries that are left are those of the state, so what is told of the
 -- directory is what the machine tells.
-use Rattle.std.proofs.Common.{◌≡◌, ◌∙◌, ℕ, ◌==◌, ◌&&◌, nat_lt, Bool, List, [], ◌∷◌, length, take, map, filter, Option, None, Some, refl, ap, sym}
+use Rattle.std.proofs.Common.{◌≡◌, ◌∙◌, ℕ, ◌==◌, ◌&&◌, nat_lt, Bool, List, [], ◌∷◌, ◌++◌, append_assoc, length, take, map, filter, Option, None, Some, refl, ap, sym}
 use Rattle.std.specs.Option.{option_map, option_map_or, unwrap_or}
 use Rattle.ob_model.specs.declared.entries.Listed.{Listed}
 use Rattle.ob_model.specs.Enumeration.{Shown, listed, page_of, body_type_name, shown_row, entries_left, enumerated}
@@ -75,7 +75,7 @@ module _ {K T F I : Type 0} (g : Procedures K T F I) (store : Entries F I) where
   -- a directory's page, with the names of types, is the one that is told
   pub given_is : (entries : List DirEntry) (context room : ℕ) (single : Bool) (page : DirPage) (items : List Listed)
       → IsPage (page_told (type_name_at g store) entries context room single) (entries_behind entries context) page
-      → items ≡ map (entry_listed g store) page.entries.now
+      → items ≡ map (entry_listed g store) page.entries
       → record { status = page.status; entries = items; context = page.context } ≡ page_given (page_told (type_name_at g store) entries context room single)
   given_is entries context room single page items is items_are =
       let told = page_told (type_name_at g store) entries context room single in
@@ -89,6 +89,14 @@ module _ {K T F I : Type 0} (g : Procedures K T F I) (store : Entries F I) where
   -- a page of which nothing is told gives no entry
   pub none_is_given : (entries : List DirEntry) (context room : ℕ) (single : Bool) (page : DirPage)
       → IsPage (page_told (type_name_at g store) entries context room single) (entries_behind entries context) page
-      → (page_told (type_name_at g store) entries context room single).entries ≡ [] → page.entries.now ≡ []
+      → (page_told (type_name_at g store) entries context room single).entries ≡ [] → page.entries ≡ []
   none_is_given entries context room single page is none =
       is.entries ∙ ap (λ (es : List Shown). take (length es) (entries_behind entries context)) none
+
+-- ---- entries are told, one after another
+
+pub listed_next : (f : DirEntry → Listed) (items new : List Listed) (x : Listed) (e : DirEntry) (left rest : List DirEntry) (all : List Listed)
+    → new ≡ items ++ x ∷ [] → x ≡ f e → left ≡ e ∷ rest → items ++ map f left ≡ all → new ++ map f rest ≡ all
+listed_next f items new x e left rest all pushed is first so_far =
+    ap (λ xs. xs ++ map f rest) pushed ∙ append_assoc items (x ∷ []) (map f rest)
+    ∙ ap (λ y. items ++ y ∷ map f rest) is ∙ ap (λ es. items ++ map f es) (sym first) ∙ so_far

@@ -1,12 +1,7 @@
 -- Where the names of a store stand, as names and objects come and go.
-use Rattle.std.proofs.Common.{◌≡◌, ◌≢◌, ◌∙◌, ℕ, ◌+◌, ◌<◌, ◌==◌, ◌&&◌, ◌||◌, Bool, true, false, cond, not, List, [], ◌∷◌, ◌++◌, length, get_or, take, filter, find, map, Option, None, Some, option_map, ◌⊎◌, inl, inr, All, IsSome, refl, ap, sym, subst, arith, eq-eqb, eqb-true}
+use Rattle.std.proofs.Common.{◌≡◌, ◌≢◌, ◌∙◌, ℕ, ◌<◌, ◌==◌, ◌&&◌, ◌||◌, Bool, true, false, cond, not, List, [], ◌∷◌, ◌++◌, filter, find, map, Option, None, Some, option_map, ◌⊎◌, inl, inr, All, IsSome, refl, ap, sym, subst, arith, eq-eqb, eqb-true}
 use Rattle.std.proofs.lemmas.Bool.{false≢true, ne_eqb}
-use Rattle.std.proofs.lemmas.Bool.Decides.{nat_tests}
-use Rattle.std.proofs.lemmas.List.{take_more}
-use Rattle.std.proofs.lemmas.List.Folds.{list_any-append}
 use Rattle.std.proofs.lemmas.List.Elements.{All-nil, All-cons, All-head, All-tail, All-weaker}
-use Rattle.std.specs.BTreeMap.{is_at}
-use Rattle.std.specs.Ordering.{nat_cmp}
 use Rattle.std.specs.List.{AllPairs, list_any}
 use Rattle.std.specs.Option.{is_some}
 use Rattle.ob_model.specs.declared.state.Row.{Row}
@@ -122,29 +117,6 @@ find_goes test keeps (r ∷ rows) all =
     go true true e f here more = absurd (false≢true (sym (here f) ∙ e))
     go true false e f here more = ap (λ b. cond b (Some r) (find test (filter keeps rows))) f ∙ more
     go false t e f here more = more
-
--- ---- the places that entries take with them, one after another
-
-pub forget_more : (es : List DirEntry) (i : ℕ) (e : DirEntry) (id : ℕ) (after before first : Option EntryPlace) → i < length es → e ≡ get_or es i e
-    → after ≡ cond (is_at (nat_cmp e.object) id) None before → before ≡ cond (list_any (λ x. x.object == id) (take i es)) None first
-    → after ≡ cond (list_any (λ x. x.object == id) (take (i + 1) es)) None first
-forget_more es i e id after before first within is taken so_far =
-    taken ∙ ap (λ (t : Bool). cond t None before) at_is ∙ ap (λ o. cond (e.object == id) None o) so_far ∙ both (e.object == id) (list_any (λ x. x.object == id) (take i es))
-    ∙ ap (λ (t : Bool). cond t None first) (sym whole)
-  where
-    at_is : is_at (nat_cmp e.object) id ≡ (e.object == id)
-    at_is = grind (arith, nat_tests)
-
-    whole : list_any (λ x. x.object == id) (take (i + 1) es) ≡ (list_any (λ x. x.object == id) (take i es) || (e.object == id || false))
-    whole =
-        ap (list_any (λ x. x.object == id)) (take_more es i e within ∙ ap (λ x. take i es ++ x ∷ []) (sym is))
-        ∙ list_any-append (λ x. x.object == id) (take i es) (e ∷ [])
-
-    both : (t u : Bool) → cond t None (cond u None first) ≡ cond (u || (t || false)) None first
-    both true true = refl
-    both true false = refl
-    both false true = refl
-    both false false = refl
 
 -- ---- the entries of a directory, and their rows
 

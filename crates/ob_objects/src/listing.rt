@@ -11,7 +11,7 @@ ghost use Rattle.ob_objects.specs.Types.{type_name_among};
 use crate::walk::Walk;
 use crate::{Store, StoredBody, types};
 use ob_base::{ObjId, Status};
-use ob_dirs::{Dir, DirEntry};
+use ob_dirs::{Dir, DirEntries};
 use ob_model::{Bytes, Entries, Listed, TypeName};
 use ob_types::TypeSet;
 use std::alloc::{AllocError, Global};
@@ -87,10 +87,10 @@ impl<T: TypeSet> Store<T> {
     }
 
     // Entries of a directory, with the names of their objects' types.
-    fn listed(&self, alloc: Global, shown: &[DirEntry]) -> Result<Vec<Listed>, AllocError>
+    fn listed(&self, alloc: Global, shown: DirEntries<'_>) -> Result<Vec<Listed>, AllocError>
         ensures all { IfOk result (λ items. items.items
-            ≡ map (entry_listed T.procedures self.now) shown.now) }
-        ensures none { shown.now ≡ [] → IsOk result }
+            ≡ map (entry_listed T.procedures self.now) shown.entry) }
+        ensures none { shown.entry ≡ [] → IsOk result }
     {
         let mut walk = self.walk();
         let mut items = Vec::with_capacity(alloc, shown.len())?;

@@ -18,7 +18,7 @@ pub(crate) fn forget<F, I>(places: &mut BTreeMap<u64, EntryPlace>, stored: &Stor
     let StoredBody::Directory(dir) = &stored.body else {
         return;
     };
-    for entry in dir.as_slice() {
+    for entry in dir.iter() {
         let object = entry.object;
         places.remove(&object.0);
     }

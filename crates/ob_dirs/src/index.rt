@@ -1,0 +1,110 @@
+//! The stamps of a directory's entries, by hashes of their names.
+
+ghost use Rattle.std.specs.Prelude.{◌≡◌, ◌==◌, [], ◌∷◌, ◌++◌, ℕ, length, OnOk, OnErr, if◌then◌else◌};
+ghost use Rattle.std.specs.List.{position};
+ghost use Rattle.std.specs.Set.{remove_key};
+ghost use Rattle.ob_dirs.specs.Hashes.{name_hash, mixed};
+ghost use Rattle.ob_dirs.specs.Index.{stamps_under};
+
+use indexmap::IndexMap;
+use smallvec::SmallVec;
+use std::alloc::{AllocError, Global};
+
+/// The stamps of entries under the hashes of their names, each list in the order in which they were
+/// put there; no list is kept empty. (this profile)
+#[derive(Debug, Drop)]
+pub(crate) struct NameIndex {
+    buckets: IndexMap<u64, SmallVec<u64, 1>>,
+}
+
+impl NameIndex {
+    /// No stamp is under any hash. Takes no memory.
+    pub(crate) fn new(alloc: Global) -> NameIndex
+        ensures { (hash : ℕ) → stamps_under result hash ≡ [] }
+    {
+        NameIndex {
+            buckets: IndexMap::new(alloc),
+        }
+    }
+
+    /// The stamps under a hash.
+    pub(crate) fn stamps_under(&self, hash: u64) -> &[u64]
+        ensures { result.now ≡ stamps_under self.now hash }
+    {
+        match self.buckets.get(&hash) {
+            Some(stamps) => stamps.as_slice(),
+            None => &[],
+        }
+    }
+
+    /// Puts a stamp under a hash, behind those that are there. Where memory is wanted nothing has changed.
+    pub(crate) fn add(&mut self, hash: u64, stamp: u64) -> Result<(), AllocError>
+        ensures last { OnOk result ((h : ℕ) → stamps_under self.new h
+            ≡ (if hash == h then stamps_under self.old h ++ stamp ∷ []
+            else stamps_under self.old h)) }
+        ensures unchanged { OnErr result ((h : ℕ)
+            → stamps_under self.new h ≡ stamps_under self.old h) }
+    {
+        if let Some(stamps) = self.buckets.get_mut(&hash) {
+            stamps.push(stamp)?;
+            return Ok(());
+        }
+        let mut stamps = SmallVec::new(*self.buckets.allocator());
+        stamps.push(stamp)?;
+        self.buckets.insert(hash, stamps)?;
+        Ok(())
+    }
+
+    /// Takes a stamp away from under a hash, the first where it is there more than once. Takes no memory.
+    pub(crate) fn take(&mut self, hash: u64, stamp: u64)
+        ensures { (h : ℕ) → stamps_under self.new h
+            ≡ (if hash == h then remove_key (λ s. s == stamp) (stamps_under self.old h)
+            else stamps_under self.old h) }
+    {
+        let Some(stamps) = self.buckets.get_mut(&hash) else {
+            return;
+        };
+        if take_from(stamps, stamp) {
+            self.buckets.swap_remove(&hash);
+        }
+    }
+}
+
+// Takes a stamp away from others, the first where it is there more than once; whether none is left.
+fn take_from(stamps: &mut SmallVec<u64, 1>, stamp: u64) -> bool
+    ensures others { stamps.new.items ≡ remove_key (λ s. s == stamp) stamps.old.items }
+    ensures empty { result ≡ (length stamps.new.items == 0) }
+{
+    if let Some(place) = place_of(stamps.as_slice(), stamp) {
+        stamps.remove(place);
+    }
+    stamps.is_empty()
+}
+
+// Where a stamp stands first among others.
+fn place_of(stamps: &[u64], stamp: u64) -> Option<usize>
+    ensures { result ≡ position (λ s. s == stamp) stamps.now }
+{
+    stamps.iter().position(|other| *other == stamp)
+}
+
+/// The hash of a name of any length and with any bytes: of its bytes, with `a` to `z` taken to `A` to
+/// `Z`. So two names that are equal, with regard to case or without, have the same. Takes no memory.
+///
+/// Source: this profile; the bytes are mixed as FNV-1a mixes them.
+pub(crate) fn name_hash(name: &[u8]) -> u64
+    ensures { result ≡ name_hash name.now }
+{
+    let mut hash = 0xcbf2_9ce4_8422_2325;
+    for byte in name {
+        hash = mixed(hash, byte.to_ascii_uppercase());
+    }
+    hash
+}
+
+// A hash behind one byte more.
+fn mixed(hash: u64, byte: u8) -> u64
+    ensures { result ≡ mixed hash byte }
+{
+    (hash ^ byte as u64).wrapping_mul(0x100_0000_01b3)
+}
