@@ -1,6 +1,6 @@
 -- What stands at a place of a list of kinds in their order.
-use Rattle.std.proofs.Common.{◌≡◌, ◌∙◌, ℕ, ◌+◌, ◌<◌, List, Option, None, Some, IfSome, Bor, map, length, get_or, sym, ap, subst, refl, zero-add}
-use Rattle.std.specs.List.{slice_get, range_with_len}
+use Rattle.std.proofs.Common.{◌≡◌, ◌∙◌, ℕ, ◌<◌, List, Option, None, Some, IfSome, Bor, map, length, get_or, sym, ap, subst, refl, zero-add}
+use Rattle.std.specs.List.{range_with_len}
 use Rattle.std.specs.Option.{option_map, option_copied}
 use Rattle.std.specs.Slice.{IsItemAt}
 use Rattle.std.proofs.lemmas.List.FromFn.{get_or-range_with_len}

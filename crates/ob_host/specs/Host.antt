@@ -2,7 +2,7 @@
 --
 -- Sources: Windows Internals, Object Manager (object types and their methods), for the types' names and that devices
 -- and keys parse; words, texts and the list of what was deleted are this profile.
-use Rattle.std.specs.Prelude.{◌≡◌, ℕ, ◌+◌, ◌^◌, ◌-◌, Bool, ◌&&◌, ◌==◌, true, false, if◌then◌else◌, List, [], ◌∷◌, ◌++◌, Option, None, Some, is_some, length, min}
+use Rattle.std.specs.Prelude.{◌≡◌, ℕ, ◌+◌, ◌^◌, ◌-◌, Bool, ◌&&◌, ◌==◌, if◌then◌else◌, List, [], ◌∷◌, ◌++◌, Option, None, Some, is_some, length, min}
 use Rattle.ob_model.specs.Procedures.{Procedures, ParseAnswer, Itself, Front, Refused}
 use Rattle.ob_host.specs.Kept.{Kept}
 use Rattle.ob_host.specs.Kinds.{name_of, same_kind}

@@ -1,6 +1,6 @@
 -- The laws of a caller's own objects.
-use Rattle.std.proofs.Common.{◌≡◌, ◌≢◌, ℕ, ◌<◌, Bool, true, false, ◌&&◌, ◌==◌, if◌then◌else◌, List, [], ◌∷◌, Option, None, Some, length, refl, ap, arith}
-use Rattle.ob_model.specs.Procedures.{ParseAnswer, Itself, Front, Refused, FrontIsUsed, ItselfIsAtEnd, ParsedIsIdle, OwnFaceIsSame, SameFacesAnswerAlike}
+use Rattle.std.proofs.Common.{◌≡◌, ◌≢◌, ℕ, ◌<◌, Bool, true, false, ◌==◌, if◌then◌else◌, List, [], ◌∷◌, Option, None, Some, length, refl, ap, arith}
+use Rattle.ob_model.specs.Procedures.{Itself, Front, FrontIsUsed, ItselfIsAtEnd, ParsedIsIdle, OwnFaceIsSame, SameFacesAnswerAlike}
 use Rattle.std.proofs.lemmas.Bool.{eqb-true}
 use Rattle.ob_host.specs.Kept.{Kept}
 use Rattle.ob_host.specs.Kinds.{same_kind}

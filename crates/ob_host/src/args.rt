@@ -20,8 +20,7 @@ pub fn arguments(word: u64) -> [u8; 8]
 pub(crate) fn word_of(args: &[u8]) -> u64
     ensures { result ≡ word_of args.now }
 {
-    let bytes: [u8; WORD_BYTES] =
-        array::from_fn(|place| args.get(place).copied().unwrap_or(0));
+    let bytes: [u8; WORD_BYTES] = array::from_fn(|place| args.get(place).copied().unwrap_or(0));
     u64::from_le_bytes(bytes)
 }
 

@@ -7,7 +7,6 @@ use crate::HostObject;
 use std::mem;
 
 /// A chain of objects, the one that was put in last first.
-#[derive(Debug)]
 pub(crate) enum Chain {
     /// No object.
     End,

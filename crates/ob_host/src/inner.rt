@@ -10,7 +10,7 @@ use std::marker::Model;
 
 /// What the procedures change of an object: the handles that are open to it. The object lies beside them, and
 /// so does a place for it in the list of what was deleted, so that its delete takes no memory. (this profile)
-#[derive(Debug, Drop)]
+#[derive(Drop)]
 pub struct HostInner {
     object: HostObject,
     handles: u32,

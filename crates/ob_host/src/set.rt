@@ -1,9 +1,10 @@
 //! The set of a caller's own objects.
 
-ghost use Rattle.std.specs.Prelude.{◌≡◌, ◌∷◌, [], IfOk, IfSome, IfNone, refl};
+ghost use Rattle.std.specs.Prelude.{◌≡◌, ◌∷◌, [], IfOk, IfSome, IfNone, IsOk, None, refl};
 ghost use Rattle.std.proofs.Common.{rules};
-ghost use Rattle.ob_host.specs.Kept.{Kept};
-ghost use Rattle.ob_host.specs.Host.{host_procedures, IsIdle, kind_below, unopened, is_itself};
+ghost use Rattle.ob_model.specs.Procedures.{Itself};
+ghost use Rattle.ob_types.specs.Parsing.{answer_of};
+ghost use Rattle.ob_host.specs.Host.{host_procedures, IsIdle, kind_below, unopened, is_itself, answer_to};
 ghost use Rattle.ob_host.specs.KindLaws.{same_kind_is_one, own_kind_is_same};
 ghost use Rattle.ob_host.specs.HostLaws.{host_front, host_itself, host_parsed_idle, host_own_face, host_same_answers};
 
@@ -18,7 +19,7 @@ use std::mem;
 
 /// The set of a caller's own objects. Its value is the list of the objects that were deleted and not taken yet,
 /// the first of them first; a contract sees the set as that list. (this profile)
-#[derive(Debug, Drop)]
+#[derive(Drop)]
 pub struct HostSet {
     older: Chain,
     newer: Chain,
@@ -112,7 +113,13 @@ impl TypeSet for HostSet {
         alloc: Global,
         face: &HostObject,
         rest: &[u8],
-    ) -> Result<ParseAnswer<HostObject, HostInner>, AllocError> {
+    ) -> Result<ParseAnswer<HostObject, HostInner>, AllocError>
+        ensures answer { IfOk result (λ answer. answer_of answer ≡ answer_to face.now rest.now) }
+
+        // An object that makes nothing takes no memory.
+        ensures refused { kind_below face.now.kind ≡ None → IsOk result }
+        ensures itself { answer_to face.now rest.now ≡ Itself → IsOk result }
+    {
         let Some(kind) = kind_below(face.kind) else {
             return Ok(ParseAnswer::Refused(3));
         };
