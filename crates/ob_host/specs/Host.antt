@@ -1,0 +1,62 @@
+-- The procedures of a caller's own objects.
+--
+-- Sources: Windows Internals, Object Manager (object types and their methods), for the types' names and that devices
+-- and keys parse; words, texts and the list of what was deleted are this profile.
+use Rattle.std.specs.Prelude.{◌≡◌, ℕ, ◌+◌, ◌^◌, ◌-◌, Bool, ◌&&◌, ◌==◌, if◌then◌else◌, List, [], ◌∷◌, ◌++◌, Option, None, Some, is_some, length, min}
+use Rattle.ob_model.specs.Procedures.{Procedures, ParseAnswer, Itself, Front, Refused}
+use Rattle.ob_host.specs.Kept.{Kept}
+use Rattle.ob_host.specs.Kinds.{name_of, same_kind}
+use Rattle.ob_host.specs.Objects.{object_of, same_object, object_below}
+use Rattle.ob_host.specs.declared.kind.Kind.{Kind}
+use Rattle.ob_host.specs.declared.kind.Kind.TheVariants.{Device, File, Key}
+use Rattle.ob_host.specs.declared.object.HostObject.{HostObject}
+use Rattle.ob_host.specs.declared.set.HostSet.{HostSet}
+
+-- the kind of what names lead to through an object of this kind: files through a device, keys through a key
+abbrev pub kind_below : Kind → Option Kind
+kind_below Device = Some File
+kind_below Key = Some Key
+kind_below _ = None
+
+-- no handle is open
+abbrev pub IsIdle : Kept → Type 0
+IsIdle inner = inner.handles ≡ 0
+
+-- the inner value of what was not opened yet
+abbrev pub unopened : HostObject → Kept
+unopened object = record { object = object; handles = 0 }
+
+-- one handle more, stopping at the greatest u32
+abbrev pub one_more : Kept → Kept
+one_more inner = record inner { handles = min (inner.handles + 1) (2 ^ 32 - 1) }
+
+-- the rest names the object itself, where it leads to objects of this kind: the empty one, at a key
+abbrev pub is_itself : Kind → List ℕ → Bool
+is_itself kind rest = same_kind kind Key && length rest == 0
+
+-- what an object answers to a rest that leads from it to objects of a kind: itself, or by the whole rest a new one
+abbrev pub answer_below : HostObject → Option Kind → List ℕ → ParseAnswer HostObject Kept
+answer_below object None rest = Refused 3
+answer_below object (Some kind) rest =
+    if is_itself kind rest then Itself else Front (length rest) (object_below object kind rest) (unopened (object_below object kind rest))
+
+-- what an object answers to a rest
+abbrev pub answer_to : HostObject → List ℕ → ParseAnswer HostObject Kept
+answer_to object rest = answer_below object (kind_below object.kind) rest
+
+-- what each procedure means; the set's value is the list of what was deleted
+abbrev pub host_procedures : Procedures Kind HostSet HostObject Kept
+host_procedures = record {
+  type_name = name_of;
+  kind_of = λ object. object.kind;
+  same_kind = same_kind;
+  parses = λ kind. is_some (kind_below kind);
+  same_face = same_object;
+  refuses_to_make = λ _ _. None;
+  made = λ kind args. (object_of kind args, unopened (object_of kind args));
+  parsed = answer_to;
+  refuses_to_open = λ _ _ _. None;
+  opened = λ set inner _. (set, one_more inner);
+  closed = λ set inner _ system_left. (set, record inner { handles = system_left });
+  deleted = λ set inner. set ++ inner.object ∷ [];
+}

@@ -1,0 +1,39 @@
+-- Objects that are found the same are one.
+use Rattle.std.proofs.Common.{◌≡◌, ◌∙◌, Bool, true, false, ◌&&◌, nat_eq, refl, sym, ap}
+use Rattle.std.proofs.lemmas.Bool.{eqb-true, eq-eqb}
+use Rattle.std.specs.Cmp.{IsEquivalence, decided}
+use Rattle.std.specs.Cmp.Lexicographic.{pointwise, bytes_decides}
+use Rattle.ob_host.specs.Kinds.{same_kind}
+use Rattle.ob_host.specs.KindLaws.{same_kind_is_one, own_kind_is_same}
+use Rattle.ob_host.specs.Objects.{same_object}
+use Rattle.ob_host.specs.declared.object.HostObject.{HostObject}
+
+first_true : (s t : Bool) → (s && t) ≡ true → s ≡ true
+first_true true t e = refl
+first_true false t e = e
+
+pub second_true : (s t : Bool) → (s && t) ≡ true → t ≡ true
+second_true true t e = e
+second_true false t e = cc
+
+pub same_object_is_one : (a b : HostObject) → same_object a b ≡ true → a ≡ b
+same_object_is_one a b e =
+    let same_texts = pointwise nat_eq a.text b.text in
+    let parts = second_true (same_kind a.kind b.kind) (nat_eq a.word b.word && same_texts) e in
+    let kinds : a.kind ≡ b.kind = same_kind_is_one a.kind b.kind (first_true (same_kind a.kind b.kind) (nat_eq a.word b.word && same_texts) e) in
+    let words : a.word ≡ b.word = eqb-true a.word b.word (first_true (nat_eq a.word b.word) same_texts parts) in
+    let texts : a.text ≡ b.text = (bytes_decides a.text b.text).0 (second_true (nat_eq a.word b.word) same_texts parts) in
+    λ i. record { kind = kinds i; word = words i; text = texts i }
+
+pub own_object_is_same : (a : HostObject) → same_object a a ≡ true
+own_object_is_same a =
+    let kinds = own_kind_is_same a.kind in
+    let words = eq-eqb a.word a.word refl in
+    let texts = (bytes_decides a.text a.text).1 refl in
+    λ i. kinds i && (words i && texts i)
+
+objects_decide : (a b : HostObject) → (same_object a b ≡ true → a ≡ b) × (a ≡ b → same_object a b ≡ true)
+objects_decide a b = (same_object_is_one a b, λ e. ap (same_object a) (sym e) ∙ own_object_is_same a)
+
+pub objects_equiv : IsEquivalence same_object
+objects_equiv = decided same_object objects_decide

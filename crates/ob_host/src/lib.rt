@@ -1,0 +1,15 @@
+//! A set of types for a caller's own objects: what stands behind each is the caller's, under a word of its own.
+#![tactic(auto)]
+
+mod args;
+mod chain;
+mod inner;
+mod kind;
+mod object;
+mod set;
+
+pub use args::arguments;
+pub use inner::HostInner;
+pub use kind::Kind;
+pub use object::HostObject;
+pub use set::HostSet;

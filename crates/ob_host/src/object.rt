@@ -1,0 +1,81 @@
+//! What a caller knows of an object of its own.
+
+ghost use Rattle.std.specs.Prelude.{◌≡◌, IfOk};
+ghost use Rattle.std.specs.Cmp.{partial_equiv_from_equiv};
+ghost use Rattle.ob_host.specs.Objects.{same_object, object_below, text_below};
+ghost use Rattle.ob_host.specs.ObjectLaws.{objects_equiv};
+
+use crate::Kind;
+use ob_model::Bytes;
+use std::alloc::{AllocError, Global};
+
+/// What a caller knows of an object of its own, which never changes. (this profile)
+#[derive(Debug, Drop)]
+pub struct HostObject {
+    /// Its kind.
+    pub kind: Kind,
+    /// The caller's word: that of its arguments, or of the object whose parse made it.
+    pub word: u64,
+    /// What stood behind the word in its arguments; where a parse made it, the text of the object whose parse
+    /// that was and the rest of the name behind that object.
+    pub text: Bytes,
+}
+
+impl HostObject {
+    /// A copy. The only error is out of memory.
+    pub fn copied(&self, alloc: Global) -> Result<HostObject, AllocError>
+        ensures { IfOk result (λ copy. copy ≡ self.now) }
+    {
+        Ok(HostObject {
+            kind: self.kind,
+            word: self.word,
+            text: Bytes::from_slice(alloc, self.text.as_slice())?,
+        })
+    }
+
+    /// The object of a kind that the rest of a name leads to from this one. The only error is out of memory.
+    pub(crate) fn below(
+        &self,
+        alloc: Global,
+        kind: Kind,
+        rest: &[u8],
+    ) -> Result<HostObject, AllocError>
+        ensures { IfOk result (λ object. object ≡ object_below self.now kind rest.now) }
+    {
+        Ok(HostObject {
+            kind,
+            word: self.word,
+            text: text_below(alloc, self.text.as_slice(), rest)?,
+        })
+    }
+}
+
+/// Two objects are equal where kind, word and text are. (this profile)
+impl PartialEq for HostObject {
+    ghost eq = { same_object };
+
+    ghost laws = { partial_equiv_from_equiv objects_equiv };
+
+    fn eq(&self, other: &HostObject) -> bool {
+        self.kind == other.kind
+            && self.word == other.word
+            && self.text.as_slice() == other.text.as_slice()
+    }
+}
+
+impl Eq for HostObject {
+    ghost laws = { objects_equiv };
+}
+
+// A text and the rest of a name behind it, with a backslash between them where there is a text and the rest
+// doesn't begin with one.
+fn text_below(alloc: Global, text: &[u8], rest: &[u8]) -> Result<Bytes, AllocError>
+    ensures { IfOk result (λ bytes. bytes ≡ text_below text.now rest.now) }
+{
+    let mut bytes = text.to_vec(alloc)?;
+    if !text.is_empty() && !rest.starts_with(b"\\") {
+        bytes.push(b'\\')?;
+    }
+    bytes.extend_from_slice(rest)?;
+    Ok(Bytes::new(bytes))
+}

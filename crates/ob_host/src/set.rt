@@ -1,0 +1,198 @@
+//! The set of a caller's own objects.
+
+ghost use Rattle.std.specs.Prelude.{◌≡◌, ◌∷◌, [], IfOk, IfSome, IfNone, IsOk, None, refl};
+ghost use Rattle.std.proofs.Common.{rules};
+ghost use Rattle.ob_model.specs.Procedures.{Itself};
+ghost use Rattle.ob_types.specs.Parsing.{answer_of};
+ghost use Rattle.ob_host.specs.Host.{host_procedures, IsIdle, kind_below, unopened, is_itself, answer_to};
+ghost use Rattle.ob_host.specs.KindLaws.{same_kind_is_one, own_kind_is_same};
+ghost use Rattle.ob_host.specs.HostLaws.{host_front, host_itself, host_parsed_idle, host_own_face, host_same_answers};
+
+use crate::args::{text_of, word_of};
+use crate::chain::Chain;
+use crate::{HostInner, HostObject, Kind};
+use ob_model::Bytes;
+use ob_types::{ParseAnswer, Reason, Refusal, TypeSet};
+use std::alloc::{AllocError, Global};
+use std::marker::Model;
+use std::mem;
+
+/// The set of a caller's own objects. Its value is the list of the objects that were deleted and not taken yet,
+/// the first of them first; a contract sees the set as that list. (this profile)
+#[derive(Drop)]
+pub struct HostSet {
+    older: Chain,
+    newer: Chain,
+}
+
+impl Model for HostSet {
+    ghost use Rattle.std.specs.Prelude.{List, ◌++◌, reverse};
+    ghost use Rattle.ob_host.specs.declared.object.HostObject.{HostObject};
+
+    ghost Value = { List HostObject };
+
+    ghost use Rattle.ob_host.specs.Chain.{items};
+
+    ghost view = { λ set. items set.older ++ reverse (items set.newer) };
+}
+
+impl HostSet {
+    /// The set with nothing deleted yet.
+    pub fn new() -> HostSet
+        ensures { result ≡ [] }
+    {
+        HostSet {
+            older: Chain::End,
+            newer: Chain::End,
+        }
+    }
+
+    /// Takes the object that was deleted first of those that weren't taken yet; `None` where there is none. No
+    /// memory is taken, and a call costs the same on the average however many there are.
+    pub fn take_deleted(&mut self) -> Option<HostObject>
+        ensures taken { IfSome result (λ object. self.old ≡ object ∷ self.new) }
+        ensures none { IfNone result ((self.old ≡ []) × (self.new ≡ [])) }
+    {
+        if self.older.is_end() {
+            self.older = mem::replace(&mut self.newer, Chain::End).reversed();
+        }
+        let (object, _place) = self.older.pop()?;
+        Some(object)
+    }
+}
+
+/// An object is made of each kind and of any arguments. Their first eight bytes are its word, the lowest first, and
+/// those that aren't there are 0; what stands behind them is its text.
+///
+/// A device and a key parse: the whole rest, whatever it is, leads from a device to a file, and from a key to a key;
+/// the empty rest names the key itself, and a file of the device. The object that a rest leads to has the word of
+/// the one that it leads from, and as its text that one's text and the rest, with a backslash between them where
+/// there is a text and the rest begins with none. No other kind parses; 3 is answered there.
+///
+/// An open is never refused, and adds one to the number of handles, which stops at the greatest u32. A close sets it
+/// to the handles left in the system. A delete puts the object at the end of the list of what was deleted. (this
+/// profile; parse methods: Windows Internals, Object Manager)
+impl TypeSet for HostSet {
+    type Kind = Kind;
+
+    type Face = HostObject;
+
+    type Inner = HostInner;
+
+    ghost procedures = { host_procedures };
+
+    ghost idle = { IsIdle };
+
+    fn type_name(kind: Kind) -> &'static str {
+        kind.type_name()
+    }
+
+    fn kind_of(face: &HostObject) -> Kind {
+        face.kind
+    }
+
+    fn parses(kind: Kind) -> bool {
+        kind_below(kind).is_some()
+    }
+
+    fn same(a: &HostObject, b: &HostObject) -> bool {
+        a == b
+    }
+
+    fn make(alloc: Global, kind: Kind, args: &[u8]) -> Result<(HostObject, HostInner), Refusal> {
+        let text = Bytes::from_slice(alloc, text_of(args))?;
+        let object = HostObject {
+            kind,
+            word: word_of(args),
+            text,
+        };
+        Ok(instance(alloc, object)?)
+    }
+
+    fn parse(
+        alloc: Global,
+        face: &HostObject,
+        rest: &[u8],
+    ) -> Result<ParseAnswer<HostObject, HostInner>, AllocError>
+        ensures answer { IfOk result (λ answer. answer_of answer ≡ answer_to face.now rest.now) }
+
+        // An object that makes nothing takes no memory.
+        ensures refused { kind_below face.now.kind ≡ None → IsOk result }
+        ensures itself { answer_to face.now rest.now ≡ Itself → IsOk result }
+    {
+        let Some(kind) = kind_below(face.kind) else {
+            return Ok(ParseAnswer::Refused(3));
+        };
+        if is_itself(kind, rest) {
+            return Ok(ParseAnswer::Itself);
+        }
+        let (next, inner) = instance(alloc, face.below(alloc, kind, rest)?)?;
+        Ok(ParseAnswer::Front {
+            used: rest.len(),
+            next,
+            inner,
+        })
+    }
+
+    fn on_open(&mut self, inner: &mut HostInner, _reason: Reason) -> Result<(), u16> {
+        inner.add_handle();
+        Ok(())
+    }
+
+    fn on_close(&mut self, inner: &mut HostInner, _process_left: u32, system_left: u32) {
+        inner.set_handles(system_left);
+    }
+
+    fn on_delete(&mut self, inner: HostInner) {
+        let (object, place) = inner.into_parts();
+        self.newer.push(object, place);
+    }
+
+    ghost refused_open = { λ set inner _ _ told. Prim.search rules };
+
+    ghost made_idle = { λ _ _ _. refl };
+
+    ghost closed_idle = { λ _ _ _. refl };
+
+    ghost front_is_used = { host_front };
+
+    ghost itself_at_end = { host_itself };
+
+    ghost parsed_idle = { host_parsed_idle };
+
+    ghost own_face = { host_own_face };
+
+    ghost same_answers = { host_same_answers };
+
+    ghost one_kind = { same_kind_is_one };
+
+    ghost own_kind = { own_kind_is_same };
+
+    ghost equal_kinds = { λ _ _. refl };
+}
+
+// The kind of what names lead to through an object of this kind; `None` where it doesn't parse.
+fn kind_below(kind: Kind) -> Option<Kind>
+    ensures { result ≡ kind_below kind }
+{
+    match kind {
+        Kind::Device => Some(Kind::File),
+        Kind::Key => Some(Kind::Key),
+        _ => None,
+    }
+}
+
+// Whether the rest names the object itself, where it leads to objects of this kind: the empty one, at a key.
+fn is_itself(kind: Kind, rest: &[u8]) -> bool
+    ensures { result ≡ is_itself kind rest.now }
+{
+    kind == Kind::Key && rest.is_empty()
+}
+
+// The face and the inner value of an object. The only error is out of memory.
+fn instance(alloc: Global, object: HostObject) -> Result<(HostObject, HostInner), AllocError>
+    ensures { IfOk result (λ made. made ≡ (object, unopened object)) }
+{
+    let inner = HostInner::new(alloc, object.copied(alloc)?)?;
+    Ok((object, inner))
+}
