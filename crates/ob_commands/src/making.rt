@@ -125,7 +125,8 @@ pub(crate) fn make_unnamed<T: TypeSet, H: HandleTable>(
     ensures step { IfOk result (λ reply.
         machine.Makes T.procedures space.old process attrs (making_of making.entry) None
         (Done reply) space.new) }
-    ensures full { (is_table_full space.old process || is_store_full space.old) ≡ true → IsOk result }
+    ensures full { (is_table_full space.old process || is_store_full space.old) ≡ true
+        → IsOk result }
     ensures err { OnErr result (space.new ≡ space.old) }
 {
     if is_full(space, process) {

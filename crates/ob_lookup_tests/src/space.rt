@@ -99,7 +99,8 @@ pub(crate) fn has_view<T: TypeSet>(store: &Store<T>, view: &View) -> bool
 // Whether a directory is there and has no entry of this spelling.
 fn is_free<T: TypeSet>(store: &Store<T>, directory: ObjId, name: &[u8]) -> bool
     ensures there { IsTrue result → IsSome (directory_at store.now directory) }
-    ensures free { IsTrue result → All (λ entry. entry.name ≢ name.now) (entries_at store.now directory) }
+    ensures free { IsTrue result
+        → All (λ entry. entry.name ≢ name.now) (entries_at store.now directory) }
 {
     let Some(dir) = dir_of(store, directory) else {
         return false;

@@ -22,7 +22,14 @@ fn filled<H: HandleTable>(alloc: Global, count: u64) -> Result<H, Fault>
 }
 
 fn held(value: u32, object: u64, inherit: bool, order: u64) -> Held
-    ensures { result ≡ record { process = 7; value = value; object = object; inherit = inherit; order = order } }
+    ensures { result
+        ≡ record {
+          process = 7;
+          value = value;
+          object = object;
+          inherit = inherit;
+          order = order;
+        } }
 {
     Held {
         process: CHILD,

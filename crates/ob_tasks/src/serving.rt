@@ -43,8 +43,8 @@ pub fn serve<
     errors: &mut E,
 ) -> (End, Result<(), Unwritten>)
     requires { (path : _) → AsksFor (map S.text words.now) path.now → O.pre opener path }
-    ensures { Serves (Gives O.FnOnce opener I.remaining) (map S.text words.now) (result.0) (result.1)
-        (R.remaining reader.old)
+    ensures { Serves (Gives O.FnOnce opener I.remaining) (map S.text words.now) (result.0)
+        (result.1) (R.remaining reader.old)
         (W.contents writer.old) (W.contents writer.new)
         (E.contents errors.old) (E.contents errors.new) }
 {

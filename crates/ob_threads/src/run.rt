@@ -55,9 +55,8 @@ pub fn run_threads<H: Threads + Wait + Sync, L: Ledger + Send + Sync, R: Read, W
     // After a fault it is a beginning of one, and of most faults nothing.
     ensures part { IfErr result (λ fault. IfSome (R.remaining reader.old) (λ script.
         WritesPart fault (W.contents writer.old) (W.contents writer.new) script)) }
-    ensures unwritten { IfErr result (λ fault. is_unwritten fault ≡ false → fault ≢ ShellFault.Memory
-        →
-        W.contents writer.new ≡ W.contents writer.old) }
+    ensures unwritten { IfErr result (λ fault. is_unwritten fault ≡ false
+        → fault ≢ ShellFault.Memory → W.contents writer.new ≡ W.contents writer.old) }
 
     // A script that is too long is never run, and no other is called so.
     ensures too_long { IsErrOf result ShellFault.TooLong
