@@ -86,8 +86,8 @@ fn run_text<H: Threads + Wait + Sync, L: Ledger + Send + Sync, W: Write>(
         Writes (W.contents writer.old) (W.contents writer.new) script.now ending) }
     ensures part { IfErr result (λ fault.
         WritesPart fault (W.contents writer.old) (W.contents writer.new) script.now) }
-    ensures unwritten { IfErr result (λ fault. is_unwritten fault ≡ false → fault ≢ ShellFault.Memory
-        → W.contents writer.new ≡ W.contents writer.old) }
+    ensures unwritten { IfErr result (λ fault. is_unwritten fault ≡ false
+        → fault ≢ ShellFault.Memory → W.contents writer.new ≡ W.contents writer.old) }
     ensures fault { IfErr result (λ fault. fault ≢ ShellFault.TooLong) }
 {
     match cut(alloc, script) {
@@ -115,8 +115,8 @@ fn tell<W: Write>(
         Writes (W.contents writer.old) (W.contents writer.new) script.now ending) }
     ensures part { IfErr result (λ fault.
         WritesPart fault (W.contents writer.old) (W.contents writer.new) script.now) }
-    ensures unwritten { IfErr result (λ fault. is_unwritten fault ≡ false → fault ≢ ShellFault.Memory
-        → W.contents writer.new ≡ W.contents writer.old) }
+    ensures unwritten { IfErr result (λ fault. is_unwritten fault ≡ false
+        → fault ≢ ShellFault.Memory → W.contents writer.new ≡ W.contents writer.old) }
     ensures fault { IfErr result (λ fault. fault ≢ ShellFault.TooLong) }
 {
     match fault {
