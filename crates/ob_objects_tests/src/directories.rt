@@ -1,6 +1,6 @@
 //! A small directory, searched with case and without as its entries come and go.
 
-ghost use Rattle.std.specs.Prelude.{◌<◌, ◌↔◌, All, IsTrue};
+ghost use Rattle.std.specs.Prelude.{◌≡◌, ◌+◌, ◌<◌, ◌↔◌, [], All, IsTrue};
 
 use crate::tables::words;
 use ob_base::ObjId;
@@ -53,7 +53,7 @@ entries
 fn is_newest(dir: &Dir, stamp: u64) -> bool
     ensures { IsTrue result ↔ All (λ entry. entry.stamp < stamp) dir.now }
 {
-    dir.as_slice().iter().all(|entry| entry.stamp < stamp)
+    dir.iter().all(|entry| entry.stamp < stamp)
 }
 
 // Puts an entry behind the others, where a search says that its spelling is free.
@@ -77,7 +77,7 @@ fn object_of(dir: &Dir, stamp: u64) -> Option<u64> {
 // Whether the entries are, in their order, the stamps and objects of a line, and each is told by its stamp.
 fn are_entries(dir: &Dir, line: &str) -> Option<bool> {
     let mut told = line.strip_prefix("entries")?.split_ascii_whitespace();
-    for entry in dir.as_slice() {
+    for entry in dir.iter() {
         let (stamp, object) = (told.next()?.parse().ok()?, told.next()?.parse().ok()?);
         if (entry.stamp, entry.object.0) != (stamp, object)
             || object_of(dir, stamp) != Some(object)
@@ -85,7 +85,7 @@ fn are_entries(dir: &Dir, line: &str) -> Option<bool> {
             return Some(false);
         }
     }
-    let count = dir.as_slice().len();
+    let count = dir.iter().count();
     Some(told.next().is_none() && dir.len() == count && dir.is_empty() == (count == 0))
 }
 
@@ -121,5 +121,78 @@ fn entries_are_found_in_their_order_as_they_come_and_go(rt: HostRuntime) {
     let mut dir = Dir::new(rt.alloc());
     for line in LIFE.trim().lines() {
         assert!(rt; is_so(rt.alloc(), &mut dir, line) == Some(true), "{line}");
+    }
+}
+
+// How many entries the large directory has at first.
+const MANY: u64 = 20_000;
+
+// The name of the entry of a stamp, in small letters or in large ones.
+fn numbered(alloc: Global, stamp: u64, large: bool) -> Option<String> {
+    if large {
+        format!(in alloc; "ENTRY{stamp}").ok()
+    } else {
+        format!(in alloc; "entry{stamp}").ok()
+    }
+}
+
+// Puts an entry behind the others, whose stamps are all less; its object has the stamp as its id.
+fn put_numbered(alloc: Global, dir: &mut Dir, stamp: u64) -> Option<bool>
+    requires { All (λ entry. entry.stamp < stamp) dir.old }
+    ensures { All (λ entry. entry.stamp < stamp + 1) dir.new }
+{
+    let bytes = numbered(alloc, stamp, false)?;
+    let name = NameBuf::from_name(alloc, Name::read(bytes.as_bytes()).ok()?).ok()?;
+    if dir.find(name.as_slice(), false).is_some() {
+        return Some(false);
+    }
+    dir.insert(stamp, name, ObjId(stamp)).ok()?;
+    Some(true)
+}
+
+// Puts so many entries into an empty directory.
+fn fill(alloc: Global, dir: &mut Dir, count: u64) -> Option<bool>
+    requires { dir.old ≡ [] }
+{
+    for stamp in 0..count {
+        if put_numbered(alloc, dir, stamp) != Some(true) {
+            return Some(false);
+        }
+    }
+    Some(true)
+}
+
+// Whether the entries of even stamps are gone, each once.
+fn takes_the_even(dir: &mut Dir) -> bool {
+    (0..MANY).step_by(2).all(|stamp| dir.remove(stamp).is_some() && dir.remove(stamp).is_none())
+}
+
+// Whether the entries that are listed have the odd stamps, rising.
+fn lists_the_odd(dir: &Dir) -> bool {
+    dir.iter().map(|entry| entry.stamp).eq((1..MANY).step_by(2))
+}
+
+// Whether a name is found as its stamp says, exactly and without case, and not in large letters where case counts.
+fn is_found(alloc: Global, dir: &Dir, stamp: u64) -> Option<bool> {
+    let (small, large) = (
+        numbered(alloc, stamp, false)?,
+        numbered(alloc, stamp, true)?,
+    );
+    let there = (stamp % 2 == 1).then_some((stamp, ObjId(stamp)));
+    Some(
+        dir.find(small.as_bytes(), false) == there
+            && dir.find(large.as_bytes(), true) == there
+            && dir.find(large.as_bytes(), false).is_none(),
+    )
+}
+
+#[test]
+fn every_second_of_many_entries_is_taken_away(rt: HostRuntime) {
+    let mut dir = Dir::new(rt.alloc());
+    assert!(rt; fill(rt.alloc(), &mut dir, MANY) == Some(true));
+    assert!(rt; takes_the_even(&mut dir));
+    assert!(rt; lists_the_odd(&dir));
+    for stamp in 0..MANY {
+        assert!(rt; is_found(rt.alloc(), &dir, stamp) == Some(true), "{stamp}");
     }
 }
