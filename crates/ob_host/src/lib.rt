@@ -1,4 +1,5 @@
-//! A set of types for a caller's own objects: what stands behind each is the caller's, under a word of its own.
+//! A set of types for a caller's own objects, as those of an emulator: what stands behind each is the caller's, under
+//! a word of the caller's own. What was deleted stands in a list until the caller takes it.
 #![tactic(auto)]
 
 mod args;
