@@ -137,6 +137,7 @@ fn numbered(alloc: Global, stamp: u64, large: bool) -> Option<String> {
 }
 
 // Puts an entry behind the others, whose stamps are all less; its object has the stamp as its id.
+#[tactic(auto, using(crate::proofs::Newest::below_next, crate::proofs::Newest::put_below_next, crate::proofs::Newest::same_below_next))]
 fn put_numbered(alloc: Global, dir: &mut Dir, stamp: u64) -> Option<bool>
     requires { All (λ entry. entry.stamp < stamp) dir.old }
     ensures { All (λ entry. entry.stamp < stamp + 1) dir.new }
@@ -146,8 +147,10 @@ fn put_numbered(alloc: Global, dir: &mut Dir, stamp: u64) -> Option<bool>
     if dir.find(name.as_slice(), false).is_some() {
         return Some(false);
     }
-    dir.insert(stamp, name, ObjId(stamp)).ok()?;
-    Some(true)
+    match dir.insert(stamp, name, ObjId(stamp)) {
+        Ok(()) => Some(true),
+        Err(_) => None,
+    }
 }
 
 // Puts so many entries into an empty directory.
