@@ -127,13 +127,18 @@ fn entries_are_found_in_their_order_as_they_come_and_go(rt: HostRuntime) {
 // How many entries the large directory has at first.
 const MANY: u64 = 20_000;
 
-// The name of the entry of a stamp, in small letters or in large ones.
-fn numbered(alloc: Global, stamp: u64, large: bool) -> Option<String> {
-    if large {
-        format!(in alloc; "ENTRY{stamp}").ok()
-    } else {
-        format!(in alloc; "entry{stamp}").ok()
-    }
+const SMALL: &'static [u8; 26] = b"abcdefghijklmnopqrstuvwxyz";
+
+const LARGE: &'static [u8; 26] = b"ABCDEFGHIJKLMNOPQRSTUVWXYZ";
+
+// The name of the entry of a stamp, of these letters.
+fn numbered(stamp: u64, letters: &[u8; 26]) -> [u8; 4] {
+    [
+        letters[(stamp % 26) as usize],
+        letters[(stamp / 26 % 26) as usize],
+        letters[(stamp / 676 % 26) as usize],
+        letters[(stamp / 17_576 % 26) as usize],
+    ]
 }
 
 // Puts an entry behind the others, whose stamps are all less; its object has the stamp as its id.
@@ -142,8 +147,8 @@ fn put_numbered(alloc: Global, dir: &mut Dir, stamp: u64) -> Option<bool>
     requires { All (λ entry. entry.stamp < stamp) dir.old }
     ensures { All (λ entry. entry.stamp < stamp + 1) dir.new }
 {
-    let bytes = numbered(alloc, stamp, false)?;
-    let name = NameBuf::from_name(alloc, Name::read(bytes.as_bytes()).ok()?).ok()?;
+    let bytes = numbered(stamp, SMALL);
+    let name = NameBuf::from_name(alloc, Name::read(&bytes).ok()?).ok()?;
     if dir.find(name.as_slice(), false).is_some() {
         return Some(false);
     }
@@ -176,17 +181,12 @@ fn lists_the_odd(dir: &Dir) -> bool {
 }
 
 // Whether a name is found as its stamp says, exactly and without case, and not in large letters where case counts.
-fn is_found(alloc: Global, dir: &Dir, stamp: u64) -> Option<bool> {
-    let (small, large) = (
-        numbered(alloc, stamp, false)?,
-        numbered(alloc, stamp, true)?,
-    );
+fn is_found(dir: &Dir, stamp: u64) -> bool {
+    let (small, large) = (numbered(stamp, SMALL), numbered(stamp, LARGE));
     let there = (stamp % 2 == 1).then_some((stamp, ObjId(stamp)));
-    Some(
-        dir.find(small.as_bytes(), false) == there
-            && dir.find(large.as_bytes(), true) == there
-            && dir.find(large.as_bytes(), false).is_none(),
-    )
+    dir.find(&small, false) == there
+        && dir.find(&large, true) == there
+        && dir.find(&large, false).is_none()
 }
 
 #[test]
@@ -196,6 +196,6 @@ fn every_second_of_many_entries_is_taken_away(rt: HostRuntime) {
     assert!(rt; takes_the_even(&mut dir));
     assert!(rt; lists_the_odd(&dir));
     for stamp in 0..MANY {
-        assert!(rt; is_found(rt.alloc(), &dir, stamp) == Some(true), "{stamp}");
+        assert!(rt; is_found(&dir, stamp), "{stamp}");
     }
 }
