@@ -54,6 +54,20 @@ fn open<K: Copy>(name: Bytes) -> Command<K> {
     }
 }
 
+// A command on a name that is drawn: a create of a temporary object, or an open where no flags are said.
+fn named<K: Copy>(
+    alloc: Global,
+    draw: &mut Draw,
+    attrs: Option<u32>,
+    kind: K,
+) -> Result<Command<K>, AllocError> {
+    let name = name(alloc, draw)?;
+    Ok(match attrs {
+        Some(attrs) => create(alloc, name, attrs, kind),
+        None => open(name),
+    })
+}
+
 // A command that is drawn: handles are the first few of a table, and are duplicated into the newest process.
 fn command<K: Copy>(
     alloc: Global,
@@ -62,19 +76,61 @@ fn command<K: Copy>(
     kind: K,
 ) -> Result<Command<K>, AllocError> {
     let handle = Handle(draw.next(3).wrapping_mul(4).wrapping_add(4));
-    match draw.next(10) {
-        0 => Ok(create(alloc, name(alloc, draw)?, 0x82, kind)),
-        1 | 2 => Ok(create(alloc, name(alloc, draw)?, 0x80, kind)),
-        3 => Ok(open(name(alloc, draw)?)),
-        4 => Ok(Command::Duplicate {
+    let drawn = draw.next(10);
+    let attrs = match drawn {
+        0 => Some(0x82),
+        1 | 2 => Some(0x80),
+        _ => None,
+    };
+    if drawn < 4 {
+        return named(alloc, draw, attrs, kind);
+    }
+    Ok(match drawn {
+        4 => Command::Duplicate {
             handle,
             to: Proc(newest),
             inherit: true,
-        }),
-        5 => Ok(Command::NewProcess { inherit: true }),
-        6 => Ok(Command::ExitProcess),
-        _ => Ok(Command::Close { handle }),
+        },
+        5 => Command::NewProcess { inherit: true },
+        6 => Command::ExitProcess,
+        _ => Command::Close { handle },
+    })
+}
+
+// A child that inherits nothing begins.
+fn begin<K: Copy>() -> Command<K> {
+    Command::NewProcess { inherit: false }
+}
+
+fn exit<K: Copy>() -> Command<K> {
+    Command::ExitProcess
+}
+
+// Process 1 begins another, and an older one exits.
+fn renew<T: TypeSet>(core: &mut Core<T, OpenTable>, newest: u32) -> Result<(), Fault> {
+    status(core, Proc(1), begin())?;
+    let oldest = newest.saturating_sub(2);
+    if oldest > 1 {
+        status(core, Proc(oldest), exit())?;
     }
+    Ok(())
+}
+
+// One of the newest few asks for a command that is drawn, or is process 1, which begins another.
+fn turn<T: TypeSet>(
+    alloc: Global,
+    core: &mut Core<T, OpenTable>,
+    draw: &mut Draw,
+    kind: T::Kind,
+) -> Result<(), Fault> {
+    let newest = core.next_process().0.saturating_sub(1);
+    let process = newest.saturating_sub(draw.next(3)).max(1);
+    if process == 1 || draw.next(16) == 0 {
+        return renew(core, newest);
+    }
+    let command = command(alloc, draw, newest, kind)?;
+    status(core, Proc(process), command)?;
+    Ok(())
 }
 
 // Process 1 begins others, and the newest few of these ask for the rest; those before them exit.
@@ -85,19 +141,7 @@ fn play<T: TypeSet>(
 ) -> Result<(), Fault> {
     let mut draw = Draw { state: 7 };
     for _ in 0..COMMANDS {
-        let newest = core.next_process().0.saturating_sub(1);
-        let process = newest.saturating_sub(draw.next(3)).max(1);
-        if process == 1 || draw.next(16) == 0 {
-            let inherit = false;
-            status(core, Proc(1), Command::NewProcess { inherit })?;
-            let oldest = newest.saturating_sub(2);
-            if oldest > 1 {
-                status(core, Proc(oldest), Command::ExitProcess)?;
-            }
-        } else {
-            let command = command(alloc, &mut draw, newest, kind)?;
-            status(core, Proc(process), command)?;
-        }
+        turn(alloc, core, &mut draw, kind)?;
     }
     Ok(())
 }
@@ -169,12 +213,23 @@ fn counted(calls: &[Call], objects: u64) -> (u32, u32) {
 }
 
 // Whether more than 20 objects were deleted, how many lives are unlawful, and how many calls were lost.
-fn lives<T: TypeSet>(alloc: Global, set: T, kind: T::Kind) -> Result<(bool, u32, u64), Fault> {
-    let mut core = Core::new(alloc, Recorder::new(alloc, set, ROOM)?)?;
-    play(alloc, &mut core, kind)?;
+type Lives = (bool, u32, u64);
+
+fn lives_in<T: TypeSet>(
+    alloc: Global,
+    core: &mut Core<Recorder<T>, OpenTable>,
+    kind: T::Kind,
+) -> Result<Lives, Fault> {
+    play(alloc, core, kind)?;
     let set = core.set();
     let (deleted, unlawful) = counted(set.calls(), 600);
     Ok((deleted > 20, unlawful, set.lost()))
+}
+
+// The same of a new namespace.
+fn lives<T: TypeSet>(alloc: Global, set: T, kind: T::Kind) -> Result<Lives, Fault> {
+    let mut core = Core::new(alloc, Recorder::new(alloc, set, ROOM)?)?;
+    lives_in(alloc, &mut core, kind)
 }
 
 #[test]

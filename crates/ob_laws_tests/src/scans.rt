@@ -3,7 +3,7 @@
 
 use crate::asking::{reply, status};
 use ob_base::{Fault, Handle, Proc, Status};
-use ob_core::{Bytes, Command, Core, Entries, Given, OpenTable, Place};
+use ob_core::{Bytes, Command, Core, Entries, Given, OpenTable, Place, Reply};
 use ob_plain::{Plain, PlainKind};
 use ob_types::TypeSet;
 use std::alloc::{AllocError, Global};
@@ -85,29 +85,42 @@ fn in_order(entries: &Entries, first: u32) -> u32 {
 // What is asked of a page: its room, and whether one entry alone.
 type Asked = (u32, bool);
 
-// A page behind a context: whether more may be asked for, how many entries are the next ones, and its context.
-fn page<T: TypeSet>(
-    core: &mut Core<T, OpenTable>,
-    asked: Asked,
-    context: u64,
-    first: u32,
-) -> Result<(bool, u32, u64), Fault> {
+// What a page shows: whether more may be asked for, how many entries are the next ones, and its context.
+type Shown = (bool, u32, u64);
+
+// What a reply shows of the entries behind the first so many.
+fn shown_by(reply: &Reply, first: u32) -> Shown {
+    match &reply.given {
+        Given::Page { entries, context } => {
+            let more = reply.status != Status::NoMoreEntries;
+            (more, in_order(entries, first), *context)
+        }
+        _ => (false, 0, 0),
+    }
+}
+
+// Asks for a page behind a context.
+fn query<K: Copy>(asked: Asked, context: u64) -> Command<K> {
     let (room, single) = asked;
-    let command = Command::QueryDirectory {
+    Command::QueryDirectory {
         handle: DIRECTORY,
         context,
         room,
         single,
         restart: false,
-    };
-    let reply = reply(core, Proc(1), &command)?;
-    match &reply.given {
-        Given::Page { entries, context } => {
-            let more = reply.status != Status::NoMoreEntries;
-            Ok((more, in_order(entries, first), *context))
-        }
-        _ => Ok((false, 0, 0)),
     }
+}
+
+// A page behind a context.
+fn page<T: TypeSet>(
+    core: &mut Core<T, OpenTable>,
+    asked: Asked,
+    context: u64,
+    first: u32,
+) -> Result<Shown, Fault> {
+    let command = query(asked, context);
+    let reply = reply(core, Proc(1), &command)?;
+    Ok(shown_by(&reply, first))
 }
 
 // A scan in pages of this room, one entry each or all that fit: how many pages it takes, and how many names it shows in
@@ -163,8 +176,25 @@ fn wrong_scan<T: TypeSet>(core: &mut Core<T, OpenTable>) -> Result<Option<u32>, 
     Ok(None)
 }
 
-// The same of a new namespace: a room, or else a size from one on to another; 0 where a name isn't made.
-fn wrong<T: TypeSet>(
+// A room, or else a size from one on to another, of which a scan isn't as it should be; 0 where a name isn't made.
+fn wrong_in<T: TypeSet>(
+    alloc: Global,
+    core: &mut Core<T, OpenTable>,
+    kind: T::Kind,
+    from: u32,
+    to: u32,
+) -> Result<Option<u32>, Fault> {
+    if !fill(alloc, core, kind)? {
+        return Ok(Some(0));
+    }
+    match wrong_scan(core)? {
+        Some(room) => Ok(Some(room)),
+        None => wrong_size(core, from, to),
+    }
+}
+
+// The same of a new namespace.
+fn wrong_of<T: TypeSet>(
     alloc: Global,
     set: T,
     kind: T::Kind,
@@ -172,31 +202,30 @@ fn wrong<T: TypeSet>(
     to: u32,
 ) -> Result<Option<u32>, Fault> {
     let mut core = Core::new(alloc, set)?;
-    if !fill(alloc, &mut core, kind)? {
-        return Ok(Some(0));
-    }
-    match wrong_scan(&mut core)? {
-        Some(room) => Ok(Some(room)),
-        None => wrong_size(&mut core, from, to),
-    }
+    wrong_in(alloc, &mut core, kind, from, to)
+}
+
+// The same of events.
+fn wrong(alloc: Global, from: u32, to: u32) -> Result<Option<u32>, Fault> {
+    wrong_of(alloc, Plain, PlainKind::Event, from, to)
 }
 
 #[test]
 fn pages_of_one_of_all_and_of_1_to_5000_entries_show_each_name_once(rt: HostRuntime) {
-    assert!(rt; wrong(rt.alloc(), Plain, PlainKind::Event, 1, 5_000) == Ok(None));
+    assert!(rt; wrong(rt.alloc(), 1, 5_000) == Ok(None));
 }
 
 #[test]
 fn pages_of_5001_to_10000_entries_show_each_name_once(rt: HostRuntime) {
-    assert!(rt; wrong(rt.alloc(), Plain, PlainKind::Event, 5_001, 10_000) == Ok(None));
+    assert!(rt; wrong(rt.alloc(), 5_001, 10_000) == Ok(None));
 }
 
 #[test]
 fn pages_of_10001_to_15000_entries_show_each_name_once(rt: HostRuntime) {
-    assert!(rt; wrong(rt.alloc(), Plain, PlainKind::Event, 10_001, 15_000) == Ok(None));
+    assert!(rt; wrong(rt.alloc(), 10_001, 15_000) == Ok(None));
 }
 
 #[test]
 fn pages_of_15001_to_20000_entries_show_each_name_once(rt: HostRuntime) {
-    assert!(rt; wrong(rt.alloc(), Plain, PlainKind::Event, 15_001, 20_000) == Ok(None));
+    assert!(rt; wrong(rt.alloc(), 15_001, 20_000) == Ok(None));
 }
