@@ -6,7 +6,7 @@
 # make random plays COMMANDS random commands, 1,000,000 if nothing is said, beside a plain model; the 60 seconds of a test allow some 5,000,000
 # make times  the gate again, with the processor seconds of each crate
 # make hostile refuses each request for memory of a run in turn; it takes a quarter of an hour
-# make bench  times the built program on generated scripts and journals, and steps of threads that share a namespace; it fails nothing
+# make bench  times the built program on generated scripts and journals, steps of threads that share a namespace, and operations of a core; it fails nothing
 
 SCRIPT ?= examples/first.ntns
 COMMANDS ?= 1000000
@@ -39,10 +39,11 @@ build:
 	@gate/program_of.py ntns
 
 bench: build
-	@gate/program_of.py share_bench
+	@gate/program_of.py share_bench core_bench
 	bench/lines.py crates/ntns/out/ntns
 	bench/journal.py crates/ntns/out/ntns
 	bench/threads.py crates/share_bench/out/share_bench
+	crates/core_bench/out/core_bench 100000
 
 hostile:
 	hostile/memory.sh examples/first.ntns

@@ -1,0 +1,392 @@
+//! Times operations of a core over the standard set of types: `core_bench ROUNDS` makes so many rounds of each, in a namespace of its
+//! own, and prints how many are made a second. A round before these isn't timed. Each step has to be answered as it should be.
+#![tactic(auto)]
+
+use either::Either;
+use ob_base::{Attrs, Fault, Handle, Proc, Status};
+use ob_device::DeviceKind;
+use ob_key::KeyKind;
+use ob_model::{Bytes, Command, Given, Place, Reply};
+use ob_plain::PlainKind;
+use ob_standard::StandardKind;
+use ob_standard_core::StandardCore;
+use std::alloc::{AllocError, Global};
+use std::time::{Clock, Duration, Instant};
+use std::{env, io};
+
+/// What is asked for. Process 1 asks, and its last child for its own exit.
+#[derive(Clone, Copy)]
+enum Ask {
+    /// To make a directory.
+    Directory(&'static str),
+    /// To make an event, with these attributes.
+    Event(&'static str, u32),
+    /// To make a permanent event, under a name that ends with the number of the round in five digits.
+    Numbered(&'static str),
+    /// To make a device that has the file `x`.
+    Device(&'static str),
+    /// To make a key of these subkeys.
+    Key(&'static str, &'static str),
+    /// To open an object, with these attributes.
+    Open(&'static str, u32),
+    /// To open a name that no object has.
+    Miss(&'static str),
+    /// To close the handle that was given last.
+    Close,
+    /// To make its object temporary.
+    Temporary,
+    /// To list the directory of that handle, in a page of 4,096 bytes.
+    List,
+    /// To begin a child, which inherits handles.
+    Child,
+    /// To end the last child.
+    Exit,
+}
+
+/// What is asked for in turn, so many times over.
+type Rounds = (u32, &'static [Ask]);
+
+/// An operation.
+#[derive(Clone, Copy)]
+struct Operation {
+    /// What a round of it does.
+    name: &'static str,
+    /// What is made before.
+    before: &'static [Rounds],
+    /// What a round asks for.
+    round: &'static [Ask],
+}
+
+// Names of 20,000 permanent events in one directory.
+const MANY: &'static [Ask] = &[Ask::Numbered("\\Many\\E"), Ask::Close];
+
+const OPERATIONS: &'static [Operation] = &[
+    Operation {
+        name: "open and close a directory three components deep",
+        before: &[(
+            1,
+            &[
+                Ask::Directory("\\A"),
+                Ask::Directory("\\A\\B"),
+                Ask::Directory("\\A\\B\\C"),
+            ],
+        )],
+        round: &[Ask::Open("\\A\\B\\C", 0), Ask::Close],
+    },
+    Operation {
+        name: "open a name that no object has",
+        before: &[(1, &[Ask::Directory("\\A"), Ask::Directory("\\A\\B")])],
+        round: &[Ask::Miss("\\A\\B\\C")],
+    },
+    Operation {
+        name: "create and close a temporary event",
+        before: &[],
+        round: &[Ask::Event("\\E", 0), Ask::Close],
+    },
+    Operation {
+        name: "create a permanent event, make it temporary and close it",
+        before: &[],
+        round: &[
+            Ask::Event("\\E", Attrs::PERMANENT),
+            Ask::Temporary,
+            Ask::Close,
+        ],
+    },
+    Operation {
+        name: "open and close beside 20,000 objects of another directory",
+        before: &[
+            (1, &[Ask::Directory("\\Many")]),
+            (20_000, MANY),
+            (1, &[Ask::Event("\\E", 0)]),
+        ],
+        round: &[Ask::Open("\\E", 0), Ask::Close],
+    },
+    Operation {
+        name: "open and close the last of 20,000 entries",
+        before: &[(1, &[Ask::Directory("\\Many")]), (20_000, MANY)],
+        round: &[Ask::Open("\\Many\\E19999", 0), Ask::Close],
+    },
+    Operation {
+        name: "open and close the last of 20,000 entries in another case",
+        before: &[(1, &[Ask::Directory("\\Many")]), (20_000, MANY)],
+        round: &[
+            Ask::Open("\\many\\e19999", Attrs::CASE_INSENSITIVE),
+            Ask::Close,
+        ],
+    },
+    Operation {
+        name: "open and close beside 60,000 handles",
+        before: &[(60_000, &[Ask::Open("\\", 0)])],
+        round: &[Ask::Open("\\", 0), Ask::Close],
+    },
+    Operation {
+        name: "begin a child that inherits ten handles, and end it",
+        before: &[(10, &[Ask::Open("\\", Attrs::INHERIT)])],
+        round: &[Ask::Child, Ask::Exit],
+    },
+    Operation {
+        name: "open a file behind a device, and close it",
+        before: &[(1, &[Ask::Device("\\Device\\D")])],
+        round: &[Ask::Open("\\Device\\D\\x", 0), Ask::Close],
+    },
+    Operation {
+        name: "open a key four components deep, and close it",
+        before: &[(1, &[Ask::Key("\\K", "a\\b\\c")])],
+        round: &[Ask::Open("\\K\\a\\b\\c", 0), Ask::Close],
+    },
+    Operation {
+        name: "list a page of 100 entries",
+        before: &[
+            (1, &[Ask::Directory("\\Many")]),
+            (100, MANY),
+            (1, &[Ask::Open("\\Many", 0)]),
+        ],
+        round: &[Ask::List],
+    },
+];
+
+/// What was given last: a handle, and a child.
+#[derive(Clone, Copy)]
+struct Hand {
+    handle: Handle,
+    child: Proc,
+}
+
+/// The hand behind a reply.
+fn behind(hand: Hand, reply: &Reply) -> Hand {
+    match &reply.given {
+        Given::Handle(handle) => Hand {
+            handle: *handle,
+            child: hand.child,
+        },
+        Given::Process(child, _) => Hand {
+            handle: hand.handle,
+            child: *child,
+        },
+        _ => hand,
+    }
+}
+
+/// The place of a name.
+fn place_of(alloc: Global, name: &str) -> Result<Place, AllocError> {
+    Ok(Place::At {
+        root: None,
+        name: Bytes::from_slice(alloc, name.as_bytes())?,
+    })
+}
+
+/// Makes an object of a kind.
+fn make(
+    alloc: Global,
+    kind: StandardKind,
+    name: &str,
+    attrs: u32,
+    args: &str,
+) -> Result<Command<StandardKind>, AllocError> {
+    let args = Bytes::from_slice(alloc, args.as_bytes())?;
+    Ok(Command::CreateObject {
+        place: place_of(alloc, name)?,
+        attrs,
+        kind,
+        args,
+    })
+}
+
+/// Makes a permanent event, under a name with a number.
+fn make_numbered(
+    alloc: Global,
+    name: &str,
+    number: u32,
+) -> Result<Command<StandardKind>, AllocError> {
+    let name = format!(in alloc; "{name}{number:05}")?;
+    let event = Either::Left(PlainKind::Event);
+    make(alloc, event, name.as_str(), Attrs::PERMANENT, "")
+}
+
+/// Opens an object of any kind.
+fn open(alloc: Global, name: &str, attrs: u32) -> Result<Command<StandardKind>, AllocError> {
+    Ok(Command::OpenObject {
+        root: None,
+        name: Bytes::from_slice(alloc, name.as_bytes())?,
+        attrs,
+        want: None,
+    })
+}
+
+/// The command by which it is asked for in a round of this number.
+fn command_of(
+    alloc: Global,
+    ask: Ask,
+    handle: Handle,
+    number: u32,
+) -> Result<Command<StandardKind>, AllocError> {
+    match ask {
+        Ask::Directory(name) => Ok(Command::CreateDirectory {
+            place: place_of(alloc, name)?,
+            attrs: 0,
+        }),
+        Ask::Event(name, attrs) => make(alloc, Either::Left(PlainKind::Event), name, attrs, ""),
+        Ask::Numbered(name) => make_numbered(alloc, name, number),
+        Ask::Device(name) => {
+            let device = Either::Right(Either::Left(DeviceKind::Device));
+            make(alloc, device, name, 0, "x")
+        }
+        Ask::Key(name, args) => {
+            let key = Either::Right(Either::Right(KeyKind::Key));
+            make(alloc, key, name, 0, args)
+        }
+        Ask::Open(name, attrs) => open(alloc, name, attrs),
+        Ask::Miss(name) => open(alloc, name, 0),
+        Ask::Close => Ok(Command::Close { handle }),
+        Ask::Temporary => Ok(Command::MakeTemporary { handle }),
+        Ask::List => Ok(list(handle)),
+        Ask::Child => Ok(Command::NewProcess { inherit: true }),
+        Ask::Exit => Ok(Command::ExitProcess),
+    }
+}
+
+/// Lists a directory from its first entry on.
+fn list(handle: Handle) -> Command<StandardKind> {
+    Command::QueryDirectory {
+        handle,
+        context: 0,
+        room: 4096,
+        single: false,
+        restart: true,
+    }
+}
+
+/// Who asks for it, and the status that it has to be answered with.
+fn wanted(ask: Ask, child: Proc) -> (Proc, Status) {
+    match ask {
+        Ask::Exit => (child, Status::Success),
+        Ask::Miss(_) => (Proc(1), Status::ObjectNameNotFound),
+        _ => (Proc(1), Status::Success),
+    }
+}
+
+/// Asks for it; what was given last then.
+fn answered(
+    alloc: Global,
+    core: &mut StandardCore,
+    ask: Ask,
+    hand: Hand,
+    number: u32,
+) -> Result<Hand, Fault> {
+    let command = command_of(alloc, ask, hand.handle, number)?;
+    let (process, status) = wanted(ask, hand.child);
+    let reply = core.run(alloc, process, &command)?;
+    if reply.status != status {
+        return Err(Fault::Refused(reply.status));
+    }
+    Ok(behind(hand, &reply))
+}
+
+/// Asks for all of a round.
+fn round(
+    alloc: Global,
+    core: &mut StandardCore,
+    asks: &[Ask],
+    hand: Hand,
+    number: u32,
+) -> Result<Hand, Fault> {
+    let mut hand = hand;
+    for ask in asks {
+        hand = answered(alloc, core, *ask, hand, number)?;
+    }
+    Ok(hand)
+}
+
+/// Makes rounds.
+fn rounds(
+    alloc: Global,
+    core: &mut StandardCore,
+    rounds: (u32, &[Ask]),
+    hand: Hand,
+) -> Result<Hand, Fault> {
+    let (times, asks) = rounds;
+    let mut hand = hand;
+    for number in 0..times {
+        hand = round(alloc, core, asks, hand, number)?;
+    }
+    Ok(hand)
+}
+
+/// Makes what an operation wants before, and a first round.
+fn begin(alloc: Global, core: &mut StandardCore, operation: &Operation) -> Result<Hand, Fault> {
+    let mut hand = Hand {
+        handle: Handle(0),
+        child: Proc(0),
+    };
+    for before in operation.before {
+        hand = rounds(alloc, core, *before, hand)?;
+    }
+    round(alloc, core, operation.round, hand, 0)
+}
+
+/// How many rounds are made a second, where so many took this long.
+fn rate_of(rounds: u32, took: Duration) -> u64 {
+    let billionths = u64::try_from(took.as_nanos()).unwrap_or(u64::MAX);
+    u64::from(rounds)
+        .saturating_mul(1_000_000_000)
+        .checked_div(billionths)
+        .unwrap_or(0)
+}
+
+/// Times an operation; the rounds a second.
+fn timed(
+    rt: &impl Clock,
+    alloc: Global,
+    core: &mut StandardCore,
+    operation: &Operation,
+    times: u32,
+) -> io::Result<Result<u64, Fault>> {
+    let hand = match begin(alloc, core, operation) {
+        Ok(hand) => hand,
+        Err(fault) => return Ok(Err(fault)),
+    };
+    let start = Instant::now(rt)?;
+    let made = rounds(alloc, core, (times, operation.round), hand);
+    let took = start.elapsed(rt)?;
+    Ok(made.map(|_| rate_of(times, took)))
+}
+
+/// The same in a new namespace.
+fn rate(
+    rt: &impl Clock,
+    alloc: Global,
+    operation: &Operation,
+    times: u32,
+) -> io::Result<Result<u64, Fault>> {
+    match StandardCore::new(alloc) {
+        Ok(core) => {
+            let mut core = core;
+            timed(rt, alloc, &mut core, operation, times)
+        }
+        Err(_) => Ok(Err(Fault::Memory)),
+    }
+}
+
+/// How many rounds the words ask for.
+fn rounds_asked(words: &[String]) -> Option<u32> {
+    words.get(1)?.as_str().parse::<u32>().ok()
+}
+
+/// Times each operation, and prints its rate.
+fn main(rt: HostRuntime) -> io::Result<()> {
+    let alloc = rt.alloc();
+    let Ok(words) = env::args(&rt)?.collect::<Vec<String>>(alloc) else {
+        return println!(rt; "no memory");
+    };
+    let Some(times) = rounds_asked(words.as_slice()) else {
+        return println!(rt; "core_bench ROUNDS");
+    };
+    for operation in OPERATIONS {
+        let name = operation.name;
+        match rate(&rt, alloc, operation, times)? {
+            Ok(rate) => println!(rt; "{name}: {rate} a second")?,
+            Err(_) => println!(rt; "{name}: a step found no memory, or was refused")?,
+        }
+    }
+    Ok(())
+}
