@@ -289,8 +289,11 @@ fn is_led_to<T: TypeSet>(
     };
     let what = match referent {
         Referent::Directory => "directory",
-        Referent::Link(_) => "link",
-        Referent::Other { .. } => "object",
+        Referent::Link(_target) => "link",
+        Referent::Other {
+            face: _face,
+            inner: _inner,
+        } => "object",
     };
     what == told[0] && told[1].parse().ok() == Some(id.0)
 }
