@@ -5,7 +5,7 @@
 # make definitions  the same for the turned definitions, which the laws and examples must refuse
 # make random plays COMMANDS random commands, 1,000,000 if nothing is said, beside a plain model; the 60 seconds of a test allow some 5,000,000
 # make times  the gate again, with the processor seconds of each crate
-# make hostile refuses each request for memory of a run in turn; it takes a quarter of an hour
+# make hostile refuses each request for memory of longer scripts in turn, or of the script that SCRIPT names, as the gate does of short ones
 # make bench  times the built program on generated scripts and journals, steps of threads that share a namespace, and operations of a core; it fails nothing
 
 SCRIPT ?= examples/first.ntns
@@ -45,5 +45,5 @@ bench: build
 	bench/threads.py crates/share_bench/out/share_bench
 	crates/core_bench/out/core_bench 100000
 
-hostile:
-	hostile/memory.sh examples/first.ntns
+hostile: build
+	gate/refusals.py crates/ntns/out/ntns $(if $(filter command environment,$(firstword $(origin SCRIPT))),$(SCRIPT),--long)

@@ -175,6 +175,11 @@ def functions_named(crate, name):
 
 def without_bodies(text, with_private=False):
     """A source file's text without bodies, comments and layout, and without private functions: what other files can rest on."""
+    return without_comments(bodies_cut(text, with_private))
+
+
+def bodies_cut(text, with_private=False):
+    """A source file's text without bodies, and without private functions."""
     plain = blanked(text)
     traits = [(match.end(), closing(plain, match.end() - 1)) for match in re.finditer(r"\b(?:trait\s|impl\b[^{;]*\bfor\s)[^{;]*\{", plain)]
     gone, last = [], 0
@@ -187,7 +192,57 @@ def without_bodies(text, with_private=False):
             gone.append((open_at + 1, last) if shown or with_private else (begin, last + 1))
     for start, end in reversed(gone):
         text = text[:start] + text[end:]
-    return without_comments(text)
+    return text
+
+
+def parts_between_commas(plain, start, end):
+    """Where the parts begin and end that commas outside of brackets divide."""
+    depth, begin = 0, start
+    for place in range(start, end):
+        depth += (plain[place] in "(<[{") - (plain[place] in ")]}" or (plain[place] == ">" and plain[place - 1] not in "-="))
+        if plain[place] == "," and depth == 0:
+            yield begin, place + 1
+            begin = place + 1
+    yield begin, end
+
+
+def hidden_in(plain):
+    """Where a source file has what no other crate sees: of a type that contracts see by a value its private fields, how it is seen, and what it keeps."""
+    for block in re.finditer(r"\bimpl\b[^{;]*\bModel\s+for\s+(\w+)[^{;]*\{", plain):
+        for told in re.finditer(r"\bghost\s+(?:view|invariant)\s*=\s*\{", plain[: closing(plain, block.end() - 1)][block.end() :]):
+            end = closing(plain, block.end() + told.end() - 1) + 1
+            yield block.end() + told.start(), end + (plain[end] == ";")
+        held = re.search(rf"\bstruct\s+{block[1]}\b[^{{;]*\{{", plain)
+        if held:
+            for start, end in parts_between_commas(plain, held.end(), closing(plain, held.end() - 1)):
+                if not re.match(r"\s*(?:#\[[^\]]*\]\s*)*pub\s", plain[start:end]):
+                    yield start, end
+
+
+def without_idle_imports(text):
+    """A source file's text without the names that it imports for itself and doesn't use: within the block of a `Model` where they are imported there."""
+    plain = blanked(text)
+    blocks = [(it.end(), closing(plain, it.end() - 1)) for it in re.finditer(r"\bimpl\b[^{;]*\bModel\s+for\b[^{;]*\{", plain)]
+    imports = list(re.finditer(r"(?m)^( *(?:ghost )?use [^;{}]*?)(?:\{([^}]*)\}|([^;{}:.\s]+))(?=;)", plain))
+    rest = list(plain)
+    for it in imports:
+        rest[it.start() : it.end()] = " " * (it.end() - it.start())
+    rest = "".join(rest)
+    for it in reversed(imports):
+        start, end = next(((start, end) for start, end in blocks if start <= it.start() < end), (0, len(rest)))
+        used = set(re.findall(r"\w+", rest[start:end]))
+        names = [name.strip() for name in (it[2] or it[3]).split(",") if name.strip()]
+        kept = [name for name in names if not re.fullmatch(r"[\w ]+", name) or name.split()[-1] in used]
+        if kept != names:
+            text = text[: it.start()] + (f"{it[1]}{{{', '.join(kept)}}}" + text[it.end() :] if kept else text[it.end() + 1 :])
+    return text
+
+
+def seen_by_others(text):
+    """A source file's text without what no other crate sees, and without the imports that serve that alone."""
+    for start, end in sorted(hidden_in(blanked(text)), reverse=True):
+        text = text[:start] + text[end:]
+    return without_idle_imports(text)
 
 
 def without_comments(text):

@@ -2,7 +2,8 @@
 
 From a source file lead the items that it names and what its contracts import; from a file of specs or proofs its imports. Of the
 files in which the function stands, and of its proof, the whole text counts; of all others what can be rested on, which
-leaves bodies and private functions out. What comes with the kit counts by the prover's logic.
+leaves bodies and private functions out, and in other crates also the private fields of a type that contracts see by a value, how
+it is seen, and what it keeps. What comes with the kit counts by the prover's logic.
 """
 
 import hashlib
@@ -11,7 +12,7 @@ from functools import cache
 from pathlib import Path
 
 from crates import folder_of, listed
-from edits import blanked, functions_of, module_of, owner_of, without_bodies
+from edits import blanked, bodies_cut, functions_of, module_of, owner_of, seen_by_others, without_comments, without_idle_imports
 
 # items of a source file, and types or traits alone
 ITEM = re.compile(r"\b(?:struct|enum|trait|fn|type|const|static|macro_rules!)\s+(\w+)")
@@ -33,10 +34,20 @@ def text_of(crate, file):
 
 
 @cache
-def told_of(crate, file):
-    """What can be rested on of a file. What is private in a crate's first file the others can name."""
+def seen_of(crate, file, is_own):
+    """A file's text as its own crate sees it, or another."""
     text = text_of(crate, file)
-    return without_bodies(text, file in ("src/lib.rt", "src/main.rt")) if file.endswith(".rt") else text
+    return text if is_own or not file.endswith(".rt") else seen_by_others(text)
+
+
+@cache
+def told_of(crate, file, is_own):
+    """What can be rested on of a file. What is private in a crate's first file the others can name."""
+    text = seen_of(crate, file, is_own)
+    if not file.endswith(".rt"):
+        return text
+    cut = bodies_cut(text, file in ("src/lib.rt", "src/main.rt"))
+    return without_comments(cut if is_own else without_idle_imports(cut))
 
 
 @cache
@@ -117,14 +128,14 @@ def items_in(plain):
 
 
 @cache
-def leads_to(crate, file):
-    """The files to which a file leads."""
-    found = set()
-    for other, path in re.findall(r"\bRattle\.(\w+)\.([\w+]+(?:\.[\w+]+)+)", text_of(crate, file)):
+def leads_to(crate, file, is_own):
+    """The files to which a file leads, as its own crate sees it, or another."""
+    found, text = set(), seen_of(crate, file, is_own)
+    for other, path in re.findall(r"\bRattle\.(\w+)\.([\w+]+(?:\.[\w+]+)+)", text):
         if other in listed():
             found |= files_of_import(other, path.split("."))
     if file.endswith(".rt"):
-        plain = plain_of(crate, file)
+        plain = blanked(text)
         for head, words in items_in(plain):
             other = crate if head == "crate" else head
             if other in listed():
@@ -136,9 +147,10 @@ def leads_to(crate, file):
 @cache
 def reached(roots):
     """All files that can be reached from these, without themselves."""
-    found, left = set(roots), list(roots)
+    found, left, home = set(roots), list(roots), next(iter(roots))[0]
     while left:
-        new = leads_to(*left.pop()) - found
+        crate, file = left.pop()
+        new = leads_to(crate, file, crate == home) - found
         found |= new
         left += new
     return frozenset(found - roots)
@@ -172,7 +184,7 @@ def rests_on(crate, file, paths):
     """What an edit rests on that turns this file and that the functions of these paths are to refuse: each file with the text that counts."""
     roots = roots_of(crate, file, frozenset(paths))
     whole = [(*at, text_of(*at)) for at in sorted(roots)]
-    return whole + [(*at, told_of(*at)) for at in sorted(reached(roots))] + [(crate, "attributes", attributes_of(crate))]
+    return whole + [(*at, told_of(*at, at[0] == crate)) for at in sorted(reached(roots))] + [(crate, "attributes", attributes_of(crate))]
 
 
 @cache

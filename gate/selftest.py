@@ -1,6 +1,6 @@
 #!/usr/bin/env python3
-"""Tries what the gate's own tools judge by: what a check prints, what an edit turns, and what a record says; and that a program which a
-document shows is the one that is built.
+"""Tries what the gate's own tools judge by: what a check prints, what an edit turns, what a record says, and what a run leaves that was refused
+memory; and that a program which a document shows is the one that is built.
 
     gate/selftest.py
 
@@ -17,6 +17,7 @@ from pathlib import Path
 import crates
 import edits
 import records
+import refusals
 import rests
 import wrong_bodies
 from verdicts import judge, verdicts, without_answers
@@ -85,6 +86,33 @@ def faults_of_edits(folder):
     yield "edits: contracts alone are left of a source", edits.without_bodies(shown) == "pub fn one() -> u8 ensures { result ≡ 1 } {} pub(crate) fn three() -> [u8; 2] {}"
     inside = "impl Find for Shelf {\n    fn find(&self) -> u8 {\n        one()\n    }\n}\nimpl Shelf {\n    fn own(&self) -> u8 {\n        2\n    }\n}\n"
     yield "edits: what a trait asks is shown", edits.without_bodies(inside) == "impl Find for Shelf { fn find(&self) -> u8 {} } impl Shelf { }"
+
+
+HELD = """use indexmap::IndexMap;
+use std::marker::Model;
+
+pub struct Held<T> {
+    rows: IndexMap<u64, Vec<T>>,
+    pub count: u64,
+}
+
+impl<T> Model for Held<T> {
+    ghost use Rattle.ob_low.specs.Rows.{Rows};
+    ghost use Rattle.ob_low.specs.ById.{by_id};
+
+    ghost Value = { Rows T };
+
+    ghost view = { λ held. by_id held.rows.entries };
+}
+"""
+
+
+def faults_of_shown():
+    """What another crate sees of a type otherwise than it does."""
+    seen = " ".join(edits.seen_by_others(HELD).split())
+    yield "edits: private fields aren't seen, nor what they alone need", "IndexMap" not in seen and "rows" not in seen and "by_id" not in seen
+    yield "edits: public ones are, and the value", "pub count: u64" in seen and "ghost use Rattle.ob_low.specs.Rows.{Rows}; ghost Value = { Rows T };" in seen and "Model" in seen
+    yield "edits: without a value all fields are seen", "rows: IndexMap" in edits.seen_by_others(HELD.replace("Model for", "Debug for"))
 
 
 def faults_of_documents(root):
@@ -169,6 +197,57 @@ def faults_of_carried(folder):
     yield "records: and passes so", records.owe(None) == 0 and bool(records.held()[1]) and not records.held()[2]
 
 
+# what a run leaves that was refused memory, of a script with an open in line 3 whose parse may find none, and whether that is right
+REFUSED = [
+    ("the whole run", 0, b"1: SUCCESS\n3: SUCCESS\n4: SUCCESS\n", b"", True),
+    ("another status", 1, b"1: SUCCESS\n3: SUCCESS\n4: SUCCESS\n", b"", False),
+    ("no output, and a word", 1, b"", refusals.NO_MEMORY, True),
+    ("no output, and no word", 1, b"", b"", False),
+    ("no output, and status 0", 0, b"", refusals.NO_MEMORY, False),
+    ("replies before the word", 1, b"1: SUCCESS\n", refusals.NO_MEMORY, False),
+    ("an end at the line that found none", 1, b"1: SUCCESS\n3: want of memory\n", b"", True),
+    ("one at the first line", 1, b"1: want of memory\n", b"", True),
+    ("one with status 0", 0, b"1: SUCCESS\n3: want of memory\n", b"", False),
+    ("one that is told twice", 1, b"1: SUCCESS\n3: want of memory\n", refusals.NO_MEMORY, False),
+    ("one behind a line that is lost", 1, b"1: SUCCESS\n4: want of memory\n", b"", False),
+    ("one behind another reply", 1, b"1: OBJECT_NAME_COLLISION\n3: want of memory\n", b"", False),
+    ("lines behind it", 1, b"1: SUCCESS\n3: want of memory\n4: SUCCESS\n", b"", False),
+    ("another reply", 0, b"1: SUCCESS\n3: SUCCESS\n4: INVALID_HANDLE\n", b"", False),
+    ("a run that stops", 0, b"1: SUCCESS\n", b"", False),
+    ("a parse that found none", 0, b"1: SUCCESS\n3: NO_MEMORY\n4: SUCCESS\n", b"", True),
+    ("a parse that found none, with a trace", 0, b"1: SUCCESS\n3: NO_MEMORY\n4: INVALID_HANDLE\n", b"", False),
+    ("a parse that found none, and an end", 1, b"1: SUCCESS\n3: NO_MEMORY\n4: want of memory\n", b"", True),
+    ("a line without a parse that says so", 0, b"1: SUCCESS\n3: SUCCESS\n4: NO_MEMORY\n", b"", False),
+]
+
+
+def faults_of_refusals():
+    """What is judged otherwise than it should be of a run that was refused memory."""
+
+    class Bench:
+        """A program whose open is refused where line 3 opens nothing."""
+
+        def whole(self, words, script):
+            assert b"%07" in script, words
+            return refusals.Left(0, b"1: SUCCESS\n3: OBJECT_NAME_INVALID\n4: SUCCESS\n", b"")
+
+    script = b'p1 dir "\\A" - =a\n# more\np1 open File "\\D\\x" - =f\np1 close a\n'
+    whole = refusals.Left(0, REFUSED[0][2], b"")
+    for shows, status, output, errors, wanted in REFUSED:
+        left = refusals.Left(status, output, errors)
+        yield f"refusals: {shows}", not refusals.fault_of_lines(Bench(), refusals.Case("one"), script, whole, left) == wanted
+    line, end = b"b .. SUCCESS 2f", b"end"
+    for shows, status, said, wanted in (
+        ("a step that changed nothing", 0, b"b .. refused, nothing changed, then SUCCESS 2f", (True, True)),
+        ("a step that wasn't refused", 0, line, (True, False)),
+        ("a step that changed something", 1, b"b .. refused, CHANGED, then SUCCESS 2f", (False, False)),
+        ("a step that answers another thing when it is made again", 0, b"b .. refused, nothing changed, then SUCCESS 3f", (False, True)),
+        ("a step that is lost", 0, b"", (False, False)),
+    ):
+        fault, is_refused = refusals.fault_of_step(line, end, refusals.Left(status, said + b"\nend\n", b""))
+        yield f"refusals: {shows}", (not fault, is_refused) == wanted
+
+
 def main():
     failed = passed = 0
     with tempfile.TemporaryDirectory(prefix="gate-") as name:
@@ -179,7 +258,7 @@ def main():
         (folder / "crates.txt").write_text("ob_low:\nob_small: ob_low\n")
         root, crates.ROOT = crates.ROOT, folder
         again()
-        for part in (faults_of_verdicts(), faults_of_edits(folder), faults_of_records(folder), faults_of_carried(folder), faults_of_documents(root)):
+        for part in (faults_of_verdicts(), faults_of_edits(folder), faults_of_shown(), faults_of_records(folder), faults_of_carried(folder), faults_of_refusals(), faults_of_documents(root)):
             for shows, is_well in part:
                 passed, failed = passed + is_well, failed + (not is_well)
                 if not is_well:
