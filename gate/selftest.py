@@ -236,16 +236,6 @@ def faults_of_refusals():
     for shows, status, output, errors, wanted in REFUSED:
         left = refusals.Left(status, output, errors)
         yield f"refusals: {shows}", not refusals.fault_of_lines(Bench(), refusals.Case("one"), script, whole, left) == wanted
-    line, end = b"b .. SUCCESS 2f", b"end"
-    for shows, status, said, wanted in (
-        ("a step that changed nothing", 0, b"b .. refused, nothing changed, then SUCCESS 2f", (True, True)),
-        ("a step that wasn't refused", 0, line, (True, False)),
-        ("a step that changed something", 1, b"b .. refused, CHANGED, then SUCCESS 2f", (False, False)),
-        ("a step that answers another thing when it is made again", 0, b"b .. refused, nothing changed, then SUCCESS 3f", (False, True)),
-        ("a step that is lost", 0, b"", (False, False)),
-    ):
-        fault, is_refused = refusals.fault_of_step(line, end, refusals.Left(status, said + b"\nend\n", b""))
-        yield f"refusals: {shows}", (not fault, is_refused) == wanted
 
 
 def main():
