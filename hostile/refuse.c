@@ -12,7 +12,7 @@
  *   TELL=D             at the end this is written to the descriptor D: `requests R refused F reads I writes O`, and then how many
  *                      requests came before the first write to standard output, behind it, behind the second, and so on
  *
- * Numbers begin with 1. A realloc counts as a growth, since nothing here asks for less than it has.
+ * Numbers begin with 1. Each realloc counts, whatever it asks for.
  *
  *   cc -std=c11 -shared -fPIC -O2 -Wall -Wextra -Werror -o refuse.so hostile/refuse.c -ldl
  */

@@ -21,7 +21,9 @@ use ob_lookup::Remainder;
 use ob_model::{Bytes, Reply, Wanted};
 use ob_names::{Name, NameBuf};
 use ob_objects::{StoredBody, StoredObject};
-use ob_space::{Space, Spot, is_full, is_stampless, place_new, status_alone, with_handle};
+use ob_space::{
+    Space, Spot, is_full, is_stampless, place_new, status_alone, try_room, with_handle,
+};
 use ob_types::{Refusal, TypeSet, laws};
 use std::alloc::{AllocError, Global};
 use std::sync::Arc;
@@ -136,8 +138,8 @@ pub(crate) fn make_unnamed<T: TypeSet, H: HandleTable>(
 }
 
 /// Makes an object for which there is room, at a spot, where one is given, and opens a handle to it.
-/// All growths come before the first procedure of the set that changes it. What is there stays: an
-/// object more, with its handle, lets nothing go.
+/// All growths come before the first procedure of the set that changes it, and are judged before the set's refusal of
+/// the arguments. What is there stays: an object more, with its handle, lets nothing go.
 fn make_in_room<T: TypeSet, H: HandleTable>(
     space: &mut Space<T, H>,
     process: Proc,
@@ -161,7 +163,10 @@ fn make_in_room<T: TypeSet, H: HandleTable>(
 {
     let body = match make_body::<T>(space.alloc, making) {
         Ok(body) => body,
-        Err(Refusal::Code(code)) => return Ok(status_alone(Status::TypeRefused(code))),
+        Err(Refusal::Code(code)) => {
+            try_room(space, process, spot)?;
+            return Ok(status_alone(Status::TypeRefused(code)));
+        }
         Err(Refusal::Memory) => return Err(AllocError),
     };
     let object = object_made(body, attrs, spot.is_some());

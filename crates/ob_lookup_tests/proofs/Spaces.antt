@@ -1,12 +1,15 @@
 -- The small namespaces of the tests, with an object more and then its name.
-use Rattle.std.proofs.Common.{◌≡◌, ◌≢◌, ◌∙◌, ap, ℕ, ◌<◌, ◌+◌, ◌==◌, Bool, true, false, cond, List, [], ◌∷◌, map, Option, None, All, IsSome, sym, subst, arith}
+use Rattle.std.proofs.Common.{◌≡◌, ◌≢◌, ◌∙◌, refl, ap, ℕ, ◌<◌, ◌+◌, ◌==◌, Bool, true, false, cond, List, [], ◌∷◌, map, Option, None, All, IsSome, sym, subst, arith}
 use Rattle.std.proofs.lemmas.Bool.{false≢true}
 use Rattle.std.proofs.lemmas.List.Elements.{All-nil, All-cons, All-head, All-tail, All-weaker, All-map, All-push, All-filter}
 use Rattle.std.specs.Option.{unwrap_or}
 use Rattle.ob_dirs.specs.declared.entry.DirEntry.{DirEntry}
 use Rattle.ob_dirs.specs.Dir.{row_of}
+use Rattle.ob_model.specs.declared.state.Row.{Row}
+use Rattle.ob_objects.specs.declared.object.StoredBody.{StoredBody}
+use Rattle.ob_objects.specs.declared.object.StoredBody.TheVariants.{Directory}
 use Rattle.ob_objects.specs.declared.object.StoredObject.{StoredObject}
-use Rattle.ob_objects.specs.Store.{Entries, IsStore, object_of_stored, objects_of, stored_at, directory_at, entries_in, entries_at, rows_of}
+use Rattle.ob_objects.specs.Store.{Entries, IsStore, object_of_stored, objects_of, stored_at, directory_of, directory_at, entries_in, entries_at, rows_of}
 use Rattle.ob_objects.specs.Changes.{with_entry, changed_at, body_with_name, with_name}
 use Rattle.ob_objects.proofs.Follow.{newest_is_free, newest_is_last}
 use Rattle.ob_objects.proofs.Shown.{new_object_has_no_row, new_name_is_last, rows_are_entries}
@@ -49,6 +52,21 @@ module _ {F I : Type 0} where
     stamps = subst (All (λ r. r.stamp < id + 1)) (sym (new_object_has_no_row store id x none))
         (All-weaker (λ r. r.stamp < id) (λ r. r.stamp < id + 1) (λ r below. omega (arith, below)) (rows_of store) is.stamps);
   })
+
+  -- the root alone
+  pub first_space : (old new : Entries F I) (x : StoredObject F I) → old ≡ [] → new ≡ with_entry old 1 x → x.body ≡ Directory [] → IsSpace new 2
+  first_space old new x empty put is =
+      subst (λ (s : Entries F I). IsSpace s 2) (sym (put ∙ ap (λ (es : Entries F I). with_entry es 1 x) empty)) (record {
+        closed = record {
+          root = subst (λ (body : StoredBody F I). IsSome (directory_of body)) (sym is) refl;
+          rows = none (λ r. IsSome (stored_at ((1, x) ∷ []) r.object));
+        };
+        ids = All-cons (λ e. e.0 < 2) (1, x) [] (omega arith) (All-nil (λ e. e.0 < 2));
+        stamps = none (λ r. r.stamp < 2);
+      })
+    where
+      none : (P : Row → Type 0) → All P (rows_of ((1, x) ∷ []))
+      none P = subst (All P) (sym (new_object_has_no_row [] 1 x (ap entries_in is))) (All-nil P)
 
   -- its directory is there, has the entries that it had, and these are below
   pub directory_there : (new store : Entries F I) (id d : ℕ) (x : StoredObject F I) → new ≡ with_entry store id x → stored_at store id ≡ None

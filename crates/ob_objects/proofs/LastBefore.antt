@@ -9,10 +9,11 @@ use Rattle.std.specs.Map.{lookup}
 use Rattle.std.specs.Option.{is_some}
 use Rattle.std.specs.Ordering.{nat_cmp, is_lt}
 use Rattle.ob_model.specs.declared.state.Object.{Object}
-use Rattle.ob_model.proofs.Ids.{lookup-id}
+use Rattle.ob_model.specs.Procedures.{Procedures}
 use Rattle.ob_objects.specs.declared.object.StoredObject.{StoredObject}
 use Rattle.ob_objects.specs.Named.{IsLastBefore}
 use Rattle.ob_objects.specs.Store.{Entries, stored_at, object_of_stored, objects_of}
+use Rattle.ob_objects.specs.Types.{Types, KeepsTypes, type_of_body}
 use Rattle.ob_objects.proofs.Shown.{find_object}
 use Rattle.ob_objects.proofs.Stands.{any_found}
 
@@ -38,10 +39,17 @@ less_is a b less = grind (arith, nat_tests)
 less_means : (a b : ℕ) → nat_cmp a b ≡ Less → a < b
 less_means a b e = grind (arith, nat_tests)
 
-module _ {F I : Type 0} (inside now : Entries F I) (same : inside ≡ now) (key id : ℕ) (is_id : key ≡ id) where
-  at_key : (q : ℕ) → lookup (is_at (nat_cmp q)) inside ≡ stored_at now q
-  at_key q = lookup-id q inside ∙ ap (λ es. stored_at es q) same
+is_some_mapped : {X Y : Type 0} (f : X → Y) (o : Option X) → is_some (option_map f o) ≡ is_some o
+is_some_mapped f None = refl
+is_some_mapped f (Some x) = refl
 
+-- something stands under the ids of the types that are kept, and under no other
+pub types_stand : {K T F I : Type 0} (g : Procedures K T F I) (inside now : Entries F I) (types : Types K) → KeepsTypes g inside types → inside ≡ now
+    → (q : ℕ) → is_some (lookup (is_at (nat_cmp q)) types) ≡ is_some (stored_at now q)
+types_stand g inside now types keeps same q =
+    ap is_some (keeps q) ∙ is_some_mapped (λ x. type_of_body g x.body) (stored_at inside q) ∙ ap (λ es. is_some (stored_at es q)) same
+
+module _ {F I Y : Type 0} (kept : List (ℕ × Y)) (now : Entries F I) (stand : (q : ℕ) → is_some (lookup (is_at (nat_cmp q)) kept) ≡ is_some (stored_at now q)) (key id : ℕ) (is_id : key ≡ id) where
   there : All (λ o. is_some (stored_at now o.id) ≡ true) (objects_of now)
   there =
       All-weaker (λ (o : Object F I). is_some (find (λ (x : Object F I). x.id == o.id) (objects_of now)) ≡ true) (λ (o : Object F I). is_some (stored_at now o.id) ≡ true)
@@ -51,7 +59,7 @@ module _ {F I : Type 0} (inside now : Entries F I) (same : inside ≡ now) (key 
       mapped None f h = h
       mapped (Some x) f h = refl
 
-  pub none_before : ((q : ℕ) → nat_cmp q key ≡ Less → lookup (is_at (nat_cmp q)) inside ≡ None) → IsLastBefore id (objects_of now) None
+  pub none_before : ((q : ℕ) → nat_cmp q key ≡ Less → lookup (is_at (nat_cmp q)) kept ≡ None) → IsLastBefore id (objects_of now) None
   none_before none =
       All-weaker (λ (o : Object F I). is_some (stored_at now o.id) ≡ true) (λ (o : Object F I). id ≤ o.id) (λ o found. go o found (nat_le id o.id) refl) (objects_of now) there
     where
@@ -59,13 +67,13 @@ module _ {F I : Type 0} (inside now : Entries F I) (same : inside ≡ now) (key 
       go o found true e = leb-true id o.id e
       go o found false e =
           let below : o.id < key = omega (arith, leb-false id o.id e, is_id) in
-          absurd (false≢true (sym (ap is_some (sym (at_key o.id) ∙ none o.id (less_is o.id key below))) ∙ found))
+          absurd (false≢true (sym (sym (stand o.id) ∙ ap is_some (none o.id (less_is o.id key below))) ∙ found))
 
-  pub one_before : (last : ℕ) (x : StoredObject F I) → lookup (is_at (nat_cmp last)) inside ≡ Some x → nat_cmp last key ≡ Less
-      → ((q : ℕ) → nat_cmp q key ≡ Less → IsSome (lookup (is_at (nat_cmp q)) inside) → is_lt (nat_cmp last q) ≡ false) → IsLastBefore id (objects_of now) (Some last)
+  pub one_before : (last : ℕ) (x : Y) → lookup (is_at (nat_cmp last)) kept ≡ Some x → nat_cmp last key ≡ Less
+      → ((q : ℕ) → nat_cmp q key ≡ Less → IsSome (lookup (is_at (nat_cmp q)) kept) → is_lt (nat_cmp last q) ≡ false) → IsLastBefore id (objects_of now) (Some last)
   one_before last x found below greatest = (
-    any_found (λ (o : Object F I). o.id == last) (objects_of now) ∙ ap is_some (find_object now last ∙ ap (option_map (object_of_stored last)) (sym (at_key last) ∙ found)),
+    any_found (λ (o : Object F I). o.id == last) (objects_of now) ∙ ap is_some (find_object now last) ∙ is_some_mapped (object_of_stored last) (stored_at now last) ∙ sym (stand last) ∙ ap is_some found,
     subst (λ (n : ℕ). last < n) is_id (less_means last key below),
     All-weaker (λ (o : Object F I). is_some (stored_at now o.id) ≡ true) (λ (o : Object F I). o.id < id → o.id ≤ last)
-        (λ o at less. not_before last o.id (greatest o.id (less_is o.id key (subst (λ (n : ℕ). o.id < n) (sym is_id) less)) (ap is_some (at_key o.id) ∙ at))) (objects_of now) there,
+        (λ o at less. not_before last o.id (greatest o.id (less_is o.id key (subst (λ (n : ℕ). o.id < n) (sym is_id) less)) (stand o.id ∙ at))) (objects_of now) there,
   )

@@ -1,3 +1,4 @@
+pub mod ById
 pub mod ByStamp
 pub mod Entries
 pub mod Written

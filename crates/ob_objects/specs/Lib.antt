@@ -1,4 +1,5 @@
 pub mod Rows
+pub mod ById
 pub mod Named
 pub mod Store
 pub mod Types

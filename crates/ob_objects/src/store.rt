@@ -22,6 +22,7 @@ ghost use Rattle.ob_objects.specs.Changes.{
 use crate::types::StoredType;
 use crate::walk::Walk;
 use crate::{EntryPlace, Named, StoredObject, changes, named, places, types};
+use indexmap::IndexMap;
 use ob_base::ObjId;
 use ob_names::NameBuf;
 use ob_types::{Reason, TypeSet};
@@ -36,27 +37,29 @@ use std::marker::Model;
 /// the code that fills it.
 ///
 /// With each name a store keeps its place, under the object that it names, so that the name of an
-/// object is not searched for. No object has two names. The types of objects it keeps in a map of their own,
-/// in which they lie close together, so that a listing of a directory doesn't touch the objects.
+/// object is not searched for. No object has two names. An object is found by its id in a time that doesn't grow
+/// with the store. The types of objects stand in a map of their own by rising ids, in which they lie close together,
+/// so that a listing of a directory doesn't touch the objects.
 ///
 /// Source: Windows Internals, Object Manager: object headers and bodies; the ids are this profile.
 #[derive(Drop)]
 pub struct Store<T: TypeSet> {
-    objects: BTreeMap<u64, StoredObject<T::Face, T::Inner>>,
+    objects: IndexMap<u64, StoredObject<T::Face, T::Inner>>,
     types: BTreeMap<u64, StoredType<T::Kind>>,
     places: BTreeMap<u64, EntryPlace>,
 }
 
 impl<T: TypeSet> Model for Store<T> {
+    ghost use Rattle.ob_objects.specs.ById.{by_id};
     ghost use Rattle.ob_objects.specs.Store.{Entries};
     ghost use Rattle.ob_objects.specs.Types.{Keeps};
 
     ghost Value = { Entries T.Face T.Inner };
 
-    ghost view = { λ store. store.objects.entries };
+    ghost view = { λ store. by_id store.objects.entries };
 
-    ghost invariant = { λ store.
-        Keeps T.procedures store.objects.entries store.types.entries store.places.entries };
+    ghost invariant = { λ store. Keeps T.procedures (by_id store.objects.entries)
+        store.types.entries store.places.entries };
 }
 
 impl<T: TypeSet> Store<T> {
@@ -65,7 +68,7 @@ impl<T: TypeSet> Store<T> {
         ensures { result ≡ [] }
     {
         Store {
-            objects: BTreeMap::new(alloc),
+            objects: IndexMap::new(alloc),
             types: BTreeMap::new(alloc),
             places: BTreeMap::new(alloc),
         }
@@ -85,7 +88,7 @@ impl<T: TypeSet> Store<T> {
     pub fn is_empty(&self) -> bool
         ensures { result ≡ (length self.now == 0) }
     {
-        self.objects.is_empty()
+        self.len() == 0
     }
 
     /// What is stored under an id, and `None` exactly where nothing is. Takes no memory.
@@ -178,7 +181,7 @@ impl<T: TypeSet> Store<T> {
         ensures { IsLastBefore id (objects_of self.now) result }
     {
         let bound = id.0;
-        let Some((last, _)) = self.objects.range(..bound).next_back() else {
+        let Some((last, _)) = self.types.range(..bound).next_back() else {
             return None;
         };
         Some(ObjId(*last))
@@ -246,7 +249,7 @@ impl<T: TypeSet> Store<T> {
         ensures there { result ≡ stored_at self.old id }
         ensures others { self.new ≡ without_object self.old id }
     {
-        let stored = self.objects.remove(&id.0)?;
+        let stored = self.objects.swap_remove(&id.0)?;
         self.types.remove(&id.0);
         places::forget(&mut self.places, &stored);
         Some(stored)

@@ -4,4 +4,6 @@ pub mod Counting
 pub mod Calls
 pub mod Recorder
 pub mod Fronts
+pub mod Refusing
+pub mod RefusingLaws
 pub mod Arguments

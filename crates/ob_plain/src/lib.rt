@@ -1,4 +1,4 @@
-//! The plain types, events, mutants and sections, and sets that count and record the calls of another.
+//! The plain types, events, mutants and sections, and sets that count and record the calls of another, or refuse its opens.
 //!
 //! Arguments of objects whose types parse: which arguments can be read, their pieces between semicolons,
 //! and paths that own their bytes.
@@ -11,6 +11,7 @@ mod path;
 mod pieces;
 mod plain;
 mod recorder;
+mod refusing;
 
 pub use calls::{Call, CallKind, first_calls_are_kept};
 pub use counting::{Counting, accepted_opens_count};
@@ -19,3 +20,4 @@ pub use path::Path;
 pub use pieces::{LONGEST_ARGUMENTS, cut, is_readable, split};
 pub use plain::{Plain, PlainFace, PlainInner, PlainKind};
 pub use recorder::{Recorded, Recorder, accepted_opens_are_noted};
+pub use refusing::Refusing;

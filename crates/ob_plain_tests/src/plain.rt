@@ -2,7 +2,7 @@
 
 use crate::objects::{hand_over_laws, inner, is_of_kind, refusal};
 use crate::tables::fields;
-use ob_plain::{Counting, Plain, PlainFace, PlainInner, PlainKind, limit_of};
+use ob_plain::{Counting, Plain, PlainFace, PlainInner, PlainKind, Refusing, limit_of};
 use ob_types::{ParseAnswer, Reason, TypeSet, close_last, is_one_kind, open_or_leave};
 use std::alloc::Global;
 
@@ -90,11 +90,16 @@ fn is_so<T: TypeSet<Kind = PlainKind, Face = PlainFace>>(
 #[test]
 fn limits_and_kinds_are_those_of_the_table(rt: HostRuntime) {
     hand_over_laws::<Counting<Plain>>();
+    hand_over_laws::<Refusing<Plain>>();
     assert!(rt; limit_of(b"1 ").is_none());
     for line in PLAIN.trim().lines() {
         assert!(rt; is_so::<Plain>(rt.alloc(), line) == Some(true), "{line}");
         assert!(rt;
             is_so::<Counting<Plain>>(rt.alloc(), line) == Some(true),
+            "{line}"
+        );
+        assert!(rt;
+            is_so::<Refusing<Plain>>(rt.alloc(), line) == Some(true),
             "{line}"
         );
     }
@@ -121,6 +126,35 @@ fn life<T: TypeSet>(alloc: Global, set: T, kind: T::Kind) -> Option<(bool, [u64;
 fn a_life_is_counted(rt: HostRuntime) {
     let life = life(rt.alloc(), Plain, PlainKind::Event);
     assert!(rt; life == Some((true, [1, 1, 1])));
+}
+
+// What two events of a set that accepts so many opens are answered, one of one handle and one of many, each asked twice; and how
+// many opens are left then, and how many the set below has accepted, closed and deleted.
+fn refused_behind(alloc: Global, left: u64) -> Option<([Result<(), u16>; 4], [u64; 4])> {
+    let mut set = Refusing::new(Counting::new(Plain), left);
+    let mut one = inner::<Plain>(alloc, PlainKind::Event, b"1")?;
+    let mut many = inner::<Plain>(alloc, PlainKind::Event, b"")?;
+    let first = set.on_open(&mut one, Reason::Created);
+    let second = set.on_open(&mut one, Reason::Opened);
+    let third = set.on_open(&mut many, Reason::Created);
+    let last = set.on_open(&mut many, Reason::Duplicated);
+    close_last(&mut set, one);
+    let answers = [first, second, third, last];
+    let below = set.part();
+    let counts = [set.left(), below.opens(), below.closes(), below.deletes()];
+    Some((answers, counts))
+}
+
+#[test]
+fn opens_are_refused_by_6_once_none_is_left(rt: HostRuntime) {
+    for (left, answers, counts) in [
+        (0, [Err(6), Err(6), Err(6), Err(6)], [0, 0, 1, 1]),
+        (1, [Ok(()), Err(6), Err(6), Err(6)], [0, 1, 1, 1]),
+        (2, [Ok(()), Err(2), Ok(()), Err(6)], [0, 2, 1, 1]),
+        (9, [Ok(()), Err(2), Ok(()), Ok(())], [6, 3, 1, 1]),
+    ] {
+        assert!(rt; refused_behind(rt.alloc(), left) == Some((answers, counts)));
+    }
 }
 
 // The handles before an open, the limit, what the open is answered, and the handles behind it.

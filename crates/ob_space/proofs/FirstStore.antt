@@ -30,6 +30,24 @@ device = record { stamp = 3; name = codes "Device"; object = 4 }
 abbrev pub based : NameEntry
 based = record { stamp = 4; name = codes "BaseNamedObjects"; object = 5 }
 
+module _ {F I : Type 0} (a b c d : Entries F I) (first : a ≡ opening_objects) (second : b ≡ with_name a root_id global) (third : c ≡ with_name b root_id devices)
+    (fourth : d ≡ with_name c root_id device) where
+  abbrev three : List NameEntry
+  three = global ∷ devices ∷ device ∷ []
+
+  three_named : d ≡ opening_with three
+  three_named =
+      fourth ∙ ap (λ (s : Entries F I). with_name s root_id device)
+      (third ∙ ap (λ (s : Entries F I). with_name s root_id devices)
+      (second ∙ ap (λ (s : Entries F I). with_name s root_id global) first))
+
+  -- the object of the fourth name has none before
+  pub fourth_unnamed : All (λ r. r.object ≢ 5) (rows_of d)
+  fourth_unnamed =
+      subst (λ (s : Entries F I). All (λ r. r.object ≢ 5) (rows_of s)) (sym three_named)
+      (All-from_recursion (λ (r : Row). r.object ≢ 5) (map root_row three)
+      ((λ same. omega (arith, same)), ((λ same. omega (arith, same)), ((λ same. omega (arith, same)), tt))))
+
 module _ {F I : Type 0} (a b c d e : Entries F I) (first : a ≡ opening_objects) (second : b ≡ with_name a root_id global) (third : c ≡ with_name b root_id devices)
     (fourth : d ≡ with_name c root_id device) (fifth : e ≡ with_name d root_id based) where
   abbrev four : List NameEntry

@@ -79,6 +79,14 @@ module _ {F I : Type 0} where
       name_taken_back (with_entry store id x) at.directory (record { stamp = stamp; name = at.name; object = id })
       (subst (All (λ r. r.stamp < stamp)) (sym (new_object_has_no_row store id x empty)) stamped)
 
+  -- and then the store is as it was
+  pub room_back : (store put left : Entries F I) (id stamp : ℕ) (spot : Option Spot) (directory : Option ℕ) (x : StoredObject F I)
+      → entries_in x.body ≡ [] → All (λ r. r.stamp < stamp) (rows_of store) → stored_at store id ≡ None → put ≡ with_placed store id stamp spot x
+      → directory ≡ option_map (λ at. at.directory) spot → left ≡ without_object (without_name_in put directory stamp) id → left ≡ store
+  room_back store put left id stamp spot directory x empty stamped unused put_is directory_is gone =
+      gone ∙ (λ i. without_object (without_name_in (put_is i) (directory_is i) stamp) id)
+      ∙ ap (λ (es : Entries F I). without_object es id) (placed_back store id stamp spot x empty stamped) ∙ object_taken_back store id x unused
+
 module _ {K T F I : Type 0} (g : Procedures K T F I) (store put : Entries F I) (same : objects_of put ≡ objects_of store) (set : T) (id : ℕ) where
   -- stores of the same objects are opened alike
   abbrev t : Entries F I → State K T F I

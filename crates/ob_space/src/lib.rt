@@ -18,6 +18,7 @@ mod judge;
 mod looking;
 mod placing;
 mod replies;
+mod room;
 mod roots;
 mod space;
 mod wanted;
@@ -29,6 +30,7 @@ pub use judge::{judge_create, judge_open};
 pub use looking::{look_up, look_up_again};
 pub use placing::{Spot, delete_body, place_new};
 pub use replies::{status_alone, with_handle};
+pub use room::try_room;
 pub use roots::root_object;
 pub use space::{
     GLOBAL, ROOT, Space, held_of, is_full, is_full_without, is_live, is_stampless, is_store_full,

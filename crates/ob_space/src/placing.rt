@@ -135,7 +135,7 @@ fn put_and_open<T: TypeSet>(
 }
 
 /// The directory of a spot, where one is given.
-fn directory_of(spot: &Option<Spot>) -> Option<ObjId>
+pub(crate) fn directory_of(spot: &Option<Spot>) -> Option<ObjId>
     ensures { result ≡ option_map (λ at. at.directory) spot.now }
 {
     spot.as_ref().map(|spot| spot.directory)
@@ -143,7 +143,7 @@ fn directory_of(spot: &Option<Spot>) -> Option<ObjId>
 
 /// Puts an object into a store, and its name, where a spot is given, into the spot's directory. The
 /// only fault is out of memory, and then nothing has changed.
-fn put_in<T: TypeSet>(
+pub(crate) fn put_in<T: TypeSet>(
     store: &mut Store<T>,
     id: ObjId,
     stamp: u64,
@@ -169,7 +169,7 @@ fn put_in<T: TypeSet>(
 }
 
 /// Takes an object back out of a store, with the name of a stamp in a directory, where one is given.
-fn take_back<T: TypeSet>(
+pub(crate) fn take_back<T: TypeSet>(
     store: &mut Store<T>,
     id: ObjId,
     stamp: u64,

@@ -1,12 +1,33 @@
--- The journal is what the lines play.
-use Rattle.std.proofs.Common.{◌≡◌, ◌∙◌, ◌+◌, map, length, ap, sym, arith}
+-- The first pass is that of seat 0, and the others are the workers'; the journal is what the lines play.
+use Rattle.std.proofs.Common.{◌≡◌, ◌∙◌, ℕ, suc, ◌+◌, List, ◌∷◌, map, length, ap, sym, arith}
 use Rattle.std.proofs.lemmas.List.{length-map}
 use Rattle.std.proofs.lemmas.List.FromFn.{length-map-range_with_len}
-use Rattle.ob_locked.specs.Opened.{fresh_pass}
+use Rattle.std.specs.List.{range_with_len, slice_index_or, remove}
+use Rattle.ob_locked.specs.Opened.{fresh_pass, fresh_passes}
+use Rattle.ob_locked.specs.Passed.{Passed}
 use Rattle.ob_worker_lines.specs.Parts.{lines_in}
 use Rattle.ob_threads.proofs.Gathered.{then_done}
 use Rattle.ob_threads.proofs.Seated.{settled_played}
 use Rattle.ob_threads.proofs.run.play_shared.Goals as goal
+
+first_and_others : {K : Type 0} (workers : ℕ) (passes : List (Passed K)) → passes ≡ fresh_passes (workers + 1) → passes ≡ fresh_pass 0 ∷ map fresh_pass (range_with_len 1 workers)
+first_and_others workers passes are =
+    let one_more : workers + 1 ≡ suc workers = omega arith in
+    are ∙ ap (λ n. map fresh_pass (range_with_len 0 n)) one_more
+
+pub remove-own-requires : goal.remove-own-requires
+remove-own-requires g c =
+    let opened : length c.args.passes.items ≡ length c.args.parts.now.workers.items + 1 = ap length c.requires.passes ∙ length-map-range_with_len fresh_pass 0 (length c.args.parts.now.workers.items + 1) in
+    omega (arith, opened, c.args.passes.ok.0)
+
+pub run_lent-requires-clause-own : goal.run_lent-requires-clause-own
+run_lent-requires-clause-own g c κs within =
+    c.remove-own.ensures.value
+    ∙ ap (λ passes. slice_index_or passes 0 c.remove-own.result) (first_and_others (length c.args.parts.now.workers.items) c.args.passes.items c.requires.passes)
+
+pub run_lent-requires-clause-theirs : goal.run_lent-requires-clause-theirs
+run_lent-requires-clause-theirs g c κs within =
+    c.remove-own.ensures.items ∙ ap (λ passes. remove passes 0) (first_and_others (length c.args.parts.now.workers.items) c.args.passes.items c.requires.passes)
 
 pub run_lent-requires-clause-passes : goal.run_lent-requires-clause-passes
 run_lent-requires-clause-passes g c κs within =
