@@ -3,3 +3,4 @@ pub mod Revalued
 pub mod Stepped
 pub mod Reached
 pub mod Referents
+pub mod Taken

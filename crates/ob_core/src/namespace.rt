@@ -1,6 +1,6 @@
 //! The namespace: commands in, replies out.
 
-ghost use Rattle.std.specs.Prelude.{◌≡◌, ◌↔◌, length, not, true, false, IsTrue, IsOk, IfOk, IfErr, OnErr};
+ghost use Rattle.std.specs.Prelude.{◌≡◌, ◌↔◌, length, not, true, false, IsTrue, IsOk, IfOk, IfErr, IfSome, IfNone, OnErr};
 ghost use Rattle.ob_base.specs.declared.Fault.TheVariants.{Memory};
 ghost use Rattle.ob_base.specs.declared.status.Status.TheVariants.{Success};
 ghost use Rattle.ob_model.specs.declared.reply.Event.TheVariants.{Start, Resume, Abandon};
@@ -8,6 +8,7 @@ ghost use Rattle.std.specs.Option.{is_some, option_map};
 ghost use Rattle.ob_model.specs.State.{held_of, table_size};
 ghost use Rattle.ob_model.specs.Grants.{IsFreeValue};
 ghost use Rattle.ob_choices.specs.Choice.{revalued};
+ghost use Rattle.ob_drains.specs.Unnoticed.{with_change};
 ghost use Rattle.ob_core.specs.Reached.{IsJustGiven, IsReached};
 ghost use Rattle.ob_core.specs.Referent.{body_lent, referent_at};
 ghost use Rattle.ob_model.specs.Opening.{opening};
@@ -25,6 +26,7 @@ ghost use Rattle.ob_opens.specs.Waiting.{answer_of, IfParsing, IsParseOf, IsAwai
 use crate::referent::{Referent, referent_of};
 use crate::steps::step_for;
 use ob_base::{Fault, Handle, ObjId, Proc};
+use ob_drains::{Drains, what_is_taken_is_unnoticed};
 use ob_handles::HandleTable;
 use ob_model::{Command, Held};
 use ob_opens::{Started, abandon, resume};
@@ -288,5 +290,19 @@ impl<T: TypeSet, H: HandleTable> Core<T, H> {
         ensures { result.now ≡ self.now.set }
     {
         &self.space.set
+    }
+}
+
+impl<T: Drains, H: HandleTable> Core<T, H> {
+    /// Takes the next item of the set, as the object that was deleted first; `None` where nothing is left. It is no step,
+    /// and none knows of it: nothing differs but what the set still has, and every later reply may be the one that it
+    /// would have been. No memory is taken. Source: this profile.
+    pub fn take_next(&mut self) -> Option<T::Item>
+        ensures told { result ≡ T.next self.old.set }
+        ensures taken { IfSome result (λ _. self.new ≡ with_change T.behind self.old) }
+        ensures none { IfNone result (self.new ≡ self.old) }
+    {
+        what_is_taken_is_unnoticed::<T>();
+        self.space.set.take_next()
     }
 }

@@ -16,6 +16,7 @@ use ob_types::TypeSet;
 /// of the set of types.
 ///
 /// Source: ObReferenceObjectByHandle (Windows Driver Kit).
+#[derive(Drop)]
 pub enum Referent<'a, F, I> {
     /// An object directory.
     Directory,

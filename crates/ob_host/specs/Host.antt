@@ -2,8 +2,9 @@
 --
 -- Sources: Windows Internals, Object Manager (object types and their methods), for the types' names and that devices
 -- and keys parse; words, texts and the list of what was deleted are this profile.
-use Rattle.std.specs.Prelude.{◌≡◌, ℕ, ◌+◌, ◌^◌, ◌-◌, Bool, ◌&&◌, ◌==◌, if◌then◌else◌, List, [], ◌∷◌, ◌++◌, Option, None, Some, is_some, length, min}
+use Rattle.std.specs.Prelude.{◌≡◌, ℕ, ◌+◌, ◌^◌, ◌-◌, Bool, ◌&&◌, ◌==◌, if◌then◌else◌, List, Option, None, Some, is_some, length, min}
 use Rattle.ob_model.specs.Procedures.{Procedures, ParseAnswer, Itself, Front, Refused}
+use Rattle.ob_host.specs.Deletions.{with_delete}
 use Rattle.ob_host.specs.Kept.{Kept}
 use Rattle.ob_host.specs.Kinds.{name_of, same_kind}
 use Rattle.ob_host.specs.Objects.{object_of, same_object, object_below}
@@ -44,7 +45,7 @@ answer_below object (Some kind) rest =
 abbrev pub answer_to : HostObject → List ℕ → ParseAnswer HostObject Kept
 answer_to object rest = answer_below object (kind_below object.kind) rest
 
--- what each procedure means; the set's value is the list of what was deleted
+-- what each procedure means; the set's value tells what was deleted and not taken
 abbrev pub host_procedures : Procedures Kind HostSet HostObject Kept
 host_procedures = record {
   type_name = name_of;
@@ -58,5 +59,5 @@ host_procedures = record {
   refuses_to_open = λ _ _ _. None;
   opened = λ set inner _. (set, one_more inner);
   closed = λ set inner _ system_left. (set, record inner { handles = system_left });
-  deleted = λ set inner. set ++ inner.object ∷ [];
+  deleted = λ set inner. with_delete set inner.object;
 }

@@ -1,7 +1,9 @@
 -- The laws of a caller's own objects.
-use Rattle.std.proofs.Common.{◌≡◌, ◌≢◌, ℕ, ◌<◌, Bool, true, false, ◌==◌, if◌then◌else◌, List, [], ◌∷◌, Option, None, Some, length, refl, ap, arith}
+use Rattle.std.proofs.Common.{◌≡◌, ◌≢◌, ℕ, zero, suc, ◌<◌, Bool, true, false, ◌==◌, if◌then◌else◌, List, [], ◌∷◌, Option, None, Some, length, refl, ap, arith}
 use Rattle.ob_model.specs.Procedures.{Itself, Front, FrontIsUsed, ItselfIsAtEnd, ParsedIsIdle, OwnFaceIsSame, SameFacesAnswerAlike}
 use Rattle.std.proofs.lemmas.Bool.{eqb-true}
+use Rattle.ob_drains.specs.Unnoticed.{IsUnnoticed}
+use Rattle.ob_host.specs.Deletions.{Deletions, Keeps, Passes, with_delete, behind_next}
 use Rattle.ob_host.specs.Kept.{Kept}
 use Rattle.ob_host.specs.Kinds.{same_kind}
 use Rattle.ob_host.specs.Objects.{object_below}
@@ -66,3 +68,18 @@ empty object (Some kind) rest e =
 
 pub host_itself : ItselfIsAtEnd host_procedures
 host_itself object rest e = empty object (kind_below object.kind) rest e
+
+-- an object is taken, and then one is deleted; or the other way round
+taken_apart : (set : Deletions) (object : HostObject) → with_delete (behind_next set) object ≡ behind_next (with_delete set object)
+taken_apart (Keeps []) object = refl
+taken_apart (Keeps (first ∷ left)) object = refl
+taken_apart (Passes zero) object = refl
+taken_apart (Passes (suc more)) object = refl
+
+pub host_unnoticed : IsUnnoticed host_procedures behind_next
+host_unnoticed = record {
+  refusals = λ set inner reason. refl;
+  opens = λ set inner reason. refl;
+  closes = λ set inner process_left system_left. refl;
+  deletes = λ set inner. taken_apart set inner.object;
+}

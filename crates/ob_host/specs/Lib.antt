@@ -3,6 +3,7 @@ pub mod KindLaws
 pub mod Objects
 pub mod ObjectLaws
 pub mod Chain
+pub mod Deletions
 pub mod Kept
 pub mod Host
 pub mod HostLaws

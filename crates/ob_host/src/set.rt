@@ -1,24 +1,27 @@
 //! The set of a caller's own objects.
 
-ghost use Rattle.std.specs.Prelude.{◌≡◌, ◌∷◌, [], IfOk, IfSome, IfNone, IsOk, None, refl};
+ghost use Rattle.std.specs.Prelude.{◌≡◌, ◌∷◌, [], List, IfOk, IfSome, IfNone, IsOk, None, refl};
 ghost use Rattle.std.proofs.Common.{rules};
 ghost use Rattle.ob_model.specs.Procedures.{Itself};
 ghost use Rattle.ob_types.specs.Parsing.{answer_of};
+ghost use Rattle.ob_host.specs.Deletions.{Keeps, next_deleted, behind_next};
+ghost use Rattle.ob_host.specs.declared.object.HostObject.{HostObject};
 ghost use Rattle.ob_host.specs.Host.{host_procedures, IsIdle, kind_below, unopened, is_itself, answer_to};
 ghost use Rattle.ob_host.specs.KindLaws.{same_kind_is_one, own_kind_is_same};
-ghost use Rattle.ob_host.specs.HostLaws.{host_front, host_itself, host_parsed_idle, host_own_face, host_same_answers};
+ghost use Rattle.ob_host.specs.HostLaws.{host_front, host_itself, host_parsed_idle, host_own_face, host_same_answers, host_unnoticed};
 
 use crate::args::{text_of, word_of};
 use crate::chain::Chain;
 use crate::{HostInner, HostObject, Kind};
+use ob_drains::Drains;
 use ob_model::Bytes;
 use ob_types::{ParseAnswer, Reason, Refusal, TypeSet};
 use std::alloc::{AllocError, Global};
 use std::marker::Model;
 use std::mem;
 
-/// The set of a caller's own objects. Its value is the list of the objects that were deleted and not taken yet,
-/// the first of them first; a contract sees the set as that list. (this profile)
+/// The set of a caller's own objects. It keeps the list of the objects that were deleted and not taken yet, the first
+/// of them first; a contract sees the set as `Keeps` and that list. (this profile)
 #[derive(Drop)]
 pub struct HostSet {
     older: Chain,
@@ -26,20 +29,20 @@ pub struct HostSet {
 }
 
 impl Model for HostSet {
-    ghost use Rattle.std.specs.Prelude.{List, ◌++◌, reverse};
-    ghost use Rattle.ob_host.specs.declared.object.HostObject.{HostObject};
+    ghost use Rattle.std.specs.Prelude.{◌++◌, reverse};
+    ghost use Rattle.ob_host.specs.Deletions.{Deletions, Keeps};
 
-    ghost Value = { List HostObject };
+    ghost Value = { Deletions };
 
     ghost use Rattle.ob_host.specs.Chain.{items};
 
-    ghost view = { λ set. items set.older ++ reverse (items set.newer) };
+    ghost view = { λ set. Keeps (items set.older ++ reverse (items set.newer)) };
 }
 
 impl HostSet {
     /// The set with nothing deleted yet.
     pub fn new() -> HostSet
-        ensures { result ≡ [] }
+        ensures { result ≡ Keeps [] }
     {
         HostSet {
             older: Chain::End,
@@ -49,15 +52,27 @@ impl HostSet {
 
     /// Takes the object that was deleted first of those that weren't taken yet; `None` where there is none. No
     /// memory is taken, and a call costs the same on the average however many there are.
+    ///
+    /// Between the steps of a namespace that has the set its owner takes it by `take_next` of [`Drains`], which is
+    /// the same.
     pub fn take_deleted(&mut self) -> Option<HostObject>
-        ensures taken { IfSome result (λ object. self.old ≡ object ∷ self.new) }
-        ensures none { IfNone result ((self.old ≡ []) × (self.new ≡ [])) }
+        ensures taken { IfSome result (λ object. (left : List HostObject)
+            × (self.old ≡ Keeps (object ∷ left)) × (self.new ≡ Keeps left)) }
+        ensures none { IfNone result ((self.old ≡ Keeps []) × (self.new ≡ Keeps [])) }
     {
         if self.older.is_end() {
             self.older = mem::replace(&mut self.newer, Chain::End).reversed();
         }
         let (object, _place) = self.older.pop()?;
         Some(object)
+    }
+
+    /// The law that the set keeps a list, and passes no delete over. The call does nothing; a caller makes it to have
+    /// the fact. (this profile)
+    pub fn keeps_a_list(&self)
+        ensures { (objects : List HostObject) × (self.now ≡ Keeps objects) }
+    {
+        let _older = &self.older;
     }
 }
 
@@ -169,6 +184,21 @@ impl TypeSet for HostSet {
     ghost own_kind = { own_kind_is_same };
 
     ghost equal_kinds = { λ _ _. refl };
+}
+
+/// The next item is the object that was deleted first of those that weren't taken yet. (this profile)
+impl Drains for HostSet {
+    type Item = HostObject;
+
+    ghost next = { next_deleted };
+
+    ghost behind = { behind_next };
+
+    fn take_next(&mut self) -> Option<HostObject> {
+        self.take_deleted()
+    }
+
+    ghost unnoticed = { host_unnoticed };
 }
 
 // The kind of what names lead to through an object of this kind; `None` where it doesn't parse.
