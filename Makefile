@@ -6,12 +6,15 @@
 # make random plays COMMANDS random commands, 1,000,000 if nothing is said, beside a plain model; the 60 seconds of a test allow some 5,000,000
 # make times  the gate again, with the processor seconds of each crate
 # make hostile refuses each request for memory of longer scripts in turn, or of the script that SCRIPT names, as the gate does of short ones
-# make bench  times the built program on generated scripts and journals, steps of threads that share a namespace, and operations of a core; it fails nothing
+# make bench  times the built program on generated scripts and journals, steps of threads that share a namespace, and operations of a core, also by calls from C; it fails nothing
+# make lib    the static library for C and C++: out/libntns.a, out/ntns.h and out/ntns.pc; the first build proves every crate below it
+# make install puts these below PREFIX, /usr/local if nothing is said, and that below DESTDIR
 
 SCRIPT ?= examples/first.ntns
 COMMANDS ?= 1000000
+PREFIX ?= /usr/local
 
-.PHONY: try run test wrong definitions random times bench hostile build
+.PHONY: try run test wrong definitions random times bench hostile build lib install
 
 try:
 	@echo "make try: compiled without proofs, which takes a minute or two; nothing of it is proved" >&2
@@ -38,12 +41,21 @@ times:
 build:
 	@gate/program_of.py ntns
 
-bench: build
+bench: build lib
 	@gate/program_of.py share_bench core_bench
 	bench/lines.py crates/ntns/out/ntns
 	bench/journal.py crates/ntns/out/ntns
 	bench/threads.py crates/share_bench/out/share_bench
-	crates/core_bench/out/core_bench 100000
+	bench/calls.py crates/core_bench/out/core_bench 100000
 
 hostile: build
 	gate/refusals.py crates/ntns/out/ntns $(if $(filter command environment,$(firstword $(origin SCRIPT))),$(SCRIPT),--long)
+
+lib:
+	@gate/library.py "$(PREFIX)"
+
+install: lib
+	mkdir -p "$(DESTDIR)$(PREFIX)/include" "$(DESTDIR)$(PREFIX)/lib/pkgconfig"
+	cp out/ntns.h "$(DESTDIR)$(PREFIX)/include/"
+	cp out/libntns.a "$(DESTDIR)$(PREFIX)/lib/"
+	cp out/ntns.pc "$(DESTDIR)$(PREFIX)/lib/pkgconfig/"

@@ -56,6 +56,13 @@ def is_program(crate):
     return (folder_of(crate) / "src" / "main.rt").is_file()
 
 
+@cache
+def is_static(crate):
+    """Whether a crate is a static library."""
+    lines = (ROOT / "crates.txt").read_text().splitlines()
+    return any(line.partition(":")[0].split()[:2] == [crate, "staticlib"] for line in lines)
+
+
 def put_link(source, target):
     """Gives a file a second name, or copies it where the two folders lie on different disks."""
     try:

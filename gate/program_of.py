@@ -1,10 +1,11 @@
 #!/usr/bin/env python3
-"""Proves a program and all that it stands on, and builds it, with a line a crate.
+"""Proves a program or a static library and all that it stands on, and builds it, with a line a crate.
 
 Proved is as the gate does it, by `rt ci`, in a copy without tests and edits: a crate reads the statements alone of those that it stands
 on, which takes less than reading their proofs, and what is proved is kept beside the kit, so that the gate behind it has that much less to do.
-What the prover prints goes to a file, whose path is told. The program is then brought into the work tree, as
-crates/NAME/out/NAME, and isn't built again while nothing that it is made of changes.
+`rt ci` makes no archive of a static library, so that `rt lib` makes it then. What the prover prints goes to a file, whose path is told. What
+was built is then brought into the work tree, as crates/NAME/out/NAME or crates/NAME/out/libNAME.a, and isn't built again while nothing that it
+is made of changes.
 
     gate/program_of.py PROGRAM..
 
@@ -21,8 +22,9 @@ import tempfile
 import time
 from pathlib import Path
 
+import quick_rt
 from build import TELLS, in_words, say
-from crates import EDITS, MADE, ROOT, begin_repository, folder_of, is_program, listed, with_dependencies
+from crates import EDITS, MADE, ROOT, begin_repository, folder_of, is_program, is_static, listed, with_dependencies
 
 LOG = ROOT / "out" / "program.log"
 
@@ -46,10 +48,15 @@ def stamp_of(program):
     return folder_of(program) / MADE / f"{program}.sum"
 
 
+def name_of(program):
+    """The file that is built: a program, or the archive of a static library."""
+    return f"lib{program}.a" if is_static(program) else program
+
+
 def is_built(program):
-    """Whether the program of the work tree is made of today's files."""
+    """Whether what stands in the work tree is made of today's files."""
     stamp = stamp_of(program)
-    return (folder_of(program) / MADE / program).is_file() and stamp.is_file() and stamp.read_text() == sum_of(program)
+    return (folder_of(program) / MADE / name_of(program)).is_file() and stamp.is_file() and stamp.read_text() == sum_of(program)
 
 
 def copied(program, folder):
@@ -77,14 +84,32 @@ def prove(folder, count, log):
     return [] if run.returncode == 0 else lines
 
 
+def mark_libraries(folder):
+    """Says of each library that `rt ci` made in this repository of what files it is, as `rt lib` does of one that it makes: else that makes all anew."""
+    for crate in quick_rt.loaded_quickly().rtlib.crates_below(str(folder)):
+        made = Path(crate.folder) / MADE / "rlib"
+        if made.is_dir():
+            (made / "stamp").write_text(crate.stamp())
+
+
+def archive(home, log):
+    """Builds the archive of a static library whose proof is done; gives the lines of a run that failed."""
+    mark_libraries(home.parent.parent)
+    run = subprocess.run(["rt", "lib"], cwd=home, stdin=subprocess.DEVNULL, stdout=subprocess.PIPE, stderr=subprocess.STDOUT, text=True, errors="replace", check=False)
+    log.write(run.stdout)
+    return [] if run.returncode == 0 else run.stdout.splitlines() or ["rt lib failed"]
+
+
 def make(program):
-    """Proves and builds a program; whether all is proved."""
+    """Proves and builds a program or a static library; whether all is proved."""
     LOG.parent.mkdir(exist_ok=True)
     with tempfile.TemporaryDirectory(prefix="program-") as room, LOG.open("w") as log:
         folder = Path(room) / "repository"
         count = copied(program, folder)
         say(f"crates of {program}: {count}; with each the time since the beginning; the prover's own lines go to {LOG}")
         lines = prove(folder, count, log)
+        if is_static(program) and not lines:
+            lines = archive(folder / "crates" / program, log)
         if lines:
             told = [line for line in lines if TELLS.search(line)]
             say(*(line[:400] for line in told[-40:] or lines[-40:]))
@@ -92,14 +117,14 @@ def make(program):
             return False
         made = folder_of(program) / MADE
         made.mkdir(exist_ok=True)
-        shutil.copy2(folder / "crates" / program / MADE / program, made / program)
+        shutil.copy2(folder / "crates" / program / MADE / name_of(program), made)
         stamp_of(program).write_text(sum_of(program))
         return True
 
 
 def main():
-    parser = argparse.ArgumentParser(description="Proves programs and all that they stand on, and builds them.")
-    parser.add_argument("programs", nargs="+", metavar="PROGRAM", choices=[it for it in listed() if is_program(it)])
+    parser = argparse.ArgumentParser(description="Proves programs and static libraries and all that they stand on, and builds them.")
+    parser.add_argument("programs", nargs="+", metavar="PROGRAM", choices=[it for it in listed() if is_program(it) or is_static(it)])
     words = parser.parse_args()
     return 0 if all(is_built(program) or make(program) for program in words.programs) else 1
 

@@ -12,7 +12,12 @@ A run that finds no memory ends as the whole run, or with `N: want of memory` be
 `ntns: want of memory` and no output. A parse that finds none ends nothing: its line replies NO_MEMORY, and the run goes on as that of the script
 in which the open there is refused, or given up. A run whose read fails writes nothing; one whose write fails leaves a beginning of the output.
 
-    gate/refusals.py PROGRAM [--long] [SCRIPT..]      --long: longer scripts, and the scripts that are named, in place of the gate's cases
+`refused_steps` makes steps of a namespace, a line each, and tells whether anything changed where one was refused memory. It is run with each request of
+each step refused in turn: each line then has to say that nothing had changed, and what it says without. How many requests each step makes has to be what
+`hostile/requests.txt` says, so that one that creeps into an open, or into a close, is seen.
+
+    gate/refusals.py PROGRAM [--steps STEPS] [--long] [SCRIPT..]      --long: longer scripts, and the scripts that are named, in place of the gate's cases
+    gate/refusals.py PROGRAM --steps STEPS --renew                    writes hostile/requests.txt anew
 
 The last line is 'N passed, M failed'. The exit status is 0 where none failed, else 1.
 """
@@ -32,6 +37,7 @@ from pathlib import Path
 ROOT = Path(__file__).resolve().parent.parent
 EXAMPLES = ROOT / "examples"
 LIBRARY = ROOT / "hostile" / "refuse.c"
+REQUESTS = ROOT / "hostile" / "requests.txt"
 
 COMPILE = ("-std=c11", "-shared", "-fPIC", "-O2", "-Wall", "-Wextra", "-Werror")
 
@@ -272,8 +278,8 @@ def as_run(bench, case, script):
     return (case.words[0], file.name), b""
 
 
-def fault_of_lines(bench, case, script, whole, left, fresh=0):
-    """What is wrong with the run of a script that was refused memory, of which this is the whole run; `fresh` lines were looked at before."""
+def fault_of_lines(bench, case, script, whole, left, parses=()):
+    """What is wrong with the run of a script that was refused memory, of which this is the whole run; the parses of these lines found none before."""
     if (left.status, left.output, left.errors) == (whole.status, whole.output, whole.errors):
         return ""
     if left.status == 1 and not left.output and left.errors == NO_MEMORY:
@@ -288,14 +294,15 @@ def fault_of_lines(bench, case, script, whole, left, fresh=0):
         follows = alike == len(its) or number <= number_of(its[alike])
         precedes = not alike or number_of(its[alike - 1]) < number
         return "" if is_end and follows and precedes else "it ends wrongly behind `want of memory`"
-    if line != b"%d: NO_MEMORY\n" % number or alike == len(its) or number_of(its[alike]) != number or number <= fresh:
+    if line != b"%d: NO_MEMORY\n" % number or alike == len(its) or number_of(its[alike]) != number or number in parses:
         return f"it has another line: {line[:200]}"
     other = without_parse(script, number)
     if other is None:
         return f"line {number} has no parse"
     beside = bench.whole(*as_run(bench, case, other))
-    lines = [line if number_of(it) == number else it for it in beside.output.splitlines(keepends=True)]
-    return fault_of_lines(bench, case, other, Left(beside.status, b"".join(lines), beside.errors), left, number)
+    parses = (*parses, number)
+    lines = [b"%d: NO_MEMORY\n" % number_of(it) if number_of(it) in parses else it for it in beside.output.splitlines(keepends=True)]
+    return fault_of_lines(bench, case, other, Left(beside.status, b"".join(lines), beside.errors), left, parses)
 
 
 def steps_of(journal, seat):
@@ -409,11 +416,65 @@ def tried(bench, case):
     return good, bad, f"refusals: {case.shows}: {good + bad} runs ... {first or 'ok'}"
 
 
+# --------------------------------------------------------------------------------------------------------------------
+# Steps of a namespace
+
+# what a step's line says behind its name, where it was refused memory and the namespace was as before
+UNCHANGED = b" .. refused, nothing changed, then "
+
+# how often a line is written to: its name, the end of the step, what it was told, and the line's end
+WRITES = 4
+
+
+def requests_of(whole):
+    """A line for each step: how many requests it makes, its name, and what it is told, but for the sum of the picture behind it."""
+    lines = whole.output.decode().splitlines()[:-1]
+    counts = whole.asked[1::WRITES][: len(lines)]
+    return [f"{count:2} {line.rpartition(' ')[0]}" for count, line in zip(counts, lines, strict=True)]
+
+
+def fault_of_step(line, end, left):
+    """What is wrong with a run of a step alone that was refused memory, where this is its line without, and the last one; and whether the step says
+    that it was refused."""
+    is_refused = UNCHANGED in left.output
+    is_alike = (left.status, left.output.replace(UNCHANGED, b" .. ", 1), left.errors) == (0, line + b"\n" + end + b"\n", b"")
+    return "" if is_alike else f"it left {str((left.status, left.output, left.errors))}", is_refused
+
+
+def faults_of_steps(bench):
+    """What is wrong with the run of each step whose Nth request is refused, for every N."""
+    whole = bench.whole((), b"")
+    yield "" if whole.status == 0 and not whole.errors else f"it ends in {whole.status}"
+    requests, kept = requests_of(whole), REQUESTS.read_text().splitlines()
+    yield "" if requests == kept else "hostile/requests.txt differs: " + "; ".join(sorted(set(requests) ^ set(kept), key=lambda line: line[3:]))
+    *lines, end = whole.output.splitlines()
+    for place, line in enumerate(lines):
+        count, refused = whole.asked[1 + WRITES * place], 0
+        for number in range(1, count + 1):
+            left = bench.run((str(place + 1),), b"", REFUSE_BEHIND=1, REFUSE_REQUEST=number)
+            fault, is_refused = fault_of_step(line, end, left)
+            refused += is_refused
+            yield fault and f"refused request {number}: {fault}"
+        yield "" if refused or not count else f"{line.decode()}: it was never refused"
+
+
+def tried_steps(bench):
+    """As `tried`, of the steps of a namespace."""
+    try:
+        faults = list(faults_of_steps(bench))
+    except (OSError, ValueError, subprocess.TimeoutExpired) as error:
+        faults = [str(error)]
+    bad = [fault for fault in faults if fault]
+    return len(faults) - len(bad), len(bad), f"refusals: steps of a namespace: {len(faults)} checks ... {'; '.join(bad)[:6000] or 'ok'}"
+
+
 def main():
-    words = argparse.ArgumentParser(usage="gate/refusals.py PROGRAM [--long] [SCRIPT..]")
+    words = argparse.ArgumentParser(usage="gate/refusals.py PROGRAM [--steps STEPS [--renew]] [--long] [SCRIPT..]")
     words.add_argument("program", type=Path)
     words.add_argument("scripts", type=Path, nargs="*")
     words.add_argument("--long", action="store_true")
+    words.add_argument("--steps", type=Path)
+    words.add_argument("--renew", action="store_true")
     asked = words.parse_args()
     passed = failed = 0
     with tempfile.TemporaryDirectory(prefix="ntns-refused-") as folder:
@@ -422,6 +483,10 @@ def main():
         if fault:
             print(f"refusals: {fault}\n0 passed, 1 failed")
             return 1
+        steps = Bench(str(asked.steps.resolve()), folder) if asked.steps else None
+        if asked.renew:
+            REQUESTS.write_text("\n".join(requests_of(steps.whole((), b""))) + "\n")
+            return 0
         (bench.folder / "workers").write_bytes(WORKERS)
         found, files = cases(bench.run(("threads", "workers"), b"").output)
         for name, text in files.items():
@@ -430,7 +495,8 @@ def main():
             found = [Case(shows, (), script) for shows, script in longer().items() if asked.long]
             found += [Case(str(path), (), path.read_bytes()) for path in asked.scripts]
         with ThreadPoolExecutor(len(os.sched_getaffinity(0))) as pool:
-            played = [pool.submit(tried, bench, case) for case in found]
+            played = [pool.submit(tried_steps, steps)] if steps else []
+            played += [pool.submit(tried, bench, case) for case in found]
             for good, bad, line in (it.result() for it in played):
                 passed, failed = passed + good, failed + bad
                 print(line, flush=True)

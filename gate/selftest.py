@@ -1,6 +1,6 @@
 #!/usr/bin/env python3
 """Tries what the gate's own tools judge by: what a check prints, what an edit turns, what a record says, and what a run leaves that was refused
-memory; and that a program which a document shows is the one that is built.
+memory, what a README, a header and an archive say; and that what a document shows of a program is of the one that is built.
 
     gate/selftest.py
 
@@ -9,11 +9,13 @@ The last line is 'N passed, M failed'. The exit status is 0 where none failed, e
 
 import contextlib
 import io
+import re
 import shutil
 import sys
 import tempfile
 from pathlib import Path
 
+import c
 import crates
 import edits
 import records
@@ -118,7 +120,8 @@ def faults_of_shown():
 def faults_of_documents(root):
     """What a document shows otherwise than it is."""
     source = (root / "crates" / "four_callers" / "src" / "main.rt").read_text()
-    yield "documents: threads.md shows the source of four_callers", f"\n```rust\n{source}```\n" in (root / "docs" / "threads.md").read_text()
+    shown = re.findall(r"\n```rust\n(.*?)```\n", (root / "docs" / "threads.md").read_text(), re.DOTALL)
+    yield "documents: what threads.md shows is the source of four_callers", len(shown) == 2 and all(part in source for part in shown)
 
 
 def again():
@@ -228,6 +231,8 @@ def faults_of_refusals():
         """A program whose open is refused where line 3 opens nothing."""
 
         def whole(self, words, script):
+            if b"drop" in script:
+                return refusals.Left(0, b"1: SUCCESS\n2: SUCCESS\n", b"")
             assert b"%07" in script, words
             return refusals.Left(0, b"1: SUCCESS\n3: OBJECT_NAME_INVALID\n4: SUCCESS\n", b"")
 
@@ -235,7 +240,41 @@ def faults_of_refusals():
     whole = refusals.Left(0, REFUSED[0][2], b"")
     for shows, status, output, errors, wanted in REFUSED:
         left = refusals.Left(status, output, errors)
-        yield f"refusals: {shows}", not refusals.fault_of_lines(Bench(), refusals.Case("one"), script, whole, left) == wanted
+        fault = refusals.fault_of_lines(Bench(), refusals.Case("one"), script, whole, left)
+        yield f"refusals: {shows}", (not fault) == wanted
+    for shows, output, wanted in (("two parses that found none", b"1: NO_MEMORY\n2: NO_MEMORY\n", True), ("one that is told twice", b"1: NO_MEMORY\n1: NO_MEMORY\n", False)):
+        left = refusals.Left(0, output, b"")
+        fault = refusals.fault_of_lines(Bench(), refusals.Case("two"), b"p1 end v\np1 end w\n", refusals.Left(0, b"1: SUCCESS\n2: SUCCESS\n", b""), left)
+        yield f"refusals: {shows}", (not fault) == wanted
+    line, end = b"b .. SUCCESS 2f", b"end"
+    for shows, status, said, wanted in (
+        ("a step that changed nothing", 0, b"b .. refused, nothing changed, then SUCCESS 2f", (True, True)),
+        ("a step that wasn't refused", 0, line, (True, False)),
+        ("a step that changed something", 1, b"b .. refused, CHANGED, then SUCCESS 2f", (False, False)),
+        ("a step that answers another thing when it is made again", 0, b"b .. refused, nothing changed, then SUCCESS 3f", (False, True)),
+        ("a step that is lost", 0, b"", (False, False)),
+    ):
+        fault, is_refused = refusals.fault_of_step(line, end, refusals.Left(status, said + b"\nend\n", b""))
+        yield f"refusals: {shows}", (not fault, is_refused) == wanted
+
+
+README = "## From C\n\nIt is\n\n```c\nint main;\n```\n\n```\nout\n```\n\n## More\n\n```c\nnone\n```\n"
+HEADER = "/* ntns_none(x) */\nntns_status ntns_open(ntns *ns);\nvoid ntns_close(ntns *ns); /* like ntns_open(ns) */\n#define NTNS_OK(status) ((ntns_status)(status))\n"
+NAMES = "part.o:\n0000000000000000 T ntns_open\n                 U malloc\n0000000000000010 t own\n\nother.o:\n                 U ntns_open\n                 w hook\n"
+
+
+def faults_of_c():
+    """What is read otherwise than it should be of a document, a header and an archive."""
+    yield "c: the program of a README and what it prints", c.shown_in("# A\n\n" + README) == ("int main;\n", "out\n")
+    try:
+        lacks = bool(c.shown_in(README.replace("From C", "From D")))
+    except c.Fault:
+        lacks = True
+    yield "c: a README without one is a fault", lacks
+    yield "c: the calls that a header declares", c.declared_in(HEADER) == {"ntns_open", "ntns_close"}
+    yield "c: what an archive defines, and needs of others", c.names_in(NAMES) == ({"ntns_open"}, {"malloc", "hook"})
+    defined = re.findall(r"^#(?:el)?if defined (\w+)$", (c.CLIENTS / "wrong.c").read_text(), re.MULTILINE)
+    yield "c: each wrong library is tried", sorted(defined) == sorted(macro for _, macro, _, _ in c.WRONG)
 
 
 def main():
@@ -248,7 +287,8 @@ def main():
         (folder / "crates.txt").write_text("ob_low:\nob_small: ob_low\n")
         root, crates.ROOT = crates.ROOT, folder
         again()
-        for part in (faults_of_verdicts(), faults_of_edits(folder), faults_of_shown(), faults_of_records(folder), faults_of_carried(folder), faults_of_refusals(), faults_of_documents(root)):
+        parts = (faults_of_verdicts(), faults_of_edits(folder), faults_of_shown(), faults_of_records(folder), faults_of_carried(folder), faults_of_refusals(), faults_of_documents(root), faults_of_c())
+        for part in parts:
             for shows, is_well in part:
                 passed, failed = passed + is_well, failed + (not is_well)
                 if not is_well:

@@ -1,6 +1,7 @@
 #!/bin/sh
 # The gate: its own tools, the records of what was refused, `rt ci`, the edits that have no record yet, runs of the built
-# program, and runs of it that are refused memory, one behind another. Each ends in a line 'N passed, M failed'; the last line here is their sum.
+# program, runs of it that are refused memory, and the library for C, one behind another. Each ends in a line 'N passed, M failed'; the last line here is
+# their sum.
 # usage: gate/test.sh      at the top of the repository
 set -u
 logs=$(mktemp -d)
@@ -37,11 +38,12 @@ for folder in wrong definitions; do
     if [ -n "$crates" ]; then part "$folder" "$tool" $crates; fi
 done
 part program gate/program.py crates/ntns/out/ntns
-part refusals gate/refusals.py crates/ntns/out/ntns
+part refusals gate/refusals.py crates/ntns/out/ntns --steps crates/refused_steps/out/refused_steps
+part c gate/c.py
 
 # a run is long, and only its end may be on record: what failed is named once more there
 if [ "$failed" -ne 0 ]; then
-    cat "$logs"/selftest "$logs"/records "$logs"/ci "$logs"/wrong "$logs"/definitions "$logs"/program "$logs"/refusals 2> /dev/null | grep -E '(^|[^0-9])error|[Ff]ailed|FAILED|NOT REFUSED|not proved|refused:' | tail -n 100
+    cat "$logs"/selftest "$logs"/records "$logs"/ci "$logs"/wrong "$logs"/definitions "$logs"/program "$logs"/refusals "$logs"/c 2> /dev/null | grep -E '(^|[^0-9])error|[Ff]ailed|FAILED|NOT REFUSED|not proved|refused:' | tail -n 100
 fi
 echo "$passed passed, $failed failed"
 [ "$failed" -eq 0 ]

@@ -3,6 +3,8 @@
 #![tactic(auto)]
 
 #[cfg(test)]
+mod deleted;
+#[cfg(test)]
 mod namespace;
 #[cfg(test)]
 mod pages;
@@ -13,6 +15,4 @@ mod processes;
 #[cfg(test)]
 mod recorded;
 #[cfg(test)]
-mod scenes;
-#[cfg(test)]
-mod waiting;
+mod refusals;

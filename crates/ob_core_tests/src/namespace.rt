@@ -3,8 +3,8 @@
 
 mod doors;
 
-use crate::scenes::assert_scenes;
 use doors::Doors;
+use ob_scenes::first_other_scene;
 
 // Doors are of the first kind and can be made and opened; walls are of the other.
 const SCENES: &'static str = r"# nothing is called at first | 6 0 0 0 0
@@ -34,5 +34,5 @@ const SCENES: &'static str = r"# nothing is called at first | 6 0 0 0 0
 
 #[test]
 fn a_set_is_called_as_its_objects_live(rt: HostRuntime) {
-    assert_scenes::<Doors>(&rt, rt.alloc(), SCENES);
+    assert_eq!(rt; first_other_scene::<Doors>(rt.alloc(), SCENES), Ok(None));
 }

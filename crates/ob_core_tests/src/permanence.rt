@@ -1,7 +1,7 @@
 //! Objects that are made temporary and permanent, told by the replies and by the counts that are left.
 
-use crate::scenes::assert_scenes;
 use ob_plain::Plain;
+use ob_scenes::first_other_scene;
 
 const SCENES: &'static str =
     r"# a permanent object that is made temporary stays while it is open, and goes then | 6 0 3 3 1
@@ -58,5 +58,5 @@ const SCENES: &'static str =
 
 #[test]
 fn objects_stay_or_go_by_their_permanence(rt: HostRuntime) {
-    assert_scenes::<Plain>(&rt, rt.alloc(), SCENES);
+    assert_eq!(rt; first_other_scene::<Plain>(rt.alloc(), SCENES), Ok(None));
 }

@@ -1,8 +1,8 @@
 //! Processes: what they inherit, duplicate and close, and how many they and their handles may be, told by the replies and
 //! by the counts that are left.
 
-use crate::scenes::assert_scenes;
 use ob_plain::Plain;
+use ob_scenes::first_other_scene;
 
 const SHARED: &'static str =
     r"# an inherited handle keeps its object, and the exit of the child closes it | 6 0 2 2 1
@@ -95,7 +95,7 @@ const SHARED: &'static str =
 
 #[test]
 fn processes_share_objects_by_their_handles(rt: HostRuntime) {
-    assert_scenes::<Plain>(&rt, rt.alloc(), SHARED);
+    assert_eq!(rt; first_other_scene::<Plain>(rt.alloc(), SHARED), Ok(None));
 }
 
 const FULL: &'static str = r"# a process that ends makes room for another | 6 0 0 0 0
@@ -116,5 +116,5 @@ const FULL: &'static str = r"# a process that ends makes room for another | 6 0 
 
 #[test]
 fn there_are_1024_processes_of_65535_handles_at_most(rt: HostRuntime) {
-    assert_scenes::<Plain>(&rt, rt.alloc(), FULL);
+    assert_eq!(rt; first_other_scene::<Plain>(rt.alloc(), FULL), Ok(None));
 }

@@ -1,9 +1,9 @@
 //! A namespace whose set records its calls: they are those that the commands make, in their order.
 
-use crate::scenes::{Staged, first_other};
 use ob_base::Fault;
 use ob_core::{Core, OpenTable};
 use ob_plain::{Call, CallKind, Plain, Recorder};
+use ob_scenes::{Staged, first_other};
 use ob_types::{Reason, TypeSet};
 use std::alloc::Global;
 use std::test::Fail;

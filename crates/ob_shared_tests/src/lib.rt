@@ -1,5 +1,5 @@
-//! Tests of steps under the lock, and of a namespace that callers share: what passes ask for in turn, what is answered, and the
-//! journal that is kept of it. The crate holds tests alone, since a crate with tests is proved twice.
+//! Tests of a namespace that callers share: what they are answered on threads of their own, and the journal that is kept of it. The
+//! crate holds tests alone, since a crate with tests is proved twice.
 #![tactic(auto)]
 
 #[cfg(test)]
@@ -7,12 +7,6 @@ mod again;
 #[cfg(test)]
 mod callers;
 #[cfg(test)]
-mod closes;
-#[cfg(test)]
-mod full;
-#[cfg(test)]
-mod scene;
-#[cfg(test)]
-mod tests;
+mod ended;
 #[cfg(test)]
 mod threads;

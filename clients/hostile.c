@@ -1,0 +1,363 @@
+/*
+ * Hands odd arguments to each call: a namespace that is closed, no name, no room, no such type, no such attribute, the longest names and longer ones, handles
+ * and processes that aren't there, or are another's. Each has to be answered with its status, to write what it says and no more, and to change nothing.
+ *
+ *     cc -std=c11 -I out clients/hostile.c out/libntns.a
+ *
+ * The last line is 'N passed, M failed'; the exit status is 0 where none failed.
+ */
+#include <ntns.h>
+
+#include <stdio.h>
+#include <stdlib.h>
+#include <string.h>
+
+#define S(status) NTNS_STATUS_##status
+#define TEXT(text) text, sizeof(text) - 1
+
+/* what stands where a call has to write something else */
+static const uint32_t STALE = 0xABABABAB;
+
+static int passed, failed;
+
+/* Counts what has to hold, and tells what doesn't. */
+static void hold(bool holds, const char *shows, unsigned long at)
+{
+	passed += holds;
+	failed += !holds;
+	if (!holds)
+		printf("hostile: %s (%lu)\n", shows, at);
+}
+
+/* A new namespace. */
+static ntns opened(void)
+{
+	ntns ns = NTNS_CLOSED;
+
+	hold(ntns_open(&ns) == S(SUCCESS), "a namespace is opened", 0);
+	return ns;
+}
+
+static bool is_closed(const ntns *ns)
+{
+	return ns->words[0] == 0 && ns->words[1] == 0;
+}
+
+/* The answer of each call that gives a handle, with the same arguments; the handle is `*given` behind it. */
+enum { GIVING = 8 };
+
+static ntns_status give(ntns *ns, int call, uint32_t process, uint32_t root, const char *name, size_t length, uint32_t attributes, uint32_t *given)
+{
+	*given = STALE;
+	switch (call) {
+	case 0:
+		return ntns_create_directory(ns, process, root, name, length, attributes, given);
+	case 1:
+		return ntns_create_link(ns, process, root, name, length, attributes, TEXT("\\A"), given);
+	case 2:
+		return ntns_create_object(ns, process, root, name, length, attributes, NTNS_TYPE_EVENT, 1, given);
+	case 3:
+		return ntns_open_directory(ns, process, root, name, length, attributes, given);
+	case 4:
+		return ntns_open_link(ns, process, root, name, length, attributes, given);
+	case 5:
+		return ntns_open_object(ns, process, root, name, length, attributes, NTNS_TYPE_ANY, given);
+	case 6:
+		return ntns_duplicate(ns, process, root, process, attributes & NTNS_OBJ_INHERIT, given);
+	default:
+		return ntns_new_process(ns, process, attributes & NTNS_OBJ_INHERIT, given);
+	}
+}
+
+/* The answer of each call that tells a text, with the same arguments. */
+enum { TELLING = 4 };
+
+static ntns_status tell(ntns *ns, int call, uint32_t process, uint32_t handle, char *buffer, size_t capacity, size_t *length)
+{
+	uint64_t context = 0;
+	uint32_t type = STALE;
+	ntns_status status;
+
+	*length = STALE;
+	switch (call) {
+	case 0:
+		return ntns_query_link(ns, process, handle, buffer, capacity, length);
+	case 1:
+		return ntns_query_name(ns, process, handle, buffer, capacity, length);
+	case 2:
+		return ntns_query_file(ns, process, handle, buffer, capacity, length);
+	default:
+		status = ntns_next_entry(ns, process, handle, &context, buffer, capacity, length, &type);
+		hold((status == S(SUCCESS)) == (context != 0), "a context moves where an entry is shown, and else stays", status);
+		bool is_there = status == S(SUCCESS) || status == S(BUFFER_TOO_SMALL);
+		hold(is_there == (type != 0) && type != STALE, "a type is told where there is an entry, and else 0", status);
+		return status;
+	}
+}
+
+/* The answer of each call that has a process and a handle and gives nothing. */
+enum { PLAIN = 5 };
+
+static ntns_status do_plain(ntns *ns, int call, uint32_t process, uint32_t handle)
+{
+	switch (call) {
+	case 0:
+		return ntns_close_handle(ns, process, handle);
+	case 1:
+		return ntns_make_temporary(ns, process, handle);
+	case 2:
+		return ntns_make_permanent(ns, process, handle);
+	case 3:
+		return ntns_set_device_map(ns, process, handle);
+	default:
+		return ntns_exit_process(ns, process);
+	}
+}
+
+/* Whether a handle is said to lead nowhere, with this status. */
+static bool leads_nowhere(ntns *ns, uint32_t process, uint32_t handle, ntns_status status)
+{
+	uint32_t type = STALE;
+	uint64_t word = STALE, id = STALE;
+
+	return ntns_query_object(ns, process, handle, &type, &word, &id) == status && type == 0 && word == 0 && id == 0;
+}
+
+/* Every call has to answer a status to a process and a handle, and to give and tell nothing; exits are left out where the process lives. Of a process that is
+ * gone the two that look at an object say that it has no such handle. */
+static void refused(ntns *ns, uint32_t process, uint32_t handle, ntns_status status, bool is_live)
+{
+	ntns_status looked_at = status == S(PROCESS_GONE) ? S(INVALID_HANDLE) : status;
+	uint32_t given;
+	size_t length;
+	char text[4] = "abc";
+
+	for (int call = is_live ? 6 : 0; call < (is_live ? 7 : GIVING); call++)
+		hold(give(ns, call, process, handle, TEXT("x"), 0, &given) == status && given == 0, "a call that gives a handle is refused", call);
+	for (int call = 0; call < TELLING; call++)
+		hold(tell(ns, call, process, handle, text, sizeof text, &length) == (call == 2 ? looked_at : status) && length == 0 && !strcmp(text, "abc"), "a query is refused", call);
+	for (int call = 0; call < (is_live ? PLAIN - 1 : PLAIN); call++)
+		hold(do_plain(ns, call, process, handle) == status, "a call with a handle is refused", call);
+	hold(leads_nowhere(ns, process, handle, looked_at), "a handle leads nowhere", handle);
+}
+
+static void closed_namespaces(void)
+{
+	ntns ns = NTNS_CLOSED;
+	uint32_t type = STALE;
+	uint64_t word = STALE;
+
+	ntns_close(&ns);
+	hold(is_closed(&ns), "a closed namespace is closed again", 0);
+	for (int round = 0; round < 3; round++) {
+		refused(&ns, 1, 4, S(INVALID_PARAMETER), false);
+		hold(ntns_next_deleted(&ns, &type, &word) == S(INVALID_PARAMETER) && type == 0 && word == 0, "a closed one tells nothing deleted", round);
+		hold(is_closed(&ns), "what is refused leaves it closed", round);
+		hold(ntns_open(&ns) == S(SUCCESS), "it is opened", round);
+		ntns before = ns;
+		hold(ntns_open(&ns) == S(INVALID_PARAMETER) && !memcmp(&ns, &before, sizeof ns), "one that is open isn't opened again", round);
+		ntns_close(&ns);
+		hold(is_closed(&ns), "it is closed", round);
+	}
+}
+
+static void names(void)
+{
+	ntns ns = opened();
+	uint32_t given, root, directory;
+	char path[8];
+	size_t length;
+
+	ntns_open_directory(&ns, 1, 0, TEXT("\\"), 0, &root);
+	ntns_create_directory(&ns, 1, 0, TEXT("\\A"), 0, &directory);
+	for (int call = 0; call < 3; call++) {
+		hold(give(&ns, call, 1, 0, NULL, 0, 0, &given) == S(SUCCESS), "a create without a name makes an object without one", call);
+		hold(ntns_query_name(&ns, 1, given, NULL, 0, &length) == S(SUCCESS) && length == 0, "it has none", call);
+		hold(give(&ns, call, 1, 0, "", 0, 0, &given) == S(OBJECT_PATH_SYNTAX_BAD) && given == 0, "an empty name is no absolute one", call);
+		hold(give(&ns, call, 1, directory, "", 0, 0, &given) == S(OBJECT_NAME_COLLISION) && given == 0, "an empty relative name is the directory's", call);
+	}
+	for (int call = 3; call < 6; call++)
+		hold(give(&ns, call, 1, 0, NULL, 0, 0, &given) == S(OBJECT_PATH_SYNTAX_BAD) && given == 0, "an open without a name is refused", call);
+	hold(give(&ns, 3, 1, directory, NULL, 0, 0, &given) == S(SUCCESS), "but relative to a directory it opens that", 0);
+	hold(ntns_query_name(&ns, 1, given, path, sizeof path, &length) == S(SUCCESS) && length == 2 && !memcmp(path, "\\A", 2), "it is that directory", 0);
+	hold(give(&ns, 0, 1, root, TEXT("a\0b"), 0, &given) == S(OBJECT_NAME_INVALID) && given == 0, "a name has no zero byte", 0);
+	hold(ntns_create_link(&ns, 1, 0, TEXT("\\L"), 0, NULL, 0, &given) == S(INVALID_PARAMETER) && given == 0, "a link has a target", 0);
+	for (int byte = 0; byte < 256; byte++) {
+		char name[2] = { '\\', (char)byte };
+		bool is_well = byte >= 0x20 && byte <= 0x7E;
+		ntns_status status = give(&ns, 3, 1, 0, name, sizeof name, 0, &given);
+		ntns_status wanted = byte == '\\' ? S(OBJECT_NAME_INVALID) : byte == 'A' ? S(SUCCESS) : is_well ? S(OBJECT_NAME_NOT_FOUND) : S(OBJECT_NAME_INVALID);
+		hold(status == wanted, "each byte of a name is judged", (unsigned long)byte);
+		status = ntns_create_link(&ns, 1, 0, NULL, 0, 0, name + 1, 1, &given);
+		hold(status == (is_well ? S(SUCCESS) : S(INVALID_PARAMETER)), "each byte of a target is judged", (unsigned long)byte);
+	}
+	ntns_close(&ns);
+}
+
+static void long_names(void)
+{
+	static const size_t lengths[] = { 32766, 32767, 32768, 65535, 65536, 65537, 1 << 20, 1 << 26 };
+	char *name = malloc(1 << 26);
+
+	hold(name != NULL, "there is memory for a long name", 0);
+	for (size_t place = 0; name && place < sizeof lengths / sizeof *lengths; place++) {
+		ntns ns = opened();
+		uint32_t given;
+		size_t length = lengths[place];
+		ntns_status too_long = length > 32767 ? S(NAME_TOO_LONG) : S(SUCCESS);
+
+		memset(name, 'a', length);
+		name[0] = '\\';
+		for (int call = 0; call < 3; call++) {
+			hold(give(&ns, call, 1, 0, name, length, 0, &given) == too_long, "a create of a long name", length);
+			if (given)
+				ntns_close_handle(&ns, 1, given);
+		}
+		for (int call = 3; call < 6; call++)
+			hold(give(&ns, call, 1, 0, name, length, 0, &given) == (too_long ? too_long : S(OBJECT_NAME_NOT_FOUND)), "an open of one", length);
+		ntns_status status = ntns_create_link(&ns, 1, 0, NULL, 0, 0, name, length, &given);
+		hold(status == (too_long ? S(INVALID_PARAMETER) : S(SUCCESS)), "a link with a long target", length);
+		name[length - 1] = 7;
+		for (int call = 0; call < 6; call++)
+			hold(give(&ns, call, 1, 0, name, length, 0, &given) == S(OBJECT_NAME_INVALID) && given == 0, "a wrong byte at its end is told first", length);
+		ntns_close(&ns);
+	}
+	free(name);
+}
+
+static void rooms(void)
+{
+	ntns ns = opened();
+	uint32_t handles[TELLING], device;
+	char text[8];
+	size_t length;
+
+	ntns_create_link(&ns, 1, 0, NULL, 0, 0, TEXT("\\A"), &handles[0]);
+	ntns_create_directory(&ns, 1, 0, TEXT("\\D"), 0, &handles[1]);
+	ntns_create_object(&ns, 1, 0, TEXT("\\D\\dd"), 0, NTNS_TYPE_DEVICE, 1, &device);
+	ntns_open_object(&ns, 1, device, TEXT("xy"), 0, NTNS_TYPE_FILE, &handles[2]);
+	handles[3] = handles[1];
+	for (int call = 0; call < TELLING; call++) {
+		hold(tell(&ns, call, 1, handles[call], NULL, 0, &length) == S(BUFFER_TOO_SMALL) && length == 2, "no room, and no buffer", call);
+		hold(tell(&ns, call, 1, handles[call], text, 0, &length) == S(BUFFER_TOO_SMALL) && length == 2, "no room", call);
+		memcpy(text, "abcdefg", 8);
+		hold(tell(&ns, call, 1, handles[call], text, 1, &length) == S(BUFFER_TOO_SMALL) && length == 2 && !memcmp(text, "abcdefg", 8), "too little room", call);
+		hold(tell(&ns, call, 1, handles[call], text, 2, &length) == S(SUCCESS) && length == 2 && !memcmp(text + 2, "cdefg", 6), "just the room", call);
+		hold(tell(&ns, call, 1, handles[call], text, sizeof text, &length) == S(SUCCESS) && length == 2, "more room", call);
+	}
+	ntns_create_object(&ns, 1, 0, NULL, 0, 0, NTNS_TYPE_FILE, 1, &handles[2]);
+	hold(tell(&ns, 1, 1, handles[2], NULL, 0, &length) == S(SUCCESS) && length == 0, "an empty path needs no room", 0);
+	hold(tell(&ns, 2, 1, handles[2], NULL, 0, &length) == S(SUCCESS) && length == 0, "nor does an empty rest", 0);
+	ntns_close(&ns);
+}
+
+static void types(void)
+{
+	ntns ns = opened();
+	uint32_t given, type, directory;
+	uint64_t word, id, context = 0;
+	size_t length;
+	char name[16];
+
+	ntns_create_directory(&ns, 1, 0, TEXT("\\T"), 0, &directory);
+	for (uint32_t asked = 0; asked <= 64; asked++) {
+		bool is_callers = asked >= NTNS_TYPE_EVENT && asked <= NTNS_TYPE_WMI_GUID, is_type = is_callers || asked == NTNS_TYPE_DIRECTORY || asked == NTNS_TYPE_SYMBOLIC_LINK;
+		int count = snprintf(name, sizeof name, "t%u", (unsigned)asked);
+
+		given = STALE;
+		ntns_status status = ntns_create_object(&ns, 1, directory, name, (size_t)count, 0, asked, asked + 100, &given);
+		hold(status == (is_callers ? S(SUCCESS) : S(INVALID_PARAMETER)) && (given != 0) == is_callers, "an object is made of each of the caller's types, and of no other", asked);
+		hold((ntns_type_name(asked) != NULL) == is_type, "each type has a name", asked);
+		status = ntns_open_object(&ns, 1, 0, TEXT("\\No"), 0, asked, &given);
+		hold(status == (is_callers || asked == NTNS_TYPE_ANY ? S(OBJECT_NAME_NOT_FOUND) : S(INVALID_PARAMETER)) && given == 0, "an open knows the caller's types", asked);
+	}
+	for (uint32_t made = NTNS_TYPE_EVENT; made <= NTNS_TYPE_WMI_GUID; made++) {
+		hold(ntns_next_entry(&ns, 1, directory, &context, name, sizeof name, &length, &type) == S(SUCCESS) && type == made, "an entry tells its type", made);
+		hold(ntns_open_object(&ns, 1, directory, name, length, 0, made == NTNS_TYPE_DEVICE ? NTNS_TYPE_FILE : made, &given) == S(SUCCESS), "an object is opened by its type", made);
+		hold(ntns_query_object(&ns, 1, given, &type, &word, &id) == S(SUCCESS) && word == made + 100, "its word is told", made);
+		hold(ntns_open_object(&ns, 1, directory, name, length, 0, made == NTNS_TYPE_EVENT ? NTNS_TYPE_MUTANT : NTNS_TYPE_EVENT, &given) == S(OBJECT_TYPE_MISMATCH), "and by no other", made);
+	}
+	hold(ntns_create_object(&ns, 1, 0, NULL, 0, 0, UINT32_MAX, 1, &given) == S(INVALID_PARAMETER) && given == 0, "there are no other types", 0);
+	hold(ntns_open_object(&ns, 1, 0, TEXT("\\"), 0, UINT32_MAX, &given) == S(INVALID_PARAMETER) && given == 0, "none to be opened either", 0);
+	hold(ntns_type_name(UINT32_MAX) == NULL, "they have no names", 0);
+	hold(!strcmp(ntns_type_name(NTNS_TYPE_ALPC_PORT), "ALPC Port") && !strcmp(ntns_type_name(NTNS_TYPE_WMI_GUID), "WmiGuid"), "types have the names that Windows gives them", 0);
+	hold(!strcmp(ntns_status_text(S(PROCESS_GONE)), "PROCESS_GONE") && !strcmp(ntns_status_text(S(SUCCESS)), "SUCCESS"), "statuses have names", 0);
+	hold(ntns_status_text(1) == NULL && ntns_status_text(UINT32_MAX) == NULL, "and others none", 0);
+	ntns_close(&ns);
+}
+
+static void attributes(void)
+{
+	static const uint32_t known = NTNS_OBJ_INHERIT | NTNS_OBJ_PERMANENT | NTNS_OBJ_EXCLUSIVE | NTNS_OBJ_CASE_INSENSITIVE | NTNS_OBJ_OPENIF | NTNS_OBJ_OPENLINK;
+	ntns ns = opened();
+	uint32_t given;
+
+	for (unsigned bit = 0; bit < 32; bit++) {
+		bool is_known = known & 1u << bit;
+		for (int call = 0; call < 6; call++) {
+			hold(give(&ns, call, 1, 0, TEXT("\\A\\\x07"), 1u << bit, &given) == (is_known ? S(OBJECT_NAME_INVALID) : S(INVALID_PARAMETER)) && given == 0, "each attribute is judged, before the name", bit);
+			hold(give(&ns, call, 1, 0, NULL, 0, 1u << bit | NTNS_OBJ_INHERIT | NTNS_OBJ_EXCLUSIVE, &given) == S(INVALID_PARAMETER) && given == 0, "two of them don't go together", bit);
+		}
+	}
+	ntns_close(&ns);
+}
+
+static void handles_and_processes(void)
+{
+	static const uint32_t odd[] = { 0, 1, 2, 3, 400, 262140, 262144, 0x7FFFFFFF, 0x80000000, 0xFFFFFFFC, UINT32_MAX };
+	static const uint32_t none[] = { 0, 3, 4, 0x80000000, UINT32_MAX };
+	ntns ns = opened();
+	uint32_t own, child, others, given;
+	uint64_t context = UINT64_MAX;
+	size_t length;
+	uint32_t type;
+
+	ntns_open_directory(&ns, 1, 0, TEXT("\\"), 0, &own);
+	ntns_new_process(&ns, 1, false, &child);
+	for (int made = 0; made < 3; made++)
+		ntns_create_directory(&ns, child, 0, NULL, 0, 0, &others);
+	for (size_t place = 0; place < sizeof odd / sizeof *odd; place++)
+		refused(&ns, 1, odd[place], S(INVALID_HANDLE), true);
+	refused(&ns, 1, others, S(INVALID_HANDLE), true);
+	for (size_t place = 0; place < sizeof none / sizeof *none; place++) {
+		refused(&ns, none[place], own, S(PROCESS_GONE), false);
+		hold(ntns_duplicate(&ns, 1, own, none[place], false, &given) == S(PROCESS_GONE) && given == 0, "a duplicate into no process", none[place]);
+	}
+	hold(give(&ns, 3, 1, others, TEXT("x"), 0, &given) == S(INVALID_HANDLE) && given == 0, "another's handle is no root handle", 0);
+	hold(ntns_next_entry(&ns, 1, own, &context, NULL, 0, &length, &type) == S(NO_MORE_ENTRIES) && context == UINT64_MAX && length == 0 && type == 0, "nothing stands behind the last context", 0);
+	hold(ntns_exit_process(&ns, child) == S(SUCCESS), "a process ends", 0);
+	refused(&ns, child, others, S(PROCESS_GONE), false);
+	hold(ntns_close_handle(&ns, 1, own | 3) == S(SUCCESS), "the low bits of a handle don't count", 0);
+	ntns_close(&ns);
+}
+
+static void two_namespaces(void)
+{
+	ntns one = opened(), other = opened();
+	uint32_t handle, given, type;
+	uint64_t word;
+
+	ntns_create_object(&one, 1, 0, TEXT("\\E"), 0, NTNS_TYPE_EVENT, 7, &handle);
+	hold(ntns_open_object(&other, 1, 0, TEXT("\\E"), 0, NTNS_TYPE_EVENT, &given) == S(OBJECT_NAME_NOT_FOUND), "what one has the other hasn't", 0);
+	hold(leads_nowhere(&other, 1, handle, S(INVALID_HANDLE)), "nor does it know its handles", 0);
+	ntns moved = one;
+	ntns_close(&other);
+	hold(ntns_close_handle(&moved, 1, handle) == S(SUCCESS), "a struct that was moved serves on", 0);
+	hold(ntns_next_deleted(&moved, &type, &word) == S(SUCCESS) && type == NTNS_TYPE_EVENT && word == 7, "with all that it had", 0);
+	ntns_close(&moved);
+	hold(is_closed(&moved), "and is closed", 0);
+}
+
+int main(void)
+{
+	closed_namespaces();
+	names();
+	long_names();
+	rooms();
+	types();
+	attributes();
+	handles_and_processes();
+	two_namespaces();
+	printf("%d passed, %d failed\n", passed, failed);
+	return failed != 0;
+}

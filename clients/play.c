@@ -1,0 +1,273 @@
+/* See play.h. */
+#include "play.h"
+
+#include <stdlib.h>
+#include <string.h>
+
+/* what is written where a call has to write, and behind a buffer */
+enum { STALE = 0x5A };
+
+void play_begin(struct play *play)
+{
+	memset(play, 0, sizeof *play);
+	play->processes['p'] = 1;
+}
+
+size_t play_text(const char *text, char *full)
+{
+	size_t length = 0;
+	while (*text) {
+		if (*text != '{') {
+			full[length++] = *text++;
+			continue;
+		}
+		char *end;
+		unsigned long count = strtoul(text + 1, &end, 10);
+		memset(full + length, end[1], count);
+		length += count;
+		text = end + 3;
+	}
+	return length;
+}
+
+static uint32_t handle_of(const struct play *play, const struct step *step)
+{
+	return step->handle ? play->handles[(int)step->process][(int)step->handle] + step->more : 0;
+}
+
+/* Makes the call of a create or an open. */
+static void call_by_name(struct play *play, const struct step *step, struct answer *answer)
+{
+	static char names[TEXT_ROOM], targets[TEXT_ROOM];
+	ntns *ns = &play->ns;
+	uint32_t process = play->processes[(int)step->process], root = handle_of(play, step);
+	const char *name = step->name ? names : NULL;
+	size_t length = step->name ? play_text(step->name, names) : 0;
+
+	switch (step->call) {
+	case CREATE_DIRECTORY:
+		answer->status = ntns_create_directory(ns, process, root, name, length, step->attributes, &answer->number);
+		break;
+	case CREATE_LINK:
+		answer->status = ntns_create_link(ns, process, root, name, length, step->attributes, targets,
+						  play_text(step->text, targets), &answer->number);
+		break;
+	case CREATE_OBJECT:
+		answer->status = ntns_create_object(ns, process, root, name, length, step->attributes, step->type, step->word,
+						    &answer->number);
+		break;
+	case OPEN_DIRECTORY:
+		answer->status = ntns_open_directory(ns, process, root, name, length, step->attributes, &answer->number);
+		break;
+	case OPEN_LINK:
+		answer->status = ntns_open_link(ns, process, root, name, length, step->attributes, &answer->number);
+		break;
+	default:
+		answer->status = ntns_open_object(ns, process, root, name, length, step->attributes, step->type, &answer->number);
+		break;
+	}
+}
+
+/* Makes the call of a query. */
+static void query(struct play *play, const struct step *step, struct answer *answer, size_t capacity)
+{
+	ntns *ns = &play->ns;
+	uint32_t process = play->processes[(int)step->process], handle = handle_of(play, step);
+	uint64_t context = step->call == NEXT_ENTRY ? play->contexts[(int)step->process][(int)step->handle] : 0;
+
+	switch (step->call) {
+	case QUERY_LINK:
+		answer->status = ntns_query_link(ns, process, handle, answer->text, capacity, &answer->length);
+		break;
+	case QUERY_NAME:
+		answer->status = ntns_query_name(ns, process, handle, answer->text, capacity, &answer->length);
+		break;
+	case QUERY_FILE:
+		answer->status = ntns_query_file(ns, process, handle, answer->text, capacity, &answer->length);
+		break;
+	case QUERY_OBJECT:
+		answer->status = ntns_query_object(ns, process, handle, &answer->type, &answer->word, &answer->id);
+		break;
+	case NEXT_DELETED:
+		answer->status = ntns_next_deleted(ns, &answer->type, &answer->word);
+		break;
+	default:
+		answer->context = context;
+		answer->status = ntns_next_entry(ns, process, handle, &answer->context, answer->text, capacity, &answer->length,
+						 &answer->type);
+		break;
+	}
+}
+
+struct answer play_call(struct play *play, const struct step *step, char *text, size_t capacity)
+{
+	ntns *ns = &play->ns;
+	uint32_t process = play->processes[(int)step->process], handle = handle_of(play, step);
+	struct answer answer = { .text = text };
+
+	switch (step->call) {
+	case CREATE_DIRECTORY:
+	case CREATE_LINK:
+	case CREATE_OBJECT:
+	case OPEN_DIRECTORY:
+	case OPEN_LINK:
+	case OPEN_OBJECT:
+		memset(&answer.number, STALE, sizeof answer.number);
+		call_by_name(play, step, &answer);
+		break;
+	case CLOSE_HANDLE:
+		answer.status = ntns_close_handle(ns, process, handle);
+		break;
+	case DUPLICATE_HANDLE:
+		memset(&answer.number, STALE, sizeof answer.number);
+		answer.status = ntns_duplicate(ns, process, handle, play->processes[(int)step->to], step->inherit, &answer.number);
+		break;
+	case MAKE_TEMPORARY:
+		answer.status = ntns_make_temporary(ns, process, handle);
+		break;
+	case MAKE_PERMANENT:
+		answer.status = ntns_make_permanent(ns, process, handle);
+		break;
+	case SET_DEVICE_MAP:
+		answer.status = ntns_set_device_map(ns, process, handle);
+		break;
+	case NEW_PROCESS:
+		memset(&answer.number, STALE, sizeof answer.number);
+		answer.status = ntns_new_process(ns, process, step->inherit, &answer.number);
+		break;
+	case EXIT_PROCESS:
+		answer.status = ntns_exit_process(ns, process);
+		break;
+	default:
+		memset(&answer.type, STALE, sizeof answer.type);
+		memset(&answer.word, STALE, sizeof answer.word);
+		memset(&answer.length, STALE, sizeof answer.length);
+		query(play, step, &answer, capacity);
+		break;
+	}
+	return answer;
+}
+
+void play_keep(struct play *play, const struct step *step, const struct answer *answer)
+{
+	int process = step->process, kept = step->kept;
+
+	switch (step->call) {
+	case CLOSE_HANDLE:
+		if (answer->status == S(SUCCESS))
+			play->handles[process][(int)step->handle] = 0;
+		break;
+	case EXIT_PROCESS:
+		if (answer->status == S(SUCCESS))
+			memset(play->handles[process], 0, sizeof play->handles[process]);
+		break;
+	case NEW_PROCESS:
+		play->processes[kept] = answer->number;
+		memset(play->handles[kept], 0, sizeof play->handles[kept]);
+		memset(play->contexts[kept], 0, sizeof play->contexts[kept]);
+		if (step->inherit)
+			memcpy(play->handles[kept], play->handles[process], sizeof play->handles[kept]);
+		break;
+	case DUPLICATE_HANDLE:
+		play->handles[(int)step->to][kept] = answer->number;
+		break;
+	case FIRST_ENTRY:
+	case NEXT_ENTRY:
+		play->contexts[process][(int)step->handle] = answer->context;
+		break;
+	default:
+		if (step->kept) {
+			play->handles[process][kept] = answer->number;
+			play->contexts[process][kept] = 0;
+		}
+		break;
+	}
+}
+
+/* Whether a call tells a text, where it succeeds. */
+static bool tells_text(enum call call)
+{
+	return call == QUERY_LINK || call == QUERY_NAME || call == QUERY_FILE || call == FIRST_ENTRY || call == NEXT_ENTRY;
+}
+
+/* Whether a call gives a handle or a process, where it succeeds. */
+static bool gives_number(enum call call)
+{
+	return (call >= CREATE_DIRECTORY && call <= OPEN_OBJECT) || call == DUPLICATE_HANDLE || call == NEW_PROCESS;
+}
+
+const char *play_fault(const struct step *step, const struct answer *answer)
+{
+	static char wanted[TEXT_ROOM];
+	bool has_succeeded = NTNS_SUCCEEDED(step->status);
+	bool is_entry = step->call == FIRST_ENTRY || step->call == NEXT_ENTRY;
+
+	if (answer->status != step->status)
+		return ntns_status_text(answer->status) ? ntns_status_text(answer->status) : "a status without a name";
+	if (gives_number(step->call) && has_succeeded != (answer->number != 0))
+		return "a number where nothing was given, or none where it was";
+	if (gives_number(step->call) && step->call != NEW_PROCESS && answer->number % 4)
+		return "a handle that is no multiple of four";
+	if (tells_text(step->call)) {
+		size_t length = has_succeeded ? play_text(step->text, wanted) : 0;
+		if (answer->length != length)
+			return "a text of another length";
+		if (memcmp(answer->text, wanted, length))
+			return "another text";
+	}
+	if ((is_entry || step->call == QUERY_OBJECT || step->call == NEXT_DELETED) && answer->type != (has_succeeded ? step->type : 0))
+		return "another type";
+	if ((step->call == QUERY_OBJECT || step->call == NEXT_DELETED) && answer->word != (has_succeeded ? step->word : 0))
+		return "another word";
+	if (step->call == QUERY_OBJECT && has_succeeded != (answer->id != 0))
+		return "an id where nothing was found, or none where it was";
+	return NULL;
+}
+
+/* Whether so many bytes, and no others, were left as they were. */
+static bool is_stale(const char *text, size_t from, size_t to)
+{
+	for (size_t place = from; place < to; place++)
+		if (text[place] != STALE)
+			return false;
+	return true;
+}
+
+/* Asks for a text again, with just the room that it takes and with a byte less; what is wrong, or NULL. */
+static const char *fault_of_rooms(struct play *play, const struct step *step, const struct answer *whole)
+{
+	static char text[TEXT_ROOM];
+
+	memset(text, STALE, sizeof text);
+	struct answer answer = play_call(play, step, text, whole->length);
+	if (answer.status != whole->status || answer.length != whole->length || memcmp(text, whole->text, whole->length))
+		return "another answer where there is just the room";
+	if (!is_stale(text, whole->length, sizeof text))
+		return "a byte behind the room is written";
+	if (whole->length == 0)
+		return NULL;
+	memset(text, STALE, sizeof text);
+	answer = play_call(play, step, text, whole->length - 1);
+	if (answer.status != S(BUFFER_TOO_SMALL) || answer.length != whole->length)
+		return "another answer where a byte of room is missing";
+	if (!is_stale(text, 0, sizeof text))
+		return "a byte is written where room is missing";
+	if (step->call == NEXT_ENTRY && answer.context != play->contexts[(int)step->process][(int)step->handle])
+		return "the context moves where room is missing";
+	return NULL;
+}
+
+const char *play_step(struct play *play, const struct step *step)
+{
+	static char text[TEXT_ROOM];
+	const char *fault = NULL;
+
+	for (uint32_t time = 0; !fault && time < (step->times ? step->times : 1); time++) {
+		struct answer answer = play_call(play, step, text, sizeof text);
+		fault = play_fault(step, &answer);
+		if (!fault && tells_text(step->call) && answer.status == S(SUCCESS))
+			fault = fault_of_rooms(play, step, &answer);
+		play_keep(play, step, &answer);
+	}
+	return fault;
+}

@@ -1,0 +1,159 @@
+/*
+ * Wrong libraries. Each is the library with one call that does another thing than it should; a client has to tell each of them from the right one. One is
+ * chosen by a macro, and its call is handed to the function below by a linker that knows --wrap.
+ *
+ *     cc -std=c11 -I out -DLOSES_A_BYTE clients/wrong.c clients/cases.c clients/play.c out/libntns.a -Wl,--wrap=ntns_query_file
+ */
+#include <ntns.h>
+
+#include <stdlib.h>
+
+#define S(status) NTNS_STATUS_##status
+
+/* The head of a function that stands in the place of a call, which it can make by the name with __real_ before it. */
+#define INSTEAD(result, call, ...) \
+	result __real_##call(__VA_ARGS__); \
+	result __wrap_##call(__VA_ARGS__); \
+	result __wrap_##call(__VA_ARGS__)
+
+#if defined HANDLE_IS_NOT_TOLD
+INSTEAD(ntns_status, ntns_open_directory, ntns *ns, uint32_t process, uint32_t root, const char *name, size_t length, uint32_t attributes, uint32_t *handle)
+{
+	ntns_status status = __real_ntns_open_directory(ns, process, root, name, length, attributes, handle);
+	*handle = 0;
+	return status;
+}
+
+#elif defined HANDLE_IS_TOLD_OF_A_REFUSAL
+INSTEAD(ntns_status, ntns_open_directory, ntns *ns, uint32_t process, uint32_t root, const char *name, size_t length, uint32_t attributes, uint32_t *handle)
+{
+	uint32_t given = 0;
+	ntns_status status = __real_ntns_open_directory(ns, process, root, name, length, attributes, &given);
+	if (given)
+		*handle = given;
+	return status;
+}
+
+#elif defined STATUS_IS_ANOTHER
+INSTEAD(ntns_status, ntns_open_directory, ntns *ns, uint32_t process, uint32_t root, const char *name, size_t length, uint32_t attributes, uint32_t *handle)
+{
+	ntns_status status = __real_ntns_open_directory(ns, process, root, name, length, attributes, handle);
+	return status == S(OBJECT_PATH_NOT_FOUND) ? S(OBJECT_NAME_NOT_FOUND) : status;
+}
+
+#elif defined CLOSE_LEAVES_IT_OPEN
+INSTEAD(void, ntns_close, ntns *ns)
+{
+	ntns copy = *ns;
+	__real_ntns_close(&copy);
+}
+
+#elif defined CLOSE_FREES_NOTHING
+INSTEAD(void, ntns_close, ntns *ns)
+{
+	ns->words[0] = ns->words[1] = 0;
+}
+
+#elif defined OPENS_AGAIN
+INSTEAD(ntns_status, ntns_open, ntns *ns)
+{
+	ntns_close(ns);
+	return __real_ntns_open(ns);
+}
+
+#elif defined NOTHING_IS_CLOSED
+INSTEAD(ntns_status, ntns_close_handle, ntns *ns, uint32_t process, uint32_t handle)
+{
+	uint32_t type;
+	uint64_t word, id;
+	return ntns_query_object(ns, process, handle, &type, &word, &id);
+}
+
+#elif defined DELETED_IS_TOLD_TWICE
+static uint32_t last_type;
+static uint64_t last_word;
+
+INSTEAD(ntns_status, ntns_next_deleted, ntns *ns, uint32_t *type, uint64_t *word)
+{
+	if (last_type) {
+		*type = last_type;
+		*word = last_word;
+		last_type = 0;
+		return S(SUCCESS);
+	}
+	ntns_status status = __real_ntns_next_deleted(ns, type, word);
+	last_type = *type;
+	last_word = *word;
+	return status;
+}
+
+#elif defined DELETED_IS_NEVER_TOLD
+INSTEAD(ntns_status, ntns_next_deleted, ntns *ns, uint32_t *type, uint64_t *word)
+{
+	*type = 0;
+	*word = 0;
+	return ns->words[0] ? S(NO_MORE_ENTRIES) : S(INVALID_PARAMETER);
+}
+
+#elif defined WRITES_PAST_THE_ROOM
+INSTEAD(ntns_status, ntns_query_name, ntns *ns, uint32_t process, uint32_t handle, char *buffer, size_t capacity, size_t *length)
+{
+	ntns_status status = __real_ntns_query_name(ns, process, handle, buffer, capacity, length);
+	if (status == S(SUCCESS) && *length)
+		buffer[*length] = 0;
+	return status;
+}
+
+#elif defined WRITES_WHERE_ROOM_IS_MISSING
+INSTEAD(ntns_status, ntns_query_link, ntns *ns, uint32_t process, uint32_t handle, char *buffer, size_t capacity, size_t *length)
+{
+	ntns_status status = __real_ntns_query_link(ns, process, handle, buffer, capacity, length);
+	if (status == S(BUFFER_TOO_SMALL) && capacity)
+		buffer[0] = '\\';
+	return status;
+}
+
+#elif defined LOSES_A_BYTE
+INSTEAD(ntns_status, ntns_query_file, ntns *ns, uint32_t process, uint32_t handle, char *buffer, size_t capacity, size_t *length)
+{
+	ntns_status status = __real_ntns_query_file(ns, process, handle, buffer, capacity, length);
+	if (status == S(SUCCESS) && *length && buffer[*length - 1] == '\\')
+		--*length;
+	return status;
+}
+
+#elif defined CONTEXT_MOVES_WHERE_ROOM_IS_MISSING
+INSTEAD(ntns_status, ntns_next_entry, ntns *ns, uint32_t process, uint32_t handle, uint64_t *context, char *buffer, size_t capacity, size_t *length, uint32_t *type)
+{
+	ntns_status status = __real_ntns_next_entry(ns, process, handle, context, buffer, capacity, length, type);
+	*context += status == S(BUFFER_TOO_SMALL);
+	return status;
+}
+
+#elif defined ANOTHER_WORD
+INSTEAD(ntns_status, ntns_create_object, ntns *ns, uint32_t process, uint32_t root, const char *name, size_t length, uint32_t attributes, uint32_t type, uint64_t word, uint32_t *handle)
+{
+	return __real_ntns_create_object(ns, process, root, name, length, attributes, type, (uint32_t)word, handle);
+}
+
+#elif defined REFUSED_MEMORY_AND_DONE
+/* Refuses for want of memory, and makes the directory all the same. */
+INSTEAD(ntns_status, ntns_create_directory, ntns *ns, uint32_t process, uint32_t root, const char *name, size_t length, uint32_t attributes, uint32_t *handle)
+{
+	uint32_t given;
+	ntns_status status = __real_ntns_create_directory(ns, process, root, name, length, attributes, handle);
+	if (status == S(NO_MEMORY) && __real_ntns_create_directory(ns, process, root, name, length, attributes, &given) == S(SUCCESS))
+		ntns_make_permanent(ns, process, given);
+	return status;
+}
+
+#elif defined LOSES_MEMORY
+void *lost;
+
+INSTEAD(ntns_status, ntns_query_name, ntns *ns, uint32_t process, uint32_t handle, char *buffer, size_t capacity, size_t *length)
+{
+	lost = malloc(8);
+	return __real_ntns_query_name(ns, process, handle, buffer, capacity, length);
+}
+
+#endif

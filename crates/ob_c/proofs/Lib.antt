@@ -1,0 +1,5 @@
+pub mod CallerSteps
+pub mod CallsLemmas
+pub mod ToldLemmas
+pub mod KindLemmas
+pub mod OneStep

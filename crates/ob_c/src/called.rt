@@ -1,0 +1,65 @@
+//! Calls of commands, and what is told of how they end.
+
+ghost use Rattle.std.specs.Prelude.{◌≡◌};
+ghost use Rattle.ob_c.specs.Calls.{CallsMade};
+ghost use Rattle.ob_c.specs.Told.{status_in, handle_in, process_in};
+
+use crate::Ntns;
+use ob_base::Status;
+use ob_core::{Command, Given, Reply};
+use ob_host::Kind;
+use std::alloc::{AllocError, Global};
+
+/// Runs a command of a process to its reply, where the namespace is open. The errors are `InvalidParameter`, where it is
+/// closed, and `NoMemory`, where the command could not be made, or could not be run to its reply, for want of memory.
+pub(crate) fn call(
+    ns: &mut Ntns,
+    alloc: Global,
+    process: u32,
+    made: Result<Command<Kind>, AllocError>,
+) -> Result<Reply, Status>
+    ensures { CallsMade process made ns.old.core result ns.new.core }
+{
+    let Some(mut core) = ns.take(alloc) else {
+        return Err(Status::InvalidParameter);
+    };
+    let ended = core.run(alloc, process, made);
+    ns.put(core);
+    ended
+}
+
+/// The number of the status that a call ends with.
+pub(crate) fn status_in(ended: &Result<Reply, Status>) -> u32
+    ensures { result ≡ status_in ended.now }
+{
+    match ended {
+        Ok(reply) => reply.status.code(),
+        Err(status) => status.code(),
+    }
+}
+
+/// The value of the handle that a call gives; 0 where it gives none.
+pub(crate) fn handle_in(ended: &Result<Reply, Status>) -> u32
+    ensures { result ≡ handle_in ended.now }
+{
+    match ended {
+        Ok(reply) => match &reply.given {
+            Given::Handle(handle) => handle.0,
+            _ => 0,
+        },
+        Err(_) => 0,
+    }
+}
+
+/// The number of the process that a call gives; 0 where it gives none.
+pub(crate) fn process_in(ended: &Result<Reply, Status>) -> u32
+    ensures { result ≡ process_in ended.now }
+{
+    match ended {
+        Ok(reply) => match &reply.given {
+            Given::Process(child, _) => child.0,
+            _ => 0,
+        },
+        Err(_) => 0,
+    }
+}

@@ -1,0 +1,112 @@
+//! Exports that change handles, and the permanence of what they lead to.
+
+ghost use Rattle.ob_model.specs.declared.command.Command.TheVariants.{Close, Duplicate, MakePermanent, MakeTemporary, SetDeviceMap};
+ghost use Rattle.ob_c.specs.Calls.{Does};
+ghost use Rattle.ob_c.specs.Told.{TellsHandle, TellsStatus};
+
+use crate::Ntns;
+use crate::called::{call, handle_in, status_in};
+use ob_base::{Handle, Proc};
+use ob_core::Command;
+use std::alloc::Global;
+
+/// Closes a handle of a process. The low two bits of its value are ignored, here and in each call below. It takes no
+/// memory.
+///
+/// The statuses are those of the command `Close`, in its order; `InvalidParameter` where the namespace is closed. Source:
+/// ZwClose (Windows Driver Kit).
+#[unsafe(no_mangle)]
+pub extern "C" fn ntns_close_handle(ns: &mut Ntns, alloc: Global, process: u32, handle: u32) -> u32
+    ensures { Does process (Close handle) ns.old.core ns.new.core (TellsStatus result) }
+{
+    let close = Command::Close {
+        handle: Handle(handle),
+    };
+    status_in(&call(ns, alloc, process, Ok(close)))
+}
+
+/// Duplicates a handle of a process into another, or the same, whose children inherit the copy where `inherit` is true. The
+/// copy is told, 0 where none is given.
+///
+/// The statuses are those of the command `Duplicate`, in its order; `InvalidParameter` where the namespace is closed,
+/// and `NoMemory` where memory is wanted, and then nothing has changed. Source: ZwDuplicateObject (Windows Driver Kit).
+#[unsafe(no_mangle)]
+pub extern "C" fn ntns_duplicate(
+    ns: &mut Ntns,
+    alloc: Global,
+    process: u32,
+    handle: u32,
+    to: u32,
+    inherit: bool,
+    copy: &mut u32,
+) -> u32
+    ensures { Does process (Duplicate handle to inherit)
+        ns.old.core ns.new.core (TellsHandle result copy.new) }
+{
+    let duplicate = Command::Duplicate {
+        handle: Handle(handle),
+        to: Proc(to),
+        inherit,
+    };
+    let ended = call(ns, alloc, process, Ok(duplicate));
+    *copy = handle_in(&ended);
+    status_in(&ended)
+}
+
+/// Makes the object of a handle of a process temporary: its name goes when it has no handle. It takes no memory.
+///
+/// The statuses are those of the command `MakeTemporary`, in its order; `InvalidParameter` where the namespace is closed.
+/// Source: ZwMakeTemporaryObject (Windows Driver Kit).
+#[unsafe(no_mangle)]
+pub extern "C" fn ntns_make_temporary(
+    ns: &mut Ntns,
+    alloc: Global,
+    process: u32,
+    handle: u32,
+) -> u32
+    ensures { Does process (MakeTemporary handle) ns.old.core ns.new.core (TellsStatus result) }
+{
+    let turn = Command::MakeTemporary {
+        handle: Handle(handle),
+    };
+    status_in(&call(ns, alloc, process, Ok(turn)))
+}
+
+/// Makes the object of a handle of a process permanent, where it has a name: then the name stays, also without a handle. It
+/// takes no memory.
+///
+/// The statuses are those of the command `MakePermanent`, in its order; `InvalidParameter` where the namespace is closed.
+/// Source: ZwMakePermanentObject (Windows Driver Kit).
+#[unsafe(no_mangle)]
+pub extern "C" fn ntns_make_permanent(
+    ns: &mut Ntns,
+    alloc: Global,
+    process: u32,
+    handle: u32,
+) -> u32
+    ensures { Does process (MakePermanent handle) ns.old.core ns.new.core (TellsStatus result) }
+{
+    let turn = Command::MakePermanent {
+        handle: Handle(handle),
+    };
+    status_in(&call(ns, alloc, process, Ok(turn)))
+}
+
+/// Makes the directory of a handle of a process the local directory of its device map.
+///
+/// The statuses are those of the command `SetDeviceMap`, in its order; `InvalidParameter` where the namespace is closed,
+/// and `NoMemory` where memory is wanted, and then nothing has changed. Source: NtSetInformationProcess (ProcessDeviceMap).
+#[unsafe(no_mangle)]
+pub extern "C" fn ntns_set_device_map(
+    ns: &mut Ntns,
+    alloc: Global,
+    process: u32,
+    handle: u32,
+) -> u32
+    ensures { Does process (SetDeviceMap handle) ns.old.core ns.new.core (TellsStatus result) }
+{
+    let map = Command::SetDeviceMap {
+        handle: Handle(handle),
+    };
+    status_in(&call(ns, alloc, process, Ok(map)))
+}

@@ -1,0 +1,102 @@
+//! The machine behind a caller's struct.
+
+ghost use Rattle.std.specs.Prelude.{◌≡◌, [], IfOk, IfSome, IfNone};
+ghost use Rattle.std.specs.Option.{option_map};
+ghost use Rattle.ob_core.specs.Referent.{body_lent, referent_at};
+ghost use Rattle.ob_drains.specs.Unnoticed.{with_change};
+ghost use Rattle.ob_host.specs.Deletions.{Keeps, next_deleted, behind_next};
+ghost use Rattle.ob_model.specs.Opening.{opening};
+ghost use Rattle.ob_c.specs.Calls.{Ends, EndsMade};
+
+use ob_base::{Handle, ObjId, Proc, Status};
+use ob_core::{Command, Core, OpenTable, Referent, Reply};
+use ob_host::{HostInner, HostObject, HostSet, Kind};
+use ob_runner::run_command;
+use std::alloc::{AllocError, Global};
+use std::marker::Model;
+
+/// The namespace over the set of a caller's own objects.
+///
+/// A contract sees the state of the abstract machine. (this profile)
+#[derive(Drop)]
+pub struct HostCore {
+    core: Core<HostSet, OpenTable>,
+}
+
+impl Model for HostCore {
+    ghost use Rattle.ob_c.specs.Machine.{Space};
+
+    ghost Value = { Space };
+
+    ghost view = { λ a. a.core };
+}
+
+impl HostCore {
+    /// The opening state, in which nothing was deleted. The only error is out of memory. (this profile)
+    pub(crate) fn new(alloc: Global) -> Result<HostCore, AllocError>
+        ensures { IfOk result (λ core. core ≡ opening (Keeps [])) }
+    {
+        match Core::new(alloc, HostSet::new()) {
+            Ok(core) => Ok(HostCore { core }),
+            Err(_) => Err(AllocError),
+        }
+    }
+
+    /// Runs a command of a process to its reply, and each parse that it waits for meanwhile; where it could not be made
+    /// for want of memory, nothing is done. `NoMemory`, and no other error, where memory is wanted: before the first step,
+    /// where nothing has changed, or behind steps that give the open up.
+    ///
+    /// Source: Windows Internals, Object Manager (parse methods); that a parse is run between two steps is this profile.
+    pub(crate) fn run(
+        &mut self,
+        alloc: Global,
+        process: u32,
+        made: Result<Command<Kind>, AllocError>,
+    ) -> Result<Reply, Status>
+        ensures { EndsMade process made self.old result self.new }
+    {
+        match made {
+            Err(_) => Err(Status::NoMemory),
+            Ok(command) => self.run_lent(alloc, process, &command),
+        }
+    }
+
+    // Runs a command of a process to its reply, or to want of memory.
+    fn run_lent(
+        &mut self,
+        alloc: Global,
+        process: u32,
+        command: &Command<Kind>,
+    ) -> Result<Reply, Status>
+        ensures { Ends process command.now self.old result self.new }
+    {
+        let Ok(reply) = run_command(&mut self.core, alloc, Proc(process), command) else {
+            return Err(Status::NoMemory);
+        };
+        Ok(reply)
+    }
+
+    /// What a handle of a process leads to, whose low two bits are ignored: the object's id, and what it is. `None` exactly
+    /// where the process has no such handle. Takes no memory.
+    ///
+    /// Source: ObReferenceObjectByHandle (Windows Driver Kit).
+    pub(crate) fn referent(
+        &self,
+        process: u32,
+        handle: u32,
+    ) -> Option<(ObjId, Referent<'_, HostObject, HostInner>)>
+        ensures { option_map (λ led. (led.0, body_lent led.1)) result
+            ≡ referent_at self.now process handle }
+    {
+        self.core.referent(Proc(process), Handle(handle))
+    }
+    /// Takes the object that was deleted first of those that weren't taken yet; `None` where none is left, and then nothing
+    /// changes. Takes no memory. (this profile)
+    pub(crate) fn take_next(&mut self) -> Option<HostObject>
+        ensures told { result ≡ next_deleted self.old.set }
+        ensures taken { IfSome result (λ _. self.new ≡ with_change behind_next self.old) }
+        ensures none { IfNone result (self.new ≡ self.old) }
+    {
+        self.core.take_next()
+    }
+}

@@ -1,0 +1,98 @@
+//! Exports that create what a name stands for.
+
+ghost use Rattle.ob_model.specs.declared.command.Command.TheVariants.{CreateDirectory, CreateLink, CreateObject};
+ghost use Rattle.ob_c.specs.Calls.{Does, DoesOfType, arguments_of, place_of};
+ghost use Rattle.ob_c.specs.Told.{TellsHandle};
+
+use crate::Ntns;
+use crate::called::{call, handle_in, status_in};
+use crate::commands::{create_directory, create_link, create_object};
+use crate::types::kind_of;
+use ob_base::Status;
+use std::alloc::Global;
+
+/// Creates a directory at a name, or without one where `named` is false, and opens a handle to it. `root` is the handle that
+/// the name is relative to, 0 for none. The handle is told, 0 where none is given.
+///
+/// The statuses are those of the command `CreateDirectory`, in its order; `InvalidParameter` where the namespace is closed,
+/// and `NoMemory` where memory is wanted, and then nothing has changed. Source: ZwCreateDirectoryObject (Windows Driver Kit).
+#[unsafe(no_mangle)]
+pub extern "C" fn ntns_create_directory_raw(
+    ns: &mut Ntns,
+    alloc: Global,
+    process: u32,
+    root: u32,
+    named: bool,
+    name: &[u8],
+    attributes: u32,
+    handle: &mut u32,
+) -> u32
+    ensures { Does process (CreateDirectory (place_of named root name.now) attributes)
+        ns.old.core ns.new.core (TellsHandle result handle.new) }
+{
+    let made = create_directory(alloc, root, named, name, attributes);
+    let ended = call(ns, alloc, process, made);
+    *handle = handle_in(&ended);
+    status_in(&ended)
+}
+
+/// Creates a symbolic link to a target, at a name, or without one where `named` is false, and opens a handle to it. `root`
+/// is the handle that the name is relative to, 0 for none. The handle is told, 0 where none is given.
+///
+/// The statuses are those of the command `CreateLink`, in its order; `InvalidParameter` where the namespace is closed,
+/// and `NoMemory` where memory is wanted, and then nothing has changed. Source: ZwCreateSymbolicLinkObject (Windows Driver
+/// Kit).
+#[unsafe(no_mangle)]
+pub extern "C" fn ntns_create_link_raw(
+    ns: &mut Ntns,
+    alloc: Global,
+    process: u32,
+    root: u32,
+    named: bool,
+    name: &[u8],
+    attributes: u32,
+    target: &[u8],
+    handle: &mut u32,
+) -> u32
+    ensures { Does process (CreateLink (place_of named root name.now) attributes target.now)
+        ns.old.core ns.new.core (TellsHandle result handle.new) }
+{
+    let made = create_link(alloc, root, named, name, attributes, target);
+    let ended = call(ns, alloc, process, made);
+    *handle = handle_in(&ended);
+    status_in(&ended)
+}
+
+/// Creates an object of the kind of a type's number, with a word of the caller's, at a name, or without one where `named` is
+/// false, and opens a handle to it. `root` is the handle that the name is relative to, 0 for none. The handle is told, 0
+/// where none is given.
+///
+/// The statuses are those of the command `CreateObject`, in its order; `InvalidParameter` where the namespace is closed, or
+/// no kind has the number, and `NoMemory` where memory is wanted, and then nothing has changed. Source: ZwCreateEvent and its
+/// like (Windows Driver Kit); words are this profile.
+#[unsafe(no_mangle)]
+pub extern "C" fn ntns_create_object_raw(
+    ns: &mut Ntns,
+    alloc: Global,
+    process: u32,
+    root: u32,
+    named: bool,
+    name: &[u8],
+    attributes: u32,
+    number: u32,
+    word: u64,
+    handle: &mut u32,
+) -> u32
+    ensures { DoesOfType number process (λ kind.
+        CreateObject (place_of named root name.now) attributes kind (arguments_of word))
+        ns.old.core ns.new.core (TellsHandle result handle.new) }
+{
+    let Some(kind) = kind_of(number) else {
+        *handle = 0;
+        return Status::InvalidParameter.code();
+    };
+    let made = create_object(alloc, root, named, name, attributes, kind, word);
+    let ended = call(ns, alloc, process, made);
+    *handle = handle_in(&ended);
+    status_in(&ended)
+}

@@ -1,0 +1,120 @@
+//! Exports that tell what a handle leads to.
+
+ghost use Rattle.std.specs.Prelude.{◌≡◌};
+ghost use Rattle.ob_core.specs.Referent.{referent_at};
+ghost use Rattle.ob_c.specs.Objects.{has_text, TellsFile, TellsObject, TellsReferent, TellsReferentText};
+
+use crate::Ntns;
+use crate::buffers::{fill, fill_nothing};
+use crate::machine::HostCore;
+use crate::types::{type_of, word_of};
+use ob_base::Status;
+use ob_core::Referent;
+use ob_host::Kind;
+use std::alloc::Global;
+
+/// Tells the type's number, the word and the id of what a handle of a process leads to. The word of a directory and of a
+/// symbolic link is 0. It takes no memory, and changes nothing.
+///
+/// `InvalidParameter` where the namespace is closed, and `InvalidHandle` where the process, which may be gone, has no such
+/// handle: all three are 0 then. Source: ObReferenceObjectByHandle (Windows Driver Kit); words are this profile.
+#[unsafe(no_mangle)]
+pub extern "C" fn ntns_query_object(
+    ns: &mut Ntns,
+    alloc: Global,
+    process: u32,
+    handle: u32,
+    number: &mut u32,
+    word: &mut u64,
+    id: &mut u64,
+) -> u32
+    ensures told { TellsObject ns.old.core process handle result number.new word.new id.new }
+    ensures same { ns.new.core ≡ ns.old.core }
+{
+    *number = 0;
+    *word = 0;
+    *id = 0;
+    let Some(core) = ns.take(alloc) else {
+        return Status::InvalidParameter.code();
+    };
+    let status = tell_object(&core, process, handle, number, word, id);
+    ns.put(core);
+    status
+}
+
+// Tells what a handle of a process leads to; three zeros where it has no such handle.
+fn tell_object(
+    core: &HostCore,
+    process: u32,
+    handle: u32,
+    number: &mut u32,
+    word: &mut u64,
+    id: &mut u64,
+) -> u32
+    ensures { TellsReferent (referent_at core.now process handle) result number.new word.new
+        id.new }
+{
+    let Some((object, referent)) = core.referent(process, handle) else {
+        *number = 0;
+        *word = 0;
+        *id = 0;
+        return Status::InvalidHandle.code();
+    };
+    *number = type_of(&referent);
+    *word = word_of(&referent);
+    *id = object.0;
+    Status::Success.code()
+}
+
+/// Writes the text of the file or the key of a handle of a process into a buffer, and tells its length: where a parse made
+/// it, the rest of the name that the parse took, else the empty text. Where it doesn't fit, nothing is written, and the
+/// status is `BufferTooSmall`. It takes no memory, and changes nothing.
+///
+/// `InvalidParameter` where the namespace is closed, `InvalidHandle` where the process, which may be gone, has no such handle,
+/// and `ObjectTypeMismatch` of any other object: nothing is written then, and the length is 0. (this profile)
+#[unsafe(no_mangle)]
+pub extern "C" fn ntns_query_file_raw(
+    ns: &mut Ntns,
+    alloc: Global,
+    process: u32,
+    handle: u32,
+    buffer: &mut [u8],
+    length: &mut usize,
+) -> u32
+    ensures told { TellsFile ns.old.core process handle result buffer.old buffer.new length.new }
+    ensures same { ns.new.core ≡ ns.old.core }
+{
+    let Some(core) = ns.take(alloc) else {
+        return fill_nothing(Status::InvalidParameter, length);
+    };
+    let status = tell_file(&core, process, handle, buffer, length);
+    ns.put(core);
+    status
+}
+
+// Tells the text of what a handle of a process leads to.
+fn tell_file(
+    core: &HostCore,
+    process: u32,
+    handle: u32,
+    buffer: &mut [u8],
+    length: &mut usize,
+) -> u32
+    ensures { TellsReferentText (referent_at core.now process handle) result buffer.old buffer.new
+        length.new }
+{
+    match core.referent(process, handle) {
+        None => fill_nothing(Status::InvalidHandle, length),
+        Some((_, Referent::Other { face, .. })) if has_text(face.kind) => {
+            fill(face.text.as_slice(), Status::Success, buffer, length)
+        }
+        Some(_) => fill_nothing(Status::ObjectTypeMismatch, length),
+    }
+}
+
+// Whether an object of this kind has a text: a file or a key.
+fn has_text(kind: Kind) -> bool
+    ensures { result ≡ has_text kind }
+{
+    kind == Kind::File || kind == Kind::Key
+}

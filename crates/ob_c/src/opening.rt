@@ -1,0 +1,122 @@
+//! Exports that open what a name leads to.
+
+ghost use Rattle.ob_model.specs.declared.command.Command.TheVariants.{OpenDirectory, OpenLink, OpenObject};
+ghost use Rattle.ob_c.specs.Calls.{Does, DoesOfAnyType, root_of};
+ghost use Rattle.ob_c.specs.Told.{TellsHandle};
+
+use crate::Ntns;
+use crate::called::{call, handle_in, status_in};
+use crate::commands::{open_directory, open_link, open_object};
+use crate::types::kind_of;
+use ob_base::Status;
+use ob_host::Kind;
+use std::alloc::Global;
+
+/// Opens a handle to the directory that a name leads to. `root` is the handle that the name is relative to, 0 for none.
+/// The handle is told, 0 where none is given.
+///
+/// The statuses are those of the command `OpenDirectory`, in its order; `InvalidParameter` where the namespace is closed,
+/// and `NoMemory` where memory is wanted. Source: ZwOpenDirectoryObject (Windows Driver Kit).
+#[unsafe(no_mangle)]
+pub extern "C" fn ntns_open_directory_raw(
+    ns: &mut Ntns,
+    alloc: Global,
+    process: u32,
+    root: u32,
+    name: &[u8],
+    attributes: u32,
+    handle: &mut u32,
+) -> u32
+    ensures { Does process (OpenDirectory (root_of root) name.now attributes)
+        ns.old.core ns.new.core (TellsHandle result handle.new) }
+{
+    let made = open_directory(alloc, root, name, attributes);
+    let ended = call(ns, alloc, process, made);
+    *handle = handle_in(&ended);
+    status_in(&ended)
+}
+
+/// Opens a handle to the symbolic link that a name leads to, which is not followed. `root` is the handle that the name is
+/// relative to, 0 for none. The handle is told, 0 where none is given.
+///
+/// The statuses are those of the command `OpenLink`, in its order; `InvalidParameter` where the namespace is closed,
+/// and `NoMemory` where memory is wanted. Source: ZwOpenSymbolicLinkObject (Windows Driver Kit).
+#[unsafe(no_mangle)]
+pub extern "C" fn ntns_open_link_raw(
+    ns: &mut Ntns,
+    alloc: Global,
+    process: u32,
+    root: u32,
+    name: &[u8],
+    attributes: u32,
+    handle: &mut u32,
+) -> u32
+    ensures { Does process (OpenLink (root_of root) name.now attributes)
+        ns.old.core ns.new.core (TellsHandle result handle.new) }
+{
+    let made = open_link(alloc, root, name, attributes);
+    let ended = call(ns, alloc, process, made);
+    *handle = handle_in(&ended);
+    status_in(&ended)
+}
+
+/// Opens a handle to the object that a name leads to, of the kind of a type's number, or of any type where that is 0. A
+/// parse that the open waits for is run, and so is each that follows it, until the open has its reply. `root` is the handle
+/// that the name is relative to, 0 for none. The handle is told, 0 where none is given.
+///
+/// The statuses are those of the command `OpenObject`, in its order; `InvalidParameter` where the namespace is closed, or
+/// no kind has the number, and `NoMemory` where memory is wanted: then the open is given up, where it waits. Source:
+/// ZwOpenEvent and its like (Windows Driver Kit); Windows Internals, Object Manager (parse methods).
+#[unsafe(no_mangle)]
+pub extern "C" fn ntns_open_object_raw(
+    ns: &mut Ntns,
+    alloc: Global,
+    process: u32,
+    root: u32,
+    name: &[u8],
+    attributes: u32,
+    number: u32,
+    handle: &mut u32,
+) -> u32
+    ensures { DoesOfAnyType number process
+        (λ want. OpenObject (root_of root) name.now attributes want)
+        ns.old.core ns.new.core (TellsHandle result handle.new) }
+{
+    if number == 0 {
+        return open_wanted(ns, alloc, process, root, name, attributes, None, handle);
+    }
+    let Some(kind) = kind_of(number) else {
+        *handle = 0;
+        return Status::InvalidParameter.code();
+    };
+    open_wanted(
+        ns,
+        alloc,
+        process,
+        root,
+        name,
+        attributes,
+        Some(kind),
+        handle,
+    )
+}
+
+// Opens a handle to the object that a name leads to, of a kind where one is given.
+fn open_wanted(
+    ns: &mut Ntns,
+    alloc: Global,
+    process: u32,
+    root: u32,
+    name: &[u8],
+    attributes: u32,
+    want: Option<Kind>,
+    handle: &mut u32,
+) -> u32
+    ensures { Does process (OpenObject (root_of root) name.now attributes want)
+        ns.old.core ns.new.core (TellsHandle result handle.new) }
+{
+    let made = open_object(alloc, root, name, attributes, want);
+    let ended = call(ns, alloc, process, made);
+    *handle = handle_in(&ended);
+    status_in(&ended)
+}

@@ -1,0 +1,292 @@
+/*
+ * ntns: the naming half of the NT object manager, in memory, for callers in C and C++.
+ *
+ * A namespace holds object directories, symbolic links and objects of the caller's own, and processes with handles to them. Of
+ * each object that is the caller's own it keeps a type and a word, 64 bits in which the caller says what the object is, and tells
+ * these again when the last reference has gone. docs/c.md has every call's statuses with what carries each claim;
+ * docs/namespace.md has the rules.
+ *
+ *     ntns ns = NTNS_CLOSED;
+ *     uint32_t event;
+ *     ntns_status status = ntns_open(&ns);
+ *     if (status == NTNS_STATUS_SUCCESS)
+ *         status = ntns_create_object(&ns, 1, 0, "\\E", 2, 0, NTNS_TYPE_EVENT, 7, &event);
+ *     ntns_close(&ns);
+ *
+ * What a caller owes: `ns` is all zeros before its first open, and no one else writes into it; every pointer is valid for what is
+ * read or written through it, and no two that are written through overlap; a name, a target or a buffer may be NULL where its
+ * length is 0. There is one call at a time on one namespace; calls on different namespaces are free of one another. A caller with
+ * threads puts a lock round each namespace:
+ *
+ *     static pthread_mutex_t lock = PTHREAD_MUTEX_INITIALIZER;
+ *
+ *     pthread_mutex_lock(&lock);
+ *     ntns_status status = ntns_close_handle(&ns, process, handle);
+ *     pthread_mutex_unlock(&lock);
+ *
+ * No call blocks, prints or ends the process. Names, targets and texts are bytes with a length, without a terminator. Whatever is
+ * refused, out of memory too, leaves the namespace as it was; the exceptions stand in docs/c.md.
+ *
+ * Process 1 is there from the open on; ntns_new_process gives others.
+ */
+#ifndef NTNS_H
+#define NTNS_H
+
+#include <stdbool.h>
+#include <stddef.h>
+#include <stdint.h>
+
+#ifdef __cplusplus
+extern "C" {
+#endif
+
+/* A namespace: all zeros before it is opened and after it is closed. It may be moved between calls, and isn't copied. */
+typedef struct ntns {
+	uintptr_t words[2];
+} ntns;
+
+/* what a closed namespace is made from */
+#define NTNS_CLOSED { { 0, 0 } }
+
+/* An NTSTATUS. Those with 0xE in front are this library's own. */
+typedef uint32_t ntns_status;
+
+/* whether a call did what was asked: as NT_SUCCESS */
+#define NTNS_SUCCEEDED(status) ((ntns_status)(status) < 0x80000000u)
+
+#define NTNS_STATUS_SUCCESS                ((ntns_status)0x00000000u)
+#define NTNS_STATUS_OBJECT_NAME_EXISTS     ((ntns_status)0x40000000u) /* with OPENIF: what is there was opened */
+#define NTNS_STATUS_NO_MORE_ENTRIES        ((ntns_status)0x8000001Au)
+#define NTNS_STATUS_INVALID_HANDLE         ((ntns_status)0xC0000008u)
+#define NTNS_STATUS_INVALID_PARAMETER      ((ntns_status)0xC000000Du)
+#define NTNS_STATUS_NO_MEMORY              ((ntns_status)0xC0000017u)
+#define NTNS_STATUS_ACCESS_DENIED          ((ntns_status)0xC0000022u) /* another process holds the exclusive object */
+#define NTNS_STATUS_BUFFER_TOO_SMALL       ((ntns_status)0xC0000023u)
+#define NTNS_STATUS_OBJECT_TYPE_MISMATCH   ((ntns_status)0xC0000024u)
+#define NTNS_STATUS_OBJECT_NAME_INVALID    ((ntns_status)0xC0000033u)
+#define NTNS_STATUS_OBJECT_NAME_NOT_FOUND  ((ntns_status)0xC0000034u)
+#define NTNS_STATUS_OBJECT_NAME_COLLISION  ((ntns_status)0xC0000035u)
+#define NTNS_STATUS_OBJECT_PATH_NOT_FOUND  ((ntns_status)0xC000003Au)
+#define NTNS_STATUS_OBJECT_PATH_SYNTAX_BAD ((ntns_status)0xC000003Bu)
+#define NTNS_STATUS_INSUFFICIENT_RESOURCES ((ntns_status)0xC000009Au) /* a table is full, or a number has run out */
+#define NTNS_STATUS_NAME_TOO_LONG          ((ntns_status)0xC0000106u)
+#define NTNS_STATUS_REPARSE_LIMIT          ((ntns_status)0xE0000001u) /* a lookup would start again for the 33rd time */
+#define NTNS_STATUS_PROCESS_GONE           ((ntns_status)0xE0000002u) /* the process has ended, or there never was one */
+
+/* Attributes, as of OBJECT_ATTRIBUTES. Creates use all but OPENLINK, opens all but PERMANENT and OPENIF. */
+#define NTNS_OBJ_INHERIT          0x002u
+#define NTNS_OBJ_PERMANENT        0x010u
+#define NTNS_OBJ_EXCLUSIVE        0x020u
+#define NTNS_OBJ_CASE_INSENSITIVE 0x040u
+#define NTNS_OBJ_OPENIF           0x080u
+#define NTNS_OBJ_OPENLINK         0x100u
+
+/*
+ * The types. Directories and links are the namespace's own; the others are for the caller's objects. A device and a key parse: an
+ * open takes the whole rest of a name that leads through one, and makes a file of the device, or a key below the key.
+ */
+enum ntns_type {
+	NTNS_TYPE_ANY = 0, /* of an open: whatever is found; no object's type */
+	NTNS_TYPE_DIRECTORY = 1,
+	NTNS_TYPE_SYMBOLIC_LINK = 2,
+	NTNS_TYPE_EVENT = 3,
+	NTNS_TYPE_MUTANT = 4,
+	NTNS_TYPE_SEMAPHORE = 5,
+	NTNS_TYPE_TIMER = 6,
+	NTNS_TYPE_SECTION = 7,
+	NTNS_TYPE_JOB = 8,
+	NTNS_TYPE_IO_COMPLETION = 9,
+	NTNS_TYPE_ALPC_PORT = 10,
+	NTNS_TYPE_KEY = 11,
+	NTNS_TYPE_DEVICE = 12,
+	NTNS_TYPE_DRIVER = 13,
+	NTNS_TYPE_FILE = 14,
+	NTNS_TYPE_WINDOW_STATION = 15,
+	NTNS_TYPE_DESKTOP = 16,
+	NTNS_TYPE_PROCESS = 17,
+	NTNS_TYPE_THREAD = 18,
+	NTNS_TYPE_TOKEN = 19,
+	NTNS_TYPE_CALLBACK = 20,
+	NTNS_TYPE_PROFILE = 21,
+	NTNS_TYPE_KEYED_EVENT = 22,
+	NTNS_TYPE_SESSION = 23,
+	NTNS_TYPE_PARTITION = 24,
+	NTNS_TYPE_CONTROLLER = 25,
+	NTNS_TYPE_ADAPTER = 26,
+	NTNS_TYPE_ETW_REGISTRATION = 27,
+	NTNS_TYPE_TM_TM = 28,
+	NTNS_TYPE_TM_TX = 29,
+	NTNS_TYPE_TM_RM = 30,
+	NTNS_TYPE_TM_EN = 31,
+	NTNS_TYPE_WAITABLE_PORT = 32,
+	NTNS_TYPE_TP_WORKER_FACTORY = 33,
+	NTNS_TYPE_FILTER_CONNECTION_PORT = 34,
+	NTNS_TYPE_POWER_REQUEST = 35,
+	NTNS_TYPE_DEBUG_OBJECT = 36,
+	NTNS_TYPE_ETW_CONSUMER = 37,
+	NTNS_TYPE_WMI_GUID = 38
+};
+
+/*
+ * Opens a namespace: the root, \GLOBAL??, \DosDevices (a link to \??), \Device, \BaseNamedObjects and \Sessions, and process 1.
+ * INVALID_PARAMETER where it is open already, NO_MEMORY; then `ns` is as it was.
+ */
+ntns_status ntns_open(ntns *ns);
+
+/* Closes a namespace: all memory that it owns is freed, and `ns` is all zeros. Nothing is told as deleted. A closed one stays closed. */
+void ntns_close(ntns *ns);
+
+/*
+ * Creates. `root` is the handle of a directory that the name is relative to, or 0 for an absolute name; with `name` NULL the object has
+ * no name. `handle` is given a handle of the process on success, and else 0. With OPENIF an object of that type that is there is
+ * opened: OBJECT_NAME_EXISTS. The statuses, the first that holds being told:
+ *
+ *     INVALID_PARAMETER        `ns` is closed; of an object, the type is none or isn't the caller's to make
+ *     PROCESS_GONE             the process isn't live
+ *     INVALID_PARAMETER        another bit in the attributes, INHERIT with EXCLUSIVE; of a link, a target that isn't 1 to 32,767
+ *                              bytes from 0x20 to 0x7E
+ *     OBJECT_NAME_INVALID      a byte of the name outside 0x20 to 0x7E
+ *     NAME_TOO_LONG            a name above 32,767 bytes
+ *     INVALID_HANDLE           `root` is no handle of the process
+ *     OBJECT_PATH_SYNTAX_BAD   an absolute name without a leading backslash, or a relative one with one
+ *     OBJECT_TYPE_MISMATCH     `root` is no directory's
+ *     of the walk:             OBJECT_NAME_INVALID, OBJECT_PATH_NOT_FOUND, OBJECT_TYPE_MISMATCH, and of links REPARSE_LIMIT,
+ *                              NAME_TOO_LONG, OBJECT_PATH_SYNTAX_BAD
+ *     OBJECT_TYPE_MISMATCH     with OPENIF: what is there is of another type
+ *     OBJECT_NAME_COLLISION    without OPENIF: the name is taken
+ *     of what OPENIF opens:    INVALID_PARAMETER (EXCLUSIVE is asked of an object that isn't, INHERIT of one that is), ACCESS_DENIED
+ *     INSUFFICIENT_RESOURCES   the process's 65,535 handles, the 1,048,576 objects or a counter
+ *     NO_MEMORY                here, or before all else but the first line where names can't be copied
+ */
+
+/* NtCreateDirectoryObject */
+ntns_status ntns_create_directory(ntns *ns, uint32_t process, uint32_t root, const char *name, size_t name_len, uint32_t attributes,
+				  uint32_t *handle);
+
+/* NtCreateSymbolicLinkObject. What `target` says is looked up when the link is followed. */
+ntns_status ntns_create_link(ntns *ns, uint32_t process, uint32_t root, const char *name, size_t name_len, uint32_t attributes,
+			     const char *target, size_t target_len, uint32_t *handle);
+
+/* NtCreateEvent, NtCreateMutant, NtCreateSection and so on: an object of the caller's, of a type from NTNS_TYPE_EVENT on. */
+ntns_status ntns_create_object(ntns *ns, uint32_t process, uint32_t root, const char *name, size_t name_len, uint32_t attributes,
+			       uint32_t type, uint64_t word, uint32_t *handle);
+
+/*
+ * Opens. `handle` is given a handle of the process on success, and else 0. A name that leads through a device or a key is parsed to
+ * its end within the call; `root` may then be a handle to one. The statuses, the first that holds being told:
+ *
+ *     INVALID_PARAMETER        `ns` is closed; of an object, a type that is neither NTNS_TYPE_ANY nor the caller's to make
+ *     PROCESS_GONE, INVALID_PARAMETER, OBJECT_NAME_INVALID, NAME_TOO_LONG, INVALID_HANDLE, OBJECT_PATH_SYNTAX_BAD,
+ *     OBJECT_TYPE_MISMATCH     as of a create
+ *     of the walk:             the same, and OBJECT_NAME_NOT_FOUND where the last component is no entry
+ *     OBJECT_TYPE_MISMATCH     what was found is of another type
+ *     INVALID_PARAMETER        EXCLUSIVE is asked of an object that isn't, INHERIT of one that is
+ *     ACCESS_DENIED            the object is exclusive, and another process has a handle to it
+ *     INSUFFICIENT_RESOURCES, NO_MEMORY
+ */
+
+/* NtOpenDirectoryObject */
+ntns_status ntns_open_directory(ntns *ns, uint32_t process, uint32_t root, const char *name, size_t name_len, uint32_t attributes,
+				uint32_t *handle);
+
+/* NtOpenSymbolicLinkObject: the last component isn't followed. */
+ntns_status ntns_open_link(ntns *ns, uint32_t process, uint32_t root, const char *name, size_t name_len, uint32_t attributes,
+			   uint32_t *handle);
+
+/*
+ * NtOpenEvent, NtOpenFile, NtOpenKey and so on; with NTNS_TYPE_ANY whatever the name leads to, also a directory, and with OPENLINK a
+ * link. What lies behind a device is a new file, what lies behind a key a new key, each with the word of the device or key and the
+ * rest of the name as its text (ntns_query_file). The empty rest of a key is the key itself, of a device a file too.
+ */
+ntns_status ntns_open_object(ntns *ns, uint32_t process, uint32_t root, const char *name, size_t name_len, uint32_t attributes,
+			     uint32_t type, uint32_t *handle);
+
+/*
+ * NtClose. What nothing refers to any more is deleted, and what of it is the caller's stands in the list of ntns_next_deleted.
+ * INVALID_PARAMETER (closed), PROCESS_GONE, INVALID_HANDLE.
+ */
+ntns_status ntns_close_handle(ntns *ns, uint32_t process, uint32_t handle);
+
+/*
+ * NtDuplicateObject: a handle of the process `to`, which may be the caller, to the same object.
+ * INVALID_PARAMETER (closed), PROCESS_GONE (the caller, then `to`), INVALID_HANDLE, INVALID_PARAMETER (`inherit` of an exclusive
+ * object), ACCESS_DENIED, INSUFFICIENT_RESOURCES, NO_MEMORY.
+ */
+ntns_status ntns_duplicate(ntns *ns, uint32_t process, uint32_t handle, uint32_t to, bool inherit, uint32_t *copy);
+
+/*
+ * NtMakeTemporaryObject: the object loses its name with its last handle. NtMakePermanentObject: it keeps it without one.
+ * INVALID_PARAMETER (closed), PROCESS_GONE, INVALID_HANDLE.
+ */
+ntns_status ntns_make_temporary(ntns *ns, uint32_t process, uint32_t handle);
+ntns_status ntns_make_permanent(ntns *ns, uint32_t process, uint32_t handle);
+
+/*
+ * Texts. On success `length` is that of the text, whose bytes stand in `buffer`; where that is too small nothing is written into it,
+ * and `length` is what is needed; on any other status it is 0. What of the buffer isn't needed stays as it was.
+ *
+ * NtQuerySymbolicLinkObject: the target of a link, as it was given.
+ * ObQueryNameString: the path of an object; empty where it or a directory above it has no name.
+ * ntns_query_file: of a file or a key, what the parse took: the text behind its device or key, empty of one that was created.
+ *
+ * INVALID_PARAMETER (closed), PROCESS_GONE, INVALID_HANDLE, OBJECT_TYPE_MISMATCH (no link; no file or key), NAME_TOO_LONG (a path above
+ * 32,767 bytes), NO_MEMORY, BUFFER_TOO_SMALL. ntns_query_file takes no memory, and of a process that is gone answers INVALID_HANDLE.
+ */
+ntns_status ntns_query_link(ntns *ns, uint32_t process, uint32_t handle, char *buffer, size_t capacity, size_t *length);
+ntns_status ntns_query_name(ntns *ns, uint32_t process, uint32_t handle, char *buffer, size_t capacity, size_t *length);
+ntns_status ntns_query_file(ntns *ns, uint32_t process, uint32_t handle, char *buffer, size_t capacity, size_t *length);
+
+/*
+ * NtQueryDirectoryObject, one entry a call: the name and the type of the first entry behind `context`, which is 0 for the first of all
+ * and is then left at the entry that was shown. Entries stand in the order in which they were made; those that come or go between
+ * calls don't disturb the others. `length` and `buffer` are as of texts; where the buffer is too small `context` stays, and `type` is
+ * told all the same. On any other refusal `type` is 0.
+ *
+ * INVALID_PARAMETER (closed), PROCESS_GONE, INVALID_HANDLE, OBJECT_TYPE_MISMATCH (no directory), NO_MEMORY, NO_MORE_ENTRIES (behind
+ * the last), BUFFER_TOO_SMALL.
+ */
+ntns_status ntns_next_entry(ntns *ns, uint32_t process, uint32_t handle, uint64_t *context, char *buffer, size_t capacity, size_t *length,
+			    uint32_t *type);
+
+/*
+ * NtSetInformationProcess with ProcessDeviceMap: \?? is then this directory before \GLOBAL??, for the process and the children that
+ * it begins.
+ * INVALID_PARAMETER (closed), PROCESS_GONE, INVALID_HANDLE, OBJECT_TYPE_MISMATCH (no directory).
+ */
+ntns_status ntns_set_device_map(ntns *ns, uint32_t process, uint32_t handle);
+
+/*
+ * CreateProcess, as far as handles go: a child with the device map of `process`, and with `inherit` its handles that have INHERIT, under
+ * the same values. `child` is its number, or 0.
+ * INVALID_PARAMETER (closed), PROCESS_GONE, INSUFFICIENT_RESOURCES (1,024 live processes), NO_MEMORY.
+ */
+ntns_status ntns_new_process(ntns *ns, uint32_t process, bool inherit, uint32_t *child);
+
+/* ExitProcess, likewise: its handles are closed in the order in which they were opened. INVALID_PARAMETER (closed), PROCESS_GONE. */
+ntns_status ntns_exit_process(ntns *ns, uint32_t process);
+
+/*
+ * ObReferenceObjectByHandle: what a handle leads to, its type, its word (0 of directories and links) and its id, which no other object of
+ * the namespace ever has. It takes no memory.
+ * INVALID_PARAMETER (closed), INVALID_HANDLE (also of a process that is gone); then all three are 0.
+ */
+ntns_status ntns_query_object(ntns *ns, uint32_t process, uint32_t handle, uint32_t *type, uint64_t *word, uint64_t *id);
+
+/*
+ * The delete procedure, told behind the step: takes the first of the caller's objects that were deleted and not taken yet. What a
+ * parse made and no handle was given to is told too. It takes no memory.
+ * INVALID_PARAMETER (closed), NO_MORE_ENTRIES (none is left); then both are 0.
+ */
+ntns_status ntns_next_deleted(ntns *ns, uint32_t *type, uint64_t *word);
+
+/* The status's name, as "OBJECT_NAME_NOT_FOUND"; NULL where it is none of this library's. */
+const char *ntns_status_text(ntns_status status);
+
+/* The type's name, as Windows spells it: "Directory", "ALPC Port"; NULL where there is no such type. */
+const char *ntns_type_name(uint32_t type);
+
+#ifdef __cplusplus
+}
+#endif
+
+#endif
