@@ -23,7 +23,7 @@ enum ask {
 	MISS,      /* to open a name that no object has */
 	CLOSE,     /* to close the handle that was given last */
 	TEMPORARY, /* to make its object temporary */
-	LIST,      /* to list the directory of that handle, whose names have up to 4,096 bytes in all */
+	ENTRY,     /* to list the first entry of the directory of that handle */
 	CHILD,     /* to begin a child, which inherits handles */
 	EXIT       /* to end the last child */
 };
@@ -85,9 +85,9 @@ static const struct operation operations[] = {
 	{ "open a key four components deep, and close it",
 	  { ONE(KEY, "\\K", 0) },
 	  { { OPEN, "\\K\\a\\b\\c", 0 }, { CLOSE, NULL, 0 } } },
-	{ "list a page of 100 entries",
+	{ "list an entry of 100",
 	  { ONE(DIRECTORY, "\\Many", 0), FEW, ONE(OPEN, "\\Many", 0) },
-	  { { LIST, NULL, 0 } } },
+	  { { ENTRY, NULL, 0 } } },
 };
 
 /* A namespace, with the handle and the child that were given last. */
@@ -96,18 +96,15 @@ struct hand {
 	uint32_t handle, child;
 };
 
-/* Lists a directory from its first entry on; the status of the last call. */
-static ntns_status list(struct hand *hand)
+/* Lists the first entry of a directory. */
+static ntns_status first_entry(struct hand *hand)
 {
-	char name[4096];
+	char name[256];
 	uint64_t context = 0;
 	size_t length;
 	uint32_t type;
-	ntns_status status;
 
-	while ((status = ntns_next_entry(&hand->ns, 1, hand->handle, &context, name, sizeof name, &length, &type)) == NTNS_STATUS_SUCCESS)
-		continue;
-	return status;
+	return ntns_next_entry(&hand->ns, 1, hand->handle, &context, name, sizeof name, &length, &type);
 }
 
 /* Asks for an object to be made. */
@@ -142,8 +139,8 @@ static bool is_answered(struct hand *hand, const struct asked *asked, uint32_t n
 		return ntns_close_handle(&hand->ns, 1, hand->handle) == NTNS_STATUS_SUCCESS;
 	case TEMPORARY:
 		return ntns_make_temporary(&hand->ns, 1, hand->handle) == NTNS_STATUS_SUCCESS;
-	case LIST:
-		return list(hand) == NTNS_STATUS_NO_MORE_ENTRIES;
+	case ENTRY:
+		return first_entry(hand) == NTNS_STATUS_SUCCESS;
 	case CHILD:
 		return ntns_new_process(&hand->ns, 1, true, &hand->child) == NTNS_STATUS_SUCCESS;
 	case EXIT:

@@ -37,6 +37,8 @@ enum Ask {
     Temporary,
     /// To list the directory of that handle, in a page of 4,096 bytes.
     List,
+    /// To list its first entry alone.
+    Entry,
     /// To begin a child, which inherits handles.
     Child,
     /// To end the last child.
@@ -143,6 +145,15 @@ const OPERATIONS: &'static [Operation] = &[
         ],
         round: &[Ask::List],
     },
+    Operation {
+        name: "list an entry of 100",
+        before: &[
+            (1, &[Ask::Directory("\\Many")]),
+            (100, MANY),
+            (1, &[Ask::Open("\\Many", 0)]),
+        ],
+        round: &[Ask::Entry],
+    },
 ];
 
 /// What was given last: a handle, and a child.
@@ -239,19 +250,20 @@ fn command_of(
         Ask::Miss(name) => open(alloc, name, 0),
         Ask::Close => Ok(Command::Close { handle }),
         Ask::Temporary => Ok(Command::MakeTemporary { handle }),
-        Ask::List => Ok(list(handle)),
+        Ask::List => Ok(list(handle, 4096, false)),
+        Ask::Entry => Ok(list(handle, 1_048_576, true)),
         Ask::Child => Ok(Command::NewProcess { inherit: true }),
         Ask::Exit => Ok(Command::ExitProcess),
     }
 }
 
-/// Lists a directory from its first entry on.
-fn list(handle: Handle) -> Command<StandardKind> {
+/// Lists a directory from its first entry on, in a room, or a single entry.
+fn list(handle: Handle, room: u32, single: bool) -> Command<StandardKind> {
     Command::QueryDirectory {
         handle,
         context: 0,
-        room: 4096,
-        single: false,
+        room,
+        single,
         restart: true,
     }
 }
