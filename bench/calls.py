@@ -3,8 +3,8 @@
 
     bench/calls.py CORE_BENCH ROUNDS
 
-Each rate is the best of three runs, which take turns. How many times as long a round takes by calls from C stands behind it. A call
-tells an entry, so that a page has no counterpart. Nothing here fails.
+Each rate is the best of three runs, which take turns. How many times as long a round takes by calls from C stands behind it. Nothing
+here fails.
 """
 
 import os
@@ -39,7 +39,7 @@ def main():
         runs = [(rates(sys.argv[1], sys.argv[2]), rates(by_calls, sys.argv[2])) for _ in range(RUNS)]
     rattle, c = best([run[0] for run in runs]), best([run[1] for run in runs])
     for name, rate in rattle.items():
-        said = f"by calls from C {c[name]}, {rate / c[name]:.2f} times as long" if c.get(name) else "no call from C tells a page" if "page" in name else "a call from C was refused"
+        said = f"by calls from C {c[name]}, {rate / c[name]:.2f} times as long" if c.get(name) else "a call from C was refused"
         print(f"{name}: {rate} a second; {said}")
 
 

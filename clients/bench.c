@@ -24,6 +24,7 @@ enum ask {
 	CLOSE,     /* to close the handle that was given last */
 	TEMPORARY, /* to make its object temporary */
 	ENTRY,     /* to list the first entry of the directory of that handle */
+	PAGE,      /* to list it in a page of 4,096 bytes */
 	CHILD,     /* to begin a child, which inherits handles */
 	EXIT       /* to end the last child */
 };
@@ -88,6 +89,9 @@ static const struct operation operations[] = {
 	{ "list an entry of 100",
 	  { ONE(DIRECTORY, "\\Many", 0), FEW, ONE(OPEN, "\\Many", 0) },
 	  { { ENTRY, NULL, 0 } } },
+	{ "list a page of 100 entries",
+	  { ONE(DIRECTORY, "\\Many", 0), FEW, ONE(OPEN, "\\Many", 0) },
+	  { { PAGE, NULL, 0 } } },
 };
 
 /* A namespace, with the handle and the child that were given last. */
@@ -105,6 +109,16 @@ static ntns_status first_entry(struct hand *hand)
 	uint32_t type;
 
 	return ntns_next_entry(&hand->ns, 1, hand->handle, &context, name, sizeof name, &length, &type);
+}
+
+/* Lists a directory in a page. */
+static ntns_status first_page(struct hand *hand)
+{
+	char page[4096];
+	uint64_t context = 0;
+	size_t length;
+
+	return ntns_next_page(&hand->ns, 1, hand->handle, &context, page, sizeof page, &length);
 }
 
 /* Asks for an object to be made. */
@@ -141,6 +155,8 @@ static bool is_answered(struct hand *hand, const struct asked *asked, uint32_t n
 		return ntns_make_temporary(&hand->ns, 1, hand->handle) == NTNS_STATUS_SUCCESS;
 	case ENTRY:
 		return first_entry(hand) == NTNS_STATUS_SUCCESS;
+	case PAGE:
+		return first_page(hand) == NTNS_STATUS_SUCCESS;
 	case CHILD:
 		return ntns_new_process(&hand->ns, 1, true, &hand->child) == NTNS_STATUS_SUCCESS;
 	case EXIT:

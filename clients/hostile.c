@@ -251,6 +251,37 @@ static void rooms(void)
 	ntns_close(&ns);
 }
 
+static void pages(void)
+{
+	ntns ns = opened();
+	uint32_t directory, given;
+	uint64_t context = 0;
+	char text[32];
+	size_t length = STALE;
+
+	ntns_create_directory(&ns, 1, 0, TEXT("\\D"), 0, &directory);
+	hold(ntns_next_page(&ns, 1, directory, &context, NULL, 0, &length) == S(NO_MORE_ENTRIES) && length == 0 && context == 0, "an empty directory has no page", 0);
+	ntns_create_object(&ns, 1, directory, TEXT("ab"), 0, NTNS_TYPE_EVENT, 1, &given);
+	for (size_t room = 0; room < 11; room++) {
+		memset(text, 'z', sizeof text);
+		length = STALE;
+		hold(ntns_next_page(&ns, 1, directory, &context, room ? text : NULL, room, &length) == S(BUFFER_TOO_SMALL) && length == 0 && context == 0, "an entry doesn't fit", (long)room);
+		hold(text[0] == 'z' && text[room] == 'z', "and nothing is written", (long)room);
+	}
+	for (size_t room = 11; room < sizeof text; room++) {
+		memset(text, 'z', sizeof text);
+		context = 0;
+		hold(ntns_next_page(&ns, 1, directory, &context, text, room, &length) == S(SUCCESS) && length == 9 && context != 0, "an entry fits", (long)room);
+		hold(!memcmp(text, "ab\0Event\0zz", 11) && text[room] == 'z', "and no more is written", (long)room);
+	}
+	context = 0;
+	hold(ntns_next_page(&ns, 1, directory, &context, text, sizeof text, &length) == S(SUCCESS) && context != 0, "a page is told", 0);
+	hold(ntns_next_page(&ns, 1, directory, &context, text, sizeof text, &length) == S(NO_MORE_ENTRIES) && length == 0, "and none behind it", 0);
+	hold(ntns_next_page(&ns, 1, given, &context, text, sizeof text, &length) == S(OBJECT_TYPE_MISMATCH) && length == 0, "an event has no pages", 0);
+	ntns_close(&ns);
+	hold(ntns_next_page(&ns, 1, directory, &context, text, sizeof text, &length) == S(INVALID_PARAMETER) && length == 0, "nor has a closed namespace", 0);
+}
+
 static void types(void)
 {
 	ntns ns = opened();
@@ -325,6 +356,7 @@ static void handles_and_processes(void)
 	}
 	hold(give(&ns, 3, 1, others, TEXT("x"), 0, &given) == S(INVALID_HANDLE) && given == 0, "another's handle is no root handle", 0);
 	hold(ntns_next_entry(&ns, 1, own, &context, NULL, 0, &length, &type) == S(NO_MORE_ENTRIES) && context == UINT64_MAX && length == 0 && type == 0, "nothing stands behind the last context", 0);
+	hold(ntns_next_page(&ns, 1, own, &context, NULL, 0, &length) == S(NO_MORE_ENTRIES) && context == UINT64_MAX && length == 0, "nor is there a page", 0);
 	hold(ntns_exit_process(&ns, child) == S(SUCCESS), "a process ends", 0);
 	refused(&ns, child, others, S(PROCESS_GONE), false);
 	hold(ntns_close_handle(&ns, 1, own | 3) == S(SUCCESS), "the low bits of a handle don't count", 0);
@@ -354,6 +386,7 @@ int main(void)
 	names();
 	long_names();
 	rooms();
+	pages();
 	types();
 	attributes();
 	handles_and_processes();

@@ -73,8 +73,9 @@ static void query(struct play *play, const struct step *step, struct answer *ans
 {
 	ntns *ns = &play->ns;
 	uint32_t process = play->processes[(int)step->process], handle = handle_of(play, step);
-	uint64_t context = step->call == NEXT_ENTRY ? play->contexts[(int)step->process][(int)step->handle] : 0;
+	bool goes_on = step->call == NEXT_ENTRY || step->call == NEXT_PAGE;
 
+	answer->context = goes_on ? play->contexts[(int)step->process][(int)step->handle] : 0;
 	switch (step->call) {
 	case QUERY_LINK:
 		answer->status = ntns_query_link(ns, process, handle, answer->text, capacity, &answer->length);
@@ -91,8 +92,12 @@ static void query(struct play *play, const struct step *step, struct answer *ans
 	case NEXT_DELETED:
 		answer->status = ntns_next_deleted(ns, &answer->type, &answer->word);
 		break;
+	case FIRST_PAGE:
+	case NEXT_PAGE:
+		answer->status = ntns_next_page(ns, process, handle, &answer->context, answer->text, step->word ? step->word : capacity,
+						&answer->length);
+		break;
 	default:
-		answer->context = context;
 		answer->status = ntns_next_entry(ns, process, handle, &answer->context, answer->text, capacity, &answer->length,
 						 &answer->type);
 		break;
@@ -173,6 +178,8 @@ void play_keep(struct play *play, const struct step *step, const struct answer *
 		break;
 	case FIRST_ENTRY:
 	case NEXT_ENTRY:
+	case FIRST_PAGE:
+	case NEXT_PAGE:
 		play->contexts[process][(int)step->handle] = answer->context;
 		break;
 	default:
@@ -184,10 +191,27 @@ void play_keep(struct play *play, const struct step *step, const struct answer *
 	}
 }
 
+/* Whether a call tells a page, where it succeeds. */
+static bool tells_page(enum call call)
+{
+	return call == FIRST_PAGE || call == NEXT_PAGE;
+}
+
 /* Whether a call tells a text, where it succeeds. */
 static bool tells_text(enum call call)
 {
 	return call == QUERY_LINK || call == QUERY_NAME || call == QUERY_FILE || call == FIRST_ENTRY || call == NEXT_ENTRY;
+}
+
+/* Writes the text that a step tells, where it succeeds; its length. */
+static size_t wanted_text(const struct step *step, char *full)
+{
+	size_t length = NTNS_SUCCEEDED(step->status) ? play_text(step->text, full) : 0;
+
+	for (size_t place = 0; tells_page(step->call) && place < length; place++)
+		if (full[place] == '|')
+			full[place] = 0;
+	return length;
 }
 
 /* Whether a call gives a handle or a process, where it succeeds. */
@@ -208,8 +232,8 @@ const char *play_fault(const struct step *step, const struct answer *answer)
 		return "a number where nothing was given, or none where it was";
 	if (gives_number(step->call) && step->call != NEW_PROCESS && answer->number % 4)
 		return "a handle that is no multiple of four";
-	if (tells_text(step->call)) {
-		size_t length = has_succeeded ? play_text(step->text, wanted) : 0;
+	if (tells_text(step->call) || tells_page(step->call)) {
+		size_t length = wanted_text(step, wanted);
 		if (answer->length != length)
 			return "a text of another length";
 		if (memcmp(answer->text, wanted, length))

@@ -24,6 +24,8 @@ enum call {
 	QUERY_FILE,
 	FIRST_ENTRY,
 	NEXT_ENTRY,
+	FIRST_PAGE,
+	NEXT_PAGE,
 	SET_DEVICE_MAP,
 	NEW_PROCESS,
 	EXIT_PROCESS,
@@ -39,8 +41,8 @@ struct step {
 	const char *name;    /* the name; NULL for none; {N:c} in it is N times the character c */
 	uint32_t attributes;
 	uint32_t type;       /* the type that is made, wanted or told */
-	uint64_t word;       /* the word that is given or told */
-	const char *text;    /* a link's target, or the text that is told */
+	uint64_t word;       /* the word that is given or told, or the room of a page; 0 is all */
+	const char *text;    /* a link's target, or the text that is told; in a page '|' stands for the 0 behind each name */
 	bool inherit;
 	char to;             /* the process that gets a duplicate */
 	char kept;           /* the letter that the handle, or the process, is kept under */
@@ -70,6 +72,8 @@ struct step {
 #define FIRST(p, h, n, t, s) .call = FIRST_ENTRY, .process = p, .handle = h, .text = n, .type = T(t), .status = S(s)
 #define NEXT(p, h, n, t, s) .call = NEXT_ENTRY, .process = p, .handle = h, .text = n, .type = T(t), .status = S(s)
 #define LAST(p, h) .call = NEXT_ENTRY, .process = p, .handle = h, .status = S(NO_MORE_ENTRIES)
+#define PAGE(p, h, room, t, s) .call = FIRST_PAGE, .process = p, .handle = h, .word = room, .text = t, .status = S(s)
+#define MORE(p, h, room, t, s) .call = NEXT_PAGE, .process = p, .handle = h, .word = room, .text = t, .status = S(s)
 #define MAP(p, h, s) .call = SET_DEVICE_MAP, .process = p, .handle = h, .status = S(s)
 #define NEW(p, i, k, s) .call = NEW_PROCESS, .process = p, .inherit = i, .kept = k, .status = S(s)
 #define EXIT(p, s) .call = EXIT_PROCESS, .process = p, .status = S(s)

@@ -66,6 +66,7 @@ static const struct step steps[] = {
 	{ NEXT('p', 'a', "a name of more than a few bytes {200:x}", DIRECTORY, SUCCESS) },
 	{ NEXT('p', 'a', "L", SYMBOLIC_LINK, SUCCESS) },
 	{ LAST('p', 'a') },
+	{ PAGE('p', 'a', 0, "B|Directory|a name of more than a few bytes {200:x}|Directory|L|SymbolicLink|", SUCCESS) },
 	{ MAP('p', 'a', SUCCESS) },
 	{ OPENLINK('p', 0, "\\??\\L", 0, 'y', SUCCESS) },
 	{ MAP('p', 'm', SUCCESS) },

@@ -130,6 +130,27 @@ INSTEAD(ntns_status, ntns_next_entry, ntns *ns, uint32_t process, uint32_t handl
 	return status;
 }
 
+#elif defined PAGE_LOSES_AN_ENTRY
+/* Tells a page without its last entry, where there are more. */
+INSTEAD(ntns_status, ntns_next_page, ntns *ns, uint32_t process, uint32_t handle, uint64_t *context, char *buffer, size_t capacity, size_t *length)
+{
+	ntns_status status = __real_ntns_next_page(ns, process, handle, context, buffer, capacity, length);
+	size_t end = *length;
+	for (int names = 0; end && names < 3; end--)
+		names += buffer[end - 1] == 0;
+	*length = end ? end + 1 : *length;
+	return status;
+}
+
+#elif defined PAGE_IS_THE_FIRST
+INSTEAD(ntns_status, ntns_next_page, ntns *ns, uint32_t process, uint32_t handle, uint64_t *context, char *buffer, size_t capacity, size_t *length)
+{
+	uint64_t kept = *context;
+	ntns_status status = __real_ntns_next_page(ns, process, handle, context, buffer, capacity, length);
+	*context = kept;
+	return status;
+}
+
 #elif defined ANOTHER_WORD
 INSTEAD(ntns_status, ntns_create_object, ntns *ns, uint32_t process, uint32_t root, const char *name, size_t length, uint32_t attributes, uint32_t type, uint64_t word, uint32_t *handle)
 {

@@ -3,7 +3,8 @@
 
 Crates that don't stand on one another are proved side by side, those with the longest chain of crates behind them first;
 a proof that has processors to itself gets up to four. What is proved is kept in the work tree, and isn't proved again
-while nothing changes in it or below it. What the prover prints goes to a file, whose path is told.
+while nothing changes in it or below it; nor is a crate below that `rt ci` has passed on this machine. What the prover prints
+goes to a file, whose path is told.
 
     gate/build.py [--jobs N] CRATE..
 
@@ -13,6 +14,7 @@ The exit status is 0 where all is proved, else 1.
 import argparse
 import os
 import re
+import shutil
 import subprocess
 import sys
 import tempfile
@@ -22,7 +24,7 @@ from functools import cache
 from pathlib import Path
 
 import quick_rt
-from crates import QUICK_RT, ROOT, bring_back, folder_of, is_program, listed, with_dependencies, workshop
+from crates import MADE, QUICK_RT, ROOT, bring_back, folder_of, is_program, is_static, listed, with_dependencies, workshop
 
 LOG = ROOT / "out" / "build.log"
 
@@ -40,11 +42,32 @@ def known_to_rt():
     return known
 
 
-def is_made(crate):
-    """Whether what earlier checks kept of a crate is of today's files, its own and those below."""
+def take_kept(crates):
+    """Gives libraries what `rt ci` made of the same files on this machine, lowest first; where this `rt` has no such thing they are proved."""
+    rt, known = quick_rt.loaded_quickly(), known_to_rt()
+    try:
+        rt.Crate.allowed = rt.handles_of(str(ROOT))
+        store = rt.Kept(list(known.values()))
+        for crate in (known[name] for name in listed() if name in crates and not is_program(name) and not is_static(name)):
+            if any(it.name not in store.rlibs for it in crate.below()):
+                continue
+            library = Path(crate.folder) / MADE / "rlib"
+            if not crate.is_built():
+                shutil.rmtree(library, ignore_errors=True)
+                if store.give(crate, False, store.key(crate)):
+                    (library / "stamp").write_text(crate.stamp())
+            if crate.is_built():
+                store.is_built(crate)
+    except (AttributeError, OSError, TypeError):
+        say("what `rt ci` kept can't be taken")
+
+
+def is_made(crate, has_work):
+    """Whether what earlier checks made of a crate is of today's files, its own and those below; and whether the work of its own check was kept, where it
+    is to have that."""
     known = known_to_rt()[crate]
     if not is_program(crate):
-        return known.has_kept() and known.is_built()
+        return known.is_built() and (known.has_kept() or not has_work)
     program = folder_of(crate) / "out" / crate
     stamp = program.with_suffix(".stamp")
     if not program.is_file() or not stamp.is_file():
@@ -63,6 +86,7 @@ class Build:
     """Crates that are to be proved, and how far that is."""
 
     def __init__(self, crates, lanes, folder, log):
+        self.checked = {crate for crate in crates if not is_program(crate) and known_to_rt()[crate].is_built()}
         self.left = sorted(crates, key=behind, reverse=True)
         self.all, self.lanes, self.folder, self.log = len(crates), lanes, folder, log
         self.proved, self.failed = set(), []
@@ -70,7 +94,8 @@ class Build:
     def prove(self, crate, jobs):
         """Proves a crate, or builds it where it is a program; gives what was printed, and whether all is well."""
         home = workshop(crate, self.folder / crate)
-        words = [QUICK_RT, "run" if is_program(crate) else "lib", "--jobs", str(jobs)]
+        # (a library that is there already is checked, for the work that its check keeps)
+        words = [QUICK_RT, "run" if is_program(crate) else "check" if crate in self.checked else "lib", "--jobs", str(jobs)]
         how = {"stdin": subprocess.DEVNULL, "stdout": subprocess.PIPE, "stderr": subprocess.STDOUT, "text": True}
         run = subprocess.run(words, cwd=home, errors="replace", check=False, **how)
         if run.returncode == 0:
@@ -123,9 +148,10 @@ def say(*lines):
 
 
 def make(crates, lanes):
-    """Proves what isn't proved of these crates and those below; whether all is."""
+    """Proves what isn't proved of these crates and those below, and has the work of their own checks kept; whether all is."""
     needed = set().union(*(with_dependencies(crate) for crate in crates))
-    missing = [crate for crate in needed if not is_made(crate)]
+    take_kept(needed)
+    missing = [crate for crate in needed if not is_made(crate, crate in crates)]
     if not missing:
         return True
     LOG.parent.mkdir(exist_ok=True)

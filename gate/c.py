@@ -61,6 +61,8 @@ WRONG = [
     ("a query that writes where room is missing", "WRITES_WHERE_ROOM_IS_MISSING", "ntns_query_link", "cases"),
     ("a parse that loses a byte of the rest", "LOSES_A_BYTE", "ntns_query_file", "cases"),
     ("a context that moves where room is missing", "CONTEXT_MOVES_WHERE_ROOM_IS_MISSING", "ntns_next_entry", "cases"),
+    ("a page that loses an entry", "PAGE_LOSES_AN_ENTRY", "ntns_next_page", "cases"),
+    ("a page that is the first again", "PAGE_IS_THE_FIRST", "ntns_next_page", "cases"),
     ("an object with another word", "ANOTHER_WORD", "ntns_create_object", "cases"),
     ("a create that is refused memory and done", "REFUSED_MEMORY_AND_DONE", "ntns_create_directory", "refusals"),
     ("a query that loses memory", "LOSES_MEMORY", "ntns_query_name", "refusals"),

@@ -12,12 +12,13 @@ A run that finds no memory ends as the whole run, or with `N: want of memory` be
 `ntns: want of memory` and no output. A parse that finds none ends nothing: its line replies NO_MEMORY, and the run goes on as that of the script
 in which the open there is refused, or given up. A run whose read fails writes nothing; one whose write fails leaves a beginning of the output.
 
-`refused_steps` makes steps of a namespace, a line each, and tells whether anything changed where one was refused memory. It is run with each request of
-each step refused in turn: each line then has to say that nothing had changed, and what it says without. How many requests each step makes has to be what
-`hostile/requests.txt` says, so that one that creeps into an open, or into a close, is seen.
+`refused_steps` makes steps of a namespace, and `refused_callers` steps of one that four callers share, a line each, and both tell whether anything changed
+where one was refused memory. They are run with each request of each step refused in turn: each line then has to say that nothing had changed, and what it
+says without. How many requests each step makes has to be what `hostile/` has in the text of the program's name, so that one that creeps into an open, or into
+a close, is seen.
 
-    gate/refusals.py PROGRAM [--steps STEPS] [--long] [SCRIPT..]      --long: longer scripts, and the scripts that are named, in place of the gate's cases
-    gate/refusals.py PROGRAM --steps STEPS --renew                    writes hostile/requests.txt anew
+    gate/refusals.py PROGRAM [--steps STEPS]* [--long] [SCRIPT..]      --long: longer scripts, and the scripts that are named, in place of the gate's cases
+    gate/refusals.py PROGRAM [--steps STEPS]* --renew                  writes these texts anew
 
 The last line is 'N passed, M failed'. The exit status is 0 where none failed, else 1.
 """
@@ -37,7 +38,6 @@ from pathlib import Path
 ROOT = Path(__file__).resolve().parent.parent
 EXAMPLES = ROOT / "examples"
 LIBRARY = ROOT / "hostile" / "refuse.c"
-REQUESTS = ROOT / "hostile" / "requests.txt"
 
 COMPILE = ("-std=c11", "-shared", "-fPIC", "-O2", "-Wall", "-Wextra", "-Werror")
 
@@ -433,6 +433,11 @@ def requests_of(whole):
     return [f"{count:2} {line.rpartition(' ')[0]}" for count, line in zip(counts, lines, strict=True)]
 
 
+def kept_of(bench):
+    """Where it is kept how many requests the steps of a program make."""
+    return ROOT / "hostile" / f"{Path(bench.program).name}.txt"
+
+
 def fault_of_step(line, end, left):
     """What is wrong with a run of a step alone that was refused memory, where this is its line without, and the last one; and whether the step says
     that it was refused."""
@@ -445,8 +450,8 @@ def faults_of_steps(bench):
     """What is wrong with the run of each step whose Nth request is refused, for every N."""
     whole = bench.whole((), b"")
     yield "" if whole.status == 0 and not whole.errors else f"it ends in {whole.status}"
-    requests, kept = requests_of(whole), REQUESTS.read_text().splitlines()
-    yield "" if requests == kept else "hostile/requests.txt differs: " + "; ".join(sorted(set(requests) ^ set(kept), key=lambda line: line[3:]))
+    requests, kept = requests_of(whole), kept_of(bench).read_text().splitlines()
+    yield "" if requests == kept else f"{kept_of(bench).name} differs: " + "; ".join(sorted(set(requests) ^ set(kept), key=lambda line: line[3:]))
     *lines, end = whole.output.splitlines()
     for place, line in enumerate(lines):
         count, refused = whole.asked[1 + WRITES * place], 0
@@ -465,15 +470,15 @@ def tried_steps(bench):
     except (OSError, ValueError, subprocess.TimeoutExpired) as error:
         faults = [str(error)]
     bad = [fault for fault in faults if fault]
-    return len(faults) - len(bad), len(bad), f"refusals: steps of a namespace: {len(faults)} checks ... {'; '.join(bad)[:6000] or 'ok'}"
+    return len(faults) - len(bad), len(bad), f"refusals: {Path(bench.program).name}: {len(faults)} checks ... {'; '.join(bad)[:6000] or 'ok'}"
 
 
 def main():
-    words = argparse.ArgumentParser(usage="gate/refusals.py PROGRAM [--steps STEPS [--renew]] [--long] [SCRIPT..]")
+    words = argparse.ArgumentParser(usage="gate/refusals.py PROGRAM [--steps STEPS]* [--renew] [--long] [SCRIPT..]")
     words.add_argument("program", type=Path)
     words.add_argument("scripts", type=Path, nargs="*")
     words.add_argument("--long", action="store_true")
-    words.add_argument("--steps", type=Path)
+    words.add_argument("--steps", type=Path, action="append", default=[])
     words.add_argument("--renew", action="store_true")
     asked = words.parse_args()
     passed = failed = 0
@@ -483,9 +488,10 @@ def main():
         if fault:
             print(f"refusals: {fault}\n0 passed, 1 failed")
             return 1
-        steps = Bench(str(asked.steps.resolve()), folder) if asked.steps else None
+        steps = [Bench(str(path.resolve()), folder) for path in asked.steps]
         if asked.renew:
-            REQUESTS.write_text("\n".join(requests_of(steps.whole((), b""))) + "\n")
+            for made in steps:
+                kept_of(made).write_text("\n".join(requests_of(made.whole((), b""))) + "\n")
             return 0
         (bench.folder / "workers").write_bytes(WORKERS)
         found, files = cases(bench.run(("threads", "workers"), b"").output)
@@ -495,7 +501,7 @@ def main():
             found = [Case(shows, (), script) for shows, script in longer().items() if asked.long]
             found += [Case(str(path), (), path.read_bytes()) for path in asked.scripts]
         with ThreadPoolExecutor(len(os.sched_getaffinity(0))) as pool:
-            played = [pool.submit(tried_steps, steps)] if steps else []
+            played = [pool.submit(tried_steps, made) for made in steps]
             played += [pool.submit(tried, bench, case) for case in found]
             for good, bad, line in (it.result() for it in played):
                 passed, failed = passed + good, failed + bad

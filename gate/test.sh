@@ -38,7 +38,7 @@ for folder in wrong definitions; do
     if [ -n "$crates" ]; then part "$folder" "$tool" $crates; fi
 done
 part program gate/program.py crates/ntns/out/ntns
-part refusals gate/refusals.py crates/ntns/out/ntns --steps crates/refused_steps/out/refused_steps
+part refusals gate/refusals.py crates/ntns/out/ntns --steps crates/refused_steps/out/refused_steps --steps crates/refused_callers/out/refused_callers
 part c gate/c.py
 
 # a run is long, and only its end may be on record: what failed is named once more there

@@ -55,6 +55,7 @@ typedef uint32_t ntns_status;
 #define NTNS_SUCCEEDED(status) ((ntns_status)(status) < 0x80000000u)
 
 #define NTNS_STATUS_SUCCESS                ((ntns_status)0x00000000u)
+#define NTNS_STATUS_MORE_ENTRIES           ((ntns_status)0x00000105u) /* of a page: others are left behind it */
 #define NTNS_STATUS_OBJECT_NAME_EXISTS     ((ntns_status)0x40000000u) /* with OPENIF: what is there was opened */
 #define NTNS_STATUS_NO_MORE_ENTRIES        ((ntns_status)0x8000001Au)
 #define NTNS_STATUS_INVALID_HANDLE         ((ntns_status)0xC0000008u)
@@ -247,6 +248,18 @@ ntns_status ntns_query_file(ntns *ns, uint32_t process, uint32_t handle, char *b
  */
 ntns_status ntns_next_entry(ntns *ns, uint32_t process, uint32_t handle, uint64_t *context, char *buffer, size_t capacity, size_t *length,
 			    uint32_t *type);
+
+/*
+ * NtQueryDirectoryObject, a page a call: as many entries as fit behind `context`, which is as above and is left at the last that was shown.
+ * `buffer` has, one behind another, the name of each entry and the name of its type, as "Directory", each with a 0 behind it, and
+ * `length` is how many bytes these are. Of the room, at most 1,048,576 bytes, each entry counts for 4 bytes more than both names:
+ * 33,000 bytes have room for any. Where not even the first fits nothing is written, and ntns_next_entry tells how long its name is.
+ *
+ * SUCCESS (no entry is left), MORE_ENTRIES (others are), which are both successes; INVALID_PARAMETER (closed), PROCESS_GONE,
+ * INVALID_HANDLE, OBJECT_TYPE_MISMATCH (no directory), NO_MEMORY, NO_MORE_ENTRIES (behind the last), BUFFER_TOO_SMALL. On a refusal
+ * `length` is 0, and `context` and `buffer` stay.
+ */
+ntns_status ntns_next_page(ntns *ns, uint32_t process, uint32_t handle, uint64_t *context, char *buffer, size_t capacity, size_t *length);
 
 /*
  * NtSetInformationProcess with ProcessDeviceMap: \?? is then this directory before \GLOBAL??, for the process and the children that

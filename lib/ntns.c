@@ -68,6 +68,12 @@ ntns_status ntns_next_entry(ntns *ns, uint32_t process, uint32_t handle, uint64_
 	return ntns_next_entry_raw(ns, process, handle, context, buffer ? buffer : &none, buffer ? capacity : 0, length, type);
 }
 
+ntns_status ntns_next_page(ntns *ns, uint32_t process, uint32_t handle, uint64_t *context, char *buffer, size_t capacity, size_t *length)
+{
+	char none;
+	return ntns_next_page_raw(ns, process, handle, context, buffer ? buffer : &none, buffer ? capacity : 0, length);
+}
+
 const char *ntns_status_text(ntns_status status)
 {
 	const char *text;

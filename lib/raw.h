@@ -24,6 +24,7 @@ ntns_status ntns_query_name_raw(ntns *ns, uint32_t process, uint32_t handle, cha
 ntns_status ntns_query_file_raw(ntns *ns, uint32_t process, uint32_t handle, char *buffer, size_t capacity, size_t *length);
 ntns_status ntns_next_entry_raw(ntns *ns, uint32_t process, uint32_t handle, uint64_t *context, char *buffer, size_t capacity,
 				size_t *length, uint32_t *type);
+ntns_status ntns_next_page_raw(ntns *ns, uint32_t process, uint32_t handle, uint64_t *context, char *buffer, size_t capacity, size_t *length);
 void ntns_status_text_raw(ntns_status status, const char **text);
 void ntns_type_name_raw(uint32_t type, const char **name);
 

@@ -3,3 +3,4 @@ pub mod CallsLemmas
 pub mod ToldLemmas
 pub mod KindLemmas
 pub mod OneStep
+pub mod PagesLemmas

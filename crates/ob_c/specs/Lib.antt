@@ -5,4 +5,5 @@ pub mod Calls
 pub mod Told
 pub mod Objects
 pub mod Texts
+pub mod Pages
 pub mod Deleted

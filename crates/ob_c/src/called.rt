@@ -2,7 +2,7 @@
 
 ghost use Rattle.std.specs.Prelude.{◌≡◌};
 ghost use Rattle.ob_c.specs.Calls.{CallsMade};
-ghost use Rattle.ob_c.specs.Told.{status_in, handle_in, process_in};
+ghost use Rattle.ob_c.specs.Told.{TellsHandle, status_in, handle_in, process_in};
 
 use crate::Ntns;
 use ob_base::Status;
@@ -38,8 +38,16 @@ pub(crate) fn status_in(ended: &Result<Reply, Status>) -> u32
     }
 }
 
+/// Tells the handle that a call gives, 0 where it gives none; the number of the status is answered.
+pub(crate) fn tell_handle(ended: &Result<Reply, Status>, handle: &mut u32) -> u32
+    ensures { TellsHandle result handle.new ended.now }
+{
+    *handle = handle_in(ended);
+    status_in(ended)
+}
+
 /// The value of the handle that a call gives; 0 where it gives none.
-pub(crate) fn handle_in(ended: &Result<Reply, Status>) -> u32
+fn handle_in(ended: &Result<Reply, Status>) -> u32
     ensures { result ≡ handle_in ended.now }
 {
     match ended {

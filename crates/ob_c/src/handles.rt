@@ -5,7 +5,7 @@ ghost use Rattle.ob_c.specs.Calls.{Does};
 ghost use Rattle.ob_c.specs.Told.{TellsHandle, TellsStatus};
 
 use crate::Ntns;
-use crate::called::{call, handle_in, status_in};
+use crate::called::{call, status_in, tell_handle};
 use ob_base::{Handle, Proc};
 use ob_core::Command;
 use std::alloc::Global;
@@ -48,9 +48,7 @@ pub extern "C" fn ntns_duplicate(
         to: Proc(to),
         inherit,
     };
-    let ended = call(ns, alloc, process, Ok(duplicate));
-    *copy = handle_in(&ended);
-    status_in(&ended)
+    tell_handle(&call(ns, alloc, process, Ok(duplicate)), copy)
 }
 
 /// Makes the object of a handle of a process temporary: its name goes when it has no handle. It takes no memory.

@@ -18,6 +18,7 @@ mod machine;
 mod naming;
 mod objects;
 mod opening;
+mod pages;
 mod parts;
 mod processes;
 mod queries;

@@ -5,7 +5,7 @@ ghost use Rattle.ob_c.specs.Calls.{Does, DoesOfType, arguments_of, place_of};
 ghost use Rattle.ob_c.specs.Told.{TellsHandle};
 
 use crate::Ntns;
-use crate::called::{call, handle_in, status_in};
+use crate::called::{call, tell_handle};
 use crate::commands::{create_directory, create_link, create_object};
 use crate::types::kind_of;
 use ob_base::Status;
@@ -31,9 +31,7 @@ pub extern "C" fn ntns_create_directory_raw(
         ns.old.core ns.new.core (TellsHandle result handle.new) }
 {
     let made = create_directory(alloc, root, named, name, attributes);
-    let ended = call(ns, alloc, process, made);
-    *handle = handle_in(&ended);
-    status_in(&ended)
+    tell_handle(&call(ns, alloc, process, made), handle)
 }
 
 /// Creates a symbolic link to a target, at a name, or without one where `named` is false, and opens a handle to it. `root`
@@ -58,9 +56,7 @@ pub extern "C" fn ntns_create_link_raw(
         ns.old.core ns.new.core (TellsHandle result handle.new) }
 {
     let made = create_link(alloc, root, named, name, attributes, target);
-    let ended = call(ns, alloc, process, made);
-    *handle = handle_in(&ended);
-    status_in(&ended)
+    tell_handle(&call(ns, alloc, process, made), handle)
 }
 
 /// Creates an object of the kind of a type's number, with a word of the caller's, at a name, or without one where `named` is
@@ -92,7 +88,5 @@ pub extern "C" fn ntns_create_object_raw(
         return Status::InvalidParameter.code();
     };
     let made = create_object(alloc, root, named, name, attributes, kind, word);
-    let ended = call(ns, alloc, process, made);
-    *handle = handle_in(&ended);
-    status_in(&ended)
+    tell_handle(&call(ns, alloc, process, made), handle)
 }

@@ -5,7 +5,7 @@ ghost use Rattle.ob_c.specs.Calls.{Does, DoesOfAnyType, root_of};
 ghost use Rattle.ob_c.specs.Told.{TellsHandle};
 
 use crate::Ntns;
-use crate::called::{call, handle_in, status_in};
+use crate::called::{call, tell_handle};
 use crate::commands::{open_directory, open_link, open_object};
 use crate::types::kind_of;
 use ob_base::Status;
@@ -31,9 +31,7 @@ pub extern "C" fn ntns_open_directory_raw(
         ns.old.core ns.new.core (TellsHandle result handle.new) }
 {
     let made = open_directory(alloc, root, name, attributes);
-    let ended = call(ns, alloc, process, made);
-    *handle = handle_in(&ended);
-    status_in(&ended)
+    tell_handle(&call(ns, alloc, process, made), handle)
 }
 
 /// Opens a handle to the symbolic link that a name leads to, which is not followed. `root` is the handle that the name is
@@ -55,9 +53,7 @@ pub extern "C" fn ntns_open_link_raw(
         ns.old.core ns.new.core (TellsHandle result handle.new) }
 {
     let made = open_link(alloc, root, name, attributes);
-    let ended = call(ns, alloc, process, made);
-    *handle = handle_in(&ended);
-    status_in(&ended)
+    tell_handle(&call(ns, alloc, process, made), handle)
 }
 
 /// Opens a handle to the object that a name leads to, of the kind of a type's number, or of any type where that is 0. A
@@ -116,7 +112,5 @@ fn open_wanted(
         ns.old.core ns.new.core (TellsHandle result handle.new) }
 {
     let made = open_object(alloc, root, name, attributes, want);
-    let ended = call(ns, alloc, process, made);
-    *handle = handle_in(&ended);
-    status_in(&ended)
+    tell_handle(&call(ns, alloc, process, made), handle)
 }

@@ -5,9 +5,16 @@ ghost use Rattle.std.specs.Box.Ownership.{box_owns};
 use std::alloc::Allocator;
 use std::marker::Model;
 
+/// What a `Box` is made of: the pointer to its block, and the allocator that the block is of. It owns the block, and isn't let go:
+/// it ends as a box again, or by its fields, whose taker then owns the block.
+///
+/// A contract sees what stands in the block. (this profile)
 pub struct Parts<T, A: Allocator> {
+    /// Where the block begins.
     pub(crate) ptr: *mut T,
+    /// What the block is freed by.
     pub(crate) alloc: A,
+    /// What stands in the block.
     pub ghost value: { T },
 }
 
@@ -16,6 +23,7 @@ impl<T, A: Allocator> Model for Parts<T, A> {
 }
 
 impl<T, A: Allocator> Parts<T, A> {
+    /// Takes a box apart. What it holds stays where it is, and no memory is taken or freed.
     pub fn of(b: Box<T, A>) -> Parts<T, A>
     where
         T: Drop,
@@ -25,6 +33,7 @@ impl<T, A: Allocator> Parts<T, A> {
         Parts { ptr, alloc }
     }
 
+    /// The box again, of the same block. No memory is taken.
     pub fn into_box(self) -> Box<T, A>
         ensures { result.value ≡ self.value }
     {

@@ -13,8 +13,8 @@ use ob_base::Handle;
 use ob_core::Command;
 use std::alloc::Global;
 
-// The greatest room that a page may be asked for: each entry fits.
-const LARGEST_ROOM: u32 = 1_048_576;
+/// The greatest room that a page may be asked for, in bytes: each entry fits.
+pub(crate) const LARGEST_ROOM: u32 = 1_048_576;
 
 /// Writes the target of the symbolic link of a handle of a process into a buffer, and tells its length. Where it doesn't
 /// fit, nothing is written, and the status is `BufferTooSmall`.

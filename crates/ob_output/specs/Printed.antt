@@ -1,7 +1,7 @@
 -- Lines of the output.
 --
 -- Source: this profile.
-use Rattle.std.specs.Prelude.{ℕ, ◌==◌, List, [], ◌∷◌, ◌++◌, if◌then◌else◌, codes}
+use Rattle.std.specs.Prelude.{◌≢◌, ℕ, ◌==◌, List, [], ◌∷◌, ◌++◌, if◌then◌else◌, codes}
 use Rattle.std.specs.Fmt.{decimal}
 use Rattle.ob_base.specs.declared.status.Status.{Status}
 use Rattle.ob_base.specs.declared.status.Status.TheVariants.{TypeRefused}
@@ -28,6 +28,10 @@ status_text status = text_of status ++ refusal_number_of status
 -- how a byte of a text is printed: `%` (0x25) as `%25`, `"` (0x22) as `%22`, and any other as itself
 abbrev pub printed_byte : ℕ → List ℕ
 printed_byte byte = if byte == 0x25 then codes "%25" else if byte == 0x22 then codes "%22" else byte ∷ []
+
+-- a byte that is printed as itself
+abbrev pub IsItself : ℕ → Type 0
+IsItself byte = (byte ≢ 0x25) × (byte ≢ 0x22)
 
 abbrev pub printed_bytes : List ℕ → List ℕ
 printed_bytes [] = []

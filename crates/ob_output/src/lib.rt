@@ -3,8 +3,12 @@
 
 mod counts;
 mod lines;
+mod short_line;
+mod status_lines;
+mod texts;
 
 pub use counts::Totals;
-pub use lines::{
-    Line, counts_line, printed_part, status_front, status_line, text_front, text_line,
-};
+pub use lines::{LINE_ROOM, push_counts_line, push_text_line};
+pub use short_line::{Line, text_line};
+pub use status_lines::{push_status_front, push_status_line, push_text_front};
+pub use texts::push_printed;

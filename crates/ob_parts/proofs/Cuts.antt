@@ -1,15 +1,14 @@
 -- Lists that are cut at their first byte of a value.
-use Rattle.std.proofs.Common.{◌≡◌, ◌≢◌, ℕ, ◌+◌, ◌<◌, ◌≤◌, List, [], ◌∷◌, ◌++◌, length, take, drop, get_or, refl, arith, eqb, Option, Some, None, Bool, true, false, cond, ltb, sym, subst, ◌∙◌}
-use Rattle.std.specs.List.{position, position_or_len}
+use Rattle.std.proofs.Common.{◌≡◌, ◌≢◌, ℕ, ◌+◌, ◌<◌, List, [], ◌∷◌, ◌++◌, length, take, drop, get_or, refl, arith, eqb, Option, Some, None, true, false, sym, ap, ◌∙◌, take-append-drop}
 use Rattle.std.specs.Option.{MatchOption, IfSome, IfNone}
 use Rattle.std.specs.Borrow.{Bor}
 use Rattle.std.specs.Cmp.Lexicographic.{pointwise}
 use Rattle.std.proofs.lemmas.Slice.Eq.{strip_prefix_is}
 use Rattle.std.proofs.lemmas.Bool.Decides.{Decides-eqb}
-use Rattle.std.proofs.lemmas.List.{get_or-take, length-take, take_all}
+use Rattle.std.proofs.lemmas.List.{get_or-take, length-take, drop_more}
 use Rattle.std.proofs.lemmas.List.Elements.{recursion_from_All, All-from_get_or}
-use Rattle.std.proofs.lemmas.List.Sums.{fails_before_first, split_at_first, passes_at_first}
-use Rattle.std.proofs.lemmas.Bool.{both_ways, ltb-true, ltb-false, eqb-true, eq-eqb}
+use Rattle.std.proofs.lemmas.Bool.{eqb-true, eq-eqb}
+use Rattle.memchr.specs.Find.{IsFirstByte, is_byte}
 use Rattle.ob_parts.specs.Text.{Lacks}
 
 -- two cuts of one list at its first byte of a value are one cut
@@ -38,53 +37,30 @@ cuts_apart m n (c ∷ a) b [] y d la lx e = let h : c ≡ n = cc in la.0 h
 cuts_apart m n (c ∷ a) b (c' ∷ x) y d la lx e =
     let tails : a ++ (m ∷ b) ≡ x ++ (n ∷ y) = cc in cuts_apart m n a b x y d la.1 lx.1 tails
 
--- what stands before the first byte of a value has none of it
-pub lacks_before : (m : ℕ) (xs : List ℕ) → Lacks m (take (position_or_len (λ b. eqb b m) xs) xs)
-lacks_before m xs =
+-- a front of which no byte is the value has none of it
+lacks_up_to : (m : ℕ) (xs : List ℕ) (i : ℕ) → ((k : ℕ) → k < i → get_or xs k 0 ≢ m) → Lacks m (take i xs)
+lacks_up_to m xs i none =
     recursion_from_All (λ c. c ≢ m) _ (All-from_get_or (λ c. c ≢ m) _ 0 here)
   where
-    place : ℕ
-    place = position_or_len (λ b. eqb b m) xs
+    below : (k : ℕ) → k < length (take i xs) → k < i
+    below k l = omega (arith, l, length-take i xs)
 
-    below : (i : ℕ) → i < length (take place xs) → i < place
-    below i l = omega (arith, l, length-take place xs)
-
-    here : (i : ℕ) → i < length (take place xs) → get_or (take place xs) i 0 ≢ m
-    here i l e =
-        let same : get_or xs i 0 ≡ m = sym (get_or-take place xs i 0 (below i l)) ∙ e in
-        let no : eqb (get_or xs i 0) m ≡ false = fails_before_first (λ b. eqb b m) xs i 0 (below i l) in
-        both_ways _ no (eq-eqb _ _ same)
-
--- a place that is found, and one that isn't
-some_chosen : (b : Bool) (x i : ℕ) → cond b (Some x) None ≡ Some i → (b ≡ true) × (x ≡ i)
-some_chosen true x i e = (refl, cc)
-some_chosen false x i e = cc
-
-none_chosen : (b : Bool) (x : ℕ) → cond b (Some x) None ≡ None → b ≡ false
-none_chosen true x e = cc
-none_chosen false x e = refl
+    here : (k : ℕ) → k < length (take i xs) → get_or (take i xs) k 0 ≢ m
+    here k l e = none k (below k l) (sym (get_or-take i xs k 0 (below k l)) ∙ e)
 
 -- at the place of the first byte of a value a list is cut
-pub cut_at_place : (m : ℕ) (xs : List ℕ) (i : ℕ) → position (λ b. eqb b m) xs ≡ Some i
+pub cut_at_first : (m : ℕ) (xs : List ℕ) (i : ℕ) → IsFirstByte (is_byte m) xs (Some i)
     → (xs ≡ take i xs ++ (m ∷ drop (i + 1) xs)) × Lacks m (take i xs)
-cut_at_place m xs i e =
-    let found : (ltb place (length xs) ≡ true) × (place ≡ i) = some_chosen _ place i e in
-    let small : place < length xs = ltb-true _ _ found.0 in
-    let here : get_or xs place 0 ≡ m = eqb-true _ _ (passes_at_first (λ b. eqb b m) xs 0 small) in
-    rw (← found.1) (split_at_first (λ b. eqb b m) xs 0 small ∙ rw here refl, lacks_before m xs)
-  where
-    place : ℕ
-    place = position_or_len (λ b. eqb b m) xs
+cut_at_first m xs i (first, here) = (
+  sym (take-append-drop i xs)
+      ∙ ap (λ z. take i xs ++ z) (drop_more xs i 0 first.high ∙ ap (λ b. b ∷ drop (i + 1) xs) (eqb-true (get_or xs i 0) m here)),
+  lacks_up_to m xs i (λ k l e. first.before k (omega arith) l (eq-eqb (get_or xs k 0) m e)),
+)
 
 -- a list with no place of the value lacks it
-pub lacks_from_place : (m : ℕ) (xs : List ℕ) → position (λ b. eqb b m) xs ≡ None → Lacks m xs
-lacks_from_place m xs e =
-    let past : length xs ≤ place = ltb-false _ _ (none_chosen _ place e) in
-    let P : List ℕ → Type 0 = Lacks m in
-    subst P (take_all place xs past) (lacks_before m xs)
-  where
-    place : ℕ
-    place = position_or_len (λ b. eqb b m) xs
+pub lacks_from_none : (m : ℕ) (xs : List ℕ) → IsFirstByte (is_byte m) xs None → Lacks m xs
+lacks_from_none m xs none =
+    recursion_from_All (λ c. c ≢ m) xs (All-from_get_or (λ c. c ≢ m) xs 0 (λ k l e. none k (omega arith) l (eq-eqb (get_or xs k 0) m e)))
 
 abbrev StripsFront : List ℕ → List ℕ → Option (Bor (List ℕ)) → Type 0
 StripsFront s p r =

@@ -2,7 +2,7 @@
 use Rattle.std.proofs.Common.{◌≡◌, ◌≢◌, ℕ, ◌+◌, ◌*◌, inl, inr, List, [], ◌∷◌, refl, subst, arith}
 use Rattle.std.specs.List.{AllByRecursion}
 use Rattle.std.specs.Char.{IsAsciiAlphabetic, IsAsciiAlphanumeric, digit_value}
-use Rattle.ob_parts.specs.Text.{Lacks, IsWord, IsHexDigit, WritesByte, SpellsByte, Spells, IsText, TextsSpellOneThing}
+use Rattle.ob_parts.specs.Text.{Lacks, IsWord, IsPlain, IsHexDigit, WritesByte, SpellsByte, Spells, IsText, TextsSpellOneThing}
 
 -- a text begins with the spelling of one byte at most
 pub byte_alike : (text : List ℕ) (a b : ℕ) (x y : List ℕ) → SpellsByte text a x → SpellsByte text b y → (a ≡ b) × (x ≡ y)
@@ -104,6 +104,20 @@ text_went_on text rest b s (c ∷ bytes, (more, p, t)) =
 pub text_ends : (text bytes : List ℕ) → ((b : ℕ) (rest : List ℕ) → ¬ SpellsByte text b rest) → Spells text bytes → (text ≡ []) × (bytes ≡ [])
 text_ends text [] none s = (s, refl)
 text_ends text (b ∷ bytes) none (rest, p, t) = absurd (none b rest p)
+
+-- bytes that all stand for themselves are a text that spells them
+pub plain_spells : (bytes : List ℕ) → AllByRecursion IsPlain bytes → Spells bytes bytes
+plain_spells [] all = refl
+plain_spells (b ∷ bytes) all = (bytes, inl (all.0, refl), plain_spells bytes all.1)
+
+-- so is a text with no escape
+pub spells_itself : (text bytes : List ℕ) → Lacks 0x25 text → Spells text bytes → Spells text text
+spells_itself text [] lacks s = rw s refl
+spells_itself text (b ∷ bytes) lacks (rest, inl p, t) =
+    let behind : Lacks 0x25 (b ∷ rest) = subst (Lacks 0x25) p.1 lacks in
+    rw p.1 (rest, inl (p.0, refl), spells_itself rest bytes behind.1 t)
+spells_itself text (b ∷ bytes) lacks (rest, inr (digits, e, w), t) =
+    let escaped : Lacks 0x25 (0x25 ∷ digits) = subst (Lacks 0x25) e lacks in absurd (escaped.0 refl)
 
 -- a text that begins with `%`, with no digits behind it, spells nothing
 pub no_byte_written : (text rest : List ℕ) (first : ℕ) → text ≡ first ∷ rest → first ≡ 0x25

@@ -1,8 +1,9 @@
 //! Cutting bytes apart.
 
-ghost use Rattle.std.specs.Prelude.{◌≡◌, ◌≢◌, List, ℕ, ◌==◌, ◌∷◌, ◌++◌, IfSome, IfNone};
-ghost use Rattle.std.specs.List.{position};
+ghost use Rattle.std.specs.Prelude.{◌≡◌, ◌≢◌, List, ℕ, ◌∷◌, ◌++◌, IfSome, IfNone};
 ghost use Rattle.ob_parts.specs.Text.{Lacks};
+
+use memchr::memchr;
 
 /// What stands before the first byte of this value, and what stands behind it: none where the bytes have no such
 /// byte. Takes no memory. Source: this profile.
@@ -11,15 +12,8 @@ pub fn split_at(bytes: &[u8], mark: u8) -> Option<(&[u8], &[u8])>
         × Lacks mark parts.0.now) }
     ensures none { IfNone result (Lacks mark bytes.now) }
 {
-    let place = place_of(bytes, mark)?;
+    let place = memchr(mark, bytes)?;
     Some((&bytes[..place], &bytes[place + 1..]))
-}
-
-// Where the first byte of this value stands.
-fn place_of(bytes: &[u8], mark: u8) -> Option<usize>
-    ensures { result ≡ position (λ byte. byte == mark) bytes.now }
-{
-    bytes.iter().position(|byte| *byte == mark)
 }
 
 /// What stands behind a front: none where the bytes begin otherwise. Takes no memory. Source: this profile.

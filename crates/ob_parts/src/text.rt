@@ -2,8 +2,10 @@
 
 ghost use Rattle.std.specs.Prelude.{◌≡◌, ◌<◌, ◌↔◌, ◌+◌, ℕ, List, length, IsTrue, IfSome, IfNone, IfOk};
 ghost use Rattle.std.specs.Char.{digit_value};
-ghost use Rattle.ob_parts.specs.Text.{IsWord, IsProcessWord, IsHexDigit, SpellsByte, WritesByte, Spells, IsText, TextsSpellOneThing};
+ghost use Rattle.std.specs.List.{AllByRecursion};
+ghost use Rattle.ob_parts.specs.Text.{IsWord, IsProcessWord, IsPlain, IsHexDigit, SpellsByte, WritesByte, Spells, IsText, TextsSpellOneThing};
 
+use crate::split::split_at;
 use ob_model::Bytes;
 use std::alloc::{AllocError, Global};
 
@@ -74,6 +76,30 @@ pub fn hex_value(digit: u8) -> Option<u8>
 pub fn is_text(bytes: &[u8]) -> bool
     ensures { IsTrue result ↔ IsText bytes.now }
 {
+    if are_plain(bytes) {
+        return true;
+    }
+    is_text_with_escapes(bytes)
+}
+
+// Whether each byte stands for itself.
+fn are_plain(bytes: &[u8]) -> bool
+    ensures { IsTrue result ↔ AllByRecursion IsPlain bytes.now }
+{
+    bytes.iter().all(|byte| is_plain(*byte))
+}
+
+// Whether a byte stands for itself.
+fn is_plain(byte: u8) -> bool
+    ensures { IsTrue result ↔ IsPlain byte }
+{
+    0x20 <= byte && byte <= 0x7E && byte != b'"' && byte != b'%'
+}
+
+// The same as `is_text`, of bytes that don't all stand for themselves.
+fn is_text_with_escapes(bytes: &[u8]) -> bool
+    ensures { IsTrue result ↔ IsText bytes.now }
+{
     let mut rest = bytes;
     while let Some((_, behind)) = next_byte(rest) {
         rest = behind;
@@ -86,11 +112,24 @@ pub fn decode(alloc: Global, text: &[u8]) -> Result<Bytes, AllocError>
     requires { IsText text.now }
     ensures { IfOk result (λ bytes. Spells text.now bytes) }
 {
-    let mut bytes = Vec::new(alloc);
+    match split_at(text, b'%') {
+        None => Bytes::from_slice(alloc, text),
+        Some(_) => unescaped(alloc, text),
+    }
+}
+
+// The same as `decode`, of a text with escapes.
+fn unescaped(alloc: Global, text: &[u8]) -> Result<Bytes, AllocError>
+    requires { IsText text.now }
+    ensures { IfOk result (λ bytes. Spells text.now bytes) }
+{
+    let mut bytes = Vec::with_capacity(alloc, text.len())?;
     let mut rest = text;
     while let Some((byte, behind)) = next_byte(rest) {
-        bytes.push(byte)?;
-        rest = behind;
+        match bytes.push(byte) {
+            Ok(()) => rest = behind,
+            Err(_) => unreachable!(),
+        }
     }
     Ok(Bytes::new(bytes))
 }

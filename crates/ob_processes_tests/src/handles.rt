@@ -5,6 +5,7 @@ ghost use Rattle.std.specs.Prelude.{◌≡◌, ◌<◌, [], All, IfOk};
 use ob_base::{Fault, Handle, ObjId, Proc};
 use ob_handles::{HandleTable, MOST_HANDLES, OpenTable};
 use ob_model::Held;
+use ob_slab_table::SlabTable;
 use std::alloc::Global;
 use std::process::Abort;
 
@@ -68,12 +69,16 @@ fn all_go<H: HandleTable>(rt: &impl Abort, alloc: Global) -> Result<(), Fault> {
     Ok(())
 }
 
-// The greatest value is put, as by a child that inherits it, and the next one is the least.
-fn one_is_inherited<H: HandleTable>(rt: &impl Abort, alloc: Global) -> Result<(), Fault> {
+// The greatest value is put, as by a child that inherits it, and the next one is one of the least.
+fn one_is_inherited<H: HandleTable>(
+    rt: &impl Abort,
+    alloc: Global,
+    least: Handle,
+) -> Result<(), Fault> {
     let mut table = H::new(alloc);
     table.put(held(262_140, 5, true, 1))?;
     let next = table.grant(CHILD, ObjId(9), false, 2)?;
-    assert!(rt; next == Handle(4) && table.get(Handle(262_140)) == Some(held(262_140, 5, true, 1)));
+    assert!(rt; next == least && table.get(Handle(262_140)) == Some(held(262_140, 5, true, 1)));
     Ok(())
 }
 
@@ -95,6 +100,16 @@ fn handles_come_under_the_least_free_value_and_go_from_the_oldest_on(
 ) -> Result<(), Fault> {
     one_comes_and_goes::<OpenTable>(&rt, rt.alloc())?;
     all_go::<OpenTable>(&rt, rt.alloc())?;
-    one_is_inherited::<OpenTable>(&rt, rt.alloc())?;
+    one_is_inherited::<OpenTable>(&rt, rt.alloc(), Handle(4))?;
     one_takes_the_place_of_another::<OpenTable>(&rt, rt.alloc())
+}
+
+#[test]
+fn handles_come_under_the_values_of_their_rows_and_go_from_the_oldest_on(
+    rt: HostRuntime,
+) -> Result<(), Fault> {
+    one_comes_and_goes::<SlabTable>(&rt, rt.alloc())?;
+    all_go::<SlabTable>(&rt, rt.alloc())?;
+    one_is_inherited::<SlabTable>(&rt, rt.alloc(), Handle(8))?;
+    one_takes_the_place_of_another::<SlabTable>(&rt, rt.alloc())
 }

@@ -1,6 +1,6 @@
 //! Each cause, and the order in which they are judged.
 
-use crate::told::{FRONT, first_other};
+use ob_drawn::{FRONT, first_other};
 
 const HEADERS: &'static str = r#"
 accepted 0 | {"journal":1,"seats":1}

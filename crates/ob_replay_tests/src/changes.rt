@@ -1,6 +1,6 @@
 //! The journal of two creates, and changes of it.
 
-use crate::told::{FRONT, first_other};
+use ob_drawn::{FRONT, first_other};
 use ob_replay::{Report, check_journal};
 
 #[test]

@@ -1,6 +1,6 @@
 //! Texts that no writer of journals makes.
 
-use crate::told::{FRONT, first_other};
+use ob_drawn::{FRONT, first_other};
 
 const LONG: &'static str = r#"
 syntax 3   | ^5B*200;

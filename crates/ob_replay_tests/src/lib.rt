@@ -12,10 +12,4 @@ mod hostile;
 #[cfg(test)]
 mod long;
 #[cfg(test)]
-mod play;
-#[cfg(test)]
-mod run;
-#[cfg(test)]
 mod runs;
-#[cfg(test)]
-mod told;

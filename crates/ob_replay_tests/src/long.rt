@@ -1,6 +1,6 @@
 //! Journals of many entries.
 
-use crate::told::{Told, told};
+use ob_drawn::{Told, told};
 use ob_replay::Cause;
 use std::alloc::{AllocError, Global};
 use std::test::Fail;

@@ -1,8 +1,6 @@
 //! The journals of runs, and what is told of their fronts and changes.
 
-use crate::play::{agrees, play};
-use crate::run::journal;
-use crate::told::{Told, told};
+use ob_drawn::{Told, agrees, journal, play, told};
 use ob_replay::Cause;
 use std::alloc::{AllocError, Global};
 use std::test::Fail;

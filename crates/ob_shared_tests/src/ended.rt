@@ -2,15 +2,15 @@
 
 ghost use Rattle.std.specs.Prelude.{◌≡◌};
 
-use crate::again::are_answered_again;
-use crate::callers::{NoGate, ask, make_and_close, open_file};
-use crate::threads::{Caller, Devices, at_once, beside, on_a_thread};
 use ob_base::{Fault, Status};
 use ob_core::OpenTable;
 use ob_device::{DeviceKind, DeviceSet};
 use ob_journal::Entry;
 use ob_shared::{Mismatch, open_shared};
-use ob_wishes::{Wish, command_of, entries_told, lines_of};
+use ob_wishes::{
+    Caller, Devices, NoGate, Wish, are_answered_again, ask, at_once, beside, command_of,
+    entries_told, lines_of, make_and_close, on_a_thread, open_file,
+};
 use std::alloc::Global;
 use std::marker::Brand;
 use std::sync::Wait;

@@ -3,10 +3,4 @@
 #![tactic(auto)]
 
 #[cfg(test)]
-mod again;
-#[cfg(test)]
-mod callers;
-#[cfg(test)]
 mod ended;
-#[cfg(test)]
-mod threads;

@@ -29,6 +29,11 @@ gathers_more old mid new had between has bytes more first second = record {
   written = Appends-trans old mid new first.front second.front first.written second.written;
 }
 
+-- room was made, and then there is room for all
+pub gathers_room : (old new : Option (List ℕ)) (had between bytes has : List ℕ) → Gathers old new had [] between → has ≡ between ++ bytes
+    → Gathers old new had bytes has
+gathers_room old new had between bytes has room e = gathers_more old new new had between has [] bytes room (gathers_all new between bytes has e)
+
 -- what is gathered, and then a beginning of more
 pub gathers_front : (old mid new : Option (List ℕ)) (had between bytes more : List ℕ) → Gathers old mid had bytes between → AppendsFront mid new (between ++ more)
     → AppendsFront old new (had ++ (bytes ++ more))

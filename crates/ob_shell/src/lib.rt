@@ -3,6 +3,7 @@
 
 mod fault;
 mod laws;
+mod lines;
 mod printing;
 mod reading;
 mod run;

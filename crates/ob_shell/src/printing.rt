@@ -1,16 +1,19 @@
 //! Writing what became of a line.
 
-ghost use Rattle.std.specs.Prelude.{◌≡◌, ◌≤◌, ◌++◌, vec_capacity, OnOk, OnErr};
+ghost use Rattle.std.specs.Prelude.{◌≡◌, ◌≤◌, ◌++◌, length, vec_capacity, OnOk, OnErr};
 ghost use Rattle.ob_shell.specs.Writing.{AppendsFront, Gathers};
 ghost use Rattle.ob_output.specs.Printed.{output_line, status_text, printed_bytes, entry_text, entries_text, given_text, reply_text};
 ghost use Rattle.ob_shell.specs.Running.{outcome_text};
 ghost use Rattle.ob_model.specs.declared.reply.Given.TheVariants.{Text};
 
-use crate::writing::{Unwritten, gather};
+use crate::lines::{
+    write_counts_line, write_status_front, write_status_line, write_text_front, write_text_line,
+};
+use crate::writing::{Unwritten, gather, make_room};
 use ob_base::Status;
 use ob_effects::LineOutcome;
 use ob_model::{Entries, Given, Listed, Reply};
-use ob_output::{counts_line, printed_part, status_front, status_line, text_front, text_line};
+use ob_output::push_printed;
 use std::io::Write;
 
 // How many bytes of a text are printed at once.
@@ -32,26 +35,12 @@ pub fn write_outcome<W: Write>(
 {
     match outcome {
         LineOutcome::Idle => Ok(()),
-        LineOutcome::Counted(counts) => gather(
-            writer,
-            block,
-            counts_line(number, *counts).as_slice(),
-        ),
+        LineOutcome::Counted(counts) => write_counts_line(writer, block, number, *counts),
         LineOutcome::Replied(reply) => write_reply(writer, block, number, reply),
-        LineOutcome::Pending => gather(writer, block, text_line(number, b"PENDING").as_slice()),
-        LineOutcome::Told(notice) => {
-            gather(writer, block, text_line(number, notice.text()).as_slice())
-        }
-        LineOutcome::NoLine => gather(
-            writer,
-            block,
-            text_line(number, b"not a script line").as_slice(),
-        ),
-        LineOutcome::NoMemory => gather(
-            writer,
-            block,
-            text_line(number, b"want of memory").as_slice(),
-        ),
+        LineOutcome::Pending => write_text_line(writer, block, number, b"PENDING"),
+        LineOutcome::Told(notice) => write_text_line(writer, block, number, notice.text()),
+        LineOutcome::NoLine => write_text_line(writer, block, number, b"not a script line"),
+        LineOutcome::NoMemory => write_text_line(writer, block, number, b"want of memory"),
     }
 }
 
@@ -71,9 +60,9 @@ fn write_reply<W: Write>(
     ensures capacity { vec_capacity block.old ≤ vec_capacity block.new }
 {
     match &reply.given {
-        Given::Nothing => gather(writer, block, status_line(number, reply.status).as_slice()),
-        Given::Handle(_) => gather(writer, block, status_line(number, reply.status).as_slice()),
-        Given::Process(..) => gather(writer, block, status_line(number, reply.status).as_slice()),
+        Given::Nothing => write_status_line(writer, block, number, reply.status),
+        Given::Handle(_) => write_status_line(writer, block, number, reply.status),
+        Given::Process(..) => write_status_line(writer, block, number, reply.status),
         Given::Page { entries, .. } => write_page(writer, block, number, reply.status, entries),
         Given::Text(text) => write_text(writer, block, number, reply.status, text.as_slice()),
     }
@@ -96,7 +85,7 @@ fn write_text<W: Write>(
         ++ given_text (Text text.now)))) }
     ensures capacity { vec_capacity block.old ≤ vec_capacity block.new }
 {
-    gather(writer, block, text_front(number, status).as_slice())?;
+    write_text_front(writer, block, number, status)?;
     write_printed(writer, block, text)?;
     gather(writer, block, b"\"\n")
 }
@@ -117,7 +106,7 @@ fn write_page<W: Write>(
         (block.old.items ++ output_line number (status_text status ++ entries_text entries.now))) }
     ensures capacity { vec_capacity block.old ≤ vec_capacity block.new }
 {
-    gather(writer, block, status_front(number, status).as_slice())?;
+    write_status_front(writer, block, number, status)?;
     write_entries(writer, block, entries.as_slice())?;
     gather(writer, block, b"\n")
 }
@@ -176,12 +165,30 @@ fn write_printed<W: Write>(
     let mut rest = text;
     while !rest.is_empty() {
         let count = rest.len().min(PART);
-        let part = printed_part(&rest[..count]);
-        match gather(writer, block, part.as_slice()) {
+        match write_printed_part(writer, block, &rest[..count]) {
             Ok(()) => rest = &rest[count..],
             Err(unwritten) => return Err(unwritten),
         }
     }
+    Ok(())
+}
+
+// Writes a part of a text of at most 64 bytes, as it is printed, by way of the block.
+fn write_printed_part<W: Write>(
+    writer: &mut W,
+    block: &mut Vec<u8>,
+    part: &[u8],
+) -> Result<(), Unwritten>
+    requires part { length part.now ≤ 64 }
+    requires room { 192 ≤ vec_capacity block.old }
+    ensures ok { OnOk result (Gathers (W.contents writer.old)
+        (W.contents writer.new) block.old.items (printed_bytes part.now) block.new.items) }
+    ensures front { OnErr result (AppendsFront (W.contents writer.old) (W.contents writer.new)
+        (block.old.items ++ printed_bytes part.now)) }
+    ensures capacity { vec_capacity block.old ≤ vec_capacity block.new }
+{
+    make_room(writer, block, 3 * part.len())?;
+    push_printed(block, part);
     Ok(())
 }
 

@@ -35,8 +35,8 @@ pub enum Ending {
 /// replies, a line each; docs/script.md has the language.
 ///
 /// The script is read whole before its first line runs, and each read and each write is made once. The
-/// output is written in blocks of at most 65,536 bytes: each when the next part of a line has no room in
-/// it, and the last when the run ends.
+/// output is written in blocks of at most 65,536 bytes: each when the next line, or the next part of one,
+/// might have no room in it, for which 192 bytes are enough, and the last when the run ends.
 ///
 /// The faults are `Read`, `TooLong` (more than 16,777,216 bytes) and `Memory`, after which nothing was
 /// written, and `Write`, after which a beginning of the output was written; lines whose replies were not

@@ -1,6 +1,6 @@
 //! Writing the output: in blocks, each of them once.
 
-ghost use Rattle.std.specs.Prelude.{◌≡◌, ◌+◌, ◌≤◌, ◌++◌, length, vec_len, vec_capacity, OnOk, OnErr};
+ghost use Rattle.std.specs.Prelude.{◌≡◌, ◌+◌, ◌≤◌, [], ◌++◌, length, vec_len, vec_capacity, OnOk, OnErr};
 ghost use Rattle.std.specs.Io.KnownBytes.{Appends};
 ghost use Rattle.ob_shell.specs.Writing.{AppendsFront, Gathers};
 
@@ -37,6 +37,30 @@ pub fn write_out<W: Write>(writer: &mut W, bytes: &[u8]) -> Result<(), Unwritten
     Ok(())
 }
 
+// Makes room for so many bytes in a block: where it has none, the block is written and emptied.
+pub fn make_room<W: Write>(
+    writer: &mut W,
+    block: &mut Vec<u8>,
+    wanted: usize,
+) -> Result<(), Unwritten>
+    requires { wanted ≤ vec_capacity block.old }
+    ensures ok { OnOk result (Gathers (W.contents writer.old)
+        (W.contents writer.new) block.old.items [] block.new.items) }
+    ensures room { OnOk result (vec_len block.new + wanted ≤ vec_capacity block.new) }
+    ensures front { OnErr result
+        (AppendsFront (W.contents writer.old) (W.contents writer.new) block.old.items) }
+    ensures capacity { vec_capacity block.old ≤ vec_capacity block.new }
+
+    // Nothing is written while there is room.
+    ensures waits { vec_len block.old + wanted ≤ vec_capacity block.old → writer.new ≡ writer.old }
+{
+    if block.capacity() - block.len() < wanted {
+        write_out(writer, block.as_slice())?;
+        block.clear();
+    }
+    Ok(())
+}
+
 // Gathers the bytes in a block. Where the block has no room for them, it is written and emptied first.
 pub fn gather<W: Write>(writer: &mut W, block: &mut Vec<u8>, bytes: &[u8]) -> Result<(), Unwritten>
     requires { length bytes.now ≤ vec_capacity block.old }
@@ -51,10 +75,7 @@ pub fn gather<W: Write>(writer: &mut W, block: &mut Vec<u8>, bytes: &[u8]) -> Re
     ensures waits { vec_len block.old + length bytes.now ≤ vec_capacity block.old → writer.new
         ≡ writer.old }
 {
-    if block.capacity() - block.len() < bytes.len() {
-        write_out(writer, block.as_slice())?;
-        block.clear();
-    }
+    make_room(writer, block, bytes.len())?;
     match block.extend_from_slice(bytes) {
         Ok(()) => Ok(()),
         Err(_) => unreachable!(),

@@ -1,25 +1,12 @@
--- Each byte that is spelled stands behind those before it.
-use Rattle.std.proofs.Common.{◌≡◌, ◌++◌, ◌∷◌, [], List, ℕ, append_assoc}
-use Rattle.std.proofs.lemmas.List.{append-nil}
-use Rattle.ob_parts.specs.Text.{SpellsByte, Spells}
-use Rattle.ob_parts.proofs.Spelled.{text_went_on, text_ends}
-use Rattle.ob_parts.proofs.text.decode.Invariants.{IsDecoded}
+-- A text with no escape spells itself.
+use Rattle.std.proofs.Common.{◌≡◌, ℕ, List, Result, Ok, Err, IfOk}
+use Rattle.ob_parts.specs.Text.{Spells}
+use Rattle.ob_parts.proofs.Spelled.{spells_itself}
 use Rattle.ob_parts.proofs.text.decode.Goals as goal
 
-goes_on : (text rest more bytes items : List ℕ) (b : ℕ) → IsDecoded text rest bytes → SpellsByte rest b more → items ≡ bytes ++ b ∷ [] → IsDecoded text more items
-goes_on text rest more bytes items b d s e = record {
-  whole = text_went_on rest more b s d.whole;
-  onward = λ others t. rw (e, append_assoc) (d.onward (b ∷ others) (more, s, t));
-}
+copied : {E : Type 0} (text : List ℕ) (r : Result (List ℕ) E) → Spells text text → IfOk r (λ bytes. bytes ≡ text) → IfOk r (λ bytes. Spells text bytes)
+copied text (Ok bytes) spells e = rw e spells
+copied text (Err none) spells e = tt
 
-ends : (text rest bytes : List ℕ) → IsDecoded text rest bytes → ((b : ℕ) (more : List ℕ) → ¬ SpellsByte rest b more) → Spells text bytes
-ends text rest bytes d none =
-    let empty : rest ≡ [] = (text_ends rest d.whole.0 none d.whole.1).0 in
-    let whole : Spells text (bytes ++ []) = d.onward [] empty in
-    rw append-nil at whole
-
-pub loop-byte-preserved : goal.loop-byte-preserved
-loop-byte-preserved c = goes_on _ _ _ _ _ _ c.loop-byte.invariant c.in-Some.ensures.found c.in_ok-push.ensures.items
-
-pub returns : goal.returns
-returns c = rw c.new.ensures (ends _ _ _ c.loop-byte.invariant c.in_default.ensures.none)
+pub returns-in-None : goal.returns-in-None
+returns-in-None c = copied c.args.text.now c.from_slice.result (spells_itself c.args.text.now c.requires.0 c.in-None.ensures.none c.requires.1) c.from_slice.ensures

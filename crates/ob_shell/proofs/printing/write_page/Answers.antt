@@ -1,33 +1,33 @@
 -- The line is its front, its entries and its end; where a write fails, a beginning of it stands.
-use Rattle.std.proofs.Common.{◌∙◌, codes, refl}
+use Rattle.std.proofs.Common.{codes, refl}
 use Rattle.ob_shell.proofs.Writers.{at_err, at_err_weaker}
 use Rattle.ob_shell.proofs.Gathered.{at_ok_weaker}
 use Rattle.ob_shell.proofs.Listed.{left_all, left_front, page_more, page_first, listed_more, listed_front}
 use Rattle.ob_shell.proofs.printing.write_page.Goals as goal
 
-pub returns-in_err-gather-clause-front : goal.returns-in_err-gather-clause-front
-returns-in_err-gather-clause-front g c =
+pub returns-in_err-write_status_front-clause-front : goal.returns-in_err-write_status_front-clause-front
+returns-in_err-write_status_front-clause-front g c =
     at_err c.from_residual.result _
-    (page_first c.args.block.now.items c.args.number c.args.status c.args.entries.now _ (c.as_slice.ensures.value ∙ c.status_front.ensures) c.in_err-gather.ensures.front)
+    (page_first c.args.block.now.items c.args.number c.args.status c.args.entries.now _ refl c.in_err-write_status_front.ensures.front)
 
 pub returns-in_err-write_entries-clause-front : goal.returns-in_err-write_entries-clause-front
 returns-in_err-write_entries-clause-front g c =
     at_err c.from_residual-in_err-write_entries.result _
-    (listed_front c.args.number c.args.status c.args.entries.now _ c.as_slice-2.ensures
-    (page_more c.args.number c.args.status c.args.entries.now _ (c.as_slice.ensures.value ∙ c.status_front.ensures) c.in_ok-gather.ensures.ok) c.in_err-write_entries.ensures.front)
+    (listed_front c.args.number c.args.status c.args.entries.now _ c.as_slice.ensures
+    (page_more c.args.number c.args.status c.args.entries.now _ refl c.in_ok-write_status_front.ensures.ok) c.in_err-write_entries.ensures.front)
 
 pub returns-clause-ok : goal.returns-clause-ok
 returns-clause-ok g c =
-    at_ok_weaker c.gather-2.result _ _
+    at_ok_weaker c.gather.result _ _
     (left_all (codes "\n") _ refl
-    (listed_more c.args.number c.args.status c.args.entries.now _ c.as_slice-2.ensures
-    (page_more c.args.number c.args.status c.args.entries.now _ (c.as_slice.ensures.value ∙ c.status_front.ensures) c.in_ok-gather.ensures.ok) c.in_ok-write_entries.ensures.ok))
-    c.gather-2.ensures.ok
+    (listed_more c.args.number c.args.status c.args.entries.now _ c.as_slice.ensures
+    (page_more c.args.number c.args.status c.args.entries.now _ refl c.in_ok-write_status_front.ensures.ok) c.in_ok-write_entries.ensures.ok))
+    c.gather.ensures.ok
 
 pub returns-clause-front : goal.returns-clause-front
 returns-clause-front g c =
-    at_err_weaker c.gather-2.result _ _
+    at_err_weaker c.gather.result _ _
     (left_front (codes "\n") _ refl
-    (listed_more c.args.number c.args.status c.args.entries.now _ c.as_slice-2.ensures
-    (page_more c.args.number c.args.status c.args.entries.now _ (c.as_slice.ensures.value ∙ c.status_front.ensures) c.in_ok-gather.ensures.ok) c.in_ok-write_entries.ensures.ok))
-    c.gather-2.ensures.front
+    (listed_more c.args.number c.args.status c.args.entries.now _ c.as_slice.ensures
+    (page_more c.args.number c.args.status c.args.entries.now _ refl c.in_ok-write_status_front.ensures.ok) c.in_ok-write_entries.ensures.ok))
+    c.gather.ensures.front

@@ -1,11 +1,14 @@
--- Where the block isn't written whole, a beginning of it stands.
-use Rattle.std.proofs.Common.{subst}
-use Rattle.ob_shell.specs.Writing.{AppendsFront}
-use Rattle.ob_shell.proofs.Writers.{front-append, at_err}
+-- Room is made first; where that isn't written, a beginning of the block stands.
+use Rattle.ob_shell.proofs.Writers.{at_err, front-append}
+use Rattle.ob_shell.proofs.Gathered.{gathers_room}
 use Rattle.ob_shell.proofs.writing.gather.Goals as goal
 
-pub returns-in_err-write_out-clause-front : goal.returns-in_err-write_out-clause-front
-returns-in_err-write_out-clause-front g c =
+pub returns-in_err-make_room-clause-front : goal.returns-in_err-make_room-clause-front
+returns-in_err-make_room-clause-front g c =
     at_err c.from_residual.result _
-    (front-append (g.W.Write.contents c.args.writer.now) (g.W.Write.contents c.write_out.new.writer) c.args.block.now.items c.args.bytes.now
-    (subst (λ x. AppendsFront (g.W.Write.contents c.args.writer.now) (g.W.Write.contents c.write_out.new.writer) x) c.as_slice.ensures.value c.in_err-write_out.ensures.front))
+    (front-append (g.W.Write.contents c.args.writer.now) (g.W.Write.contents c.make_room.new.writer) c.args.block.now.items c.args.bytes.now c.in_err-make_room.ensures.front)
+
+pub returns-clause-ok : goal.returns-clause-ok
+returns-clause-ok g c =
+    gathers_room (g.W.Write.contents c.args.writer.now) (g.W.Write.contents c.make_room.new.writer) c.args.block.now.items c.make_room.new.block.items c.args.bytes.now _
+    c.in_ok-make_room.ensures.ok c.in-Ok.ensures.items

@@ -1,0 +1,5 @@
+pub mod Lists
+pub mod Places
+pub mod Stale
+pub mod Tables
+pub mod Inside

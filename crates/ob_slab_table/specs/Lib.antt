@@ -1,0 +1,3 @@
+pub mod Openings
+pub mod Kept
+pub mod Values

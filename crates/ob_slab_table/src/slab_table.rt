@@ -1,0 +1,142 @@
+//! A handle table over a slab.
+
+ghost use Rattle.std.specs.Prelude.{◌≡◌, ◌<◌, length};
+ghost use Rattle.ob_model.specs.State.{most_handles};
+ghost use Rattle.ob_handles.specs.Table.{IsUnused};
+
+use crate::openings::{Opening, drop_stale, held_by};
+use crate::values::{next_unused, value_of_row};
+use indexmap::IndexMap;
+use ob_base::{Fault, Handle, ObjId, Proc, Status};
+use ob_handles::{HandleTable, MOST_HANDLES};
+use ob_model::Held;
+use slab::Slab;
+use std::alloc::{AllocError, Global};
+use std::collections::VecDeque;
+use std::marker::Model;
+
+/// A handle table whose handles lie in the rows of a slab, beside a hash table from their values to the
+/// rows' keys, and a queue of their openings. A handle that is taken leaves its opening behind, stale,
+/// until no other stands before it, or behind it, or there are more than two openings for each handle.
+///
+/// A new handle gets the value of its row, four times the key and one; or, where another handle has that
+/// one, since a child inherited it, the first unused behind the value that was searched for last, in a
+/// circle.
+///
+/// `get`, `len` and `oldest` take a time that doesn't grow with the handles. So do `grant`, `put` and
+/// `take`, taken together over many calls, but for a grant that searches: it passes values in use, each once
+/// in a circle. `inheritable` passes at most two openings for each handle, and one more. (this profile)
+#[derive(Drop)]
+pub struct SlabTable {
+    rows: Slab<Held>,
+    keys: IndexMap<u32, usize>,
+    opened: VecDeque<Opening>,
+    // A fourth of the value that was searched for last; 0 at first.
+    searched: u16,
+}
+
+impl Model for SlabTable {
+    ghost use Rattle.std.specs.Prelude.{List, nat_eq};
+    ghost use Rattle.slab.specs.Slab.{get as row};
+    ghost use Rattle.indexmap.specs.IndexMap.{get as key_of, index_map_len};
+    ghost use Rattle.ob_model.specs.declared.state.Held.{Held as AHandle};
+    ghost use Rattle.ob_slab_table.specs.Openings.{handles_of};
+    ghost use Rattle.ob_slab_table.specs.Kept.{IsKept};
+
+    ghost Value = { List AHandle };
+
+    ghost view = { λ table. handles_of (row table.rows) table.opened.items };
+
+    ghost invariant = { λ table. IsKept (row table.rows) (key_of nat_eq table.keys)
+        table.opened.items (index_map_len table.keys) };
+}
+
+impl SlabTable {
+    /// A value that no handle has. The table must have fewer than 65,535 handles. Takes no memory.
+    fn unused(&mut self) -> Handle
+        requires room { length self.old < most_handles }
+        ensures unused { IsUnused self.old result }
+        ensures unchanged { self.new ≡ self.old }
+    {
+        if let Some(value) = value_of_row(self.rows.vacant_key())
+            && !self.keys.contains_key(&value)
+        {
+            return Handle(value);
+        }
+        let value = next_unused(&self.keys, self.searched);
+        self.searched = (value / 4) as u16;
+        Handle(value)
+    }
+}
+
+impl HandleTable for SlabTable {
+    ghost handles = { λ table. table };
+
+    fn new(alloc: Global) -> SlabTable {
+        SlabTable {
+            rows: Slab::new(alloc),
+            keys: IndexMap::new(alloc),
+            opened: VecDeque::new(alloc),
+            searched: 0,
+        }
+    }
+
+    fn grant(
+        &mut self,
+        process: Proc,
+        object: ObjId,
+        inherit: bool,
+        order: u64,
+    ) -> Result<Handle, Fault> {
+        if self.len() >= MOST_HANDLES {
+            return Err(Fault::Refused(Status::InsufficientResources));
+        }
+        let value = self.unused();
+        self.put(Held {
+            process,
+            value,
+            object,
+            inherit,
+            order,
+        })?;
+        Ok(value)
+    }
+
+    fn put(&mut self, held: Held) -> Result<(), AllocError> {
+        let (value, order) = (held.value, held.order);
+        self.rows.reserve(1)?;
+        self.opened.reserve(1)?;
+        let key = self.rows.vacant_key();
+        self.keys.insert(value.0, key)?;
+        self.rows.insert_reserved(held);
+        self.opened.push_back_reserved(Opening { order, key });
+        Ok(())
+    }
+
+    fn get(&self, value: Handle) -> Option<Held> {
+        let key = self.keys.get(&value.0)?;
+        self.rows.get(*key).copied()
+    }
+
+    fn take(&mut self, value: Handle) -> Option<Held> {
+        let key = self.keys.swap_remove(&value.0)?;
+        let held = self.rows.try_remove(key);
+        drop_stale(&mut self.opened, &self.rows, self.keys.len());
+        held
+    }
+
+    fn len(&self) -> usize {
+        self.keys.len()
+    }
+
+    fn oldest(&self) -> Option<Held> {
+        let oldest = self.opened.front()?;
+        held_by(&self.rows, *oldest)
+    }
+
+    fn inheritable(&self, alloc: Global) -> Result<Vec<Held>, AllocError> {
+        let rows = &self.rows;
+        let handles = self.opened.iter().filter_map(|o| held_by(rows, *o));
+        handles.filter(|held| held.inherit).collect(alloc)
+    }
+}
