@@ -1,9 +1,10 @@
 #!/usr/bin/env python3
-"""Times operations of a core in Rattle, and the same by calls from C of the library that `make lib` leaves, and prints both.
+"""Times operations of a core in Rattle, and the same by calls from C of the library that `make lib` leaves, and prints both; and those deep in
+directories by the cache that a core has of itself, and by one with room for a single prefix, which is never the one that is asked for.
 
     bench/calls.py CORE_BENCH ROUNDS
 
-Each rate is the best of three runs, which take turns. How many times as long a round takes by calls from C stands behind it. Nothing
+Each rate is the best of three runs, which take turns. How many times as long a round takes otherwise stands behind it. Nothing
 here fails.
 """
 
@@ -16,6 +17,9 @@ from pathlib import Path
 
 ROOT = Path(__file__).resolve().parent.parent
 RUNS = 3
+
+# what core_bench puts behind the name of an operation whose cache is of no use
+BY_NONE = ", by no prefix"
 
 
 def rates(program, rounds):
@@ -39,8 +43,12 @@ def main():
         runs = [(rates(sys.argv[1], sys.argv[2]), rates(by_calls, sys.argv[2])) for _ in range(RUNS)]
     rattle, c = best([run[0] for run in runs]), best([run[1] for run in runs])
     for name, rate in rattle.items():
-        said = f"by calls from C {c[name]}, {rate / c[name]:.2f} times as long" if c.get(name) else "a call from C was refused"
-        print(f"{name}: {rate} a second; {said}")
+        by_none = rattle.get(name + BY_NONE)
+        if by_none:
+            print(f"{name}: {rate} a second; by a cache of no use {by_none}, {rate / by_none:.2f} times as long")
+        elif not name.endswith(BY_NONE):
+            said = f"by calls from C {c[name]}, {rate / c[name]:.2f} times as long" if c.get(name) else "a call from C was refused"
+            print(f"{name}: {rate} a second; {said}")
 
 
 if __name__ == "__main__":

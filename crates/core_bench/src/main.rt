@@ -1,9 +1,12 @@
 //! Times operations of a core over the standard set of types: `core_bench ROUNDS` makes so many rounds of each, in a namespace of its
 //! own, and prints how many are made a second. A round before these isn't timed. Each step has to be answered as it should be.
+//! Those deep in directories are made by the cache that a core has of itself, and then by one with room for a single prefix, which
+//! is never the one that is asked for.
 #![tactic(auto)]
 
 use either::Either;
 use ob_base::{Attrs, Fault, Handle, Proc, Status};
+use ob_core::Cache;
 use ob_device::DeviceKind;
 use ob_key::KeyKind;
 use ob_model::{Bytes, Command, Given, Place, Reply};
@@ -11,6 +14,8 @@ use ob_plain::PlainKind;
 use ob_standard::StandardKind;
 use ob_standard_core::StandardCore;
 use std::alloc::{AllocError, Global};
+use std::io::Print;
+use std::num::NonZeroUsize;
 use std::time::{Clock, Duration, Instant};
 use std::{env, io};
 
@@ -153,6 +158,69 @@ const OPERATIONS: &'static [Operation] = &[
             (1, &[Ask::Open("\\Many", 0)]),
         ],
         round: &[Ask::Entry],
+    },
+];
+
+// The fifteen directories of a way, each in the one before it, and an event in the last of them.
+const WAY: &'static [Ask] = &[
+    Ask::Directory("\\a"),
+    Ask::Directory("\\a\\b"),
+    Ask::Directory("\\a\\b\\c"),
+    Ask::Directory("\\a\\b\\c\\d"),
+    Ask::Directory("\\a\\b\\c\\d\\e"),
+    Ask::Directory("\\a\\b\\c\\d\\e\\f"),
+    Ask::Directory("\\a\\b\\c\\d\\e\\f\\g"),
+    Ask::Directory("\\a\\b\\c\\d\\e\\f\\g\\h"),
+    Ask::Directory("\\a\\b\\c\\d\\e\\f\\g\\h\\i"),
+    Ask::Directory("\\a\\b\\c\\d\\e\\f\\g\\h\\i\\j"),
+    Ask::Directory("\\a\\b\\c\\d\\e\\f\\g\\h\\i\\j\\k"),
+    Ask::Directory("\\a\\b\\c\\d\\e\\f\\g\\h\\i\\j\\k\\l"),
+    Ask::Directory("\\a\\b\\c\\d\\e\\f\\g\\h\\i\\j\\k\\l\\m"),
+    Ask::Directory("\\a\\b\\c\\d\\e\\f\\g\\h\\i\\j\\k\\l\\m\\n"),
+    Ask::Directory("\\a\\b\\c\\d\\e\\f\\g\\h\\i\\j\\k\\l\\m\\n\\o"),
+    Ask::Directory("\\a\\b\\c\\d\\e\\f\\g\\h\\i\\j\\k\\l\\m\\n\\p"),
+    Ask::Event(FIRST_DEEP, 0),
+    Ask::Event(OTHER_DEEP, 0),
+];
+
+// Two names of sixteen components, whose prefixes differ.
+const FIRST_DEEP: &'static str = "\\a\\b\\c\\d\\e\\f\\g\\h\\i\\j\\k\\l\\m\\n\\o\\E";
+
+const OTHER_DEEP: &'static str = "\\a\\b\\c\\d\\e\\f\\g\\h\\i\\j\\k\\l\\m\\n\\p\\E";
+
+// Opens of two names in turn.
+const BOTH_DEEP: &'static [Ask] = &[
+    Ask::Open(FIRST_DEEP, 0),
+    Ask::Close,
+    Ask::Open(OTHER_DEEP, 0),
+    Ask::Close,
+];
+
+// Eight steps of such opens, one that makes an object, and one that removes it.
+const CHANGED: &'static [Ask] = &[
+    Ask::Open(FIRST_DEEP, 0),
+    Ask::Close,
+    Ask::Open(OTHER_DEEP, 0),
+    Ask::Close,
+    Ask::Open(FIRST_DEEP, 0),
+    Ask::Close,
+    Ask::Open(OTHER_DEEP, 0),
+    Ask::Close,
+    Ask::Event("\\E", 0),
+    Ask::Close,
+];
+
+/// Operations that are made once by each cache.
+const DEEP: &'static [Operation] = &[
+    Operation {
+        name: "open and close two events sixteen components deep",
+        before: &[(1, WAY)],
+        round: BOTH_DEEP,
+    },
+    Operation {
+        name: "ten steps sixteen components deep, two of which make and remove an event",
+        before: &[(1, WAY)],
+        round: CHANGED,
     },
 ];
 
@@ -363,14 +431,23 @@ fn timed(
     Ok(made.map(|_| rate_of(times, took)))
 }
 
-/// The same in a new namespace.
+/// A new namespace, whose names are looked up by a cache with room for so many prefixes.
+fn opened(alloc: Global, room: usize) -> Result<StandardCore, AllocError> {
+    let Some(room) = NonZeroUsize::new(room) else {
+        return Err(AllocError);
+    };
+    StandardCore::with_cache(alloc, Cache::with_room(alloc, room)?)
+}
+
+/// The same in a new namespace, whose names are looked up by a cache with room for so many prefixes.
 fn rate(
     rt: &impl Clock,
     alloc: Global,
+    room: usize,
     operation: &Operation,
     times: u32,
 ) -> io::Result<Result<u64, Fault>> {
-    match StandardCore::new(alloc) {
+    match opened(alloc, room) {
         Ok(core) => {
             let mut core = core;
             timed(rt, alloc, &mut core, operation, times)
@@ -384,6 +461,28 @@ fn rounds_asked(words: &[String]) -> Option<u32> {
     words.get(1)?.as_str().parse::<u32>().ok()
 }
 
+/// Times operations, and prints the rate of each behind its name and this.
+fn tell_rates(
+    rt: &(impl Clock + Print),
+    alloc: Global,
+    operations: &[Operation],
+    room: usize,
+    behind: &str,
+    times: u32,
+) -> io::Result<()> {
+    for operation in operations {
+        let name = operation.name;
+        match rate(rt, alloc, room, operation, times)? {
+            Ok(rate) => println!(rt; "{name}{behind}: {rate} a second")?,
+            Err(_) => println!(rt; "{name}{behind}: a step found no memory, or was refused")?,
+        }
+    }
+    Ok(())
+}
+
+/// The prefixes for which the cache of a core has room of itself.
+const ROOM: usize = 256;
+
 /// Times each operation, and prints its rate.
 fn main(rt: HostRuntime) -> io::Result<()> {
     let alloc = rt.alloc();
@@ -393,12 +492,7 @@ fn main(rt: HostRuntime) -> io::Result<()> {
     let Some(times) = rounds_asked(words.as_slice()) else {
         return println!(rt; "core_bench ROUNDS");
     };
-    for operation in OPERATIONS {
-        let name = operation.name;
-        match rate(&rt, alloc, operation, times)? {
-            Ok(rate) => println!(rt; "{name}: {rate} a second")?,
-            Err(_) => println!(rt; "{name}: a step found no memory, or was refused")?,
-        }
-    }
-    Ok(())
+    tell_rates(&rt, alloc, OPERATIONS, ROOM, "", times)?;
+    tell_rates(&rt, alloc, DEEP, ROOM, "", times)?;
+    tell_rates(&rt, alloc, DEEP, 1, ", by no prefix", times)
 }

@@ -3,6 +3,8 @@
 #![tactic(auto)]
 
 #[cfg(test)]
+mod cached;
+#[cfg(test)]
 mod cases;
 #[cfg(test)]
 mod lengths;

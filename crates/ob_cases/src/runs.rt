@@ -176,27 +176,45 @@ fn serves<H: Threads + Wait + Sync>(
     Some(end.status() == status && told == Ok(()) && streams.hold(output, errors))
 }
 
-// Puts a text behind bytes so many times, or for `successes` a success of each line up to this one.
-fn repeat(alloc: Global, bytes: &mut Vec<u8>, text: &str, times: u32) -> Result<(), AllocError> {
-    for number in 1..=times {
-        if text == "successes" {
-            let line = format!(in alloc; "{number}: SUCCESS\n")?;
-            bytes.extend_from_slice(line.as_bytes())?;
-        } else {
-            bytes.extend_from_slice(text.as_bytes())?;
+// Puts a text behind bytes, in which `{}` stands for a number.
+fn put(alloc: Global, bytes: &mut Vec<u8>, text: &str, number: u32) -> Result<(), AllocError> {
+    for (place, part) in text.split("{}").enumerate() {
+        if place > 0 {
+            let digits = format!(in alloc; "{number}")?;
+            bytes.extend_from_slice(digits.as_bytes())?;
         }
+        bytes.extend_from_slice(part.as_bytes())?;
     }
     Ok(())
 }
 
-// The bytes of a text, in which `<<a*3>>` may stand once, for `aaa`.
+// Puts a text behind bytes so many times, with the number of each from 1 on, or for `successes` a success of each line up
+// to this one.
+fn repeat(alloc: Global, bytes: &mut Vec<u8>, text: &str, times: u32) -> Result<(), AllocError> {
+    let text = if text == "successes" {
+        "{}: SUCCESS\n"
+    } else {
+        text
+    };
+    for number in 1..=times {
+        put(alloc, bytes, text, number)?;
+    }
+    Ok(())
+}
+
+// The bytes of a text, in which `<<a*3>>` stands for `aaa`, and `<<{}*3>>` for `123`.
 fn spelled(alloc: Global, text: &str) -> Option<Vec<u8>> {
-    let (front, rest) = text.split_once("<<").unwrap_or((text, "*0>>"));
-    let (repeated, back) = rest.split_once(">>")?;
-    let (repeated, times) = repeated.split_once('*')?;
-    let mut bytes = front.as_bytes().to_vec(alloc).ok()?;
-    repeat(alloc, &mut bytes, repeated, times.parse().ok()?).ok()?;
-    bytes.extend_from_slice(back.as_bytes()).ok()?;
+    let mut bytes = Vec::new(alloc);
+    for (place, part) in text.split("<<").enumerate() {
+        let (repeated, plain) = if place > 0 {
+            part.split_once(">>")?
+        } else {
+            ("*0", part)
+        };
+        let (repeated, times) = repeated.split_once('*')?;
+        repeat(alloc, &mut bytes, repeated, times.parse().ok()?).ok()?;
+        bytes.extend_from_slice(plain.as_bytes()).ok()?;
+    }
     Some(bytes)
 }
 

@@ -16,9 +16,10 @@ ghost use Rattle.ob_space.specs.Found.{at_handle};
 use crate::replies::with_text;
 use ob_base::{Handle, ObjId, Proc, Status};
 use ob_handles::HandleTable;
+use ob_lookup::CachedStore;
 use ob_model::{Bytes, Reply};
 use ob_names::LONGEST_NAME;
-use ob_objects::{Store, StoredBody, stored_is_the_object};
+use ob_objects::{StoredBody, stored_is_the_object};
 use ob_space::{ROOT, Space, held_of, is_live, status_alone};
 use ob_types::TypeSet;
 use std::alloc::{AllocError, Global};
@@ -64,7 +65,7 @@ pub fn query_name<T: TypeSet, H: HandleTable>(
 /// way has no name.
 fn way_up<T: TypeSet>(
     alloc: Global,
-    store: &Store<T>,
+    store: &CachedStore<T>,
     object: ObjId,
 ) -> Result<Option<Vec<&[u8]>>, AllocError>
     requires { All (λ r. r.directory < r.object) (rows_of store.now) }

@@ -7,7 +7,7 @@
 //!
 //! What a command and its reply are made of is handed on: [`Command`], [`Place`] and [`Wanted`],
 //! [`Reply`] and [`Given`], and the [`Bytes`], [`Handles`] and [`Entries`] in them, of which each [`Listed`] has a [`TypeName`]; and so are handle tables, [`HandleTable`] and
-//! [`OpenTable`], and the parses that an open may wait for, [`Parsing`] and [`Parsed`], with [`Brought`] for either. So a caller names this crate and a set of types and nothing else for them.
+//! [`OpenTable`], the [`Cache`] by which names are looked up, and the parses that an open may wait for, [`Parsing`] and [`Parsed`], with [`Brought`] for either. So a caller names this crate and a set of types and nothing else for them.
 #![tactic(auto)]
 
 mod namespace;
@@ -16,6 +16,7 @@ mod steps;
 
 pub use namespace::Core;
 pub use ob_handles::{HandleTable, OpenTable};
+pub use ob_lookup::Cache;
 pub use ob_model::{
     Bytes, Command, Entries, Given, Handles, Listed, Place, Reply, TypeName, Wanted,
 };

@@ -28,6 +28,7 @@ use crate::steps::step_for;
 use ob_base::{Fault, Handle, ObjId, Proc};
 use ob_drains::{Drains, what_is_taken_is_unnoticed};
 use ob_handles::HandleTable;
+use ob_lookup::{Cache, CachedStore};
 use ob_model::{Command, Held};
 use ob_opens::{Started, abandon, resume};
 use ob_processes::{PendingOpens, Processes};
@@ -62,20 +63,34 @@ impl<T: TypeSet, H: HandleTable> Model for Core<T, H> {
 impl<T: TypeSet, H: HandleTable> Core<T, H> {
     /// The opening state, with a set of types: the root directory, `\GLOBAL??`, `\DosDevices` (a link
     /// to `\??`), `\Device`, `\BaseNamedObjects` and `\Sessions`, all permanent, and process 1 without a
-    /// handle. The only fault is out of memory, and then the set is let go.
+    /// handle. Names are looked up by a cache of 256 prefixes. The only fault is out of memory, and then the set is let go.
     pub fn new(alloc: Global, types: T) -> Result<Core<T, H>, Fault>
+        ensures opening { IfOk result (λ core. core ≡ opening types) }
+        ensures memory { IfErr result (λ fault. fault ≡ Memory) }
+    {
+        let cache = Cache::new(alloc)?;
+        Core::with_cache(alloc, types, cache)
+    }
+
+    /// The opening state, as [`Core::new`] has it, whose names are looked up by this cache, which is emptied first. What
+    /// it has room for changes no reply. The only fault is out of memory, and then the set and the cache are let go.
+    ///
+    /// Source: as for [`Core::new`]; the cache is this profile.
+    pub fn with_cache(alloc: Global, types: T, cache: Cache) -> Result<Core<T, H>, Fault>
         ensures opening { IfOk result (λ core. core ≡ opening types) }
         ensures memory { IfErr result (λ fault. fault ≡ Memory) }
     {
         let mut processes = Processes::new(alloc);
         processes.start(Proc(1), None)?;
+        let store = CachedStore::new(opening_store(alloc)?, cache);
+        let pending = PendingOpens::new(alloc);
         Ok(Core {
             space: Space {
                 alloc,
                 set: types,
-                store: opening_store(alloc)?,
+                store,
                 processes,
-                pending: PendingOpens::new(alloc),
+                pending,
                 next_id: 7,
                 next_stamp: 6,
                 next_process: 2,

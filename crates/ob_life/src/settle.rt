@@ -12,7 +12,7 @@ ghost use Rattle.ob_life.specs.Settling.{is_held_up, is_upheld, settled_one, set
 
 use ob_base::ObjId;
 use ob_handles::{HandleTable, Touched};
-use ob_objects::Store;
+use ob_lookup::CachedStore;
 use ob_processes::{PendingOpens, Processes};
 use ob_space::{GLOBAL, ROOT, Space, delete_body};
 use ob_types::TypeSet;
@@ -134,7 +134,7 @@ fn settle_one<T: TypeSet, H: HandleTable>(space: &mut Space<T, H>, id: ObjId)
 
 /// Takes away the name of an object, unless it stays.
 fn forget_unkept<T: TypeSet, H: HandleTable>(
-    store: &mut Store<T>,
+    store: &mut CachedStore<T>,
     processes: &Processes<H>,
     id: ObjId,
 )
@@ -149,7 +149,7 @@ fn forget_unkept<T: TypeSet, H: HandleTable>(
 }
 
 /// Takes away the name of an object, where it has one.
-fn forget_name<T: TypeSet>(store: &mut Store<T>, id: ObjId)
+fn forget_name<T: TypeSet>(store: &mut CachedStore<T>, id: ObjId)
     ensures objects { objects_of store.new ≡ objects_of store.old }
     ensures rows { rows_of store.new ≡ filter (λ row. not (row.object == id)) (rows_of store.old) }
 {
@@ -172,7 +172,7 @@ fn delete_object<T: TypeSet, H: HandleTable>(space: &mut Space<T, H>, id: ObjId)
 
 /// Whether the names of an object stay: it is permanent or has a handle.
 fn is_kept<T: TypeSet, H: HandleTable>(
-    store: &Store<T>,
+    store: &CachedStore<T>,
     processes: &Processes<H>,
     id: ObjId,
 ) -> bool
@@ -184,7 +184,7 @@ fn is_kept<T: TypeSet, H: HandleTable>(
 
 /// Whether an object stays, given the names that stay.
 fn is_held_up<T: TypeSet, H: HandleTable>(
-    store: &Store<T>,
+    store: &CachedStore<T>,
     processes: &Processes<H>,
     pending: &PendingOpens<T::Kind>,
     id: ObjId,

@@ -1,7 +1,12 @@
 pub mod Seen
 pub mod Steps
+pub mod Compose
+pub mod Spelling
+pub mod Kept
+pub mod Separators
 pub mod Starts
 pub mod Turns
 pub mod Onto
 pub mod Begins
 pub mod Stays
+pub mod Staying

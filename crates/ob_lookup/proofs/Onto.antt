@@ -14,7 +14,8 @@ use Rattle.ob_lookup.specs.declared.start.Standpoint.{Standpoint}
 use Rattle.ob_lookup.specs.declared.start.Start.{Start}
 use Rattle.ob_lookup.specs.Walk.{rest_of, directory_of, origin_at, object_at, place_of, text_of}
 use Rattle.ob_lookup.proofs.Seen.{directory_is, entry_seen, place_seen, is_directory-from_body}
-use Rattle.ob_lookup.proofs.Steps.{Led, Leads, led_on, misses}
+use Rattle.ob_lookup.specs.Onward.{Led, Leads}
+use Rattle.ob_lookup.proofs.Steps.{led_on, misses}
 
 -- a text is empty where its length is nothing
 pub empty_text : (xs : List ℕ) → (length xs == 0) ≡ bytes_eq xs []

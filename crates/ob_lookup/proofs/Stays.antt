@@ -86,7 +86,7 @@ module _ {F I : Type 0} where
       some_from_test (λ x. true) (stored_at (with_name store d entry) k) (stored_at store k)
       (tested store d k (λ x. record x { body = body_with_name entry x.body }) (λ x. true) (λ x. refl)) there
 
-  abbrev is_directory : StoredObject F I → Bool
+  abbrev pub is_directory : StoredObject F I → Bool
   is_directory x = is_some (directory_of x.body)
 
   still_directory : (entry : DirEntry) (body : StoredBody F I) → is_some (directory_of (body_with_name entry body)) ≡ is_some (directory_of body)
@@ -98,11 +98,17 @@ module _ {F I : Type 0} where
   directory_by_test None = refl
   directory_by_test (Some x) = refl
 
+  -- a change that leaves directories directories
+  pub directory_changed : (store : Entries F I) (id k : ℕ) (change : StoredObject F I → StoredObject F I)
+      → ((x : StoredObject F I) → is_directory (change x) ≡ is_directory x) → IsSome (directory_at store k) → IsSome (directory_at (changed_at id change store) k)
+  directory_changed store id k change same there =
+      directory_by_test (stored_at (changed_at id change store) k)
+      ∙ ap (λ (o : Option Bool). unwrap_or o false) (tested store id k change is_directory same)
+      ∙ sym (directory_by_test (stored_at store k)) ∙ there
+
   pub directory_with_name : (store : Entries F I) (d k : ℕ) (entry : DirEntry) → IsSome (directory_at store k) → IsSome (directory_at (with_name store d entry) k)
   directory_with_name store d k entry there =
-      directory_by_test (stored_at (with_name store d entry) k)
-      ∙ ap (λ (o : Option Bool). unwrap_or o false) (tested store d k (λ x. record x { body = body_with_name entry x.body }) is_directory (λ x. still_directory entry x.body))
-      ∙ sym (directory_by_test (stored_at store k)) ∙ there
+      directory_changed store d k (λ x. record x { body = body_with_name entry x.body }) (λ x. still_directory entry x.body) there
 
   pub closed_with_name : ClosedWithName F I
   closed_with_name store d entry is closed there newest object = record {

@@ -7,28 +7,14 @@ use Rattle.ob_model.specs.Paths.{Origin, InDirectory, ViewOf, IsPath, IsReach, I
 use Rattle.ob_model.specs.Paths as paths
 use Rattle.ob_model.proofs.Components.{IsSplit-nil}
 use Rattle.ob_model.proofs.Onward.{IsSplit-push, IsPath-push}
-use Rattle.ob_devmap.specs.declared.view.View.{View}
-use Rattle.ob_devmap.specs.View.{IsViewOf}
-use Rattle.ob_objects.specs.Store.{Entries, Shows}
-use Rattle.ob_lookup.specs.declared.start.Standpoint.{Standpoint}
 use Rattle.ob_lookup.specs.declared.start.Start.{Start}
-use Rattle.ob_lookup.specs.Walk.{rest_of, origin_at, place_of, text_of}
+use Rattle.ob_lookup.specs.Onward.{Led}
+use Rattle.ob_lookup.specs.Walk.{rest_of, place_of, text_of}
 
 -- what is left of a text is a rest
 pub rest_of-IsRest : (left : Option (List ℕ)) → IsRest (rest_of left)
 rest_of-IsRest None = tt
 rest_of-IsRest (Some behind) = refl
-
-module _ {K T F I : Type 0} where
-  -- components of the text lead from the start to the place, and the rest stands behind them
-  abbrev pub Led : State K T F I → ℕ → Start → Bool → Origin → List ℕ → Type 0
-  Led s p start fold place rest =
-      (cs : List (List ℕ)) × IsSplit (text_of start) cs rest × IsPath s (place_of p start) cs fold (paths.directory_at s place)
-      × (place_behind (place_of p start) cs (paths.directory_at s place) ≡ place)
-
--- and so they do in each state that shows the store, for each process of the view
-abbrev pub Leads : (K T F I : Type 0) → Entries F I → View → Start → Bool → Standpoint → List ℕ → Type 0
-Leads K T F I store view start fold place rest = (s : State K T F I) (p : ℕ) → Shows s store → IsViewOf s p view → Led s p start fold (origin_at p place) rest
 
 -- behind a component the place is a directory
 behind_one : (place : Origin) (cs : List (List ℕ)) (c : List ℕ) (d : ℕ) → place_behind place (cs ++ c ∷ []) d ≡ InDirectory d

@@ -112,7 +112,7 @@ pub(crate) fn walk<'a, 's, T: TypeSet>(
 
 /// The object that a component names at a place, whose directory has these entries: where they don't
 /// have it, a view is searched for it in its global directory too.
-fn named_at<T: TypeSet>(
+pub(crate) fn named_at<T: TypeSet>(
     store: &Store<T>,
     view: &View,
     place: &Standpoint,
@@ -141,7 +141,7 @@ fn named_in(dir: &Dir, component: &[u8], fold: bool) -> Option<ObjId>
 }
 
 /// A directory's entries.
-fn directory<T: TypeSet>(store: &Store<T>, id: ObjId) -> &Dir
+pub(crate) fn directory<T: TypeSet>(store: &Store<T>, id: ObjId) -> &Dir
     requires { IsSome (directory_at store.now id) }
     ensures directory { directory_at store.now id ≡ Some result.now }
     ensures store { IsStore store.now }
@@ -153,7 +153,7 @@ fn directory<T: TypeSet>(store: &Store<T>, id: ObjId) -> &Dir
 }
 
 /// What an object is that is there.
-fn body<T: TypeSet>(store: &Store<T>, id: ObjId) -> &StoredBody<T::Face, T::Inner>
+pub(crate) fn body<T: TypeSet>(store: &Store<T>, id: ObjId) -> &StoredBody<T::Face, T::Inner>
     requires { IsSome (stored_at store.now id) }
     ensures body { option_map (λ x. x.body) (stored_at store.now id) ≡ Some result.now }
     ensures store { IsStore store.now }
@@ -165,7 +165,7 @@ fn body<T: TypeSet>(store: &Store<T>, id: ObjId) -> &StoredBody<T::Face, T::Inne
 }
 
 /// What stands behind the separator that a rest begins with; none where it is empty.
-fn behind_separator<'a>(rest: Name<'a>) -> Option<Name<'a>>
+pub(crate) fn behind_separator<'a>(rest: Name<'a>) -> Option<Name<'a>>
     requires { IsRest rest }
     ensures { rest_of result ≡ rest.entry }
 {

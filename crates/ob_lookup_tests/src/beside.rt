@@ -2,12 +2,11 @@
 
 ghost use Rattle.std.specs.Prelude.{◌<◌};
 
-use crate::flat_rows::{Kind, PlainRow, find, search};
 use crate::lookup::{ROOT, ends_within, mode_of};
-use crate::space::Space;
 use ob_base::ObjId;
 use ob_device::{DeviceKind, DeviceSet};
 use ob_devmap::View;
+use ob_spaces::{Kind, PlainRow, Space, find, search};
 use ob_types::TypeSet;
 use std::alloc::Global;
 

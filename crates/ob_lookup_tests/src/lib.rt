@@ -5,10 +5,6 @@
 #[cfg(test)]
 mod beside;
 #[cfg(test)]
-mod bodies;
-#[cfg(test)]
-mod flat_rows;
+mod cached;
 #[cfg(test)]
 mod lookup;
-#[cfg(test)]
-mod space;

@@ -12,21 +12,20 @@
 //!   between bars, and what it ends with stands behind. The number of an object says that the name is relative to it, and
 //!   a number behind `-` how many reparses are made at most, 32 if nothing is said.
 
-use crate::flat_rows::{End, Kind};
-use crate::space::{Space, has_view};
 use ob_base::ObjId;
 use ob_device::{DeviceKind, DeviceSet};
 use ob_devmap::View;
 use ob_lookup::{Look, look};
 use ob_model::Mode;
 use ob_names::Name;
+use ob_spaces::{End, Kind, Space, has_view};
 use ob_types::TypeSet;
 use std::alloc::Global;
 
 pub(crate) const ROOT: ObjId = ObjId(1);
 
-// The view of a process without a device map.
-const PLAIN: View = View {
+/// The view of a process without a device map.
+pub(crate) const PLAIN: View = View {
     local: None,
     global: ObjId(2),
 };

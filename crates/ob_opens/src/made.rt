@@ -27,8 +27,9 @@ use crate::pinned::options_by;
 use crate::unpin::end_parse;
 use ob_base::{Handle, ObjId, Proc, Status};
 use ob_handles::HandleTable;
+use ob_lookup::CachedStore;
 use ob_model::{GrantOptions, Reply, Wanted};
-use ob_objects::{Store, StoredBody, StoredObject};
+use ob_objects::{StoredBody, StoredObject};
 use ob_space::{Space, grant, is_live, is_table_full, status_alone, with_handle};
 use ob_types::{Reason, TypeSet, is_one_kind};
 use std::alloc::Global;
@@ -212,7 +213,7 @@ fn early_refusal<T: TypeSet, H: HandleTable>(
 /// Puts an instance into a store under an id that no object has. The only fault is out of memory: then the store is as
 /// it was, and the instance is handed back.
 fn put_instance<T: TypeSet>(
-    store: &mut Store<T>,
+    store: &mut CachedStore<T>,
     id: ObjId,
     face: Arc<T::Face, Global>,
     inner: T::Inner,
@@ -240,7 +241,7 @@ fn put_instance<T: TypeSet>(
 }
 
 /// Takes an object of the set out of a store, and gives its face and its inner value.
-fn take_instance<T: TypeSet>(store: &mut Store<T>, id: ObjId) -> Instance<T::Face, T::Inner>
+fn take_instance<T: TypeSet>(store: &mut CachedStore<T>, id: ObjId) -> Instance<T::Face, T::Inner>
     requires there { IsSome (option_and_then face_in (option_map (λ x.
         x.body) (find (λ x. x.id == id) (objects_of store.old)))) }
     ensures body { option_map (λ x. x.body) (find (λ x. x.id == id) (objects_of store.old))

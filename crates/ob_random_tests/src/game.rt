@@ -4,11 +4,12 @@ ghost use Rattle.std.specs.Prelude.{◌≡◌, [], OnOk};
 ghost use Rattle.ob_runner.specs.Begun.{AreAwaited, tickets_of, with_begun, without};
 
 use ob_base::{Fault, Handle, Proc};
-use ob_core::{Bytes, Command, Core, OpenTable, Place};
+use ob_core::{Bytes, Cache, Command, Core, OpenTable, Place};
 use ob_flat::{Ask, Deed, Dice, Kind, Model, Name, Turn, text};
 use ob_runner::{Begun, Waits, begin_open, drop_open, end_open, give_all_up};
 use ob_types::TypeSet;
 use std::alloc::{AllocError, Global};
+use std::num::NonZeroUsize;
 
 /// A set of types over which games are played, and whose calls are counted.
 pub(crate) trait Played: TypeSet {
@@ -308,25 +309,35 @@ fn agreed_in<S: Played>(
     }
 }
 
-/// How many of so many turns from a state of the dice end as the model says.
+/// The prefixes for which the caches have room with which each game is played: as many as of itself, and two.
+pub(crate) const ROOMS: [usize; 2] = [256, 2];
+
+/// How many of so many turns from a state of the dice end as the model says, where names are looked up by a cache with room
+/// for so many prefixes, of which there is one at least.
 pub(crate) fn agreed<S: Played>(
     alloc: Global,
     set: S,
+    room: usize,
     state: u64,
     count: u32,
 ) -> Result<u32, Fault> {
+    let Some(room) = NonZeroUsize::new(room) else {
+        return Ok(0);
+    };
     let mut model = Model::new(alloc)?;
-    agreed_beside(&mut model, set, state, count)
+    let cache = Cache::with_room(alloc, room)?;
+    agreed_beside(&mut model, set, cache, state, count)
 }
 
 // The same beside a model of the opening state.
 fn agreed_beside<S: Played>(
     model: &mut Model,
     set: S,
+    cache: Cache,
     state: u64,
     count: u32,
 ) -> Result<u32, Fault> {
-    let mut core: Core<S, OpenTable> = Core::new(model.alloc, set)?;
+    let mut core: Core<S, OpenTable> = Core::with_cache(model.alloc, set, cache)?;
     let done = agreed_in(&mut core, model, state, count);
     Ok(done?)
 }

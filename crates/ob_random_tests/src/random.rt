@@ -1,7 +1,7 @@
 //! Random commands of a dozen processes, some of which have device maps, beside a plain model of the namespace.
 
 use crate::draw::{any_process, next};
-use crate::game::{Played, agreed};
+use crate::game::{Played, ROOMS, agreed};
 use ob_flat::{Ask, Dice, INHERIT, Kind, Model, Name, PERMANENT, Path, Turn};
 use ob_plain::{Counting, Plain, PlainKind};
 use std::env;
@@ -59,8 +59,10 @@ fn games(rt: &HostRuntime) -> Result<u64, Fail> {
 #[test]
 fn random_commands_get_what_a_plain_model_says(rt: HostRuntime) -> Result<(), Fail> {
     for state in 0..games(&rt)? {
-        let agreed = agreed(rt.alloc(), Counting::new(Plain), state, GAME + 3)?;
-        assert_eq!(rt; agreed, GAME + 3, "from {state:?}");
+        for room in ROOMS {
+            let agreed = agreed(rt.alloc(), Counting::new(Plain), room, state, GAME + 3)?;
+            assert_eq!(rt; agreed, GAME + 3, "from {state:?} with {room:?}");
+        }
     }
     Ok(())
 }

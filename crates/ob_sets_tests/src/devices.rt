@@ -1,43 +1,7 @@
 //! Devices and files: their arguments, and the files that names lead to.
 
-use crate::objects::{Told, hand_over_laws, is_so, made};
-use crate::tables::word;
-use ob_device::{DeviceFace, DeviceInner, DeviceKind, DeviceSet};
-use ob_plain::Path;
-use std::alloc::Global;
-
-/// A file stands for itself, by its path, since it can't be made.
-impl Told for DeviceSet {
-    fn kind(name: &str) -> DeviceKind {
-        match name {
-            "Device" => DeviceKind::Device,
-            _ => DeviceKind::File,
-        }
-    }
-
-    fn face(alloc: Global, object: &str) -> Option<DeviceFace> {
-        let (name, text) = word(object);
-        match name {
-            "Device" => made::<DeviceSet>(alloc, DeviceKind::Device, text.as_bytes()),
-            "File" => Some(DeviceFace::File(Path::new(alloc, text.as_bytes()).ok()?)),
-            _ => None,
-        }
-    }
-
-    fn is_new(face: &DeviceFace, inner: &DeviceInner, field: &str) -> bool {
-        let (name, wanted) = word(field);
-        match face {
-            DeviceFace::File(path) => {
-                name == "file" && path.as_slice() == wanted.as_bytes() && inner.handles == 0
-            }
-            DeviceFace::Device(_) => false,
-        }
-    }
-
-    fn handles(inner: &DeviceInner) -> u32 {
-        inner.handles
-    }
-}
+use ob_device::{DeviceKind, DeviceSet};
+use ob_told::{first_other, hand_over_laws};
 
 const DEVICES: &'static str = "
 make    | Device           | made      | parses
@@ -97,10 +61,6 @@ life    | Device | 4294967295 | duplicated 4294967295 | 4294967295
 fn devices_are_made_of_paths_and_lead_to_their_files(rt: HostRuntime) {
     hand_over_laws::<DeviceSet>();
     assert!(rt; DeviceKind::Device != DeviceKind::File);
-    for line in DEVICES.trim().lines() {
-        assert!(rt;
-            is_so(rt.alloc(), &mut DeviceSet, line) == Some(true),
-            "{line}"
-        );
-    }
+    let other = first_other(rt.alloc(), &mut DeviceSet, DEVICES);
+    assert_eq!(rt; other, None);
 }

@@ -1,9 +1,8 @@
 //! A caller's own objects: their kinds, words and texts, what names lead to through them, and the list of what was
 //! deleted.
 
-use crate::objects::{Told, assert_objects, hand_over_laws, made};
-use crate::tables::word;
-use ob_host::{HostInner, HostObject, HostSet, Kind, arguments};
+use ob_host::{HostSet, Kind, arguments};
+use ob_told::{first_other, hand_over_laws};
 use ob_types::{Reason, TypeSet, close_last};
 use std::alloc::Global;
 
@@ -46,40 +45,6 @@ const NAMES: [&'static str; 36] = [
     "EtwConsumer",
     "WmiGuid",
 ];
-
-// The word of the arguments `12345678`, the lowest byte first.
-const WORD: u64 = 0x3837_3635_3433_3231;
-
-/// What a parse made is told by the name of its type and its text; its word is that of the arguments `12345678`.
-impl Told for HostSet {
-    fn kind(name: &str) -> Kind {
-        match name {
-            "Device" => Kind::Device,
-            "Key" => Kind::Key,
-            "File" => Kind::File,
-            "Mutant" => Kind::Mutant,
-            _ => Kind::Event,
-        }
-    }
-
-    fn face(alloc: Global, object: &str) -> Option<HostObject> {
-        let (name, args) = word(object);
-        made::<HostSet>(alloc, HostSet::kind(name), args.as_bytes())
-    }
-
-    fn is_new(face: &HostObject, inner: &HostInner, field: &str) -> bool {
-        let (name, text) = word(field);
-        face.kind.type_name() == name
-            && face.word == WORD
-            && face.text.as_slice() == text.as_bytes()
-            && inner.object() == face
-            && inner.handles() == 0
-    }
-
-    fn handles(inner: &HostInner) -> u32 {
-        inner.handles()
-    }
-}
 
 const OBJECTS: &'static str = "
 make    | Event                     | made | no
@@ -135,7 +100,8 @@ life    | File   | 4294967295 | inherited 4294967295  | 4294967295
 #[test]
 fn objects_have_a_word_and_a_text(rt: HostRuntime) {
     hand_over_laws::<HostSet>();
-    assert_objects(&rt, rt.alloc(), &mut HostSet::new(), OBJECTS);
+    let mut set = HostSet::new();
+    assert_eq!(rt; first_other(rt.alloc(), &mut set, OBJECTS), None);
 }
 
 #[test]

@@ -9,8 +9,4 @@ mod host;
 #[cfg(test)]
 mod keys;
 #[cfg(test)]
-mod objects;
-#[cfg(test)]
 mod sum;
-#[cfg(test)]
-mod tables;

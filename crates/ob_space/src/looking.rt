@@ -12,7 +12,7 @@ ghost use Rattle.ob_space.specs.Looking.{IsRoot, IsUsable, with_these_opens};
 use crate::space::Space;
 use ob_base::{ObjId, Proc, Status};
 use ob_handles::HandleTable;
-use ob_lookup::{Look, look, sound_has_views, sound_is_closed};
+use ob_lookup::{Look, sound_has_views, sound_is_closed};
 use ob_model::Mode;
 use ob_names::Name;
 use ob_objects::stored_is_the_object;
@@ -29,27 +29,29 @@ const MOST_REPARSES: u32 = 32;
 ///
 /// It asks that the state is sound, so that every name in it leads somewhere, and that the root object
 /// is there. A vacant place is told only to a create, and then a name may be put there; an object that is to parse
-/// only to an open, and then its kind does. Nothing is changed. The only fault is out of memory: none where no link is
+/// only to an open, and then its kind does. The state stays as it is, and so does what it leads to, whatever the cache
+/// of prefixes keeps of the lookup. The only fault is out of memory: none where no link is
 /// followed, so that the name, looked up with no reparse left, ends otherwise than by `ReparseLimit`, however long it is.
 ///
 /// Source: Windows Internals, Object Manager (object names, symbolic links, parse methods, session namespace);
 /// the limit is this profile.
 pub fn look_up<'a, T: TypeSet, H: HandleTable>(
-    space: &Space<T, H>,
+    space: &mut Space<T, H>,
     process: Proc,
     root: Option<ObjId>,
     name: Name<'a>,
     mode: Mode,
 ) -> Result<Look<'a>, AllocError>
-    requires sound { IsSound space.now }
-    requires root { IsRoot space.now root }
+    requires sound { IsSound space.old }
+    requires root { IsRoot space.old root }
     ensures end { IfOk result (λ look.
-        machine.LooksUp T.procedures space.now process mode machine.most_reparses root name.entry
+        machine.LooksUp T.procedures space.old process mode machine.most_reparses root name.entry
         (look_of look)) }
-    ensures usable { IfOk result (λ look. IsUsable T.procedures space.now mode (look_of look)) }
+    ensures usable { IfOk result (λ look. IsUsable T.procedures space.old mode (look_of look)) }
     ensures wants { OnErr result ((end : machine.Look) →
-        machine.LooksUp T.procedures space.now process mode 0 root name.entry end
+        machine.LooksUp T.procedures space.old process mode 0 root name.entry end
         → MayWantMemory end) }
+    ensures unchanged { space.new ≡ space.old }
 {
     look_with(space, process, root, name, mode, MOST_REPARSES)
 }
@@ -66,22 +68,23 @@ pub fn look_up<'a, T: TypeSet, H: HandleTable>(
 /// Source: Windows Internals, Object Manager (parse methods, symbolic links); that a parse's text takes one of
 /// the reparses of its lookup, and is looked up in the state as it is when the parse has ended, are this profile.
 pub fn look_up_again<'a, T: TypeSet, H: HandleTable>(
-    space: &Space<T, H>,
+    space: &mut Space<T, H>,
     process: Proc,
     text: Name<'a>,
     mode: Mode,
     left: u32,
 ) -> Result<Look<'a>, AllocError>
-    requires sound { IsSound space.now }
+    requires sound { IsSound space.old }
     ensures end { IfOk result (λ look. (ticket : ℕ) →
-        LooksAgain T.procedures (without_pending space.now ticket) process mode left text.entry
+        LooksAgain T.procedures (without_pending space.old ticket) process mode left text.entry
         (look_of look)) }
-    ensures usable { IfOk result (λ look. IsUsable T.procedures space.now mode (look_of look)) }
+    ensures usable { IfOk result (λ look. IsUsable T.procedures space.old mode (look_of look)) }
     ensures left { OnErr result (0 < left) }
     ensures wants { OnErr result ((ticket : ℕ) (end : machine.Look) →
         machine.LooksUp T.procedures
-        (without_pending space.now ticket) process mode 0 None text.entry end
+        (without_pending space.old ticket) process mode 0 None text.entry end
         → MayWantMemory end) }
+    ensures unchanged { space.new ≡ space.old }
 {
     // A name is no longer than a lookup takes.
     let _ = text.as_slice();
@@ -93,28 +96,30 @@ pub fn look_up_again<'a, T: TypeSet, H: HandleTable>(
 
 /// Looks a name up with so many reparses left, whatever opens are pending.
 fn look_with<'a, T: TypeSet, H: HandleTable>(
-    space: &Space<T, H>,
+    space: &mut Space<T, H>,
     process: Proc,
     root: Option<ObjId>,
     name: Name<'a>,
     mode: Mode,
     left: u32,
 ) -> Result<Look<'a>, AllocError>
-    requires sound { IsSound space.now }
-    requires root { IsRoot space.now root }
+    requires sound { IsSound space.old }
+    requires root { IsRoot space.old root }
     ensures end { IfOk result (λ look. (opens : List (Pending T.Kind)) →
         machine.LooksUp T.procedures
-        (with_these_opens space.now opens) process mode left root name.entry
+        (with_these_opens space.old opens) process mode left root name.entry
         (look_of look)) }
-    ensures usable { IfOk result (λ look. IsUsable T.procedures space.now mode (look_of look)) }
+    ensures usable { IfOk result (λ look. IsUsable T.procedures space.old mode (look_of look)) }
     ensures wants { OnErr result ((opens : List (Pending T.Kind)) (end : machine.Look) →
         machine.LooksUp T.procedures
-        (with_these_opens space.now opens) process mode 0 root name.entry end
+        (with_these_opens space.old opens) process mode 0 root name.entry end
         → MayWantMemory end) }
+    ensures unchanged { space.new ≡ space.old }
 {
     sound_is_closed::<T::Kind, T, T::Face, T::Inner>();
     stored_is_the_object::<T::Kind, T, T::Face, T::Inner>();
     sound_has_views::<T::Kind, T, T::Face, T::Inner>();
     let view = space.processes.view(process);
-    look(space.alloc, &space.store, view, root, name, mode, left)
+    let alloc = space.alloc;
+    space.store.look_up(alloc, view, root, name, mode, left)
 }

@@ -16,8 +16,9 @@ ghost use Rattle.ob_space.specs.Orderly.{IsOrderly, IsIdleBody};
 use crate::space::Space;
 use ob_base::{Handle, ObjId, Proc};
 use ob_handles::HandleTable;
+use ob_lookup::CachedStore;
 use ob_names::NameBuf;
-use ob_objects::{Store, StoredBody, StoredObject};
+use ob_objects::{StoredBody, StoredObject};
 use ob_types::{Reason, TypeSet};
 use std::alloc::AllocError;
 
@@ -101,7 +102,7 @@ pub fn place_new<T: TypeSet, H: HandleTable>(
 /// the set opens it. Where the set refuses, name and object are taken back, and the object is deleted.
 /// The only fault is out of memory, and then nothing has changed.
 fn put_and_open<T: TypeSet>(
-    store: &mut Store<T>,
+    store: &mut CachedStore<T>,
     set: &mut T,
     id: ObjId,
     stamp: u64,
@@ -144,7 +145,7 @@ pub(crate) fn directory_of(spot: &Option<Spot>) -> Option<ObjId>
 /// Puts an object into a store, and its name, where a spot is given, into the spot's directory. The
 /// only fault is out of memory, and then nothing has changed.
 pub(crate) fn put_in<T: TypeSet>(
-    store: &mut Store<T>,
+    store: &mut CachedStore<T>,
     id: ObjId,
     stamp: u64,
     spot: Option<Spot>,
@@ -170,7 +171,7 @@ pub(crate) fn put_in<T: TypeSet>(
 
 /// Takes an object back out of a store, with the name of a stamp in a directory, where one is given.
 pub(crate) fn take_back<T: TypeSet>(
-    store: &mut Store<T>,
+    store: &mut CachedStore<T>,
     id: ObjId,
     stamp: u64,
     directory: Option<ObjId>,

@@ -13,7 +13,8 @@ use crate::placing::{Spot, directory_of, put_in, take_back};
 use crate::space::Space;
 use ob_base::{ObjId, Proc};
 use ob_handles::HandleTable;
-use ob_objects::{Store, StoredBody, StoredObject};
+use ob_lookup::CachedStore;
+use ob_objects::{StoredBody, StoredObject};
 use ob_types::TypeSet;
 use std::alloc::{AllocError, Global};
 
@@ -52,7 +53,7 @@ pub fn try_room<T: TypeSet, H: HandleTable>(
 /// Puts an object into a store, with its name, where a spot is given, and takes both back. The store stays as it was,
 /// whether memory is there or not, which is the only error.
 fn try_place<T: TypeSet>(
-    store: &mut Store<T>,
+    store: &mut CachedStore<T>,
     alloc: Global,
     id: ObjId,
     stamp: u64,

@@ -11,8 +11,8 @@ ghost use Rattle.ob_space.specs.Namespace.{state_of};
 
 use ob_base::{Handle, ObjId, Proc};
 use ob_handles::{HandleTable, MOST_HANDLES};
+use ob_lookup::CachedStore;
 use ob_model::Held;
-use ob_objects::Store;
 use ob_processes::{PendingOpens, Processes};
 use ob_types::TypeSet;
 use std::alloc::Global;
@@ -42,8 +42,8 @@ pub struct Space<T: TypeSet, H: HandleTable> {
     pub alloc: Global,
     /// The value of the set of types, as the calls of its procedures have left it.
     pub set: T,
-    /// The objects by their ids, and the entries of their directories.
-    pub store: Store<T>,
+    /// The objects by their ids, and the entries of their directories, with the cache by which names are looked up.
+    pub store: CachedStore<T>,
     /// The live processes by their numbers, each with its handles: at most 1,024 processes, and 65,535
     /// handles of each.
     pub processes: Processes<H>,

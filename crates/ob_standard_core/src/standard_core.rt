@@ -16,6 +16,7 @@ ghost use Rattle.ob_standard.specs.Standard.{IsFresh, StandardKind, Standard as 
 ghost use Rattle.ob_standard_core.specs.Machine.{counts_of};
 
 use ob_base::{Handle, Proc};
+use ob_core::Cache;
 use ob_model::{Command, Reply};
 use ob_output::Totals;
 use ob_runner::{Core, OpenTable, run_command};
@@ -41,12 +42,22 @@ impl Model for StandardCore {
 }
 
 impl StandardCore {
-    /// The opening state, in which the set has counted nothing. The only fault is out of memory. (this profile)
+    /// The opening state, in which the set has counted nothing. Names are looked up by a cache of 256 prefixes. The only fault
+    /// is out of memory. (this profile)
     pub fn new(alloc: Global) -> Result<StandardCore, AllocError>
         ensures { IfOk result (λ core. (first : StandardSet) × IsFresh first
             × (core ≡ opening first)) }
     {
-        match Core::new(alloc, Standard::new()) {
+        let cache = Cache::new(alloc)?;
+        StandardCore::with_cache(alloc, cache)
+    }
+
+    /// The same, whose names are looked up by this cache, which is emptied first. (this profile)
+    pub fn with_cache(alloc: Global, cache: Cache) -> Result<StandardCore, AllocError>
+        ensures { IfOk result (λ core. (first : StandardSet) × IsFresh first
+            × (core ≡ opening first)) }
+    {
+        match Core::with_cache(alloc, Standard::new(), cache) {
             Ok(core) => Ok(StandardCore { core }),
             Err(_) => Err(AllocError),
         }

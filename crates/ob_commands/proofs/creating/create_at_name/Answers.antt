@@ -1,5 +1,5 @@
 -- A create's name is looked up, and then the create is refused or done.
-use Rattle.std.proofs.Common.{ap, subst, refl}
+use Rattle.std.proofs.Common.{ap, subst}
 use Rattle.ob_model.specs.declared.terms.Mode.{Mode}
 use Rattle.ob_model.specs.Creates.{create_mode}
 use Rattle.ob_space.specs.Found.{is_create_refused_at}
@@ -21,10 +21,10 @@ look_up-requires-clause-root g c κs within =
 pub returns-in-Refused-clause-step : goal.returns-in-Refused-clause-step
 returns-in-Refused-clause-step g c =
     let s = c.args.space.now in
-    creates_looked g.T.TypeSet.procedures s s c.args.process c.args.attrs (Done c.status_alone-in-Refused.result) c.args.root c.in-Ok.root c.in-Ok.ensures c.args.name
+    creates_looked g.T.TypeSet.procedures s c.look_up.new.space c.args.process c.args.attrs (Done c.status_alone-in-Refused.result) c.args.root c.in-Ok.root c.in-Ok.ensures c.args.name
     c.create_mode.result (Refused c.in-Refused.status)
     (subst (λ look. LooksUp g.T.TypeSet.procedures s c.args.process c.create_mode.result most_reparses c.in-Ok.root c.args.name (look_of look)) c.in-Refused.is c.in_ok-status.ensures.end)
-    (making_of c.args.making) c.create_mode.ensures (ap Done c.status_alone-in-Refused.ensures, refl)
+    (making_of c.args.making) c.create_mode.ensures (ap Done c.status_alone-in-Refused.ensures, c.look_up.ensures.unchanged)
 
 pub returns-in-At-clause-step : goal.returns-in-At-clause-step
 returns-in-At-clause-step g c =
@@ -33,7 +33,7 @@ returns-in-At-clause-step g c =
     creates_looked g.T.TypeSet.procedures s c.open_there.new.space c.args.process c.args.attrs (Done reply) c.args.root c.in-Ok.root c.in-Ok.ensures c.args.name
     c.create_mode.result (At c.in-At.object)
     (subst (λ look. LooksUp g.T.TypeSet.procedures s c.args.process c.create_mode.result most_reparses c.in-Ok.root c.args.name (look_of look)) c.in-At.is c.in_ok-status.ensures.end)
-    (making_of c.args.making) c.create_mode.ensures done) c.open_there.ensures.step
+    (making_of c.args.making) c.create_mode.ensures (rw (← c.look_up.ensures.unchanged) done)) c.open_there.ensures.step
 
 pub returns-in-Vacant-clause-step : goal.returns-in-Vacant-clause-step
 returns-in-Vacant-clause-step g c =
@@ -42,16 +42,16 @@ returns-in-Vacant-clause-step g c =
     creates_looked g.T.TypeSet.procedures s c.make_named.new.space c.args.process c.args.attrs (Done reply) c.args.root c.in-Ok.root c.in-Ok.ensures c.args.name
     c.create_mode.result (Vacant c.in-Vacant.directory c.in-Vacant.component)
     (subst (λ look. LooksUp g.T.TypeSet.procedures s c.args.process c.create_mode.result most_reparses c.in-Ok.root c.args.name (look_of look)) c.in-Vacant.is c.in_ok-status.ensures.end)
-    (making_of c.args.making) c.create_mode.ensures done) c.make_named.ensures.step
+    (making_of c.args.making) c.create_mode.ensures (rw (← c.look_up.ensures.unchanged) done)) c.make_named.ensures.step
 
 pub returns-in-At-clause-found : goal.returns-in-At-clause-found
 returns-in-At-clause-found g c = λ refused.
     let s = c.args.space.now in
     let p = c.args.process in
     c.open_there.ensures.early
-    (at_its_end g.T.TypeSet.procedures s p (create_mode c.args.attrs) c.args.root c.args.name (is_create_refused_at g.T.TypeSet.procedures s p c.args.attrs (making_of c.args.making)) (create_ignores g.T.TypeSet.procedures s p c.args.attrs (making_of c.args.making)) c.in-Ok.root c.in-Ok.ensures most_reparses (At c.in-At.object)
+    (rw c.look_up.ensures.unchanged (at_its_end g.T.TypeSet.procedures s p (create_mode c.args.attrs) c.args.root c.args.name (is_create_refused_at g.T.TypeSet.procedures s p c.args.attrs (making_of c.args.making)) (create_ignores g.T.TypeSet.procedures s p c.args.attrs (making_of c.args.making)) c.in-Ok.root c.in-Ok.ensures most_reparses (At c.in-At.object)
     (subst (λ (m : Mode). LooksUp g.T.TypeSet.procedures s p m most_reparses c.in-Ok.root c.args.name (At c.in-At.object)) c.create_mode.ensures
-    (subst (λ look. LooksUp g.T.TypeSet.procedures s p c.create_mode.result most_reparses c.in-Ok.root c.args.name (look_of look)) c.in-At.is c.in_ok-status.ensures.end)) refused)
+    (subst (λ look. LooksUp g.T.TypeSet.procedures s p c.create_mode.result most_reparses c.in-Ok.root c.args.name (look_of look)) c.in-At.is c.in_ok-status.ensures.end)) refused))
 
 pub returns-in-Vacant-clause-found : goal.returns-in-Vacant-clause-found
 returns-in-Vacant-clause-found g c = λ refused.
@@ -59,6 +59,6 @@ returns-in-Vacant-clause-found g c = λ refused.
     let p = c.args.process in
     let look = Vacant c.in-Vacant.directory c.in-Vacant.component in
     c.make_named.ensures.full
-    (at_its_end g.T.TypeSet.procedures s p (create_mode c.args.attrs) c.args.root c.args.name (is_create_refused_at g.T.TypeSet.procedures s p c.args.attrs (making_of c.args.making)) (create_ignores g.T.TypeSet.procedures s p c.args.attrs (making_of c.args.making)) c.in-Ok.root c.in-Ok.ensures most_reparses look
+    (rw c.look_up.ensures.unchanged (at_its_end g.T.TypeSet.procedures s p (create_mode c.args.attrs) c.args.root c.args.name (is_create_refused_at g.T.TypeSet.procedures s p c.args.attrs (making_of c.args.making)) (create_ignores g.T.TypeSet.procedures s p c.args.attrs (making_of c.args.making)) c.in-Ok.root c.in-Ok.ensures most_reparses look
     (subst (λ (m : Mode). LooksUp g.T.TypeSet.procedures s p m most_reparses c.in-Ok.root c.args.name look) c.create_mode.ensures
-    (subst (λ look. LooksUp g.T.TypeSet.procedures s p c.create_mode.result most_reparses c.in-Ok.root c.args.name (look_of look)) c.in-Vacant.is c.in_ok-status.ensures.end)) refused)
+    (subst (λ look. LooksUp g.T.TypeSet.procedures s p c.create_mode.result most_reparses c.in-Ok.root c.args.name (look_of look)) c.in-Vacant.is c.in_ok-status.ensures.end)) refused))

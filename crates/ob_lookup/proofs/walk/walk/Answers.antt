@@ -5,9 +5,10 @@ use Rattle.ob_model.specs.declared.state.Body.TheVariants as model
 use Rattle.ob_model.specs.Paths.{InDirectory}
 use Rattle.ob_objects.specs.declared.object.StoredBody.TheVariants.{Link, Other}
 use Rattle.ob_objects.specs.Store.{directory_at}
+use Rattle.ob_lookup.specs.Onward.{Led}
 use Rattle.ob_lookup.specs.Walk.{rest_of, origin_at}
 use Rattle.ob_lookup.proofs.Seen.{body_is, directory_is, named_at_stands, directory_from_body, is_directory-from_body, place_seen}
-use Rattle.ob_lookup.proofs.Steps.{Led, led_start, reaches}
+use Rattle.ob_lookup.proofs.Steps.{led_start, reaches}
 use Rattle.ob_lookup.proofs.Onto.{stops_empty, stops_absent, goes_on}
 use Rattle.ob_lookup.proofs.walk.walk.Goals as goal
 

@@ -1,8 +1,8 @@
 -- The components so far lead from the start to the place, and what is left stands behind them.
 use Rattle.std.proofs.Common.{◌≡◌, Some, length}
 use Rattle.ob_objects.specs.Store.{directory_at}
+use Rattle.ob_lookup.specs.Onward.{Leads}
 use Rattle.ob_lookup.specs.Walk.{rest_of, directory_of}
-use Rattle.ob_lookup.proofs.Steps.{Leads}
 use Rattle.ob_lookup.proofs.walk.walk.Given as goal
 
 abbrev pub invariant-loop-left : goal.invariant-loop-left

@@ -37,7 +37,7 @@ returns-in-Refused-clause-resumed g c =
     looked g.T.TypeSet.procedures s t c.args.ticket x c.args.text (machine.Refused c.in-Refused.status) mode (Done c.refuse_open.result) (found_open c.space.view_is c.args.ticket _ c.in-Some.ensures)
     (sym c.is_live.ensures ∙ c.if-not-is_live.false) c.mode_of_open-mode.ensures
     (subst (λ look. LooksAgain g.T.TypeSet.procedures (without_pending s c.args.ticket) x.process mode x.left c.args.text (look_of look)) c.in-Refused.is (c.in_ok-status.ensures.end c.args.ticket))
-    c.refuse_open.ensures.opened
+    (rw (← c.look_up_again.ensures.unchanged) c.refuse_open.ensures.opened)
 
 pub returns-in_ok-open_found-in-At-clause-resumed : goal.returns-in_ok-open_found-in-At-clause-resumed
 returns-in_ok-open_found-in-At-clause-resumed g c =
@@ -48,7 +48,7 @@ returns-in_ok-open_found-in-At-clause-resumed g c =
     looked g.T.TypeSet.procedures s t c.args.ticket x c.args.text (machine.At c.in-At.object) mode (Done c.in_ok-open_found-in-At.field-0) (found_open c.space.view_is c.args.ticket _ c.in-Some.ensures)
     (sym c.is_live.ensures ∙ c.if-not-is_live.false) c.mode_of_open-mode.ensures
     (subst (λ look. LooksAgain g.T.TypeSet.procedures (without_pending s c.args.ticket) x.process mode x.left c.args.text (look_of look)) c.in-At.is (c.in_ok-status.ensures.end c.args.ticket))
-    c.in_ok-open_found-in-At.ensures.opened
+    (rw (← c.look_up_again.ensures.unchanged) c.in_ok-open_found-in-At.ensures.opened)
 
 pub returns-in_ok-begun-in-Parse-clause-resumed : goal.returns-in_ok-begun-in-Parse-clause-resumed
 returns-in_ok-begun-in-Parse-clause-resumed g c =
@@ -59,7 +59,7 @@ returns-in_ok-begun-in-Parse-clause-resumed g c =
     looked g.T.TypeSet.procedures s t c.args.ticket x c.args.text (machine.Parse c.in-Parse.object c.in-Parse.rest c.in-Parse.left) mode (answer_of c.in_ok-begun-in-Parse.begun) (found_open c.space.view_is c.args.ticket _ c.in-Some.ensures)
     (sym c.is_live.ensures ∙ c.if-not-is_live.false) c.mode_of_open-mode.ensures
     (subst (λ look. LooksAgain g.T.TypeSet.procedures (without_pending s c.args.ticket) x.process mode x.left c.args.text (look_of look)) c.in-Parse.is (c.in_ok-status.ensures.end c.args.ticket))
-    c.in_ok-begun-in-Parse.ensures.begun
+    (rw (← c.look_up_again.ensures.unchanged) c.in_ok-begun-in-Parse.ensures.begun)
 
 pub returns-in_err-status-clause-early : goal.returns-in_err-status-clause-early
 returns-in_err-status-clause-early g c =
@@ -80,7 +80,7 @@ returns-in_err-open_found-in-At-clause-early g c =
     never (passes_brought g.T.TypeSet.procedures s c.args.ticket x (Some (EndsReparse c.args.text)) found (sym c.is_live.ensures ∙ c.if-not-is_live.false)
     (passes_again g.T.TypeSet.procedures u x.process (open_mode x.wanted x.attrs) c.args.text (is_open_refused_at g.T.TypeSet.procedures u x.process x.attrs x.wanted) (open_ignores g.T.TypeSet.procedures u x.process x.attrs x.wanted) look
     (isnt (λ refused. c.in_err-open_found-in-At.ensures.early
-    (subst (λ (o : Option (Pending _)). MatchOption o ⊥ (λ y. is_refused_at g.T.TypeSet.procedures s y.process (options_by y.attrs) y.wanted c.in-At.object ≡ true)) (sym found) refused)))
+    (rw c.look_up_again.ensures.unchanged (subst (λ (o : Option (Pending _)). MatchOption o ⊥ (λ y. is_refused_at g.T.TypeSet.procedures s y.process (options_by y.attrs) y.wanted c.in-At.object ≡ true)) (sym found) refused))))
     (no_refusal_at c.in-At.object) x.left
     (subst (λ (m : Mode). LooksAgain g.T.TypeSet.procedures u x.process m x.left c.args.text look) c.mode_of_open-mode.ensures
     (subst (λ look. LooksAgain g.T.TypeSet.procedures u x.process c.mode_of_open-mode.result x.left c.args.text (look_of look)) c.in-At.is (c.in_ok-status.ensures.end x.ticket)))))
@@ -94,7 +94,7 @@ returns-in_err-begun-in-Parse-clause-early g c =
     let look = machine.Parse c.in-Parse.object c.in-Parse.rest c.in-Parse.left in
     never (passes_brought g.T.TypeSet.procedures s c.args.ticket x (Some (EndsReparse c.args.text)) found (sym c.is_live.ensures ∙ c.if-not-is_live.false)
     (passes_again g.T.TypeSet.procedures u x.process (open_mode x.wanted x.attrs) c.args.text (is_open_refused_at g.T.TypeSet.procedures u x.process x.attrs x.wanted) (open_ignores g.T.TypeSet.procedures u x.process x.attrs x.wanted) look
-    (subst (λ (n : ℕ). is_store_full (without_pending s n) ≡ true → ⊥) (sym (its_ticket g.T.TypeSet.procedures s c.args.ticket x found)) (isnt c.in_err-begun-in-Parse.ensures.full))
+    (subst (λ (n : ℕ). is_store_full (without_pending s n) ≡ true → ⊥) (sym (its_ticket g.T.TypeSet.procedures s c.args.ticket x found)) (rw (← c.look_up_again.ensures.unchanged) (isnt c.in_err-begun-in-Parse.ensures.full)))
     (no_refusal_parse c.in-Parse.object c.in-Parse.rest c.in-Parse.left) x.left
     (subst (λ (m : Mode). LooksAgain g.T.TypeSet.procedures u x.process m x.left c.args.text look) c.mode_of_open-mode.ensures
     (subst (λ look. LooksAgain g.T.TypeSet.procedures u x.process c.mode_of_open-mode.result x.left c.args.text (look_of look)) c.in-Parse.is (c.in_ok-status.ensures.end x.ticket)))))

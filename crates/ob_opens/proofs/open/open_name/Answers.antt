@@ -18,7 +18,7 @@ look_up-requires-clause-root g c κs within =
     root_stands s c.requires.between.sound c.args.process c.args.root c.in-Ok-root_object.root c.in-Ok-root_object.ensures
 
 pub open_at-requires-clause-live : goal.open_at-requires-clause-live
-open_at-requires-clause-live g c κs within = sym c.is_live.ensures ∙ judged_live c.is_live.result c.args.name.now c.args.attrs c.in-Ok.ensures.1
+open_at-requires-clause-live g c κs within = rw c.look_up.ensures.unchanged (sym c.is_live.ensures ∙ judged_live c.is_live.result c.args.name.now c.args.attrs c.in-Ok.ensures.1)
 
 pub returns-in-Refused-clause-step : goal.returns-in-Refused-clause-step
 returns-in-Refused-clause-step g c =
@@ -26,11 +26,11 @@ returns-in-Refused-clause-step g c =
     let name = c.args.name.now in
     let root = c.in-Ok-root_object.root in
     let mode = c.open_mode-mode.result in
-    opens_served g.T.TypeSet.procedures s s c.args.process c.args.attrs c.in-Ok.lawful (Done c.status_alone-in-Refused.result) c.is_live.result c.is_live.ensures c.args.root name c.args.wanted c.in-Ok.ensures.0 c.in-Ok.ensures.1
-    (opens_looked g.T.TypeSet.procedures s s c.args.process c.in-Ok.lawful (Done c.status_alone-in-Refused.result) c.args.root root c.in-Ok-root_object.ensures name mode (Refused c.in-Refused.status)
+    opens_served g.T.TypeSet.procedures s c.look_up.new.space c.args.process c.args.attrs c.in-Ok.lawful (Done c.status_alone-in-Refused.result) c.is_live.result c.is_live.ensures c.args.root name c.args.wanted c.in-Ok.ensures.0 c.in-Ok.ensures.1
+    (opens_looked g.T.TypeSet.procedures s c.look_up.new.space c.args.process c.in-Ok.lawful (Done c.status_alone-in-Refused.result) c.args.root root c.in-Ok-root_object.ensures name mode (Refused c.in-Refused.status)
     (subst (λ (bytes : List ℕ). LooksUp g.T.TypeSet.procedures s c.args.process mode most_reparses root bytes (Refused c.in-Refused.status)) c.new.ensures
     (subst (λ look. LooksUp g.T.TypeSet.procedures s c.args.process mode most_reparses root c.new.result (look_of look)) c.in-Refused.is c.in_ok-status.ensures.end))
-    c.args.wanted c.open_mode-mode.ensures (ap Done c.status_alone-in-Refused.ensures, refl))
+    c.args.wanted c.open_mode-mode.ensures (ap Done c.status_alone-in-Refused.ensures, c.look_up.ensures.unchanged))
 
 pub returns-in_ok-reply-in-At-clause-step : goal.returns-in_ok-reply-in-At-clause-step
 returns-in_ok-reply-in-At-clause-step g c =
@@ -43,7 +43,7 @@ returns-in_ok-reply-in-At-clause-step g c =
     (opens_looked g.T.TypeSet.procedures s t c.args.process c.in-Ok.lawful (Done c.in_ok-reply-in-At.reply) c.args.root root c.in-Ok-root_object.ensures name mode (At c.in-At.object)
     (subst (λ (bytes : List ℕ). LooksUp g.T.TypeSet.procedures s c.args.process mode most_reparses root bytes (At c.in-At.object)) c.new.ensures
     (subst (λ look. LooksUp g.T.TypeSet.procedures s c.args.process mode most_reparses root c.new.result (look_of look)) c.in-At.is c.in_ok-status.ensures.end))
-    c.args.wanted c.open_mode-mode.ensures c.in_ok-reply-in-At.ensures.step)
+    c.args.wanted c.open_mode-mode.ensures (rw (← c.look_up.ensures.unchanged) c.in_ok-reply-in-At.ensures.step))
 
 pub returns-in_ok-begun-in-Parse-clause-step : goal.returns-in_ok-begun-in-Parse-clause-step
 returns-in_ok-begun-in-Parse-clause-step g c =
@@ -59,7 +59,7 @@ returns-in_ok-begun-in-Parse-clause-step g c =
     (subst (λ look. LooksUp g.T.TypeSet.procedures s c.args.process mode most_reparses root c.new.result (look_of look)) c.in-Parse.is c.in_ok-status.ensures.end))
     c.args.wanted c.open_mode-mode.ensures
     (subst (λ (flags : ℕ). Begins g.T.TypeSet.procedures s c.args.process flags c.args.wanted c.in-Parse.object c.in-Parse.rest c.in-Parse.left (answer_of c.in_ok-begun-in-Parse.begun) t) (sym c.in-Ok.ensures.0)
-    c.in_ok-begun-in-Parse.ensures.begun))
+    (rw (← c.look_up.ensures.unchanged) c.in_ok-begun-in-Parse.ensures.begun)))
 
 pub returns-in_err-reply-in-At-clause-found : goal.returns-in_err-reply-in-At-clause-found
 returns-in_err-reply-in-At-clause-found g c =
@@ -74,7 +74,7 @@ returns-in_err-reply-in-At-clause-found g c =
     (subst (λ (m : Mode). LooksUp g.T.TypeSet.procedures s p m most_reparses root name (At c.in-At.object)) (c.open_mode-mode.ensures ∙ ap (open_mode wanted) c.in-Ok.ensures.0)
     (subst (λ (bytes : List ℕ). LooksUp g.T.TypeSet.procedures s p mode most_reparses root bytes (At c.in-At.object)) c.new.ensures
     (subst (λ look. LooksUp g.T.TypeSet.procedures s p mode most_reparses root c.new.result (look_of look)) c.in-At.is c.in_ok-status.ensures.end)))
-    (subst (λ (flags : ℕ). is_refused_at g.T.TypeSet.procedures s p (options_by flags) wanted c.in-At.object ≡ true → ⊥) c.in-Ok.ensures.0 (isnt c.in_err-reply-in-At.ensures.early)))
+    (subst (λ (flags : ℕ). is_refused_at g.T.TypeSet.procedures s p (options_by flags) wanted c.in-At.object ≡ true → ⊥) c.in-Ok.ensures.0 (rw (← c.look_up.ensures.unchanged) (isnt c.in_err-reply-in-At.ensures.early))))
 
 pub returns-in_err-begun-in-Parse-clause-found : goal.returns-in_err-begun-in-Parse-clause-found
 returns-in_err-begun-in-Parse-clause-found g c =
@@ -90,4 +90,4 @@ returns-in_err-begun-in-Parse-clause-found g c =
     (subst (λ (m : Mode). LooksUp g.T.TypeSet.procedures s p m most_reparses root name look) (c.open_mode-mode.ensures ∙ ap (open_mode wanted) c.in-Ok.ensures.0)
     (subst (λ (bytes : List ℕ). LooksUp g.T.TypeSet.procedures s p mode most_reparses root bytes look) c.new.ensures
     (subst (λ look. LooksUp g.T.TypeSet.procedures s p mode most_reparses root c.new.result (look_of look)) c.in-Parse.is c.in_ok-status.ensures.end)))
-    (isnt c.in_err-begun-in-Parse.ensures.full))
+    (rw (← c.look_up.ensures.unchanged) (isnt c.in_err-begun-in-Parse.ensures.full)))

@@ -1,0 +1,44 @@
+-- A walk that goes on behind a part of its text.
+--
+-- Source: this profile.
+use Rattle.std.specs.Prelude.{◌≡◌, ◌≢◌, ◌≤◌, ℕ, ◌==◌, Bool, if◌then◌else◌, List, ◌∷◌, ◌++◌, length, All, Option, None, Some}
+use Rattle.ob_model.specs.Names.{separator, IsSplit}
+use Rattle.ob_model.specs.State.{State}
+use Rattle.ob_model.specs.Paths.{Origin, IsPath, place_behind}
+use Rattle.ob_model.specs.Paths as paths
+use Rattle.ob_devmap.specs.declared.view.View.{View}
+use Rattle.ob_devmap.specs.View.{IsViewOf}
+use Rattle.ob_objects.specs.Store.{Entries, Shows}
+use Rattle.ob_lookup.specs.declared.prefix.Prefix.{Prefix}
+use Rattle.ob_lookup.specs.declared.start.Standpoint.{Standpoint}
+use Rattle.ob_lookup.specs.declared.start.Standpoint.TheVariants.{InDirectory, InView}
+use Rattle.ob_lookup.specs.declared.start.Start.{Start}
+use Rattle.ob_lookup.specs.Prefix.{IsPrefixOf}
+use Rattle.ob_lookup.specs.Walk.{origin_at, place_of, text_of}
+
+module _ {K T F I : Type 0} where
+  -- components of the text lead from the start to the place, and the rest stands behind them
+  abbrev pub Led : State K T F I → ℕ → Start → Bool → Origin → List ℕ → Type 0
+  Led s p start fold place rest =
+      (cs : List (List ℕ)) × IsSplit (text_of start) cs rest × IsPath s (place_of p start) cs fold (paths.directory_at s place)
+      × (place_behind (place_of p start) cs (paths.directory_at s place) ≡ place)
+
+-- and so they do in each state that shows the store, for each process of the view
+abbrev pub Leads : (K T F I : Type 0) → Entries F I → View → Start → Bool → Standpoint → List ℕ → Type 0
+Leads K T F I store view start fold place rest = (s : State K T F I) (p : ℕ) → Shows s store → IsViewOf s p view → Led s p start fold (origin_at p place) rest
+
+-- the directory that is the place, where exactly so many bytes are left behind a separator
+abbrev pub reached_at : Standpoint → Option (List ℕ) → ℕ → Option ℕ
+reached_at (InDirectory id) (Some behind) last = if length behind == last then Some id else None
+reached_at (InDirectory id) None last = None
+reached_at InView behind last = None
+
+-- the prefix of the text that is walked from there, and what stands behind its last separator
+abbrev pub IsKeyOf : View → Start → Bool → Prefix → List ℕ → Type 0
+IsKeyOf view start fold prefix last =
+    (front : List ℕ) × (start.behind ≡ Some (front ++ separator ∷ last)) × All (λ b. b ≢ separator) last × IsPrefixOf view start.place fold front prefix
+
+-- at most 64 bytes stand before the last separator of what stands behind the first one
+abbrev pub HasShortPrefix : Option (List ℕ) → Type 0
+HasShortPrefix behind =
+    (front : List ℕ) × (last : List ℕ) × (behind ≡ Some (front ++ separator ∷ last)) × All (λ b. b ≢ separator) last × (length front ≤ 64)

@@ -1,0 +1,56 @@
+-- Prefixes of texts: which are the same, and where the components of one lead in a state.
+--
+-- Sources: OBJECT_ATTRIBUTES structure (OBJ_CASE_INSENSITIVE); Windows Internals, Object Manager (session namespace: the local
+-- DOS device directory is searched before `\GLOBAL??`); what a prefix has is this profile.
+use Rattle.std.specs.Prelude.{◌≡◌, ℕ, Bool, true, false, nat_eq, if◌then◌else◌, List, [], ◌∷◌, map, Option, Some, All}
+use Rattle.std.specs.Bool.{beq}
+use Rattle.std.specs.Cmp.Lexicographic.{pointwise}
+use Rattle.std.specs.Option.{option_or}
+use Rattle.std.specs.Ordering.{eq_of_both, on}
+use Rattle.ob_model.specs.Names.{separator, upper, joined, IsComponent}
+use Rattle.ob_model.specs.State.{State, global_id, is_directory}
+use Rattle.ob_model.specs.Paths.{InDirectory, IsPath, found_object}
+use Rattle.ob_devmap.specs.declared.view.View.{View}
+use Rattle.ob_lookup.specs.declared.prefix.Prefix.{Prefix}
+use Rattle.ob_lookup.specs.declared.start.Standpoint.{Standpoint}
+use Rattle.ob_lookup.specs.declared.start.Standpoint.TheVariants as place
+use Rattle.ob_lookup.specs.Walk.{directory_of}
+
+-- the bytes of a prefix: with a to z taken to A to Z, where the case of letters doesn't count
+abbrev pub folded : Bool → List ℕ → List ℕ
+folded fold bytes = if fold then map upper bytes else bytes
+
+-- the place is the view
+abbrev pub is_view : Standpoint → Bool
+is_view (place.InDirectory id) = false
+is_view place.InView = true
+
+-- the prefix with these bytes behind its first separator, from a place of this view
+pub record IsPrefixOf (view : View) (at : Standpoint) (folds : Bool) (text : List ℕ) (prefix : Prefix) : Type 0 where
+  pub place : prefix.place ≡ directory_of view at
+  pub in_view : prefix.in_view ≡ is_view at
+  pub fold : prefix.fold ≡ folds
+  pub bytes : prefix.bytes.items ≡ folded folds text
+
+-- two prefixes are the same: of one place and one fold, with the same bytes
+abbrev pub same_prefix : Prefix → Prefix → Bool
+same_prefix =
+    eq_of_both (on (λ (x : Prefix). x.place) nat_eq) (eq_of_both (on (λ (x : Prefix). x.in_view) beq) (eq_of_both (on (λ (x : Prefix). x.fold) beq) (on (λ (x : Prefix). x.bytes.items) (pointwise nat_eq))))
+
+module _ {K T F I : Type 0} (s : State K T F I) where
+  -- the object that a component names in a directory, or in the view whose local directory this is
+  abbrev pub entry_from : (in_view : Bool) → ℕ → List ℕ → Bool → Option ℕ
+  entry_from false d c fold = found_object s d c fold
+  entry_from true d c fold = option_or (found_object s d c fold) (found_object s global_id c fold)
+
+  -- components, of which there are some, lead from there to the object
+  abbrev pub LeadsFrom : (in_view : Bool) → ℕ → List (List ℕ) → Bool → ℕ → Type 0
+  LeadsFrom in_view d [] fold o = ⊥
+  LeadsFrom in_view d (c ∷ cs) fold o =
+      (m : ℕ) × (is_directory s d ≡ true) × (entry_from in_view d c fold ≡ Some m) × IsPath s (InDirectory m) cs fold o
+
+  -- the components of the prefix lead from its place to the directory
+  abbrev pub LeadsTo : Prefix → ℕ → Type 0
+  LeadsTo prefix directory =
+      (cs : List (List ℕ)) × All IsComponent cs × (folded prefix.fold (joined cs) ≡ separator ∷ prefix.bytes.items)
+      × LeadsFrom prefix.in_view prefix.place cs prefix.fold directory × (is_directory s directory ≡ true)

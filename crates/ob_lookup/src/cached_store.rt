@@ -1,0 +1,339 @@
+//! A store with a cache of the prefixes that lead in it.
+
+ghost use Rattle.std.specs.Prelude.{◌≡◌, ◌≢◌, ◌<◌, ◌==◌, [], length, None, Some};
+ghost use Rattle.std.specs.Prelude.{All, ℕ, IsOk, IsSome, IfOk, IfErr, OnErr, false};
+ghost use Rattle.std.specs.List.{find, list_any};
+ghost use Rattle.std.specs.Option.{is_some, option_and_then, option_copied, option_map, option_map_or};
+ghost use Rattle.ob_model.specs.Enumeration.{enumerated};
+ghost use Rattle.ob_model.specs.State.{State, is_directory_body};
+ghost use Rattle.ob_objects.specs.Store.{IsStore, Shows, stored_at, directory_of, directory_at, entries_in, entries_at, place_at, objects_of, rows_of};
+ghost use Rattle.ob_objects.specs.Listing.{page_given};
+ghost use Rattle.ob_objects.specs.Named.{row_of_named};
+ghost use Rattle.ob_objects.specs.Changes.{with_entry, without_object, with_name, without_name, with_permanence};
+ghost use Rattle.ob_objects.specs.Changes.{
+  refusal_to_open,
+  with_opened,
+  set_after_open,
+  with_closed,
+  set_after_close,
+};
+ghost use Rattle.ob_lookup.specs.Closed.{IsClosed, IsRootThere, IsViewThere};
+ghost use Rattle.ob_lookup.specs.Look.{look_of, LooksUpIn, NameMayWantMemory};
+
+use crate::cache::Cache;
+use crate::cached::look_cached;
+use crate::terms::Look;
+use ob_base::ObjId;
+use ob_devmap::View;
+use ob_model::Mode;
+use ob_names::{Name, NameBuf};
+use ob_objects::{EntryPlace, Named, Page, Store, StoredBody, StoredObject};
+use ob_types::{Reason, TypeSet};
+use std::alloc::{AllocError, Global};
+use std::marker::Model;
+
+/// A store, with a cache of prefixes by which names are looked up in it: each leads to its directory in the store as it is.
+/// A contract sees it as the store alone, so that nothing that it answers tells whether the cache was of use.
+///
+/// A name that comes or goes empties the cache, and so does a directory that goes. All else keeps it: a lookup, an object
+/// that comes without a name, one that goes and is no directory, an object that is opened, closed, or made permanent or
+/// temporary. Each method does what that of [`Store`] of the same name does, under its clauses.
+///
+/// Source: as for [`Store`]; what the cache keeps is this profile.
+#[derive(Drop)]
+pub struct CachedStore<T: TypeSet> {
+    store: Store<T>,
+    cache: Cache,
+}
+
+impl<T: TypeSet> Model for CachedStore<T> {
+    ghost use Rattle.ob_objects.specs.Store.{Entries};
+    ghost use Rattle.ob_lookup.specs.Cache.{ArePaths};
+
+    ghost Value = { Entries T.Face T.Inner };
+
+    ghost view = { λ a. a.store };
+
+    ghost invariant = { λ a. ArePaths T.Kind T T.Face T.Inner a.store a.cache };
+}
+
+impl<T: TypeSet> CachedStore<T> {
+    /// A store with a cache, which is emptied first: what it kept may lead elsewhere here. Takes no memory. (this profile)
+    pub fn new(store: Store<T>, cache: Cache) -> CachedStore<T>
+        ensures { result ≡ store }
+    {
+        let mut cache = cache;
+        cache.clear();
+        CachedStore { store, cache }
+    }
+
+    /// Looks a name up in the store as `look` does, by the cache: see [`look_cached`]. The store stays as it is.
+    ///
+    /// Source: as for `look`; what the cache keeps is this profile.
+    pub fn look_up<'a>(
+        &mut self,
+        alloc: Global,
+        view: View,
+        root: Option<ObjId>,
+        name: Name<'a>,
+        mode: Mode,
+        budget: u32,
+    ) -> Result<Look<'a>, AllocError>
+        requires closed { IsClosed self.old }
+        requires view { IsViewThere self.old view }
+        requires root { IsRootThere self.old root }
+        ensures end { IfOk result (λ look.
+            LooksUpIn T.procedures self.old view mode budget root name.entry (look_of look)) }
+        ensures wants { OnErr result
+            (NameMayWantMemory T.procedures self.old view mode root name.entry) }
+        ensures unchanged { self.new ≡ self.old }
+    {
+        let cache = &mut self.cache;
+        look_cached(alloc, cache, &self.store, view, root, name, mode, budget)
+    }
+
+    /// How many objects there are. Takes no memory.
+    pub fn len(&self) -> usize
+        ensures count { result ≡ length self.now }
+
+        // What holds of every store.
+        ensures store { IsStore self.now }
+    {
+        self.store.len()
+    }
+
+    /// Whether there is no object. Takes no memory.
+    pub fn is_empty(&self) -> bool
+        ensures { result ≡ (length self.now == 0) }
+    {
+        self.store.is_empty()
+    }
+
+    /// What is stored under an id, and `None` exactly where nothing is. Takes no memory.
+    pub fn get(&self, id: ObjId) -> Option<&StoredObject<T::Face, T::Inner>>
+        ensures stored { option_copied result ≡ stored_at self.now id }
+
+        // What holds of every store.
+        ensures store { IsStore self.now }
+    {
+        self.store.get(id)
+    }
+
+    /// Whether an object is there and is a directory. Takes no memory.
+    pub fn is_directory(&self, id: ObjId) -> bool
+        ensures { result ≡ option_map_or (λ object. is_directory_body object.body)
+            (find (λ object. object.id == id) (objects_of self.now)) false }
+    {
+        self.store.is_directory(id)
+    }
+
+    /// Whether an object is there and is permanent. Takes no memory.
+    pub fn is_permanent(&self, id: ObjId) -> bool
+        ensures { result ≡ option_map_or (λ object. object.permanent)
+            (find (λ object. object.id == id) (objects_of self.now)) false }
+    {
+        self.store.is_permanent(id)
+    }
+
+    /// Whether an object is there and is exclusive. Takes no memory.
+    pub fn is_exclusive(&self, id: ObjId) -> bool
+        ensures { result ≡ option_map_or (λ object. object.exclusive)
+            (find (λ object. object.id == id) (objects_of self.now)) false }
+    {
+        self.store.is_exclusive(id)
+    }
+
+    /// Whether a name lies in an object. Takes no memory.
+    pub fn holds_names(&self, id: ObjId) -> bool
+        ensures { result ≡ list_any (λ row. row.directory == id) (rows_of self.now) }
+    {
+        self.store.holds_names(id)
+    }
+
+    /// Whether an object has a name. Takes no memory. Source: Windows Internals, Object Manager: object names.
+    pub fn has_name(&self, id: ObjId) -> bool
+        ensures { result ≡ list_any (λ row. row.object == id) (rows_of self.now) }
+    {
+        self.store.has_name(id)
+    }
+
+    /// Where the name of an object stands; `None` exactly where no name is for it. Takes no memory.
+    ///
+    /// Source: Windows Internals, Object Manager: object names; the stamps are this profile.
+    pub fn place_of(&self, id: ObjId) -> Option<EntryPlace>
+        ensures { result ≡ place_at self.now id }
+    {
+        self.store.place_of(id)
+    }
+
+    /// The name of an object, and `None` exactly where no name is for it. Takes no memory.
+    ///
+    /// Source: Windows Internals, Object Manager: object names; the stamps are this profile.
+    pub fn name_of(&self, id: ObjId) -> Option<Named<'_>>
+        ensures { option_map row_of_named result
+            ≡ find (λ row. row.object == id) (rows_of self.now) }
+    {
+        self.store.name_of(id)
+    }
+
+    /// A page of a directory, as [`Store::page`] gives it. The only fault is out of memory, which a page that shows
+    /// none doesn't take.
+    ///
+    /// Source: ZwQueryDirectoryObject (Windows Driver Kit); the size of an entry, and that a context is a
+    /// stamp, are this profile.
+    pub fn page(
+        &self,
+        alloc: Global,
+        directory: ObjId,
+        context: u64,
+        room: u32,
+        single: bool,
+    ) -> Result<Page, AllocError>
+        ensures page { IfOk result (λ page. (s : State T.Kind T T.Face T.Inner) → Shows s self.now
+            → page ≡ page_given (enumerated T.procedures s directory context room single)) }
+        ensures empty { (s : State T.Kind T T.Face T.Inner) → Shows s self.now
+            → (enumerated T.procedures s directory context room single).entries ≡ [] → IsOk result }
+    {
+        self.store.page(alloc, directory, context, room, single)
+    }
+
+    /// Stores an object under an id that no object has. A directory must be empty: names come one by one. The only
+    /// fault is out of memory; then the object is dropped and nothing has changed. Source: the ids are this profile.
+    pub fn insert(
+        &mut self,
+        id: ObjId,
+        object: StoredObject<T::Face, T::Inner>,
+    ) -> Result<(), AllocError>
+        requires free { stored_at self.old id ≡ None }
+        requires empty { entries_in object.body ≡ [] }
+        ensures put { IfOk result (λ _. self.new ≡ with_entry self.old id object) }
+        ensures unchanged { OnErr result (self.new ≡ self.old) }
+    {
+        match self.try_insert(id, object) {
+            Ok(()) => Ok(()),
+            Err(_) => Err(AllocError),
+        }
+    }
+
+    /// Stores an object under an id that no object has, and hands it back where memory is wanted: then nothing has
+    /// changed, and the caller may try again. Source: the ids are this profile.
+    pub fn try_insert(
+        &mut self,
+        id: ObjId,
+        object: StoredObject<T::Face, T::Inner>,
+    ) -> Result<(), StoredObject<T::Face, T::Inner>>
+        requires free { stored_at self.old id ≡ None }
+        requires empty { entries_in object.body ≡ [] }
+        ensures put { IfOk result (λ _. self.new ≡ with_entry self.old id object) }
+        ensures returned { IfErr result (λ back. back ≡ object) }
+        ensures unchanged { OnErr result (self.new ≡ self.old) }
+    {
+        self.store.try_insert(id, object)
+    }
+
+    /// Takes an object out, with any entries that lie in it, and hands it back; `None` where nothing
+    /// is stored under the id, and then nothing changes. Takes no memory. Source: the ids are this profile.
+    pub fn remove(&mut self, id: ObjId) -> Option<StoredObject<T::Face, T::Inner>>
+        ensures there { result ≡ stored_at self.old id }
+        ensures others { self.new ≡ without_object self.old id }
+    {
+        // The length tells what holds of every store.
+        let _ = self.store.len();
+        let stored = self.store.remove(id);
+        if is_directory(&stored) {
+            self.cache.clear();
+        }
+        stored
+    }
+
+    /// Puts a name for an object behind all entries of a directory, which must be there. That
+    /// spelling must be free in it, and the stamp above those of its entries. The object may have
+    /// any id, but not a name already. The only fault is out of memory, and then nothing has changed.
+    ///
+    /// Source: Windows Internals, Object Manager: object directories; the stamps are this profile.
+    pub fn insert_name(
+        &mut self,
+        directory: ObjId,
+        stamp: u64,
+        name: NameBuf,
+        object: ObjId,
+    ) -> Result<(), AllocError>
+        requires there { IsSome (directory_at self.old directory) }
+        requires free { All (λ entry. entry.name ≢ name) (entries_at self.old directory) }
+        requires newest { All (λ entry. entry.stamp < stamp) (entries_at self.old directory) }
+        requires unnamed { All (λ row. row.object ≢ object) (rows_of self.old) }
+        ensures last { IfOk result (λ _. self.new
+            ≡ with_name self.old directory
+            (record { stamp = stamp; name = name; object = object })) }
+        ensures unchanged { OnErr result (self.new ≡ self.old) }
+    {
+        self.store.insert_name(directory, stamp, name, object)?;
+        self.cache.clear();
+        Ok(())
+    }
+
+    /// Takes the entry of a stamp out of a directory, and gives `true`; where the directory has none,
+    /// or there is no such directory, nothing changes and it gives `false`. Takes no memory.
+    ///
+    /// Source: Windows Internals, Object Manager: object directories; the stamps are this profile.
+    pub fn remove_name(&mut self, directory: ObjId, stamp: u64) -> bool
+        ensures there { result
+            ≡ list_any (λ entry. entry.stamp == stamp) (entries_at self.old directory) }
+        ensures others { self.new ≡ without_name self.old directory stamp }
+    {
+        let gone = self.store.remove_name(directory, stamp);
+        self.cache.clear();
+        gone
+    }
+
+    /// Makes an object permanent or temporary; where there is none, nothing changes. Takes no memory.
+    ///
+    /// Source: Windows Driver Kit, ZwMakePermanentObject and ZwMakeTemporaryObject.
+    pub fn set_permanent(&mut self, id: ObjId, permanent: bool)
+        ensures { self.new ≡ with_permanence self.old id permanent }
+    {
+        self.store.set_permanent(id, permanent);
+    }
+
+    /// Calls the set's open procedure for an object. It may refuse, with a number of its own, and
+    /// then nothing has changed. For a directory, a link, or where there is no object, nothing is
+    /// called, nothing changes and the open is accepted. Takes no memory.
+    ///
+    /// Source: Windows Internals, Object Manager: open methods.
+    pub fn open(&mut self, id: ObjId, set: &mut T, reason: Reason) -> Result<(), u16>
+        ensures accepted { IfOk result (λ _.
+            refusal_to_open T.procedures self.old set.old id reason ≡ None) }
+        ensures refused { IfErr result (λ code.
+            refusal_to_open T.procedures self.old set.old id reason ≡ Some code) }
+        ensures opened { self.new ≡ with_opened T.procedures self.old set.old id reason }
+        ensures set { set.new ≡ set_after_open T.procedures self.old set.old id reason }
+        ensures unchanged { OnErr result (self.new ≡ self.old) }
+        ensures set_unchanged { OnErr result (set.new ≡ set.old) }
+    {
+        self.store.open(id, set, reason)
+    }
+
+    /// Calls the set's close procedure for an object, given the handles to it that are left in the
+    /// process and in the whole system. For a directory, a link, or where there is no object,
+    /// nothing is called and nothing changes. Takes no memory.
+    ///
+    /// Source: Windows Internals, Object Manager: close methods.
+    pub fn close(&mut self, id: ObjId, set: &mut T, process_left: u32, system_left: u32)
+        ensures closed { self.new
+            ≡ with_closed T.procedures self.old set.old id process_left system_left }
+        ensures set { set.new
+            ≡ set_after_close T.procedures self.old set.old id process_left system_left }
+    {
+        self.store.close(id, set, process_left, system_left);
+    }
+}
+
+/// Whether an object was there, and is a directory.
+fn is_directory<F, I>(taken: &Option<StoredObject<F, I>>) -> bool
+    ensures { result ≡ is_some (option_and_then (λ stored. directory_of stored.body) taken.now) }
+{
+    match taken {
+        Some(stored) => matches!(stored.body, StoredBody::Directory(_)),
+        None => false,
+    }
+}

@@ -1,0 +1,176 @@
+//! Where the walk of a text goes on, once its prefix is known to lead to a directory.
+
+ghost use Rattle.std.specs.Prelude.{◌≡◌, ◌≢◌, ◌<◌, ◌++◌, ◌∷◌, length, All, IsSome, IfSome, IfNone, Some};
+ghost use Rattle.ob_model.specs.Names.{separator};
+ghost use Rattle.ob_objects.specs.Store.{IsStore, directory_at};
+ghost use Rattle.ob_lookup.specs.Cache.{ArePaths};
+ghost use Rattle.ob_lookup.specs.Closed.{IsClosed, IsViewThere};
+ghost use Rattle.ob_lookup.specs.Onward.{Leads, reached_at, IsKeyOf, HasShortPrefix};
+ghost use Rattle.ob_lookup.specs.Walk.{directory_of, text_of};
+
+use crate::cache::Cache;
+use crate::prefix::Prefix;
+use crate::start::{Standpoint, Start, directory_of};
+use crate::walk::{behind_separator, body, directory, named_at};
+use ob_base::ObjId;
+use ob_devmap::View;
+use ob_dirs::Dir;
+use ob_names::{Component, Name, first};
+use ob_objects::{Store, StoredBody};
+use ob_types::TypeSet;
+use std::alloc::Global;
+
+/// Where the walk of a text goes on: at the directory to which its prefix leads, by the cache, with the last component
+/// alone; else where the walk through directories has come to, and what came so to the last component is put into the
+/// cache. A text of one component has no prefix. Where memory is wanted, for the key or for what is put, the cache stays
+/// as it was.
+pub(crate) fn onward<'a, T: TypeSet>(
+    alloc: Global,
+    cache: &mut Cache,
+    store: &Store<T>,
+    view: &View,
+    start: Start<'a>,
+    fold: bool,
+) -> Start<'a>
+    requires closed { IsClosed store.now }
+    requires view { IsViewThere store.now view.now }
+    requires directory { IsSome (directory_at store.now (directory_of view.now start.place)) }
+    requires paths { ArePaths T.Kind T T.Face T.Inner store.now cache.old }
+    ensures directory { IsSome (directory_at store.now (directory_of view.now result.place)) }
+    ensures leads { Leads T.Kind T T.Face T.Inner store.now view.now start.entry fold
+        result.place (text_of result) }
+    ensures paths { ArePaths T.Kind T T.Face T.Inner store.now cache.new }
+{
+    let Some((prefix, last)) = prefix_of(alloc, view, &start, fold) else {
+        return start;
+    };
+    if let Some(directory) = cache.find(&prefix) {
+        return Start {
+            place: Standpoint::InDirectory(directory),
+            behind: Some(last),
+        };
+    }
+    let left = last.as_slice().len();
+    let reached = to_last(store, view, start, left, fold);
+    if let Some(directory) = directory_reached(&reached, left) {
+        // where there is no memory for it, the answer is given without it
+        drop(cache.put(prefix, directory));
+    }
+    reached
+}
+
+/// The prefix of a text, and its last component, which may be empty. None where it has no prefix, or where there is no
+/// memory for it, which up to 64 bytes don't take.
+fn prefix_of<'a>(
+    alloc: Global,
+    view: &View,
+    start: &Start<'a>,
+    fold: bool,
+) -> Option<(Prefix, Name<'a>)>
+    ensures key { IfSome result (λ parts.
+        IsKeyOf view.now start.now fold parts.0 parts.1) }
+    ensures short { HasShortPrefix start.now.behind → IsSome result }
+{
+    let Some(behind) = &start.behind else {
+        return None;
+    };
+    let Some((front, last)) = split_last(behind) else {
+        return None;
+    };
+    match Prefix::new(alloc, view, &start.place, front.as_slice(), fold) {
+        Ok(prefix) => Some((prefix, last)),
+        Err(_) => None,
+    }
+}
+
+/// What stands before the last separator of a name, and what stands behind it; none where it has no separator.
+fn split_last<'a>(name: &Name<'a>) -> Option<(Name<'a>, Name<'a>)>
+    ensures parts { IfSome result (λ parts. name.now ≡ parts.0 ++ separator ∷ parts.1) }
+    ensures last { IfSome result (λ parts. All (λ b. b ≢ separator) parts.1) }
+    ensures none { IfNone result (All (λ b. b ≢ separator) name.now) }
+{
+    let bytes = name.as_slice();
+    let Some(at) = bytes.iter().rposition(|&byte| byte == b'\\') else {
+        return None;
+    };
+    Some((Name::new(&bytes[..at]), Name::new(&bytes[at + 1..])))
+}
+
+/// Walks a text through directories, as long as more of it is left than so many bytes.
+fn to_last<'a, T: TypeSet>(
+    store: &Store<T>,
+    view: &View,
+    start: Start<'a>,
+    last: usize,
+    fold: bool,
+) -> Start<'a>
+    requires closed { IsClosed store.now }
+    requires view { IsViewThere store.now view.now }
+    requires directory { IsSome (directory_at store.now (directory_of view.now start.place)) }
+    ensures directory { IsSome (directory_at store.now (directory_of view.now result.place)) }
+    ensures leads { Leads T.Kind T T.Face T.Inner store.now view.now start.entry fold
+        result.place (text_of result) }
+{
+    let mut at = start;
+    let mut dir = directory(store, directory_of(view, &at.place));
+    while let Some((next, entries)) = into_directory(store, view, &at, dir, last, fold) {
+        at = next;
+        dir = entries;
+    }
+    at
+}
+
+/// One component further, where more is left than so many bytes, and it names a directory: with the entries of this. None
+/// where it doesn't.
+fn into_directory<'a, 's, T: TypeSet>(
+    store: &'s Store<T>,
+    view: &View,
+    at: &Start<'a>,
+    dir: &Dir,
+    last: usize,
+    fold: bool,
+) -> Option<(Start<'a>, &'s Dir)>
+    requires closed { IsClosed store.now }
+    requires view { IsViewThere store.now view.now }
+    requires store { IsStore store.now }
+    requires directory { directory_at store.now (directory_of view.now at.now.place)
+        ≡ Some dir.now }
+    ensures directory { IfSome result (λ next.
+        directory_at store.now (directory_of view.now next.0.place) ≡ Some next.1.now) }
+    ensures leads { IfSome result (λ next.
+        Leads T.Kind T T.Face T.Inner store.now view.now at.now fold
+        next.0.place (text_of next.0)) }
+    ensures shorter { IfSome result (λ next. length (text_of next.0) < length (text_of at.now)) }
+{
+    let Some(behind) = &at.behind else {
+        return None;
+    };
+    let text = behind.as_slice();
+    if text.len() <= last {
+        return None;
+    }
+    let Component::One { name, rest } = first(text) else {
+        return None;
+    };
+    let Some(object) = named_at(store, view, &at.place, dir, name, fold) else {
+        return None;
+    };
+    let StoredBody::Directory(entries) = body(store, object) else {
+        return None;
+    };
+    let next = Start {
+        place: Standpoint::InDirectory(object),
+        behind: behind_separator(Name::new(rest)),
+    };
+    Some((next, entries))
+}
+
+/// The directory that a walk has come to, where exactly so many bytes are left behind a separator.
+fn directory_reached(reached: &Start<'_>, last: usize) -> Option<ObjId>
+    ensures { result ≡ reached_at reached.now.place reached.now.behind last }
+{
+    match (&reached.place, &reached.behind) {
+        (Standpoint::InDirectory(id), Some(behind)) if behind.as_slice().len() == last => Some(*id),
+        _ => None,
+    }
+}
