@@ -206,8 +206,14 @@ def parts_between_commas(plain, start, end):
     yield begin, end
 
 
-def hidden_in(plain):
-    """Where a source file has what no other crate sees: of a type that contracts see by a value its private fields, how it is seen, and what it keeps."""
+def hidden_in(plain, inner):
+    """Where a source file has what no other crate sees: of a type that contracts see by a value its private fields, how it is seen, and what it keeps;
+    and of these types, which no other crate can name, how they are hashed."""
+    for block in re.finditer(r"\bimpl\b[^{;]*\bHash\s+for\s+(\w+)[^{;]*\{", plain):
+        if block[1] in inner:
+            for told in re.finditer(r"\bghost\s+(?:hash_input|respects_eq)\s*=\s*\{", plain[: closing(plain, block.end() - 1)][block.end() :]):
+                end = closing(plain, block.end() + told.end() - 1) + 1
+                yield block.end() + told.start(), end + (plain[end] == ";")
     for block in re.finditer(r"\bimpl\b[^{;]*\bModel\s+for\s+(\w+)[^{;]*\{", plain):
         for told in re.finditer(r"\bghost\s+(?:view|invariant)\s*=\s*\{", plain[: closing(plain, block.end() - 1)][block.end() :]):
             end = closing(plain, block.end() + told.end() - 1) + 1
@@ -230,17 +236,17 @@ def without_idle_imports(text):
     rest = "".join(rest)
     for it in reversed(imports):
         start, end = next(((start, end) for start, end in blocks if start <= it.start() < end), (0, len(rest)))
-        used = set(re.findall(r"\w+", rest[start:end]))
+        used = set(re.findall(r"\w+", rest[start:end])) | set(re.findall(r"\w+(?:-\w+)+", rest[start:end]))
         names = [name.strip() for name in (it[2] or it[3]).split(",") if name.strip()]
-        kept = [name for name in names if not re.fullmatch(r"[\w ]+", name) or name.split()[-1] in used]
+        kept = [name for name in names if not re.fullmatch(r"[\w -]+", name) or name.split()[-1] in used]
         if kept != names:
             text = text[: it.start()] + (f"{it[1]}{{{', '.join(kept)}}}" + text[it.end() :] if kept else text[it.end() + 1 :])
     return text
 
 
-def seen_by_others(text):
-    """A source file's text without what no other crate sees, and without the imports that serve that alone."""
-    for start, end in sorted(hidden_in(blanked(text)), reverse=True):
+def seen_by_others(text, inner=()):
+    """A source file's text without what no other crate sees, which can't name these types, and without the imports that serve that alone."""
+    for start, end in sorted(hidden_in(blanked(text), inner), reverse=True):
         text = text[:start] + text[end:]
     return without_idle_imports(text)
 

@@ -45,8 +45,8 @@ SEATED = (
     b'{"n":6,"reply":{"status":0},"seat":1,"step":{"handle":5,"op":"close","proc":1}}\n'
     b'{"n":7,"reply":{"status":0},"seat":1,"step":{"op":"abandon","parse":"none","ticket":10}}\n'
     b'{"n":8,"reply":{"status":3221225480},"seat":0,"step":{"handle":0,"op":"close","proc":1}}\n'
-    b'{"n":9,"reply":{"handle":12,"status":0},"seat":0,"step":{"op":"resume","parse":"ran","ticket":8}}\n'
-    b'{"n":10,"reply":{"status":0},"seat":0,"step":{"handle":12,"op":"close","proc":1}}\n'
+    b'{"n":9,"reply":{"handle":4,"status":0},"seat":0,"step":{"op":"resume","parse":"ran","ticket":8}}\n'
+    b'{"n":10,"reply":{"status":0},"seat":0,"step":{"handle":4,"op":"close","proc":1}}\n'
     b'{"n":11,"reply":{"status":3221225480},"seat":0,"step":{"handle":4,"op":"close","proc":1}}\n'
 )
 

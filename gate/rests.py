@@ -34,10 +34,19 @@ def text_of(crate, file):
 
 
 @cache
+def inner_types(crate, file):
+    """The types of a source file that the crate doesn't hand out by its first file, so that no other crate can name them."""
+    first = blanked(text_of(crate, "src/lib.rt")) if (folder_of(crate) / "src/lib.rt").is_file() else ""
+    handed = set(re.findall(r"\w+", " ".join(re.findall(r"pub (?:use|mod) [^;]*;", first)))) | {"lib"}
+    module = set(Path(file).with_suffix("").parts[1:])
+    return frozenset(() if module & handed else set(TYPE.findall(blanked(text_of(crate, file)))) - handed)
+
+
+@cache
 def seen_of(crate, file, is_own):
     """A file's text as its own crate sees it, or another."""
     text = text_of(crate, file)
-    return text if is_own or not file.endswith(".rt") else seen_by_others(text)
+    return text if is_own or not file.endswith(".rt") else seen_by_others(text, inner_types(crate, file))
 
 
 @cache

@@ -115,6 +115,9 @@ def faults_of_shown():
     yield "edits: private fields aren't seen, nor what they alone need", "IndexMap" not in seen and "rows" not in seen and "by_id" not in seen
     yield "edits: public ones are, and the value", "pub count: u64" in seen and "ghost use Rattle.ob_low.specs.Rows.{Rows}; ghost Value = { Rows T };" in seen and "Model" in seen
     yield "edits: without a value all fields are seen", "rows: IndexMap" in edits.seen_by_others(HELD.replace("Model for", "Debug for"))
+    hashed = "impl Hash for Key {\n    ghost hash_input = { λ key. key.bytes };\n\n    fn hash(&self) {\n    }\n}\n"
+    yield "edits: how a type is hashed is seen where it can be named", "hash_input" in edits.seen_by_others(hashed)
+    yield "edits: and nowhere else", "hash_input" not in edits.seen_by_others(hashed, {"Key"})
 
 
 # the lines by which two texts of one place are kept apart

@@ -5,7 +5,7 @@
 ghost use Rattle.std.specs.Prelude.{◌≡◌};
 
 use ob_base::{Fault, Handle, Proc};
-use ob_core::{Bytes, Command, Given, OpenTable, Place, Reply};
+use ob_core::{Bytes, Command, Given, Place, Reply, SlabTable};
 use ob_journal::{Entry, write_header, write_line};
 use ob_plain::{Plain, PlainKind};
 use ob_shared::{Gate, Mismatch, Pass, Shared, open_shared};
@@ -17,7 +17,7 @@ use std::thread::Threads;
 use std::{io, thread};
 
 /// The namespace.
-type Space<L> = Shared<Plain, OpenTable, L>;
+type Space<L> = Shared<Plain, SlabTable, L>;
 
 /// Who a caller is.
 type Caller<L> = Pass<PlainKind, L>;
@@ -138,7 +138,7 @@ fn share<R: Threads + Wait + Sync, L: Ledger + Send + Sync>(
     requires parts { blank.parts ≡ L.parts }
     requires whole { L.parts ≡ 1024 }
 {
-    let (space, passes) = open_shared::<Plain, OpenTable, L>(alloc, blank, Plain, 4)?;
+    let (space, passes) = open_shared::<Plain, SlabTable, L>(alloc, blank, Plain, 4)?;
     let back = call_at_once(rt, alloc, &space, passes)?;
     match space.close(all_of(alloc, back)?) {
         Ok(ended) => Ok(Ok(written(alloc, ended.journal.as_slice())?)),

@@ -9,7 +9,7 @@ ghost use Rattle.ob_model.specs.Opening.{opening};
 ghost use Rattle.ob_c.specs.Calls.{Ends, EndsMade};
 
 use ob_base::{Handle, ObjId, Proc, Status};
-use ob_core::{Command, Core, OpenTable, Referent, Reply};
+use ob_core::{Command, Core, Referent, Reply, SlabTable};
 use ob_host::{HostInner, HostObject, HostSet, Kind};
 use ob_runner::run_command;
 use std::alloc::{AllocError, Global};
@@ -20,7 +20,7 @@ use std::marker::Model;
 /// A contract sees the state of the abstract machine. (this profile)
 #[derive(Drop)]
 pub struct HostCore {
-    core: Core<HostSet, OpenTable>,
+    core: Core<HostSet, SlabTable>,
 }
 
 impl Model for HostCore {

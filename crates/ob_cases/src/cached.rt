@@ -171,22 +171,22 @@ fn names_lead_where_they_lead_now(rt: HostRuntime) {
 // More directories than a cache keeps.
 const MANY: &'static str =
     r#"== of 300 directories one goes, and its name leads nowhere, whatever was looked up before
-<<p1 dir "\D{}" P =d
-p1 make Event "\D{}\E" P "" =e
+<<p1 dir "\N{}" P =d
+p1 make Event "\N{}\E" P "" =e
 p1 close e
 p1 close d
-*300>><<p1 open Event "\D{}\E" - =e
+*300>><<p1 open Event "\N{}\E" - =e
 p1 close e
-*300>><<p1 open Event "\D{}\E" - =e
+*300>><<p1 open Event "\N{}\E" - =e
 p1 close e
-*300>>p1 open Event "\D7\E" - =e
+*300>>p1 open Event "\N7\E" - =e
 p1 temp e
 p1 close e
-p1 opendir "\D7" - =d
+p1 opendir "\N7" - =d
 p1 temp d
 p1 close d
-p1 open Event "\D7\E" - =e
-p1 open Event "\D8\E" - =e
+p1 open Event "\N7\E" - =e
+p1 open Event "\N8\E" - =e
 -- ends with 0
 <<successes*2406>>2407: OBJECT_PATH_NOT_FOUND
 2408: SUCCESS

@@ -6,8 +6,8 @@
 //! and what holds between the steps is kept.
 //!
 //! What a command and its reply are made of is handed on: [`Command`], [`Place`] and [`Wanted`],
-//! [`Reply`] and [`Given`], and the [`Bytes`], [`Handles`] and [`Entries`] in them, of which each [`Listed`] has a [`TypeName`]; and so are handle tables, [`HandleTable`] and
-//! [`OpenTable`], the [`Cache`] by which names are looked up, and the parses that an open may wait for, [`Parsing`] and [`Parsed`], with [`Brought`] for either. So a caller names this crate and a set of types and nothing else for them.
+//! [`Reply`] and [`Given`], and the [`Bytes`], [`Handles`] and [`Entries`] in them, of which each [`Listed`] has a [`TypeName`]; and so are handle tables, [`HandleTable`],
+//! [`SlabTable`] and [`OpenTable`], the [`Cache`] by which names are looked up, and the parses that an open may wait for, [`Parsing`] and [`Parsed`], with [`Brought`] for either. So a caller names this crate and a set of types and nothing else for them.
 #![tactic(auto)]
 
 mod namespace;
@@ -21,5 +21,6 @@ pub use ob_model::{
     Bytes, Command, Entries, Given, Handles, Listed, Place, Reply, TypeName, Wanted,
 };
 pub use ob_opens::Started;
+pub use ob_slab_table::SlabTable;
 pub use ob_types::{Brought, Parsed, Parsing};
 pub use referent::Referent;

@@ -1,7 +1,7 @@
 //! A namespace from whose set its owner takes the objects that were deleted, between its steps.
 
 use ob_base::Fault;
-use ob_core::{Core, OpenTable};
+use ob_core::{Core, HandleTable, OpenTable, SlabTable};
 use ob_host::HostSet;
 use ob_scenes::{Staged, first_other};
 use std::alloc::Global;
@@ -26,7 +26,7 @@ const THEN: &'static str = r"
 ";
 
 // The words of the objects that are left, at most eight of them.
-fn taken(core: &mut Core<HostSet, OpenTable>) -> [u64; 8] {
+fn taken<H: HandleTable>(core: &mut Core<HostSet, H>) -> [u64; 8] {
     let mut words = [0; 8];
     for word in words.iter_mut() {
         if let Some(object) = core.take_next() {
@@ -37,7 +37,10 @@ fn taken(core: &mut Core<HostSet, OpenTable>) -> [u64; 8] {
 }
 
 // What is taken behind the first steps and behind the others, each where these are as they say.
-fn taken_behind_each(alloc: Global, core: &mut Core<HostSet, OpenTable>) -> Option<[[u64; 8]; 3]> {
+fn taken_behind_each<H: HandleTable>(
+    alloc: Global,
+    core: &mut Core<HostSet, H>,
+) -> Option<[[u64; 8]; 3]> {
     let before = taken(core);
     if first_other(alloc, core, HostSet::kinds(), FIRST).is_some() {
         return None;
@@ -49,8 +52,8 @@ fn taken_behind_each(alloc: Global, core: &mut Core<HostSet, OpenTable>) -> Opti
     Some([before, first, taken(core)])
 }
 
-fn taken_in_a_namespace(alloc: Global) -> Result<Option<[[u64; 8]; 3]>, Fault> {
-    let mut core = Core::new(alloc, HostSet::new())?;
+fn taken_in_a_namespace<H: HandleTable>(alloc: Global) -> Result<Option<[[u64; 8]; 3]>, Fault> {
+    let mut core: Core<HostSet, H> = Core::new(alloc, HostSet::new())?;
     Ok(taken_behind_each(alloc, &mut core))
 }
 
@@ -61,6 +64,13 @@ fn deleted_objects_are_taken_between_steps(rt: HostRuntime) -> Result<(), Fail> 
         [u64::from(b'b'), u64::from(b'a'), 0, 0, 0, 0, 0, 0],
         [u64::from(b'c'), u64::from(b'd'), 0, 0, 0, 0, 0, 0],
     ];
-    assert_eq!(rt; taken_in_a_namespace(rt.alloc())?, Some(wanted));
+    assert_eq!(rt;
+        taken_in_a_namespace::<OpenTable>(rt.alloc())?,
+        Some(wanted)
+    );
+    assert_eq!(rt;
+        taken_in_a_namespace::<SlabTable>(rt.alloc())?,
+        Some(wanted)
+    );
     Ok(())
 }

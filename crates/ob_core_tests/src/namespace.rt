@@ -4,6 +4,7 @@
 mod doors;
 
 use doors::Doors;
+use ob_core::{OpenTable, SlabTable};
 use ob_scenes::first_other_scene;
 
 // Doors are of the first kind and can be made and opened; walls are of the other.
@@ -34,5 +35,12 @@ const SCENES: &'static str = r"# nothing is called at first | 6 0 0 0 0
 
 #[test]
 fn a_set_is_called_as_its_objects_live(rt: HostRuntime) {
-    assert_eq!(rt; first_other_scene::<Doors>(rt.alloc(), SCENES), Ok(None));
+    assert_eq!(rt;
+        first_other_scene::<Doors, OpenTable>(rt.alloc(), SCENES),
+        Ok(None)
+    );
+    assert_eq!(rt;
+        first_other_scene::<Doors, SlabTable>(rt.alloc(), SCENES),
+        Ok(None)
+    );
 }

@@ -1,5 +1,6 @@
 //! Pages of a directory, at their edges: the room, one entry alone, the context, and the order of refusals.
 
+use ob_core::{OpenTable, SlabTable};
 use ob_plain::Plain;
 use ob_scenes::first_other_scene;
 
@@ -35,5 +36,12 @@ const SCENES: &'static str = r"# pages end where the room does | 10 4 3 0 0
 
 #[test]
 fn pages_of_a_directory_show_what_is_behind_their_context(rt: HostRuntime) {
-    assert_eq!(rt; first_other_scene::<Plain>(rt.alloc(), SCENES), Ok(None));
+    assert_eq!(rt;
+        first_other_scene::<Plain, OpenTable>(rt.alloc(), SCENES),
+        Ok(None)
+    );
+    assert_eq!(rt;
+        first_other_scene::<Plain, SlabTable>(rt.alloc(), SCENES),
+        Ok(None)
+    );
 }

@@ -1,5 +1,6 @@
 //! Objects that are made temporary and permanent, told by the replies and by the counts that are left.
 
+use ob_core::{OpenTable, SlabTable};
 use ob_plain::Plain;
 use ob_scenes::first_other_scene;
 
@@ -58,5 +59,12 @@ const SCENES: &'static str =
 
 #[test]
 fn objects_stay_or_go_by_their_permanence(rt: HostRuntime) {
-    assert_eq!(rt; first_other_scene::<Plain>(rt.alloc(), SCENES), Ok(None));
+    assert_eq!(rt;
+        first_other_scene::<Plain, OpenTable>(rt.alloc(), SCENES),
+        Ok(None)
+    );
+    assert_eq!(rt;
+        first_other_scene::<Plain, SlabTable>(rt.alloc(), SCENES),
+        Ok(None)
+    );
 }

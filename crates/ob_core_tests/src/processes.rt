@@ -1,6 +1,7 @@
 //! Processes: what they inherit, duplicate and close, and how many they and their handles may be, told by the replies and
 //! by the counts that are left.
 
+use ob_core::{OpenTable, SlabTable};
 use ob_plain::Plain;
 use ob_scenes::first_other_scene;
 
@@ -95,7 +96,14 @@ const SHARED: &'static str =
 
 #[test]
 fn processes_share_objects_by_their_handles(rt: HostRuntime) {
-    assert_eq!(rt; first_other_scene::<Plain>(rt.alloc(), SHARED), Ok(None));
+    assert_eq!(rt;
+        first_other_scene::<Plain, OpenTable>(rt.alloc(), SHARED),
+        Ok(None)
+    );
+    assert_eq!(rt;
+        first_other_scene::<Plain, SlabTable>(rt.alloc(), SHARED),
+        Ok(None)
+    );
 }
 
 const FULL: &'static str = r"# a process that ends makes room for another | 6 0 0 0 0
@@ -116,5 +124,12 @@ const FULL: &'static str = r"# a process that ends makes room for another | 6 0 
 
 #[test]
 fn there_are_1024_processes_of_65535_handles_at_most(rt: HostRuntime) {
-    assert_eq!(rt; first_other_scene::<Plain>(rt.alloc(), FULL), Ok(None));
+    assert_eq!(rt;
+        first_other_scene::<Plain, OpenTable>(rt.alloc(), FULL),
+        Ok(None)
+    );
+    assert_eq!(rt;
+        first_other_scene::<Plain, SlabTable>(rt.alloc(), FULL),
+        Ok(None)
+    );
 }

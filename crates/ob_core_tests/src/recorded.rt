@@ -1,7 +1,7 @@
 //! A namespace whose set records its calls: they are those that the commands make, in their order.
 
 use ob_base::Fault;
-use ob_core::{Core, OpenTable};
+use ob_core::{Core, HandleTable, OpenTable, SlabTable};
 use ob_plain::{Call, CallKind, Plain, Recorder};
 use ob_scenes::{Staged, first_other};
 use ob_types::{Reason, TypeSet};
@@ -18,9 +18,9 @@ const CLOSED: CallKind = CallKind::Closed {
 // Whether all steps are as they say, the calls that are kept, and how many are lost.
 type Recorded = (bool, Vec<Call>, u64);
 
-fn recorded_in<T: TypeSet>(
+fn recorded_in<T: TypeSet, H: HandleTable>(
     alloc: Global,
-    core: &mut Core<Recorder<T>, OpenTable>,
+    core: &mut Core<Recorder<T>, H>,
     kinds: (T::Kind, T::Kind),
     steps: &str,
 ) -> Result<Recorded, Fault> {
@@ -30,8 +30,13 @@ fn recorded_in<T: TypeSet>(
 }
 
 // What is recorded in a new namespace, with room for so many calls.
-fn recorded<T: Staged>(alloc: Global, steps: &str, room: usize) -> Result<Recorded, Fault> {
-    let mut core = Core::new(alloc, Recorder::new(alloc, T::new(), room)?)?;
+fn recorded<T: Staged, H: HandleTable>(
+    alloc: Global,
+    steps: &str,
+    room: usize,
+) -> Result<Recorded, Fault> {
+    let set = Recorder::new(alloc, T::new(), room)?;
+    let mut core: Core<Recorder<T>, H> = Core::new(alloc, set)?;
     recorded_in(alloc, &mut core, T::kinds(), steps)
 }
 
@@ -72,8 +77,8 @@ const CALLS: [Call; 5] = [
 ];
 
 // Whether in a room of so many calls the first of these are kept, and the others counted.
-fn are_kept(alloc: Global, wanted: &[Call], room: usize) -> Result<bool, Fault> {
-    let (is_played, calls, lost) = recorded::<Plain>(alloc, LIFE, room)?;
+fn are_kept<H: HandleTable>(alloc: Global, wanted: &[Call], room: usize) -> Result<bool, Fault> {
+    let (is_played, calls, lost) = recorded::<Plain, H>(alloc, LIFE, room)?;
     let kept = room.min(5);
     let are_kept = Some(calls.as_slice()) == wanted.get(..kept);
     Ok(is_played && are_kept && lost == 5 - kept as u64)
@@ -82,7 +87,14 @@ fn are_kept(alloc: Global, wanted: &[Call], room: usize) -> Result<bool, Fault> 
 #[test]
 fn calls_of_a_namespace_are_recorded(rt: HostRuntime) -> Result<(), Fail> {
     for room in 0..7 {
-        assert!(rt; are_kept(rt.alloc(), &CALLS, room)?, "in {room}");
+        assert!(rt;
+            are_kept::<OpenTable>(rt.alloc(), &CALLS, room)?,
+            "in {room}"
+        );
+        assert!(rt;
+            are_kept::<SlabTable>(rt.alloc(), &CALLS, room)?,
+            "in {room}"
+        );
     }
     Ok(())
 }
@@ -125,11 +137,17 @@ fn are_of_an_exit(calls: &[Call]) -> bool {
     calls.len() == 3_000
 }
 
+// Whether those of an exit are recorded.
+fn is_exit_recorded<H: HandleTable>(alloc: Global) -> Result<bool, Fault> {
+    let (is_played, calls, lost) = recorded::<Plain, H>(alloc, EXIT, 5_000)?;
+    Ok(is_played && lost == 0 && are_of_an_exit(calls.as_slice()))
+}
+
 #[test]
 fn an_exit_closes_in_the_order_of_opening_and_deletes_from_the_last_back(
     rt: HostRuntime,
 ) -> Result<(), Fail> {
-    let (is_played, calls, lost) = recorded::<Plain>(rt.alloc(), EXIT, 5_000)?;
-    assert!(rt; is_played && lost == 0 && are_of_an_exit(calls.as_slice()));
+    assert!(rt; is_exit_recorded::<OpenTable>(rt.alloc())?);
+    assert!(rt; is_exit_recorded::<SlabTable>(rt.alloc())?);
     Ok(())
 }

@@ -1,8 +1,11 @@
 //! What stands behind a set that refuses an open, wherever a handle is opened.
 
+use ob_core::{HandleTable, OpenTable, SlabTable};
 use ob_device::DeviceSet;
 use ob_plain::{Plain, Refusing};
 use ob_scenes::first_other_scene;
+use std::alloc::Global;
+use std::process::Abort;
 
 const TWO: &'static str = r"# a child gets no handle whose open is refused, and is there | 8 2 2 0 0
 1 make first \E 2    | SUCCESS
@@ -46,14 +49,16 @@ const ONE: &'static str = r"# what a parse made is deleted where its open is ref
 1 path 0                   | SUCCESS
 ";
 
+// Over a handle table the scenes of both sets are played as they say.
+fn assert_refusals<H: HandleTable>(rt: &impl Abort, alloc: Global) {
+    let other = first_other_scene::<Refusing<Plain>, H>(alloc, TWO);
+    assert_eq!(rt; other, Ok(None));
+    let other = first_other_scene::<Refusing<DeviceSet>, H>(alloc, ONE);
+    assert_eq!(rt; other, Ok(None));
+}
+
 #[test]
 fn a_refused_open_leaves_no_handle_and_no_object(rt: HostRuntime) {
-    assert_eq!(rt;
-        first_other_scene::<Refusing<Plain>>(rt.alloc(), TWO),
-        Ok(None)
-    );
-    assert_eq!(rt;
-        first_other_scene::<Refusing<DeviceSet>>(rt.alloc(), ONE),
-        Ok(None)
-    );
+    assert_refusals::<OpenTable>(&rt, rt.alloc());
+    assert_refusals::<SlabTable>(&rt, rt.alloc());
 }

@@ -56,8 +56,11 @@ impl Counts {
         ensures counted { OnOk result (CountsOneMore object self.old self.new) }
         ensures unchanged { OnErr result (self.new ≡ self.old) }
     {
-        let count = self.get(object);
-        self.numbers.insert(object.0, count + 1)?;
+        if let Some(count) = self.numbers.get_mut(&object.0) {
+            *count += 1;
+            return Ok(());
+        }
+        self.numbers.insert(object.0, 1)?;
         Ok(())
     }
 
@@ -72,10 +75,13 @@ impl Counts {
     fn lower_by(&mut self, object: ObjId, less: usize)
         ensures counted { CountsLessBy object less self.old self.new }
     {
-        if self.get(object) <= less {
-            self.numbers.remove(&object.0);
-        } else if let Some(count) = self.numbers.get_mut(&object.0) {
+        let Some(count) = self.numbers.get_mut(&object.0) else {
+            return;
+        };
+        if less < *count {
             *count -= less;
+        } else {
+            self.numbers.remove(&object.0);
         }
     }
 

@@ -1,7 +1,7 @@
 //! Steps under the lock: commands, and opens that wait for a parse and how they end.
 
 use ob_base::{Fault, Proc, Status};
-use ob_core::{Command, OpenTable, Reply};
+use ob_core::{Command, Reply, SlabTable};
 use ob_device::DeviceKind;
 use ob_shared::{Asked, Locked, Parsing, Pass, Pending, Started, step};
 use ob_types::TypeSet;
@@ -10,7 +10,7 @@ use std::alloc::{AllocError, Global};
 use std::sync::ledger::Ledger;
 
 /// A namespace with devices, as it lies under the lock.
-pub(crate) type Shared<T, L> = Locked<T, OpenTable, L>;
+pub(crate) type Shared<T, L> = Locked<T, SlabTable, L>;
 
 /// Starts a command of process 1.
 fn started<T: TypeSet<Kind = DeviceKind>, L: Ledger>(

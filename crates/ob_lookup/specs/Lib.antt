@@ -4,5 +4,6 @@ pub mod Look
 pub mod Remainder
 pub mod Prefix
 pub mod PrefixLaws
+pub mod PrefixHash
 pub mod Cache
 pub mod Onward

@@ -1,10 +1,9 @@
 -- The laws of prefixes that are the same.
-use Rattle.std.proofs.Common.{◌≡◌, Bool, true, false, nat_eq, ◌++◌, refl, sym}
+use Rattle.std.proofs.Common.{◌≡◌, Bool, true, false, nat_eq, refl, sym}
 use Rattle.std.proofs.lemmas.Bool.{eqb-true}
 use Rattle.std.specs.Bool.{beq}
 use Rattle.std.specs.Cmp.{IsEquivalence, and_equiv, on_equiv, nat_eq_equiv, bool_eq_equiv, first_so, second_so}
 use Rattle.std.specs.Cmp.Lexicographic.{nat_list_eq_equiv, same_text}
-use Rattle.std.specs.Hash as fed
 use Rattle.ob_lookup.specs.declared.prefix.Prefix.{Prefix}
 use Rattle.ob_lookup.specs.Prefix.{same_prefix}
 
@@ -36,8 +35,3 @@ same_prefix-parts x y e =
     same_bool true false e = cc
     same_bool false true e = cc
     same_bool false false e = refl
-
--- they are hashed alike
-pub same_prefix-alike : (x y : Prefix) → same_prefix x y ≡ true
-    → fed.u64 x.place ++ fed.slice fed.u8 x.bytes.items ≡ fed.u64 y.place ++ fed.slice fed.u8 y.bytes.items
-same_prefix-alike x y e = λ i. fed.u64 ((same_prefix-parts x y e).place i) ++ fed.slice fed.u8 ((same_prefix-parts x y e).bytes i)

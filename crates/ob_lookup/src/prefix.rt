@@ -1,10 +1,11 @@
 //! Prefixes of texts that are walked, as the keys of a cache.
 
-ghost use Rattle.std.specs.Prelude.{◌≡◌, ◌≤◌, ◌++◌, length, IsOk, IfOk};
+ghost use Rattle.std.specs.Prelude.{◌≡◌, ◌≤◌, [], ◌∷◌, ◌++◌, length, IsOk, IfOk};
 ghost use Rattle.std.specs.Cmp.{partial_equiv_from_equiv};
 ghost use Rattle.std.specs.Hash as fed;
 ghost use Rattle.ob_lookup.specs.Prefix.{same_prefix, folded, IsPrefixOf};
-ghost use Rattle.ob_lookup.specs.PrefixLaws.{same_prefix-equiv, same_prefix-alike};
+ghost use Rattle.ob_lookup.specs.PrefixLaws.{same_prefix-equiv};
+ghost use Rattle.ob_lookup.specs.PrefixHash.{same_prefix-alike};
 
 use crate::start::{Standpoint, directory_of};
 use ob_base::ObjId;
@@ -81,12 +82,13 @@ impl Eq for Prefix {
 }
 
 impl Hash for Prefix {
-    ghost hash_input = { λ prefix. fed.u64 prefix.place ++ fed.slice fed.u8 prefix.bytes.items };
+    ghost hash_input = { λ prefix. fed.u64 prefix.place ++ prefix.bytes.items ∷ [] };
 
     ghost respects_eq = { same_prefix-alike };
 
     fn hash<H: Hasher>(&self, state: &mut H) {
         self.place.hash(state);
-        self.bytes.hash(state);
+        // in one write, which the hasher takes by sixteen bytes at a time
+        state.write(self.bytes.as_slice());
     }
 }

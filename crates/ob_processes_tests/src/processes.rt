@@ -8,6 +8,7 @@ use ob_base::{Fault, Handle, ObjId, Proc};
 use ob_handles::{HandleTable, OpenTable};
 use ob_model::Held;
 use ob_processes::{Ending, Processes};
+use ob_slab_table::SlabTable;
 use std::alloc::{AllocError, Global};
 use std::process::Abort;
 
@@ -116,7 +117,8 @@ fn assert_maps<H: HandleTable>(rt: &impl Abort, alloc: Global) -> Result<(), All
 fn a_process_gets_a_map_in_place_of_its_own_until_it_ends(
     rt: HostRuntime,
 ) -> Result<(), AllocError> {
-    assert_maps::<OpenTable>(&rt, rt.alloc())
+    assert_maps::<OpenTable>(&rt, rt.alloc())?;
+    assert_maps::<SlabTable>(&rt, rt.alloc())
 }
 
 fn held(process: Proc, value: Handle, object: u64, inherit: bool, order: u64) -> Held {
@@ -248,5 +250,7 @@ fn processes_hold_handles_of_their_own_and_leave_them_from_the_oldest_on(
     rt: HostRuntime,
 ) -> Result<(), Fault> {
     hold_handles::<OpenTable>(&rt, rt.alloc())?;
-    end_one::<OpenTable>(&rt, rt.alloc())
+    end_one::<OpenTable>(&rt, rt.alloc())?;
+    hold_handles::<SlabTable>(&rt, rt.alloc())?;
+    end_one::<SlabTable>(&rt, rt.alloc())
 }

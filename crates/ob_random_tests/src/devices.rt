@@ -1,7 +1,8 @@
 //! Random opens of ten processes that wait for the parses of a device, ended and given up in any order, beside a
 //! plain model over flat lists.
 
-use crate::game::{Played, ROOMS, agreed};
+use crate::game::{Played, agreed, rooms};
+use ob_core::{OpenTable, SlabTable};
 use ob_device::{DeviceKind, DeviceSet};
 use ob_flat::{Ask, Deed, Dice, EXCLUSIVE, INHERIT, Kind, Model, Name, PERMANENT, Path, Turn};
 use ob_plain::Counting;
@@ -88,10 +89,12 @@ impl Played for Counting<DeviceSet> {
 #[test]
 fn random_opens_that_wait_end_as_a_plain_model_says(rt: HostRuntime) -> Result<(), Fail> {
     for state in 1..3 {
-        for room in ROOMS {
-            let agreed = agreed(rt.alloc(), Counting::new(DeviceSet), room, state, 3_001)?;
-            assert_eq!(rt; agreed, 3_001, "from {state:?} with {room:?}");
-        }
+        let (room, other_room) = rooms(state);
+        let set = Counting::new(DeviceSet);
+        let over_maps = agreed::<_, OpenTable>(rt.alloc(), set, room, state, 3_001)?;
+        let set = Counting::new(DeviceSet);
+        let over_a_slab = agreed::<_, SlabTable>(rt.alloc(), set, other_room, state, 3_001)?;
+        assert_eq!(rt; (over_maps, over_a_slab), (3_001, 3_001), "from {state:?}");
     }
     Ok(())
 }

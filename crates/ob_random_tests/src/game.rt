@@ -4,7 +4,7 @@ ghost use Rattle.std.specs.Prelude.{◌≡◌, [], OnOk};
 ghost use Rattle.ob_runner.specs.Begun.{AreAwaited, tickets_of, with_begun, without};
 
 use ob_base::{Fault, Handle, Proc};
-use ob_core::{Bytes, Cache, Command, Core, OpenTable, Place};
+use ob_core::{Bytes, Cache, Command, Core, HandleTable, Place};
 use ob_flat::{Ask, Deed, Dice, Kind, Model, Name, Turn, text};
 use ob_runner::{Begun, Waits, begin_open, drop_open, end_open, give_all_up};
 use ob_types::TypeSet;
@@ -153,8 +153,8 @@ fn forget(tickets: &mut Vec<u64>, ticket: u64)
 }
 
 // Whether a command that a process asks for becomes what it is to.
-fn starts<S: TypeSet>(
-    core: &mut Core<S, OpenTable>,
+fn starts<S: TypeSet, H: HandleTable>(
+    core: &mut Core<S, H>,
     waits: &mut Waits<S>,
     tickets: &mut Vec<u64>,
     model: &mut Model,
@@ -173,8 +173,8 @@ fn starts<S: TypeSet>(
 }
 
 // Whether the open that waits at a place ends as it is to.
-fn ends<S: TypeSet>(
-    core: &mut Core<S, OpenTable>,
+fn ends<S: TypeSet, H: HandleTable>(
+    core: &mut Core<S, H>,
     waits: &mut Waits<S>,
     tickets: &mut Vec<u64>,
     model: &mut Model,
@@ -199,8 +199,8 @@ fn ends<S: TypeSet>(
 }
 
 // Gives up the open that waits at a place: whether one waits under its ticket.
-fn give_up<S: TypeSet>(
-    core: &mut Core<S, OpenTable>,
+fn give_up<S: TypeSet, H: HandleTable>(
+    core: &mut Core<S, H>,
     waits: &mut Waits<S>,
     tickets: &mut Vec<u64>,
     model: &mut Model,
@@ -224,8 +224,8 @@ fn give_up<S: TypeSet>(
 }
 
 // Whether what comes next ends as the model says.
-fn is_agreed<S: Played>(
-    core: &mut Core<S, OpenTable>,
+fn is_agreed<S: Played, H: HandleTable>(
+    core: &mut Core<S, H>,
     waits: &mut Waits<S>,
     tickets: &mut Vec<u64>,
     model: &mut Model,
@@ -247,15 +247,15 @@ fn is_agreed<S: Played>(
 }
 
 // Whether there is as much as in the model, and as much was done, and a process has as many handles.
-fn is_counted<S: Played>(core: &Core<S, OpenTable>, model: &Model, process: u32) -> bool {
+fn is_counted<S: Played, H: HandleTable>(core: &Core<S, H>, model: &Model, process: u32) -> bool {
     let own = core.handles_of(Proc(process));
     let counts = (core.objects(), core.handles(), own);
     counts == model.counts(process) && core.set().calls() == model.calls
 }
 
 // How many of so many turns end as the model says, up to the first that doesn't.
-fn play<S: Played>(
-    core: &mut Core<S, OpenTable>,
+fn play<S: Played, H: HandleTable>(
+    core: &mut Core<S, H>,
     waits: &mut Waits<S>,
     tickets: &mut Vec<u64>,
     model: &mut Model,
@@ -277,8 +277,8 @@ fn play<S: Played>(
 }
 
 // The same from a state of the dice.
-fn play_from<S: Played>(
-    core: &mut Core<S, OpenTable>,
+fn play_from<S: Played, H: HandleTable>(
+    core: &mut Core<S, H>,
     waits: &mut Waits<S>,
     model: &mut Model,
     state: u64,
@@ -294,8 +294,8 @@ fn play_from<S: Played>(
 
 // How many turns end as the model says in a new namespace; none where giving all up that waits then changes what is
 // counted.
-fn agreed_in<S: Played>(
-    core: &mut Core<S, OpenTable>,
+fn agreed_in<S: Played, H: HandleTable>(
+    core: &mut Core<S, H>,
     model: &mut Model,
     state: u64,
     count: u32,
@@ -309,12 +309,18 @@ fn agreed_in<S: Played>(
     }
 }
 
-/// The prefixes for which the caches have room with which each game is played: as many as of itself, and two.
-pub(crate) const ROOMS: [usize; 2] = [256, 2];
+/// For how many prefixes the caches of the two games from a state of the dice have room, the one over an `OpenTable` and the one
+/// over a `SlabTable`: as many as a cache has of itself, and two, by turns.
+pub(crate) fn rooms(state: u64) -> (usize, usize) {
+    match state % 2 {
+        0 => (256, 2),
+        _ => (2, 256),
+    }
+}
 
 /// How many of so many turns from a state of the dice end as the model says, where names are looked up by a cache with room
 /// for so many prefixes, of which there is one at least.
-pub(crate) fn agreed<S: Played>(
+pub(crate) fn agreed<S: Played, H: HandleTable>(
     alloc: Global,
     set: S,
     room: usize,
@@ -326,18 +332,18 @@ pub(crate) fn agreed<S: Played>(
     };
     let mut model = Model::new(alloc)?;
     let cache = Cache::with_room(alloc, room)?;
-    agreed_beside(&mut model, set, cache, state, count)
+    agreed_beside::<S, H>(&mut model, set, cache, state, count)
 }
 
 // The same beside a model of the opening state.
-fn agreed_beside<S: Played>(
+fn agreed_beside<S: Played, H: HandleTable>(
     model: &mut Model,
     set: S,
     cache: Cache,
     state: u64,
     count: u32,
 ) -> Result<u32, Fault> {
-    let mut core: Core<S, OpenTable> = Core::with_cache(model.alloc, set, cache)?;
+    let mut core: Core<S, H> = Core::with_cache(model.alloc, set, cache)?;
     let done = agreed_in(&mut core, model, state, count);
     Ok(done?)
 }

@@ -1,7 +1,8 @@
 //! Random commands of a dozen processes, some of which have device maps, beside a plain model of the namespace.
 
 use crate::draw::{any_process, next};
-use crate::game::{Played, ROOMS, agreed};
+use crate::game::{Played, agreed, rooms};
+use ob_core::{OpenTable, SlabTable};
 use ob_flat::{Ask, Dice, INHERIT, Kind, Model, Name, PERMANENT, Path, Turn};
 use ob_plain::{Counting, Plain, PlainKind};
 use std::env;
@@ -59,10 +60,16 @@ fn games(rt: &HostRuntime) -> Result<u64, Fail> {
 #[test]
 fn random_commands_get_what_a_plain_model_says(rt: HostRuntime) -> Result<(), Fail> {
     for state in 0..games(&rt)? {
-        for room in ROOMS {
-            let agreed = agreed(rt.alloc(), Counting::new(Plain), room, state, GAME + 3)?;
-            assert_eq!(rt; agreed, GAME + 3, "from {state:?} with {room:?}");
-        }
+        let (room, other_room) = rooms(state);
+        let set = Counting::new(Plain);
+        let over_maps = agreed::<_, OpenTable>(rt.alloc(), set, room, state, GAME + 3)?;
+        let set = Counting::new(Plain);
+        let over_a_slab = agreed::<_, SlabTable>(rt.alloc(), set, other_room, state, GAME + 3)?;
+        assert_eq!(rt;
+            (over_maps, over_a_slab),
+            (GAME + 3, GAME + 3),
+            "from {state:?}"
+        );
     }
     Ok(())
 }

@@ -151,8 +151,8 @@ fn what_may_be_of_the_form_is_judged(rt: HostRuntime) -> Result<(), Fail> {
     let alloc = rt.alloc();
     let text = journal(alloc, 6, 50)?;
     let table: [(u8, Counts); 2] = [
-        (b'{', [202, 23, 5_919, 0, 0, 0, 118, 0]),
-        (b'9', [98, 23, 5_483, 86, 50, 8, 514, 0]),
+        (b'{', [202, 23, 5_903, 0, 0, 0, 118, 0]),
+        (b'9', [101, 23, 5_449, 86, 50, 8, 529, 0]),
     ];
     for (byte, wanted) in table {
         let Changes { counts, other } = change_each(alloc, text.as_slice(), byte)?;

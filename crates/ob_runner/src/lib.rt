@@ -26,6 +26,6 @@ pub use again::repeat_step;
 pub use begun::Begun;
 pub use complete::run_command;
 pub use laws::parses_stay_awaited;
-pub use ob_core::{Core, OpenTable, Started};
+pub use ob_core::{Core, OpenTable, SlabTable, Started};
 pub use opens::{begin_open, drop_open, end_open, give_all_up};
 pub use waits::Waits;

@@ -1,5 +1,5 @@
 //! Scenes: what processes ask of a namespace, step by step, and what each step is answered. Namespaces, commands and
-//! replies are made and let go here, for every set of types at once, so that tests name texts.
+//! replies are made and let go here, for every set of types and every handle table at once, so that tests name texts.
 //!
 //! A step is a line: a process and what it asks for, a bar, and what it is told. `1*9` says that process 1 asks for the same
 //! nine times. Behind a second bar stands what the step shows.
@@ -20,7 +20,7 @@
 use crate::sets::Staged;
 use ob_base::{Fault, Handle, Proc, Status};
 use ob_core::{
-    Brought, Bytes, Command, Core, Entries, Given, OpenTable, Parsed, Place, Referent, Reply,
+    Brought, Bytes, Command, Core, Entries, Given, HandleTable, Parsed, Place, Referent, Reply,
     Started,
 };
 use ob_plain::Counting;
@@ -213,9 +213,9 @@ pub fn is_status(status: Status, word: &str, number: &str) -> bool {
 }
 
 /// How the command ends that a process asks for; `None` where that can't be asked, or there is no memory.
-pub fn start<T: TypeSet>(
+pub fn start<T: TypeSet, H: HandleTable>(
     alloc: Global,
-    core: &mut Core<T, OpenTable>,
+    core: &mut Core<T, H>,
     kinds: (T::Kind, T::Kind),
     process: Proc,
     asked: Line<'_>,
@@ -226,7 +226,7 @@ pub fn start<T: TypeSet>(
 }
 
 // What is told where a parse is brought. An open that waits for another is given up, and told nothing.
-fn brought<T: TypeSet>(core: &mut Core<T, OpenTable>, parsed: Parsed<T>) -> Option<Told> {
+fn brought<T: TypeSet, H: HandleTable>(core: &mut Core<T, H>, parsed: Parsed<T>) -> Option<Told> {
     match core.resume(parsed) {
         Ok(Started::Done(reply)) => Some(tell(&reply)),
         Ok(Started::Parsing(next)) => {
@@ -241,9 +241,9 @@ fn brought<T: TypeSet>(core: &mut Core<T, OpenTable>, parsed: Parsed<T>) -> Opti
 }
 
 /// What a process is told that asks for this. A parse that an open waits for is run and brought.
-pub fn answer<T: TypeSet>(
+pub fn answer<T: TypeSet, H: HandleTable>(
     alloc: Global,
-    core: &mut Core<T, OpenTable>,
+    core: &mut Core<T, H>,
     kinds: (T::Kind, T::Kind),
     process: Proc,
     asked: Line<'_>,
@@ -256,9 +256,9 @@ pub fn answer<T: TypeSet>(
 }
 
 // The handle that a step is given, or 0, where it is told this.
-fn answered<T: TypeSet>(
+fn answered<T: TypeSet, H: HandleTable>(
     alloc: Global,
-    core: &mut Core<T, OpenTable>,
+    core: &mut Core<T, H>,
     kinds: (T::Kind, T::Kind),
     process: Proc,
     asked: Line<'_>,
@@ -274,8 +274,8 @@ fn answered<T: TypeSet>(
 }
 
 // Whether a handle of a process leads to what this tells: `nothing`, or a `directory`, a `link` or an `object`, and its id.
-fn is_led_to<T: TypeSet>(
-    core: &Core<T, OpenTable>,
+fn is_led_to<T: TypeSet, H: HandleTable>(
+    core: &Core<T, H>,
     process: Proc,
     handle: Handle,
     told: Line<'_>,
@@ -292,9 +292,9 @@ fn is_led_to<T: TypeSet>(
 }
 
 // The same of a step that may ask for nothing.
-fn taken<T: TypeSet>(
+fn taken<T: TypeSet, H: HandleTable>(
     alloc: Global,
-    core: &mut Core<T, OpenTable>,
+    core: &mut Core<T, H>,
     kinds: (T::Kind, T::Kind),
     process: Proc,
     asked: Line<'_>,
@@ -323,9 +323,9 @@ fn asking(word: &str) -> Option<(Proc, u32)> {
 }
 
 // The handle that a line's step is given at last, or 0, where it is told what the line says each time.
-fn last_of<T: TypeSet>(
+fn last_of<T: TypeSet, H: HandleTable>(
     alloc: Global,
-    core: &mut Core<T, OpenTable>,
+    core: &mut Core<T, H>,
     kinds: (T::Kind, T::Kind),
     line: &str,
     given: &[Handle],
@@ -341,9 +341,9 @@ fn last_of<T: TypeSet>(
 }
 
 /// The first line whose step isn't told what it says.
-pub fn first_other<'a, T: TypeSet>(
+pub fn first_other<'a, T: TypeSet, H: HandleTable>(
     alloc: Global,
-    core: &mut Core<T, OpenTable>,
+    core: &mut Core<T, H>,
     kinds: (T::Kind, T::Kind),
     steps: &'a str,
 ) -> Option<&'a str> {
@@ -360,12 +360,16 @@ pub fn first_other<'a, T: TypeSet>(
 }
 
 /// Whether there are so many objects, and handles.
-pub fn is_counted<T: TypeSet>(core: &Core<T, OpenTable>, objects: &str, handles: &str) -> bool {
+pub fn is_counted<T: TypeSet, H: HandleTable>(
+    core: &Core<T, H>,
+    objects: &str,
+    handles: &str,
+) -> bool {
     objects.parse().ok() == Some(core.objects()) && handles.parse().ok() == Some(core.handles())
 }
 
 // Whether this is left of a scene: objects, handles, and the set's opens, closes and deletes.
-fn is_left<T: TypeSet>(core: &Core<Counting<T>, OpenTable>, left: &str) -> bool {
+fn is_left<T: TypeSet, H: HandleTable>(core: &Core<Counting<T>, H>, left: &str) -> bool {
     let [objects, handles, opens, closes, deletes, ..] = words(left);
     let set = core.set();
     is_counted(core, objects, handles)
@@ -375,9 +379,9 @@ fn is_left<T: TypeSet>(core: &Core<Counting<T>, OpenTable>, left: &str) -> bool 
 }
 
 // The first line of a scene that isn't as it says: its own, which tells what is left of it, or that of a step.
-fn first_other_in<'a, T: TypeSet>(
+fn first_other_in<'a, T: TypeSet, H: HandleTable>(
     alloc: Global,
-    core: &mut Core<Counting<T>, OpenTable>,
+    core: &mut Core<Counting<T>, H>,
     kinds: (T::Kind, T::Kind),
     scene: &'a str,
 ) -> Option<&'a str> {
@@ -391,20 +395,23 @@ fn first_other_in<'a, T: TypeSet>(
 }
 
 // The same of a new namespace with a set whose calls are counted.
-fn first_other_of<T: Staged>(alloc: Global, scene: &str) -> Result<Option<&str>, Fault> {
-    let mut core: Core<Counting<T>, OpenTable> = Core::new(alloc, Counting::new(T::new()))?;
+fn first_other_of<T: Staged, H: HandleTable>(
+    alloc: Global,
+    scene: &str,
+) -> Result<Option<&str>, Fault> {
+    let mut core: Core<Counting<T>, H> = Core::new(alloc, Counting::new(T::new()))?;
     Ok(first_other_in(alloc, &mut core, T::kinds(), scene))
 }
 
 /// The first scene of a text that isn't played as it says, and the line that isn't so. The first line of a scene begins with
 /// `#` and what it shows; behind a bar stands what is left of it: objects, handles, and the set's opens, closes and deletes.
-pub fn first_other_scene<T: Staged>(
+pub fn first_other_scene<T: Staged, H: HandleTable>(
     alloc: Global,
     scenes: &str,
 ) -> Result<Option<(&str, &str)>, Fault> {
     let scenes = scenes.strip_prefix("#").unwrap_or("");
     for scene in scenes.split('#') {
-        if let Some(line) = first_other_of::<T>(alloc, scene)? {
+        if let Some(line) = first_other_of::<T, H>(alloc, scene)? {
             return Ok(Some((scene, line)));
         }
     }

@@ -3,7 +3,7 @@
 ghost use Rattle.std.specs.Prelude.{◌≡◌};
 
 use ob_base::{Fault, Status};
-use ob_core::OpenTable;
+use ob_core::SlabTable;
 use ob_device::{DeviceKind, DeviceSet};
 use ob_journal::Entry;
 use ob_shared::{Mismatch, open_shared};
@@ -197,7 +197,7 @@ fn ended<R: Threads + Wait + Clock + Sync, L: Ledger + Send + Sync>(
     requires whole { L.parts ≡ 1024 }
 {
     let seats = plan.seats();
-    let (space, passes) = open_shared::<_, OpenTable, L>(alloc, blank, DeviceSet, seats)?;
+    let (space, passes) = open_shared::<_, SlabTable, L>(alloc, blank, DeviceSet, seats)?;
     let (passes, answered) = carry_out(rt, alloc, &space, passes, plan)?;
     let receipts = receipts_of(passes.as_slice());
     match space.close(passes) {

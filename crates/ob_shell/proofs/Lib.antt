@@ -1,5 +1,3 @@
-pub mod Readers
-pub mod Writers
 pub mod Gathered
 pub mod Told
 pub mod Listed

@@ -6,7 +6,8 @@ use Rattle.ob_base.specs.declared.status.Status.{Status}
 use Rattle.ob_model.specs.declared.reply.Given.TheVariants.{Text}
 use Rattle.ob_output.specs.Printed.{output_line, status_text, printed_bytes, given_text}
 use Rattle.ob_output.proofs.Printed.{printed_append}
-use Rattle.ob_shell.specs.Writing.{AppendsFront, Gathers}
+use Rattle.ob_shell.specs.Gathering.{Gathers}
+use Rattle.ob_streams.specs.Writing.{AppendsFront}
 use Rattle.ob_shell.proofs.Gathered.{GathersUpTo, gathers_more, gathers_front, front_gathers}
 
 -- a text is printed as a front of it and then its rest

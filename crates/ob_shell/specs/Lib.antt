@@ -1,6 +1,4 @@
-pub mod Fault
-pub mod Reading
-pub mod Writing
+pub mod Gathering
 pub mod Shown
 pub mod Running
 pub mod Offsets

@@ -9,9 +9,9 @@ use Rattle.ob_shell.specs.declared.run.Ending.{Ending}
 use Rattle.ob_shell.specs.declared.run.Ending.TheVariants as ending
 use Rattle.ob_output.specs.Printed.{output_line, reply_text, counts_text}
 use Rattle.ob_shell.specs.Shown.{Plays, PlaysFirst, PlaysPartTo}
-use Rattle.ob_shell.specs.Writing.{Gathers}
-use Rattle.ob_shell.specs.declared.fault.ShellFault.{ShellFault}
-use Rattle.ob_shell.specs.declared.fault.ShellFault.TheVariants as fault
+use Rattle.ob_shell.specs.Gathering.{Gathers}
+use Rattle.ob_streams.specs.declared.fault.ShellFault.{ShellFault}
+use Rattle.ob_streams.specs.declared.fault.ShellFault.TheVariants as fault
 
 -- what the line of this number prints for it
 abbrev pub outcome_text : ℕ → LineOutcome → List ℕ

@@ -1,19 +1,18 @@
 //! The run of a script.
 
 ghost use Rattle.std.specs.Prelude.{◌≡◌, ◌≢◌, ◌+◌, ◌<◌, ◌≤◌, false, [], ◌++◌, length, vec_capacity, IfOk, IfErr, OnOk, OnErr, IsErr, IfSome, IsErrOf};
-ghost use Rattle.ob_shell.specs.Fault.{is_unwritten};
-ghost use Rattle.ob_shell.specs.Reading.{StopsLong, TakesAtMost};
-ghost use Rattle.ob_shell.specs.Writing.{AppendsFront, Gathers};
+ghost use Rattle.ob_streams.specs.Fault.{is_unwritten};
+ghost use Rattle.ob_streams.specs.Reading.{StopsLong, TakesAtMost};
+ghost use Rattle.ob_shell.specs.Gathering.{Gathers};
+ghost use Rattle.ob_streams.specs.Writing.{AppendsFront};
 ghost use Rattle.ob_shell.specs.Shown.{PlaysTo, PlaysPartTo};
 ghost use Rattle.ob_effects.specs.Kept.{IsFirst, IsSession};
 ghost use Rattle.ob_shell.specs.Running.{outcome_text, outcome_end, GathersRun, StopsPlaying};
 
-use crate::fault::ShellFault;
 use crate::printing::write_outcome;
-use crate::reading::{SCRIPT_LIMIT, read_script};
-use crate::writing::{Unwritten, write_out};
 use ob_effects::{LineOutcome, Session};
 use ob_lines::read_line;
+use ob_streams::{SCRIPT_LIMIT, ShellFault, Unwritten, read_script, write_out};
 use std::alloc::Global;
 use std::io::{Read, Write};
 

@@ -1,7 +1,8 @@
 //! The shell's public functions over streams that trickle and fail, and its faults in words.
 
 use crate::streams::{End, Lasts, Sip, Tally, Trickle};
-use ob_shell::{Ending, ShellFault, Unread, read_script, run_script, write_out};
+use ob_shell::{Ending, run_script};
+use ob_streams::{ShellFault, Unread, read_script, write_out};
 use std::alloc::{AllocError, Global};
 use std::io::{Error, ErrorKind, Read, repeat};
 

@@ -19,18 +19,18 @@ use ob_base::{Handle, Proc};
 use ob_core::Cache;
 use ob_model::{Command, Reply};
 use ob_output::Totals;
-use ob_runner::{Core, OpenTable, run_command};
+use ob_runner::{Core, SlabTable, run_command};
 use ob_standard::{Standard, StandardKind};
 use std::alloc::{AllocError, Global};
 use std::marker::Model;
 
-/// The [`Core`](ob_core::Core) over the standard set of types and the ordered handle table, with the calls of it that
+/// The [`Core`](ob_core::Core) over the standard set of types and the handle table over a slab, with the calls of it that
 /// scripts make.
 ///
 /// Contracts see the state of the abstract machine. (this profile)
 #[derive(Drop)]
 pub struct StandardCore {
-    pub(crate) core: Core<Standard, OpenTable>,
+    pub(crate) core: Core<Standard, SlabTable>,
 }
 
 impl Model for StandardCore {

@@ -2,15 +2,15 @@
 -- Source: this profile.
 use Rattle.std.specs.Prelude.{◌≡◌, ◌≢◌, ◌<◌, ℕ, false, List, ◌++◌, length, Option, Some, None, Result, Ok, Err, IfOk, IfErr, OnOk, OnErr, IsErr, IsErrOf, IfSome, codes}
 use Rattle.std.specs.Io.KnownBytes.{Appends, Keeps}
-use Rattle.ob_shell.specs.Fault.{fault_text_of, is_unwritten}
-use Rattle.ob_shell.specs.Reading.{StopsLong}
 use Rattle.ob_shell.specs.Shown.{PlaysTo, PlaysPartTo}
-use Rattle.ob_shell.specs.Writing.{AppendsFront}
-use Rattle.ob_shell.specs.declared.fault.ShellFault.{ShellFault}
-use Rattle.ob_shell.specs.declared.fault.ShellFault.TheVariants.{Memory, Write, TooLong, Mismatch}
-use Rattle.ob_shell.specs.declared.reading.TheConstants.{SCRIPT_LIMIT}
 use Rattle.ob_shell.specs.declared.run.Ending.{Ending}
-use Rattle.ob_shell.specs.declared.writing.Unwritten.{Unwritten}
+use Rattle.ob_streams.specs.Fault.{fault_text_of, is_unwritten}
+use Rattle.ob_streams.specs.Reading.{StopsLong}
+use Rattle.ob_streams.specs.Writing.{AppendsFront}
+use Rattle.ob_streams.specs.declared.fault.ShellFault.{ShellFault}
+use Rattle.ob_streams.specs.declared.fault.ShellFault.TheVariants.{Memory, Write, TooLong, Mismatch}
+use Rattle.ob_streams.specs.declared.reading.TheConstants.{SCRIPT_LIMIT}
+use Rattle.ob_streams.specs.declared.writing.Unwritten.{Unwritten}
 use Rattle.ob_tasks.specs.declared.end.Ended.{Ended}
 use Rattle.ob_tasks.specs.declared.end.Ended.TheVariants as ended
 use Rattle.ob_threads.specs.Written.{IsWritten}

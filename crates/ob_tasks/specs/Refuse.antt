@@ -4,9 +4,9 @@ use Rattle.std.specs.Prelude.{◌≡◌, ◌⊎◌, ℕ, List, Option, Ok, Err, 
 use Rattle.std.specs.Io.KnownBytes.{Appends, Keeps}
 use Rattle.clap.specs.declared.error.kind.ErrorKind.{ErrorKind}
 use Rattle.clap.specs.declared.error.kind.ErrorKind.TheVariants as kind
-use Rattle.ob_shell.specs.Writing.{AppendsFront}
-use Rattle.ob_shell.specs.declared.fault.ShellFault.TheVariants.{Memory, Write}
-use Rattle.ob_shell.specs.declared.writing.Unwritten.{Unwritten}
+use Rattle.ob_streams.specs.Writing.{AppendsFront}
+use Rattle.ob_streams.specs.declared.fault.ShellFault.TheVariants.{Memory, Write}
+use Rattle.ob_streams.specs.declared.writing.Unwritten.{Unwritten}
 use Rattle.ob_tasks.specs.declared.end.End.{End}
 use Rattle.ob_tasks.specs.declared.end.End.TheVariants.{Task, Mistake, Help}
 use Rattle.ob_tasks.specs.Perform.{Complains, Told}

@@ -7,7 +7,7 @@ use Rattle.std.specs.declared.io.Error.{Error}
 use Rattle.clap.specs.Words.{IsAmong, Text, fault_of, subcommand_of, takes}
 use Rattle.clap.specs.declared.error.kind.ErrorKind.{ErrorKind}
 use Rattle.clap.specs.declared.error.kind.ErrorKind.TheVariants.{OutOfMemory}
-use Rattle.ob_shell.specs.declared.fault.ShellFault.{ShellFault}
+use Rattle.ob_streams.specs.declared.fault.ShellFault.{ShellFault}
 use Rattle.ob_tasks.specs.declared.end.End.{End}
 use Rattle.ob_tasks.specs.declared.end.End.TheVariants as ends
 use Rattle.ob_tasks.specs.declared.end.Ended.{Ended}

@@ -3,7 +3,8 @@
 ghost use Rattle.std.specs.Prelude.{◌≡◌};
 ghost use Rattle.ob_tasks.specs.End.{status_of};
 
-use ob_shell::{Ending, ShellFault};
+use ob_shell::Ending;
+use ob_streams::ShellFault;
 use ob_threads::ThreadsEnding;
 use ob_verdict::Verdict;
 

@@ -9,7 +9,8 @@ mod refusing;
 mod serving;
 
 pub use end::{End, Ended};
-pub use ob_shell::{Ending, ShellFault, Unread, Unwritten};
+pub use ob_shell::Ending;
+pub use ob_streams::{ShellFault, Unread, Unwritten};
 pub use ob_threads::ThreadsEnding;
 pub use ob_verdict::Verdict;
 pub use opening::perform_opened;

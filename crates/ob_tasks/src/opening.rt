@@ -6,7 +6,7 @@ ghost use Rattle.ob_tasks.specs.Opening.{Follows, fault_of_opening, opened_as};
 
 use crate::end::Ended;
 use crate::performing::{complain, perform};
-use ob_shell::{ShellFault, Unread, Unwritten};
+use ob_streams::{ShellFault, Unread, Unwritten};
 use ob_words::Task;
 use std::alloc::Global;
 use std::io;

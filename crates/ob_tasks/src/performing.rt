@@ -2,15 +2,16 @@
 
 ghost use Rattle.std.specs.Prelude.{◌≡◌, OnOk, OnErr, Err};
 ghost use Rattle.std.specs.Io.KnownBytes.{Appends};
-ghost use Rattle.ob_shell.specs.declared.fault.ShellFault.TheVariants.{Memory};
-ghost use Rattle.ob_shell.specs.Fault.{fault_text_of};
-ghost use Rattle.ob_shell.specs.Writing.{AppendsFront};
+ghost use Rattle.ob_streams.specs.declared.fault.ShellFault.TheVariants.{Memory};
+ghost use Rattle.ob_streams.specs.Fault.{fault_text_of};
+ghost use Rattle.ob_streams.specs.Writing.{AppendsFront};
 ghost use Rattle.ob_tasks.specs.declared.end.End.TheVariants as ends;
 ghost use Rattle.ob_tasks.specs.Perform.{Complains, Performs, Runs, SaysFront, SaysWhole, line_of, text_told};
 ghost use Rattle.ob_threads.specs.Written.{IsWritten};
 
 use crate::end::{End, Ended};
-use ob_shell::{ShellFault, Unwritten, run_script, write_out};
+use ob_shell::run_script;
+use ob_streams::{ShellFault, Unwritten, write_out};
 use ob_threads::{ThreadsEnding, run_threads};
 use ob_verdict::run_replay;
 use ob_words::Task;

@@ -8,7 +8,7 @@ use crate::end::End;
 use crate::performing::{complain, starve};
 use clap::Error;
 use clap::error::ErrorKind;
-use ob_shell::{ShellFault, Unwritten, write_out};
+use ob_streams::{ShellFault, Unwritten, write_out};
 use std::alloc::Global;
 use std::io::Write;
 

@@ -7,7 +7,7 @@ use crate::end::End;
 use crate::opening::perform_opened;
 use crate::performing::perform;
 use crate::refusing::refuse;
-use ob_shell::Unwritten;
+use ob_streams::Unwritten;
 use ob_words::{Task, plan};
 use std::alloc::Global;
 use std::convert::AsStr;

@@ -5,9 +5,9 @@ use Rattle.std.specs.Io.KnownBytes.{Appends}
 use Rattle.serde_json.specs.Written.{compact_text}
 use Rattle.ob_journal.specs.Lines.{entry_line, entry_lines, entry_value, header_line, journal_lines}
 use Rattle.ob_model.specs.Run.{Entry}
-use Rattle.ob_shell.specs.Writing.{AppendsFront}
-use Rattle.ob_shell.proofs.Writers.{append-front, front-append}
 use Rattle.ob_standard.specs.Standard.{StandardKind, standard}
+use Rattle.ob_streams.specs.Writing.{AppendsFront}
+use Rattle.ob_streams.proofs.Writers.{append-front, front-append}
 
 -- a write failed behind a front
 pub cut_by : (old mid new : Option (List ℕ)) (front piece rest whole : List ℕ) → whole ≡ front ++ (piece ++ rest) → Appends old mid front → AppendsFront mid new piece

@@ -32,9 +32,9 @@ use Rattle.ob_key.proofs.face.KeyFace.TheSendSync as key_faces
 use Rattle.ob_key.proofs.key.KeyInner.TheSendSync as key_inners
 use Rattle.ob_standard.specs.contracts.set.Standard as standard
 use Rattle.ob_standard.proofs.set.Standard.TheSendSync as standards
-use Rattle.ob_handles.specs.contracts.open_table.OpenTable as table
-use Rattle.ob_handles.specs.contracts.open_table.OpenTableHandleTable.TheImpl as handles
-use Rattle.ob_handles.proofs.open_table.OpenTable.TheSendSync as tables
+use Rattle.ob_slab_table.specs.contracts.slab_table.SlabTable as table
+use Rattle.ob_slab_table.specs.contracts.slab_table.SlabTableHandleTable.TheImpl as handles
+use Rattle.ob_slab_table.proofs.slab_table.SlabTable.TheSendSync as tables
 use Rattle.ob_shared.proofs.Lent.{shared_sync}
 use Rattle.ob_threads.specs.contracts.lent.Lent as lent
 

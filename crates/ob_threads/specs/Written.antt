@@ -7,13 +7,13 @@ use Rattle.ob_journal.specs.Lines.{journal_lines}
 use Rattle.ob_lines.specs.Lines.{lines_of}
 use Rattle.ob_model.specs.Run.{Run}
 use Rattle.ob_output.specs.Printed.{output_line}
-use Rattle.ob_shell.specs.declared.fault.ShellFault.{ShellFault}
-use Rattle.ob_shell.specs.declared.fault.ShellFault.TheVariants as fault
-use Rattle.ob_shell.specs.declared.reading.TheConstants.{SCRIPT_LIMIT}
-use Rattle.ob_shell.specs.Fault.{is_unwritten}
-use Rattle.ob_shell.specs.Writing.{AppendsFront}
 use Rattle.ob_standard.specs.Standard.{Standard, standard}
 use Rattle.ob_standard_core.specs.Machine.{Space}
+use Rattle.ob_streams.specs.declared.fault.ShellFault.{ShellFault}
+use Rattle.ob_streams.specs.declared.fault.ShellFault.TheVariants as fault
+use Rattle.ob_streams.specs.declared.reading.TheConstants.{SCRIPT_LIMIT}
+use Rattle.ob_streams.specs.Fault.{is_unwritten}
+use Rattle.ob_streams.specs.Writing.{AppendsFront}
 use Rattle.ob_worker_lines.specs.Cuts.{IsBadLine}
 use Rattle.ob_seats.specs.Received.{Entries}
 use Rattle.ob_threads.specs.declared.ends.ThreadsEnding.{ThreadsEnding}

@@ -4,14 +4,14 @@ ghost use Rattle.std.specs.Prelude.{OnOk, OnErr, IfErr, codes};
 ghost use Rattle.std.specs.Io.KnownBytes.{Appends};
 ghost use Rattle.ob_journal.specs.Lines.{journal_lines};
 ghost use Rattle.ob_output.specs.Printed.{output_line};
-ghost use Rattle.ob_shell.specs.Writing.{AppendsFront};
 ghost use Rattle.ob_standard.specs.Standard.{standard};
+ghost use Rattle.ob_streams.specs.Writing.{AppendsFront};
 ghost use Rattle.ob_threads.specs.Written.{IsCutOff};
 
 use ob_journal::{Entry, write_header, write_line};
 use ob_output::text_line;
-use ob_shell::{ShellFault, Unwritten, write_out};
 use ob_standard::{Standard, StandardKind};
+use ob_streams::{ShellFault, Unwritten, write_out};
 use std::alloc::Global;
 use std::io::Write;
 

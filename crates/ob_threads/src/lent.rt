@@ -3,8 +3,8 @@
 ghost use Rattle.std.specs.Prelude.{◌≡◌};
 
 use ob_base::{Fault, Proc};
-use ob_handles::OpenTable;
 use ob_model::Command;
+use ob_runner::SlabTable;
 use ob_seats::{Begun, Callers};
 use ob_shared::{Parsing, Pass, Pending, Shared, Started};
 use ob_standard::{Standard, StandardKind};
@@ -15,7 +15,7 @@ use std::sync::ledger::Ledger;
 /// A shared namespace over the standard set of types, as it is lent to the threads of a script.
 #[derive(Drop)]
 pub(crate) struct Lent<'a, H: Wait, L: Ledger> {
-    pub(crate) shared: &'a Shared<Standard, OpenTable, L>,
+    pub(crate) shared: &'a Shared<Standard, SlabTable, L>,
     pub(crate) rt: &'a H,
     pub(crate) alloc: Global,
 }

@@ -8,7 +8,7 @@ ghost use Rattle.ob_standard_core.specs.Machine.{Space};
 ghost use Rattle.ob_locked.specs.Opened.{fresh_pass, fresh_passes, most_seats};
 ghost use Rattle.ob_worker_lines.specs.Parts.{IsFault, lines_in};
 ghost use Rattle.ob_lines.specs.Lines.{lines_of};
-ghost use Rattle.ob_shell.specs.Fault.{is_unwritten};
+ghost use Rattle.ob_streams.specs.Fault.{is_unwritten};
 ghost use Rattle.ob_threads.specs.Played.{ArePasses, ArePlayedBy, IsPlayedOf};
 ghost use Rattle.ob_threads.specs.Worked.{CanRun};
 ghost use Rattle.ob_threads.specs.Written.{Writes, WritesPart};
@@ -17,12 +17,12 @@ use crate::ends::{ThreadsEnding, ending_of};
 use crate::journal::{write_bad_line, write_journal};
 use crate::lent::Lent;
 use crate::seats::{Ran, run_seats};
-use ob_handles::OpenTable;
 use ob_journal::Entry;
+use ob_runner::SlabTable;
 use ob_seats::Stopped;
 use ob_shared::{Ended, Pass, Shared, open_shared};
-use ob_shell::{SCRIPT_LIMIT, ShellFault, read_script};
 use ob_standard::{Standard, StandardKind};
+use ob_streams::{SCRIPT_LIMIT, ShellFault, read_script};
 use ob_worker_lines::{CutFault, WorkerScript, cut};
 use std::alloc::Global;
 use std::io::{Read, Write};
@@ -158,7 +158,7 @@ fn play<H: Threads + Wait + Sync, L: Ledger + Send + Sync>(
     ensures fault { IfErr result (λ fault. (fault ≡ ShellFault.Memory)
         ⊎ (fault ≡ ShellFault.Mismatch)) }
 {
-    match open_shared::<Standard, OpenTable, L>(alloc, blank, Standard::new(), seats_of(parts)) {
+    match open_shared::<Standard, SlabTable, L>(alloc, blank, Standard::new(), seats_of(parts)) {
         Ok((shared, passes)) => play_shared(rt, alloc, parts, shared, passes),
         Err(_) => Err(ShellFault::Memory),
     }
@@ -169,7 +169,7 @@ fn play_shared<H: Threads + Wait + Sync, L: Ledger + Send + Sync>(
     rt: &H,
     alloc: Global,
     parts: &WorkerScript<'_>,
-    shared: Shared<Standard, OpenTable, L>,
+    shared: Shared<Standard, SlabTable, L>,
     passes: Vec<Pass<StandardKind, L>>,
 ) -> Result<(Vec<Entry<StandardKind>>, Result<(), Stopped>), ShellFault>
     requires seats { shared ≡ length parts.now.workers.items + 1 }
@@ -201,7 +201,7 @@ fn run_lent<'a, H: Threads + Wait + Sync, L: Ledger + Send + Sync>(
     rt: &'a H,
     alloc: Global,
     parts: &WorkerScript<'_>,
-    shared: &'a Shared<Standard, OpenTable, L>,
+    shared: &'a Shared<Standard, SlabTable, L>,
     own: Pass<StandardKind, L>,
     theirs: Vec<Pass<StandardKind, L>>,
 ) -> Result<(Vec<Pass<StandardKind, L>>, Result<(), Stopped>), ShellFault>

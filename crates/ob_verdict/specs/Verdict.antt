@@ -8,12 +8,12 @@ use Rattle.ob_replay.specs.declared.report.Cause.{Cause}
 use Rattle.ob_replay.specs.declared.report.Cause.TheVariants as cause
 use Rattle.ob_replay.specs.declared.report.Report.{Report}
 use Rattle.ob_replay.specs.Journal.{IsAccepted, StopsAt}
-use Rattle.ob_shell.specs.Fault.{is_unwritten}
-use Rattle.ob_shell.specs.Reading.{StopsLong}
-use Rattle.ob_shell.specs.Writing.{AppendsFront}
-use Rattle.ob_shell.specs.declared.fault.ShellFault.{ShellFault}
-use Rattle.ob_shell.specs.declared.fault.ShellFault.TheVariants as fault
-use Rattle.ob_shell.specs.declared.writing.Unwritten.{Unwritten}
+use Rattle.ob_streams.specs.Fault.{is_unwritten}
+use Rattle.ob_streams.specs.Reading.{StopsLong}
+use Rattle.ob_streams.specs.Writing.{AppendsFront}
+use Rattle.ob_streams.specs.declared.fault.ShellFault.{ShellFault}
+use Rattle.ob_streams.specs.declared.fault.ShellFault.TheVariants as fault
+use Rattle.ob_streams.specs.declared.writing.Unwritten.{Unwritten}
 use Rattle.ob_verdict.specs.declared.verdict.Verdict.{Verdict}
 use Rattle.ob_verdict.specs.declared.verdict.Verdict.TheVariants as verdict
 use Rattle.ob_verdict.specs.declared.run.TheConstants.{JOURNAL_LIMIT}

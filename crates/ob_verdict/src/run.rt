@@ -1,12 +1,12 @@
 //! The check of a journal that a reader has.
 
 ghost use Rattle.std.specs.Prelude.{◌≡◌, ◌≢◌, ◌+◌, ◌<◌, ◌≤◌, false, length, IfOk, IfErr, IsErr, IfSome, IsErrOf};
-ghost use Rattle.ob_shell.specs.Fault.{is_unwritten};
-ghost use Rattle.ob_shell.specs.Reading.{StopsLong, TakesAtMost};
+ghost use Rattle.ob_streams.specs.Fault.{is_unwritten};
+ghost use Rattle.ob_streams.specs.Reading.{StopsLong, TakesAtMost};
 ghost use Rattle.ob_verdict.specs.Verdict.{WritesPart, WritesVerdict};
 
 use crate::verdict::{Verdict, write_verdict};
-use ob_shell::{ShellFault, read_all};
+use ob_streams::{ShellFault, read_all};
 use std::alloc::Global;
 use std::io::{Read, Write};
 

@@ -2,12 +2,12 @@
 
 ghost use Rattle.std.specs.Prelude.{◌≡◌, ◌⊎◌, true, false, IfOk, IfErr, IsErrOf, string_bytes};
 ghost use Rattle.std.specs.Io.KnownBytes.{Appends};
-ghost use Rattle.ob_shell.specs.Fault.{is_unwritten};
-ghost use Rattle.ob_shell.specs.Writing.{AppendsFront};
+ghost use Rattle.ob_streams.specs.Fault.{is_unwritten};
+ghost use Rattle.ob_streams.specs.Writing.{AppendsFront};
 ghost use Rattle.ob_verdict.specs.Verdict.{accepted_line as line_of_entries, cause_text as text_of, refused_line as line_of_cause, WritesPart, WritesVerdict};
 
 use ob_replay::{Cause, CheckFault, check_journal};
-use ob_shell::{ShellFault, write_out};
+use ob_streams::{ShellFault, write_out};
 use std::alloc::{AllocError, Global};
 use std::io::Write;
 

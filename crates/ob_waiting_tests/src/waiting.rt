@@ -2,7 +2,7 @@
 //! object that they pin stays until then.
 
 use ob_base::{Fault, Handle, Proc, Status};
-use ob_core::{Brought, Core, OpenTable, Started};
+use ob_core::{Brought, Core, HandleTable, OpenTable, SlabTable, Started};
 use ob_device::DeviceSet;
 use ob_scenes::{Staged, answer, first_other, is_counted, is_status, start, tell, words};
 use ob_types::TypeSet;
@@ -68,9 +68,9 @@ fn fields(line: &str) -> [&str; 7] {
 
 // The parse that an open of a process waits for behind the first steps, run or `not`, and whether its ticket and its rest are as
 // they should be; `None` where it doesn't wait.
-fn begun<T: TypeSet>(
+fn begun<T: TypeSet, H: HandleTable>(
     alloc: Global,
-    core: &mut Core<T, OpenTable>,
+    core: &mut Core<T, H>,
     kinds: (T::Kind, T::Kind),
     process: Proc,
     asked: &str,
@@ -93,7 +93,7 @@ fn begun<T: TypeSet>(
 }
 
 // What becomes of a parse: one that was run is brought, and one that isn't taken, or wasn't run, gives its open up.
-fn ended<T: TypeSet>(core: &mut Core<T, OpenTable>, brought: Brought<T>) -> End {
+fn ended<T: TypeSet, H: HandleTable>(core: &mut Core<T, H>, brought: Brought<T>) -> End {
     let parsed = match brought {
         Brought::Run(parsed) => parsed,
         unrun => return (None, None, core.abandon(unrun)),
@@ -113,10 +113,10 @@ fn ended<T: TypeSet>(core: &mut Core<T, OpenTable>, brought: Brought<T>) -> End 
 }
 
 // What becomes of the parse of another namespace, which process 1 waits for there: it is brought, or gives an open up.
-fn end_of_another<T: TypeSet>(
+fn end_of_another<T: TypeSet, H: HandleTable>(
     alloc: Global,
-    core: &mut Core<T, OpenTable>,
-    other: &mut Core<T, OpenTable>,
+    core: &mut Core<T, H>,
+    other: &mut Core<T, H>,
     kinds: (T::Kind, T::Kind),
     between: &str,
 ) -> Option<End> {
@@ -141,10 +141,10 @@ fn is_end(end: End, wanted: &str) -> bool {
 }
 
 // Whether what comes between is made, and becomes this of its parse.
-fn comes_between<T: TypeSet>(
+fn comes_between<T: TypeSet, H: HandleTable>(
     alloc: Global,
-    core: &mut Core<T, OpenTable>,
-    other: &mut Core<T, OpenTable>,
+    core: &mut Core<T, H>,
+    other: &mut Core<T, H>,
     kinds: (T::Kind, T::Kind),
     between: &str,
     wanted: &str,
@@ -165,14 +165,14 @@ fn comes_between<T: TypeSet>(
 }
 
 // Whether this is seen: how many reparses are left to the open, objects, and handles.
-fn is_seen<T: TypeSet>(core: &Core<T, OpenTable>, seen: &str) -> bool {
+fn is_seen<T: TypeSet, H: HandleTable>(core: &Core<T, H>, seen: &str) -> bool {
     let [left, objects, handles, ..] = words(seen);
     core.left(TICKET) == left.parse().ok() && is_counted(core, objects, handles)
 }
 
 // Whether this becomes of a parse, and objects and handles in the end are these.
-fn ends<T: TypeSet>(
-    core: &mut Core<T, OpenTable>,
+fn ends<T: TypeSet, H: HandleTable>(
+    core: &mut Core<T, H>,
     brought: Brought<T>,
     end: &str,
     counts: &str,
@@ -183,10 +183,10 @@ fn ends<T: TypeSet>(
 }
 
 // Whether an open is as a line says in a new namespace, beside another.
-fn is_so_in<T: TypeSet>(
+fn is_so_in<T: TypeSet, H: HandleTable>(
     alloc: Global,
-    core: &mut Core<T, OpenTable>,
-    other: &mut Core<T, OpenTable>,
+    core: &mut Core<T, H>,
+    other: &mut Core<T, H>,
     kinds: (T::Kind, T::Kind),
     line: &str,
 ) -> Option<bool> {
@@ -200,24 +200,26 @@ fn is_so_in<T: TypeSet>(
     Some(came? && is_asked && is_seen_so && is_ended)
 }
 
-fn is_so_beside<T: Staged>(
+fn is_so_beside<T: Staged, H: HandleTable>(
     alloc: Global,
-    core: &mut Core<T, OpenTable>,
+    core: &mut Core<T, H>,
     line: &str,
 ) -> Result<Option<bool>, Fault> {
     let mut other = Core::new(alloc, T::new())?;
     Ok(is_so_in(alloc, core, &mut other, T::kinds(), line))
 }
 
-fn is_so<T: Staged>(alloc: Global, line: &str) -> Result<Option<bool>, Fault> {
-    let mut core = Core::new(alloc, T::new())?;
+fn is_so<T: Staged, H: HandleTable>(alloc: Global, line: &str) -> Result<Option<bool>, Fault> {
+    let mut core: Core<T, H> = Core::new(alloc, T::new())?;
     is_so_beside(alloc, &mut core, line)
 }
 
 #[test]
 fn opens_that_wait_go_on_with_their_parse_or_are_given_up(rt: HostRuntime) {
     for line in OPENS.trim().lines() {
-        let is_so = is_so::<DeviceSet>(rt.alloc(), line);
-        assert!(rt; is_so == Ok(Some(true)), "{line}");
+        let over_maps = is_so::<DeviceSet, OpenTable>(rt.alloc(), line);
+        let over_a_slab = is_so::<DeviceSet, SlabTable>(rt.alloc(), line);
+        assert_eq!(rt; over_maps, Ok(Some(true)), "{line}");
+        assert_eq!(rt; over_a_slab, Ok(Some(true)), "{line}");
     }
 }

@@ -19,9 +19,9 @@ use Rattle.ob_device.proofs.device.DeviceSet.TheSendSync as sets
 use Rattle.ob_device.proofs.device.DeviceKind.TheSendSync as kinds
 use Rattle.ob_device.proofs.device.DeviceFace.TheSendSync as faces
 use Rattle.ob_device.proofs.device.DeviceInner.TheSendSync as inners
-use Rattle.ob_handles.specs.contracts.open_table.OpenTable as table
-use Rattle.ob_handles.specs.contracts.open_table.OpenTableHandleTable.TheImpl as handles
-use Rattle.ob_handles.proofs.open_table.OpenTable.TheSendSync as tables
+use Rattle.ob_slab_table.specs.contracts.slab_table.SlabTable as table
+use Rattle.ob_slab_table.specs.contracts.slab_table.SlabTableHandleTable.TheImpl as handles
+use Rattle.ob_slab_table.proofs.slab_table.SlabTable.TheSendSync as tables
 use Rattle.ob_shared.specs.contracts.Pass as pass
 use Rattle.ob_shared.proofs.Pass.TheSendSync as passes
 use Rattle.ob_shared.specs.contracts.shared.Shared as shared

@@ -1,7 +1,7 @@
 //! Journals that are played again.
 
 use ob_base::Fault;
-use ob_core::{Brought, Core, OpenTable, Started};
+use ob_core::{Brought, Core, SlabTable, Started};
 use ob_journal::{Entry, copy_command, is_same_entry};
 use ob_model::{Answer, Event};
 use ob_types::TypeSet;
@@ -13,7 +13,7 @@ pub fn are_answered_again<T: TypeSet>(
     types: T,
     journal: &[Entry<T::Kind>],
 ) -> Result<bool, Fault> {
-    let mut core: Core<T, OpenTable> = Core::new(alloc, types)?;
+    let mut core: Core<T, SlabTable> = Core::new(alloc, types)?;
     for entry in journal {
         if !is_answered_again(alloc, &mut core, entry)? {
             return Ok(false);
@@ -25,7 +25,7 @@ pub fn are_answered_again<T: TypeSet>(
 /// Whether a start is answered as its entry says; another step isn't.
 fn is_answered_again<T: TypeSet>(
     alloc: Global,
-    core: &mut Core<T, OpenTable>,
+    core: &mut Core<T, SlabTable>,
     entry: &Entry<T::Kind>,
 ) -> Result<bool, Fault> {
     match &entry.step {

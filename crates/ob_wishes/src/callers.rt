@@ -2,7 +2,7 @@
 
 use crate::{Wish, command_of};
 use ob_base::{Fault, Handle, Proc, Status};
-use ob_core::{Command, Given, OpenTable, Reply};
+use ob_core::{Command, Given, Reply, SlabTable};
 use ob_device::DeviceKind;
 use ob_shared::{Gate, Pass, Shared};
 use ob_types::TypeSet;
@@ -11,7 +11,7 @@ use std::sync::Wait;
 use std::sync::ledger::Ledger;
 
 /// A namespace with devices that threads share.
-pub type Space<T, L> = Shared<T, OpenTable, L>;
+pub type Space<T, L> = Shared<T, SlabTable, L>;
 
 /// A gate that is passed at once.
 #[derive(Drop)]

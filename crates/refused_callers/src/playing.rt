@@ -4,7 +4,7 @@ ghost use Rattle.std.specs.Prelude.{◌≡◌};
 
 use crate::rows::{Row, wish_of};
 use ob_base::{Fault, Proc, Status};
-use ob_core::{Command, OpenTable, Reply};
+use ob_core::{Command, Reply, SlabTable};
 use ob_device::{DeviceKind, DeviceSet};
 use ob_journal::Entry;
 use ob_model::{Answer, Event};
@@ -71,7 +71,7 @@ fn opened<L: Ledger>(alloc: Global, blank: Blank) -> Result<usize, Fault>
     requires parts { blank.parts ≡ L.parts }
     requires whole { L.parts ≡ 1024 }
 {
-    let (space, passes) = open_shared::<DeviceSet, OpenTable, L>(alloc, blank, DeviceSet, SEATS)?;
+    let (space, passes) = open_shared::<DeviceSet, SlabTable, L>(alloc, blank, DeviceSet, SEATS)?;
     let count = passes.len();
     match space.close(passes) {
         Ok(_) => Ok(count),
@@ -285,7 +285,7 @@ fn tell_in<R: Wait, L: Ledger, W: Write>(
     requires parts { blank.parts ≡ L.parts }
     requires whole { L.parts ≡ 1024 }
 {
-    let (space, passes) = open_shared::<DeviceSet, OpenTable, L>(alloc, blank, DeviceSet, SEATS)?;
+    let (space, passes) = open_shared::<DeviceSet, SlabTable, L>(alloc, blank, DeviceSet, SEATS)?;
     let (passes, came) = played(rt, writer, alloc, &space, passes, row)?;
     let Some(came) = came else {
         return Err(WRONG);

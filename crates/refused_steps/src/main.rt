@@ -16,7 +16,7 @@ use crate::playing::{Came, Row, came_of, picture_before, row_of, tell};
 use crate::rows::ROWS;
 use either::Either;
 use ob_base::Fault;
-use ob_core::{Core, OpenTable};
+use ob_core::{Core, SlabTable};
 use ob_device::DeviceKind;
 use ob_key::KeyKind;
 use ob_plain::PlainKind;
@@ -56,7 +56,7 @@ impl Played for Standard {
 
 /// The picture before a row's step.
 fn seen_before(alloc: Global, row: Row<'_>) -> Result<String, Fault> {
-    let mut core: Core<Standard, OpenTable> = Core::new(alloc, Standard::new())?;
+    let mut core: Core<Standard, SlabTable> = Core::new(alloc, Standard::new())?;
     picture_before(alloc, &mut core, row.before)
 }
 
@@ -67,7 +67,7 @@ fn came<W: Write>(
     row: Row<'_>,
     picture: &str,
 ) -> Result<Came, Fault> {
-    let mut core: Core<Standard, OpenTable> = Core::new(alloc, Standard::new())?;
+    let mut core: Core<Standard, SlabTable> = Core::new(alloc, Standard::new())?;
     came_of(writer, alloc, &mut core, row, picture)
 }
 

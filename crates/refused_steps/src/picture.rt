@@ -3,7 +3,7 @@
 use crate::Played;
 use crate::asking::{NO_STEP, list};
 use ob_base::{Fault, Handle, Proc, Status};
-use ob_core::{Brought, Bytes, Command, Core, Given, OpenTable, Referent, Reply, Started};
+use ob_core::{Brought, Bytes, Command, Core, Given, Referent, Reply, SlabTable, Started};
 use std::alloc::{AllocError, Global};
 
 /// How many directories are listed, at most.
@@ -14,7 +14,7 @@ const NUMBERS: u32 = 128;
 
 /// The reply to a command that waits for no parse.
 fn reply_to<T: Played>(
-    core: &mut Core<T, OpenTable>,
+    core: &mut Core<T, SlabTable>,
     process: Proc,
     command: &Command<T::Kind>,
 ) -> Result<Reply, Fault> {
@@ -28,7 +28,7 @@ fn reply_to<T: Played>(
 }
 
 /// The id of the object that a handle leads to; 0 where there is no such handle.
-fn id_of<T: Played>(core: &Core<T, OpenTable>, process: Proc, handle: Handle) -> u64 {
+fn id_of<T: Played>(core: &Core<T, SlabTable>, process: Proc, handle: Handle) -> u64 {
     let Some((id, referent)) = core.referent(process, handle) else {
         return 0;
     };
@@ -45,7 +45,7 @@ fn id_of<T: Played>(core: &Core<T, OpenTable>, process: Proc, handle: Handle) ->
 /// Adds the handles of a process, with the objects that they lead to.
 fn add_handles<T: Played>(
     alloc: Global,
-    core: &Core<T, OpenTable>,
+    core: &Core<T, SlabTable>,
     process: Proc,
     text: &mut String,
 ) -> Result<(), AllocError> {
@@ -63,7 +63,7 @@ fn add_handles<T: Played>(
 /// Adds the opens that wait, with their processes, and how many reparses are left to each.
 fn add_opens<T: Played>(
     alloc: Global,
-    core: &Core<T, OpenTable>,
+    core: &Core<T, SlabTable>,
     text: &mut String,
 ) -> Result<(), AllocError> {
     for ticket in 0..u64::from(NUMBERS) {
@@ -76,7 +76,7 @@ fn add_opens<T: Played>(
 }
 
 /// What is counted, and each process's handles.
-fn counted<T: Played>(alloc: Global, core: &Core<T, OpenTable>) -> Result<String, AllocError> {
+fn counted<T: Played>(alloc: Global, core: &Core<T, SlabTable>) -> Result<String, AllocError> {
     let (objects, handles, next) = (core.objects(), core.handles(), core.next_process().0);
     let (opens, closes, deletes) = core.set().calls();
     let mut text = format!(in alloc; "{objects} {handles} {next} {opens} {closes} {deletes}\n")?;
@@ -88,14 +88,14 @@ fn counted<T: Played>(alloc: Global, core: &Core<T, OpenTable>) -> Result<String
 }
 
 /// Whether a process is live, which any command of it tells.
-fn is_live<T: Played>(core: &mut Core<T, OpenTable>, process: Proc) -> Result<bool, Fault> {
+fn is_live<T: Played>(core: &mut Core<T, SlabTable>, process: Proc) -> Result<bool, Fault> {
     let command = Command::QueryName { handle: Handle(0) };
     let reply = reply_to(core, process, &command)?;
     Ok(reply.status != Status::ProcessGone)
 }
 
 /// The first process that is live.
-fn viewer<T: Played>(core: &mut Core<T, OpenTable>) -> Result<Proc, Fault> {
+fn viewer<T: Played>(core: &mut Core<T, SlabTable>) -> Result<Proc, Fault> {
     for process in 1..core.next_process().0 {
         if is_live(core, Proc(process))? {
             return Ok(Proc(process));
@@ -146,7 +146,7 @@ fn handle_of(reply: &Reply) -> Option<Handle> {
 /// Adds a directory, and answers the paths of those in it.
 fn add_directory<T: Played>(
     alloc: Global,
-    core: &mut Core<T, OpenTable>,
+    core: &mut Core<T, SlabTable>,
     process: Proc,
     path: &str,
     text: &mut String,
@@ -168,7 +168,7 @@ fn add_directory<T: Played>(
 /// Adds every directory that a process reaches from the root, and its view of the names of devices.
 fn add_directories<T: Played>(
     alloc: Global,
-    core: &mut Core<T, OpenTable>,
+    core: &mut Core<T, SlabTable>,
     text: &mut String,
 ) -> Result<(), Fault> {
     let process = viewer(core)?;
@@ -188,7 +188,7 @@ fn add_directories<T: Played>(
 /// A picture: counts, handles with their objects, opens that wait, and the entries of each directory. Taking it opens and closes handles.
 pub(crate) fn picture_of<T: Played>(
     alloc: Global,
-    core: &mut Core<T, OpenTable>,
+    core: &mut Core<T, SlabTable>,
 ) -> Result<String, Fault> {
     let mut text = counted(alloc, core)?;
     add_directories(alloc, core, &mut text)?;

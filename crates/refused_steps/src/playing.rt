@@ -5,7 +5,7 @@ use crate::asking::asked;
 use crate::picture::{picture_of, sum_of};
 use crate::staging::{staged, staged_open};
 use ob_base::{Fault, Proc};
-use ob_core::{Brought, Command, Core, OpenTable, Parsed, Parsing, Reply, Started};
+use ob_core::{Brought, Command, Core, Parsed, Parsing, Reply, SlabTable, Started};
 use ob_types::{Outcome, TypeSet};
 use std::alloc::{AllocError, Global};
 use std::io::Write;
@@ -57,7 +57,7 @@ fn mark_end<W: Write>(writer: &mut W, is_refused: bool) {
 /// The picture before a step, of another namespace in which the same was made.
 pub(crate) fn picture_before<T: Played>(
     alloc: Global,
-    core: &mut Core<T, OpenTable>,
+    core: &mut Core<T, SlabTable>,
     before: &str,
 ) -> Result<String, Fault> {
     let waiting = staged(alloc, core, before)?;
@@ -71,7 +71,7 @@ pub(crate) fn picture_before<T: Played>(
 /// Whether the picture is now as it was.
 fn is_same<T: Played>(
     alloc: Global,
-    core: &mut Core<T, OpenTable>,
+    core: &mut Core<T, SlabTable>,
     picture: &str,
 ) -> Result<bool, Fault> {
     Ok(picture_of(alloc, core)?.as_str() == picture)
@@ -80,7 +80,7 @@ fn is_same<T: Played>(
 /// What a reply tells, with a sum of the picture.
 fn told_reply<T: Played>(
     alloc: Global,
-    core: &mut Core<T, OpenTable>,
+    core: &mut Core<T, SlabTable>,
     reply: &Reply,
 ) -> Result<String, Fault> {
     let sum = sum_of(picture_of(alloc, core)?.as_str());
@@ -91,7 +91,7 @@ fn told_reply<T: Played>(
 /// What a parse that is to be run tells, with a sum of the picture.
 fn told_wait<T: Played>(
     alloc: Global,
-    core: &mut Core<T, OpenTable>,
+    core: &mut Core<T, SlabTable>,
     parsing: &Parsing<T>,
 ) -> Result<String, Fault> {
     let sum = sum_of(picture_of(alloc, core)?.as_str());
@@ -103,7 +103,7 @@ fn told_wait<T: Played>(
 /// What a step tells that was made. An open that waits is given up then.
 fn told<T: Played>(
     alloc: Global,
-    core: &mut Core<T, OpenTable>,
+    core: &mut Core<T, SlabTable>,
     started: Started<T>,
 ) -> Result<String, Fault> {
     match started {
@@ -120,7 +120,7 @@ fn told<T: Played>(
 fn came_of_command<T: Played, W: Write>(
     writer: &mut W,
     alloc: Global,
-    core: &mut Core<T, OpenTable>,
+    core: &mut Core<T, SlabTable>,
     (process, command): (Proc, Command<T::Kind>),
     row: Row<'_>,
     picture: &str,
@@ -168,7 +168,7 @@ fn told_parse<T: Played>(alloc: Global, parsed: &Parsed<T>) -> Result<String, Al
 /// Resumes an open again whose parse came back.
 fn again<T: Played>(
     alloc: Global,
-    core: &mut Core<T, OpenTable>,
+    core: &mut Core<T, SlabTable>,
     parsed: Parsed<T>,
 ) -> Result<String, Fault> {
     match core.resume(parsed) {
@@ -183,7 +183,7 @@ fn again<T: Played>(
 /// What came of a resume that was refused.
 fn came_back<T: Played>(
     alloc: Global,
-    core: &mut Core<T, OpenTable>,
+    core: &mut Core<T, SlabTable>,
     parsed: Parsed<T>,
     (picture, was): (&str, &str),
 ) -> Result<Came, Fault> {
@@ -201,7 +201,7 @@ fn came_back<T: Played>(
 fn came_of_resume<T: Played, W: Write>(
     writer: &mut W,
     alloc: Global,
-    core: &mut Core<T, OpenTable>,
+    core: &mut Core<T, SlabTable>,
     (parsed, was): (Parsed<T>, &str),
     row: Row<'_>,
     picture: &str,
@@ -223,7 +223,7 @@ fn came_of_resume<T: Played, W: Write>(
 fn came_of_drop<T: Played, W: Write>(
     writer: &mut W,
     alloc: Global,
-    core: &mut Core<T, OpenTable>,
+    core: &mut Core<T, SlabTable>,
     brought: Brought<T>,
     row: Row<'_>,
 ) -> Result<Came, Fault> {
@@ -242,7 +242,7 @@ fn came_of_drop<T: Played, W: Write>(
 fn came_of_run<T: Played, W: Write>(
     writer: &mut W,
     alloc: Global,
-    core: &mut Core<T, OpenTable>,
+    core: &mut Core<T, SlabTable>,
     row: Row<'_>,
     picture: &str,
 ) -> Result<Came, Fault> {
@@ -260,7 +260,7 @@ fn came_of_run<T: Played, W: Write>(
 fn came_of_start<T: Played, W: Write>(
     writer: &mut W,
     alloc: Global,
-    core: &mut Core<T, OpenTable>,
+    core: &mut Core<T, SlabTable>,
     row: Row<'_>,
     picture: &str,
 ) -> Result<Came, Fault> {
@@ -277,7 +277,7 @@ fn came_of_start<T: Played, W: Write>(
 pub(crate) fn came_of<T: Played, W: Write>(
     writer: &mut W,
     alloc: Global,
-    core: &mut Core<T, OpenTable>,
+    core: &mut Core<T, SlabTable>,
     row: Row<'_>,
     picture: &str,
 ) -> Result<Came, Fault> {

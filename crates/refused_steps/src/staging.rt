@@ -3,13 +3,13 @@
 use crate::Played;
 use crate::asking::{NO_STEP, asked};
 use ob_base::Fault;
-use ob_core::{Brought, Core, OpenTable, Parsing, Started};
+use ob_core::{Brought, Core, Parsing, SlabTable, Started};
 use std::alloc::Global;
 
 /// Makes a step; the parse that an open waits for then.
 fn begun<T: Played>(
     alloc: Global,
-    core: &mut Core<T, OpenTable>,
+    core: &mut Core<T, SlabTable>,
     line: &str,
 ) -> Result<Option<Parsing<T>>, Fault> {
     let (process, command) = asked::<T>(alloc, line)?;
@@ -21,7 +21,7 @@ fn begun<T: Played>(
 
 /// The parse that an open waits for beside a step that was made; of two, the first is kept, and the other's open is given up.
 fn kept<T: Played>(
-    core: &mut Core<T, OpenTable>,
+    core: &mut Core<T, SlabTable>,
     parsing: Parsing<T>,
     other: Result<Option<Parsing<T>>, Fault>,
 ) -> Result<Option<Parsing<T>>, Fault> {
@@ -41,7 +41,7 @@ fn kept<T: Played>(
 /// Runs a parse and resumes its open; the parse that it waits for then.
 fn run_once<T: Played>(
     alloc: Global,
-    core: &mut Core<T, OpenTable>,
+    core: &mut Core<T, SlabTable>,
     parsing: Parsing<T>,
 ) -> Result<Option<Parsing<T>>, Fault> {
     match core.resume(parsing.run(alloc)) {
@@ -57,7 +57,7 @@ fn run_once<T: Played>(
 /// The same so many times, while the open waits.
 fn run_often<T: Played>(
     alloc: Global,
-    core: &mut Core<T, OpenTable>,
+    core: &mut Core<T, SlabTable>,
     parsing: Parsing<T>,
     times: u32,
 ) -> Result<Option<Parsing<T>>, Fault> {
@@ -74,7 +74,7 @@ fn run_often<T: Played>(
 /// Makes what a line tells; the parse that an open waits for then.
 fn staged_line<T: Played>(
     alloc: Global,
-    core: &mut Core<T, OpenTable>,
+    core: &mut Core<T, SlabTable>,
     waiting: Option<Parsing<T>>,
     line: &str,
 ) -> Result<Option<Parsing<T>>, Fault> {
@@ -93,7 +93,7 @@ fn staged_line<T: Played>(
 /// Makes what the lines between semicolons tell; the parse that an open waits for then.
 pub(crate) fn staged<T: Played>(
     alloc: Global,
-    core: &mut Core<T, OpenTable>,
+    core: &mut Core<T, SlabTable>,
     before: &str,
 ) -> Result<Option<Parsing<T>>, Fault> {
     let mut waiting = None;
@@ -110,7 +110,7 @@ pub(crate) fn staged<T: Played>(
 /// The same, where such a parse is wanted; a row whose open doesn't wait is refused.
 pub(crate) fn staged_open<T: Played>(
     alloc: Global,
-    core: &mut Core<T, OpenTable>,
+    core: &mut Core<T, SlabTable>,
     before: &str,
 ) -> Result<Parsing<T>, Fault> {
     match staged(alloc, core, before)? {

@@ -12,9 +12,9 @@ use Rattle.ob_plain.proofs.plain.Plain.TheSendSync as plains
 use Rattle.ob_plain.proofs.plain.PlainKind.TheSendSync as kinds
 use Rattle.ob_plain.proofs.plain.PlainFace.TheSendSync as faces
 use Rattle.ob_plain.proofs.plain.PlainInner.TheSendSync as inners
-use Rattle.ob_handles.specs.contracts.open_table.OpenTable as table
-use Rattle.ob_handles.specs.contracts.open_table.OpenTableHandleTable.TheImpl as handles
-use Rattle.ob_handles.proofs.open_table.OpenTable.TheSendSync as tables
+use Rattle.ob_slab_table.specs.contracts.slab_table.SlabTable as table
+use Rattle.ob_slab_table.specs.contracts.slab_table.SlabTableHandleTable.TheImpl as handles
+use Rattle.ob_slab_table.proofs.slab_table.SlabTable.TheSendSync as tables
 use Rattle.ob_shared.specs.contracts.shared.Shared as shared
 use Rattle.ob_shared.proofs.Lent.{shared_sync}
 

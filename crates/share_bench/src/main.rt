@@ -7,7 +7,7 @@
 ghost use Rattle.std.specs.Prelude.{◌≡◌};
 
 use ob_base::{Fault, Handle, Proc};
-use ob_core::{Bytes, Command, Core, Given, OpenTable, Place, Reply};
+use ob_core::{Bytes, Command, Core, Given, Place, Reply, SlabTable};
 use ob_plain::{Plain, PlainKind};
 use ob_runner::run_command;
 use ob_shared::{Gate, Pass, Shared, open_shared};
@@ -19,7 +19,7 @@ use std::thread::Threads;
 use std::{env, io, thread};
 
 /// The namespace, where it is shared.
-type Space<L> = Shared<Plain, OpenTable, L>;
+type Space<L> = Shared<Plain, SlabTable, L>;
 
 /// Who a caller is.
 type Caller<L> = Pass<PlainKind, L>;
@@ -90,7 +90,7 @@ fn handle_of(reply: &Reply) -> Handle {
 /// Runs a command of process 1 on a core.
 fn ask_core(
     alloc: Global,
-    core: &mut Core<Plain, OpenTable>,
+    core: &mut Core<Plain, SlabTable>,
     command: &Command<PlainKind>,
 ) -> Result<Handle, AllocError> {
     let reply = run_command(core, alloc, Proc(1), command)?;
@@ -98,7 +98,7 @@ fn ask_core(
 }
 
 /// A round on a core.
-fn round_of_core(alloc: Global, core: &mut Core<Plain, OpenTable>) -> Result<(), AllocError> {
+fn round_of_core(alloc: Global, core: &mut Core<Plain, SlabTable>) -> Result<(), AllocError> {
     let made = ask_core(alloc, core, &make(alloc, b"\\A")?)?;
     let opened = ask_core(alloc, core, &open(alloc, b"\\A")?)?;
     ask_core(alloc, core, &Command::Close { handle: opened })?;
@@ -201,7 +201,7 @@ fn share<R: Threads + Wait + Sync, L: Ledger + Send + Sync>(
     requires parts { blank.parts ≡ L.parts }
     requires whole { L.parts ≡ 1024 }
 {
-    let (space, passes) = open_shared::<Plain, OpenTable, L>(alloc, blank, Plain, callers)?;
+    let (space, passes) = open_shared::<Plain, SlabTable, L>(alloc, blank, Plain, callers)?;
     let back = at_once(rt, alloc, &space, passes, has_own, rounds)?;
     let ended = space.close(all_of(alloc, back)?);
     Ok(ended.ok().map(|ended| ended.journal.len()))

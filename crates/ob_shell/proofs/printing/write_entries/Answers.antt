@@ -1,6 +1,6 @@
 -- Each entry is gathered behind those before it.
 use Rattle.std.proofs.Common.{arith}
-use Rattle.ob_shell.proofs.Writers.{at_err}
+use Rattle.ob_streams.proofs.Writers.{at_err}
 use Rattle.ob_shell.proofs.Listed.{entry_more, entry_front}
 use Rattle.ob_shell.proofs.printing.write_entries.Goals as goal
 

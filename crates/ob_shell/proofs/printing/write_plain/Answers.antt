@@ -1,6 +1,6 @@
 -- Each part is gathered behind those before it.
 use Rattle.std.proofs.Common.{arith}
-use Rattle.ob_shell.proofs.Writers.{at_err}
+use Rattle.ob_streams.proofs.Writers.{at_err}
 use Rattle.ob_shell.proofs.Listed.{plain_more, plain_front}
 use Rattle.ob_shell.proofs.printing.write_plain.Goals as goal
 

@@ -1,6 +1,6 @@
 -- What the block has at the end is written behind what was.
 use Rattle.std.proofs.Common.{subst}
-use Rattle.ob_shell.specs.Writing.{AppendsFront}
+use Rattle.ob_streams.specs.Writing.{AppendsFront}
 use Rattle.ob_shell.proofs.Behind.{run_part}
 use Rattle.ob_shell.proofs.run.run_text.Goals as goal
 

@@ -1,5 +1,5 @@
 use Rattle.std.proofs.Common.{◌++◌, codes}
-use Rattle.ob_shell.proofs.Writers.{front-append, append-append-front, append-front-append, at_err, at_err_weaker}
+use Rattle.ob_streams.proofs.Writers.{front-append, append-append-front, append-front-append, at_err, at_err_weaker}
 use Rattle.ob_tasks.proofs.performing.say.Goals as goal
 
 pub returns-in_err-write_out-clause-front : goal.returns-in_err-write_out-clause-front

@@ -3,8 +3,8 @@ use Rattle.std.proofs.Common.{◌∙◌, [], ◌++◌, suc, take, drop, refl, su
 use Rattle.std.specs.Io.KnownBytes.{Appends}
 use Rattle.std.proofs.KnownBytes.{Appends-nil, Appends-trans}
 use Rattle.ob_journal.specs.Lines.{entry_line, entry_lines, header_line, journal_lines}
-use Rattle.ob_shell.specs.Writing.{AppendsFront}
 use Rattle.ob_standard.specs.Standard.{standard}
+use Rattle.ob_streams.specs.Writing.{AppendsFront}
 use Rattle.ob_threads.proofs.CutOff.{type_name, cut_by, wants, line_ends, journal_split, journal_more, all_taken}
 use Rattle.ob_threads.proofs.journal.write_journal.Goals as goal
 

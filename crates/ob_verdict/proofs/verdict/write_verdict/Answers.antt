@@ -1,7 +1,7 @@
 -- What stands after a fault of writing is a beginning of the verdict's line.
 use Rattle.std.proofs.Common.{subst, string_bytes}
 use Rattle.ob_replay.specs.Journal.{IsFault}
-use Rattle.ob_shell.specs.Writing.{AppendsFront}
+use Rattle.ob_streams.specs.Writing.{AppendsFront}
 use Rattle.ob_verdict.specs.declared.verdict.Verdict.TheVariants.{Refused}
 use Rattle.ob_verdict.proofs.verdict.write_verdict.Goals as goal
 

@@ -2,9 +2,9 @@
 use Rattle.std.proofs.Common.{◌≡◌, ◌+◌, ◌-◌, ◌≤◌, ℕ, List, ◌++◌, length, Option, subst, arith, length-append}
 use Rattle.std.specs.Io.KnownBytes.{Consumes}
 use Rattle.std.proofs.KnownBytes.{Consumes-trans}
-use Rattle.ob_shell.specs.declared.fault.ShellFault.{ShellFault}
-use Rattle.ob_shell.specs.declared.fault.ShellFault.TheVariants.{Read, Write, TooLong, Memory, Mismatch}
-use Rattle.ob_shell.specs.Reading.{TakesAtMost, TakesExactly, StopsReadingAt, StopsReadingAfter}
+use Rattle.ob_streams.specs.declared.fault.ShellFault.{ShellFault}
+use Rattle.ob_streams.specs.declared.fault.ShellFault.TheVariants.{Read, Write, TooLong, Memory, Mismatch}
+use Rattle.ob_streams.specs.Reading.{TakesAtMost, TakesExactly, StopsReadingAt, StopsReadingAfter}
 
 -- the text has all bytes that the reader has given
 pub record ReadsUpTo (old new : Option (List ℕ)) (text : List ℕ) (limit : ℕ) : Type 0 where

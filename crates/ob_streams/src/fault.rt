@@ -1,9 +1,9 @@
-//! The faults that end a run of the shell.
+//! The faults that end what is done over streams.
 
 ghost use Rattle.std.specs.Prelude.{◌≡◌};
 ghost use Rattle.std.specs.IoError.{error_kind};
-ghost use Rattle.ob_shell.specs.declared.fault.ShellFault.TheVariants.{Write, Memory};
-ghost use Rattle.ob_shell.specs.Fault.{fault_text_of, unread_of};
+ghost use Rattle.ob_streams.specs.declared.fault.ShellFault.TheVariants.{Write, Memory};
+ghost use Rattle.ob_streams.specs.Fault.{fault_text_of, unread_of};
 
 use crate::writing::Unwritten;
 use std::alloc::{AllocError, AllocFailed};
@@ -11,8 +11,8 @@ use std::io;
 use std::io::ErrorKind;
 use thiserror::Error;
 
-/// Why a run of the shell ended before its script did. What stands after one is said by the call
-/// that tells it. (this profile)
+/// Why the run of a script, or the check of a journal, ended before its end. What stands after one is
+/// said by the call that tells it. (this profile)
 #[derive(PartialEq, Eq, Debug, Drop, Error)]
 #[error("{}", self.text())]
 pub enum ShellFault {
@@ -21,7 +21,7 @@ pub enum ShellFault {
     /// A write of the output failed, was interrupted, or took no byte. A beginning of the output
     /// was written.
     Write(Unwritten),
-    /// The input is longer than the shell reads.
+    /// The input is longer than its limit.
     TooLong,
     /// Memory was wanted and there was none.
     Memory,

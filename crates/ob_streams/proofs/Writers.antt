@@ -3,7 +3,7 @@ use Rattle.std.proofs.Common.{◌≡◌, ◌≢◌, ◌∙◌, ◌-◌, ℕ, Lis
 use Rattle.std.proofs.lemmas.List.{take_rest}
 use Rattle.std.specs.Io.KnownBytes.{Appends, Keeps}
 use Rattle.std.proofs.KnownBytes.{Appends-nil, Appends-trans, Appends-kept}
-use Rattle.ob_shell.specs.Writing.{AppendsFront}
+use Rattle.ob_streams.specs.Writing.{AppendsFront}
 
 -- of the bytes all is written but `rest`
 pub record WritesUpTo (old new : Option (List ℕ)) (bytes rest : List ℕ) : Type 0 where

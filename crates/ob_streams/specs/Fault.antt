@@ -1,9 +1,9 @@
--- The faults of the shell: in words, and which is what. Source: this profile.
+-- The faults: in words, and which is what. Source: this profile.
 use Rattle.std.specs.Prelude.{ℕ, List, Bool, true, false, codes}
 use Rattle.std.specs.declared.io.ErrorKind.{ErrorKind}
-use Rattle.ob_shell.specs.declared.fault.ShellFault.{ShellFault}
-use Rattle.ob_shell.specs.declared.fault.ShellFault.TheVariants.{Read, Write, TooLong, Memory, Mismatch}
-use Rattle.ob_shell.specs.declared.fault.Unread.{Unread}
+use Rattle.ob_streams.specs.declared.fault.ShellFault.{ShellFault}
+use Rattle.ob_streams.specs.declared.fault.ShellFault.TheVariants.{Read, Write, TooLong, Memory, Mismatch}
+use Rattle.ob_streams.specs.declared.fault.Unread.{Unread}
 
 -- the words that the program prints for a fault
 abbrev pub fault_text_of : ShellFault → List ℕ

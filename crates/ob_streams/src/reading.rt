@@ -1,7 +1,7 @@
-//! Reading the input whole, with a limit.
+//! Reading input whole, with a limit.
 
 ghost use Rattle.std.specs.Prelude.{◌≡◌, ◌+◌, ◌<◌, ◌≤◌, ◌^◌, IfOk, IfErr, OnOk, IsErr, IfSome, IsErrOf, length, vec_len};
-ghost use Rattle.ob_shell.specs.Reading.{ReadsWhole, ReadsMore, StopsReading, StopsReadingAfter, StopsReadingAt};
+ghost use Rattle.ob_streams.specs.Reading.{ReadsWhole, ReadsMore, StopsReading, StopsReadingAfter, StopsReadingAt};
 
 use crate::fault::{ShellFault, Unread};
 use std::alloc::Global;

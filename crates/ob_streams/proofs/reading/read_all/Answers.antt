@@ -1,5 +1,5 @@
-use Rattle.ob_shell.proofs.Readers.{stops_after}
-use Rattle.ob_shell.proofs.reading.read_all.Goals as goal
+use Rattle.ob_streams.proofs.Readers.{stops_after}
+use Rattle.ob_streams.proofs.reading.read_all.Goals as goal
 
 pub returns-in-Err-clause-fault : goal.returns-in-Err-clause-fault
 returns-in-Err-clause-fault g c =

@@ -1,5 +1,5 @@
-use Rattle.ob_shell.proofs.Writers.{writes_on}
-use Rattle.ob_shell.proofs.writing.write_out.Goals as goal
+use Rattle.ob_streams.proofs.Writers.{writes_on}
+use Rattle.ob_streams.proofs.writing.write_out.Goals as goal
 
 pub loop-rest-preserved : goal.loop-rest-preserved
 loop-rest-preserved g c =

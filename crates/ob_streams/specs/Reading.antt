@@ -1,10 +1,10 @@
--- How the shell reads its input: what a reader has given when the reading ends, or stops at a fault.
+-- How input is read: what a reader has given when the reading ends, or stops at a fault.
 -- Source: this profile.
 use Rattle.std.specs.Prelude.{◌≡◌, ◌+◌, ◌-◌, ◌≤◌, ℕ, List, ◌++◌, length, Option}
 use Rattle.std.specs.Io.KnownBytes.{Consumes, IsAtEnd}
-use Rattle.ob_shell.specs.declared.fault.ShellFault.{ShellFault}
-use Rattle.ob_shell.specs.declared.fault.ShellFault.TheVariants.{Read, Write, TooLong, Memory, Mismatch}
-use Rattle.ob_shell.specs.declared.reading.TheConstants.{SCRIPT_LIMIT}
+use Rattle.ob_streams.specs.declared.fault.ShellFault.{ShellFault}
+use Rattle.ob_streams.specs.declared.fault.ShellFault.TheVariants.{Read, Write, TooLong, Memory, Mismatch}
+use Rattle.ob_streams.specs.declared.reading.TheConstants.{SCRIPT_LIMIT}
 
 -- of what the reader has left, `taken` is read, and nothing is left behind it
 pub record ReadsWhole (old new : Option (List ℕ)) (taken : List ℕ) : Type 0 where

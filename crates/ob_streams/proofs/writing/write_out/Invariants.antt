@@ -1,6 +1,6 @@
 use Rattle.std.proofs.Common.{length}
-use Rattle.ob_shell.proofs.Writers.{WritesUpTo}
-use Rattle.ob_shell.proofs.writing.write_out.Given as goal
+use Rattle.ob_streams.proofs.Writers.{WritesUpTo}
+use Rattle.ob_streams.proofs.writing.write_out.Given as goal
 
 abbrev pub invariant-loop-rest : goal.invariant-loop-rest
 invariant-loop-rest g l = WritesUpTo (g.W.Write.contents l.initial.writer) (g.W.Write.contents l.writer) l.bytes l.rest

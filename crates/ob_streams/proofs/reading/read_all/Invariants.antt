@@ -1,6 +1,6 @@
 use Rattle.std.proofs.Common.{◌+◌, ◌-◌, vec_len}
-use Rattle.ob_shell.proofs.Readers.{ReadsUpTo}
-use Rattle.ob_shell.proofs.reading.read_all.Given as goal
+use Rattle.ob_streams.proofs.Readers.{ReadsUpTo}
+use Rattle.ob_streams.proofs.reading.read_all.Given as goal
 
 abbrev pub invariant-loop-text : goal.invariant-loop-text
 invariant-loop-text g l = ReadsUpTo (g.R.Read.remaining l.initial.reader) (g.R.Read.remaining l.reader) l.text.items l.limit
