@@ -5,3 +5,4 @@ pub mod Lists
 mod Found
 mod Listed
 mod Lowered
+mod Zeros

@@ -13,7 +13,7 @@ turned : (a b : ℕ) → (a == b) ≡ (b == a)
 turned a b = grind (arith, nat_tests)
 
 -- an object that none is listed under isn't counted
-none_counted : (object : ℕ) (rest : Numbers) → All (λ e. (e.0 == object) ≡ false) rest → count_of rest object ≡ 0
+pub none_counted : (object : ℕ) (rest : Numbers) → All (λ e. (e.0 == object) ≡ false) rest → count_of rest object ≡ 0
 none_counted object [] none = refl
 none_counted object (e ∷ es) none =
     ap (λ t. unwrap_or (cond t (Some e.1) (lookup (is_at (nat_cmp object)) es)) 0) (is_at-id object e.0 ∙ All-head (λ (x : ℕ × ℕ). (x.0 == object) ≡ false) e es none)

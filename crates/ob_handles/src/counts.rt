@@ -1,6 +1,6 @@
 //! How often each object is counted.
 
-ghost use Rattle.std.specs.Prelude.{◌≡◌, ◌≤◌, [], OnOk, OnErr};
+ghost use Rattle.std.specs.Prelude.{◌≡◌, ◌≤◌, ℕ, [], OnOk, OnErr};
 ghost use Rattle.ob_model.specs.State.{greatest_number};
 ghost use Rattle.ob_handles.specs.Counts.{count_of, CountsOneMore, CountsOneLess, CountsLessBy, CountsLessByAll};
 
@@ -10,24 +10,23 @@ use std::alloc::{AllocError, Global};
 use std::collections::BTreeMap;
 use std::marker::Model;
 
-/// Counts of objects, of which none is kept where it is 0. A contract sees them as the list of what is
-/// kept. Each call takes a time that grows with the logarithm of the objects that are counted. (this
-/// profile)
+/// Counts of objects. One that goes down to 0 is kept for a while, since the object is often counted again;
+/// such counts are taken out once they are more than the others. A contract sees the counts as the list of
+/// what is kept. Each call takes a time that grows with the logarithm of the objects that are counted,
+/// `add` taken together over many calls. (this profile)
 #[derive(Drop)]
 pub struct Counts {
     numbers: BTreeMap<u64, usize>,
+    // How many went down to 0 since those at 0 were taken out, less those that went up again.
+    zeros: usize,
 }
 
 impl Model for Counts {
-    ghost use Rattle.std.specs.Prelude.{◌<◌, All};
-    ghost use Rattle.std.specs.Map.{values_of};
     ghost use Rattle.ob_handles.specs.Counts.{Numbers};
 
     ghost Value = { Numbers };
 
     ghost view = { λ counts. counts.numbers.entries };
-
-    ghost invariant = { λ counts. All (λ count. 0 < count) (values_of counts.numbers.entries) };
 }
 
 impl Counts {
@@ -37,6 +36,7 @@ impl Counts {
     {
         Counts {
             numbers: BTreeMap::new(alloc),
+            zeros: 0,
         }
     }
 
@@ -57,10 +57,17 @@ impl Counts {
         ensures unchanged { OnErr result (self.new ≡ self.old) }
     {
         if let Some(count) = self.numbers.get_mut(&object.0) {
+            if *count == 0 {
+                self.zeros = self.zeros.saturating_sub(1);
+            }
             *count += 1;
             return Ok(());
         }
         self.numbers.insert(object.0, 1)?;
+        if self.zeros > self.numbers.len() / 2 {
+            drop_zeros(&mut self.numbers);
+            self.zeros = 0;
+        }
         Ok(())
     }
 
@@ -78,11 +85,10 @@ impl Counts {
         let Some(count) = self.numbers.get_mut(&object.0) else {
             return;
         };
-        if less < *count {
-            *count -= less;
-        } else {
-            self.numbers.remove(&object.0);
+        if (1..=less).contains(count) {
+            self.zeros = self.zeros.saturating_add(1);
         }
+        *count = count.saturating_sub(less);
     }
 
     /// Counts of each object as many less as are counted there, and none where there are fewer. Takes
@@ -103,4 +109,11 @@ impl Counts {
             numbers: self.numbers,
         }
     }
+}
+
+// Takes the counts out that are 0. Takes no memory.
+fn drop_zeros(numbers: &mut BTreeMap<u64, usize>)
+    ensures { (object : ℕ) → count_of numbers.new.entries object ≡ count_of numbers.old.entries object }
+{
+    numbers.retain(|_, count| *count != 0);
 }

@@ -84,7 +84,9 @@ impl<'a> Name<'a> {
 pub fn is_profile_text(bytes: &[u8]) -> bool
     ensures { result ≡ is_profile_text bytes.now }
 {
-    bytes.iter().all(|byte| matches!(byte, 0x20..=0x7E))
+    bytes
+        .iter()
+        .fold(true, |good, byte| good & matches!(byte, 0x20..=0x7E))
 }
 
 /// A name that owns its bytes: at most 32,767, each from 0x20 to 0x7E. Up to 16 of them lie in the value
