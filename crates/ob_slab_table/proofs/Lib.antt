@@ -3,3 +3,4 @@ pub mod Places
 pub mod Stale
 pub mod Tables
 pub mod Inside
+pub mod Foreign

@@ -1,7 +1,12 @@
--- Values in a circle: that they differ, and that not all of them are keys where the keys are fewer.
-use Rattle.std.proofs.Common.{◌≡◌, ◌≢◌, ◌∙◌, ℕ, zero, suc, ◌+◌, ◌*◌, ◌%◌, ◌<◌, ◌≤◌, eqb, Bool, true, false, not, cond, List, [], ◌∷◌, length, filter, Some, is_some, refl, ap, sym, arith, eqb-true, true≢false}
+-- Values in a circle: that they differ, and that not all of them lead to handles where the handles are fewer.
+use Rattle.std.proofs.Common.{◌≡◌, ◌≢◌, ◌∙◌, ℕ, zero, suc, ◌+◌, ◌*◌, ◌%◌, ◌<◌, ◌≤◌, eqb, Bool, true, false, not, cond, List, [], ◌∷◌, length, filter, Option, None, Some, option_map, is_some, refl, ap, sym, subst, arith, inl, inr, eqb-true, eq-eqb, true≢false}
 use Rattle.std.specs.Map.{lookup}
 use Rattle.ob_model.specs.Grants.{IsHandleValue}
+use Rattle.std.specs.List.{Contains}
+use Rattle.slab.specs.Slab.{Slab, get, entries, slab_len}
+use Rattle.slab.proofs.SlabLemmas.{Contains-cons_cases, Contains-entries, length-entries}
+use Rattle.ob_model.specs.declared.state.Held.{Held}
+use Rattle.ob_slab_table.specs.Kept.{LeadToHandles}
 use Rattle.ob_slab_table.specs.Values.{behind}
 
 apart : (fourth i j : ℕ) → i < j → j < 65535 → behind fourth i ≢ behind fourth j
@@ -53,11 +58,50 @@ as_many {X} f bound differ (suc n) within es all =
     in
     omega (arith, less, more)
 
--- so not all handle values are keys, where the keys are fewer
-pub not_all_used : {X : Type 0} (fourth : ℕ) (es : List (ℕ × X)) → length es < 65535 → ((k : ℕ) → k < 65535 → is_some (lookup (eqb (behind fourth k)) es) ≡ true) → ⊥
-not_all_used fourth es room all =
-    let many : 65535 ≤ length es = as_many (behind fourth) 65535 (apart fourth) 65535 (omega arith) es all in
-    omega (arith, room, many)
+-- rows by the values of their handles
+abbrev by_value : List (ℕ × Held) → List (ℕ × ℕ)
+by_value [] = []
+by_value (e ∷ es) = (e.1.value, e.0) ∷ by_value es
+
+length-by_value : (es : List (ℕ × Held)) → length (by_value es) ≡ length es
+length-by_value [] = refl
+length-by_value (e ∷ es) = ap suc (length-by_value es)
+
+listed : (es : List (ℕ × Held)) (e : ℕ × Held) → Contains es e → is_some (lookup (eqb e.1.value) (by_value es)) ≡ true
+listed [] e there = absurd (omega (arith, there.1))
+listed (x ∷ es) e there = elim (Contains-cons_cases x e es there) [
+  | inl same ↦ here (eqb e.1.value x.1.value) (eq-eqb e.1.value x.1.value (ap (λ z. z.1.value) (sym same)))
+  | inr later ↦ go (eqb e.1.value x.1.value) (listed es e later)
+]
+  where
+    here : (b : Bool) → b ≡ true → is_some (cond b (Some x.0) (lookup (eqb e.1.value) (by_value es))) ≡ true
+    here true same = refl
+    here false same = absurd (true≢false (sym same))
+
+    go : (b : Bool) → is_some (lookup (eqb e.1.value) (by_value es)) ≡ true → is_some (cond b (Some x.0) (lookup (eqb e.1.value) (by_value es))) ≡ true
+    go true more = refl
+    go false more = more
+
+-- so not all handle values lead to handles, where the handles are fewer
+pub not_all_used : (fourth : ℕ) (rows : Slab Held) (keys : ℕ → Option ℕ) → slab_len rows < 65535 → LeadToHandles (get rows) keys
+    → ((k : ℕ) → k < 65535 → is_some (keys (behind fourth k)) ≡ true) → ⊥
+not_all_used fourth rows keys room lead all =
+    let many : 65535 ≤ length (by_value (entries rows)) =
+    as_many (behind fourth) 65535 (apart fourth) 65535 (omega arith) (by_value (entries rows)) (λ k below. has_row (behind fourth k) (keys (behind fourth k)) refl (all k below))
+    in
+    let rows_many : length (by_value (entries rows)) ≡ length (entries rows) = length-by_value (entries rows) in
+    let long : length (entries rows) ≡ slab_len rows = length-entries rows in
+    omega (arith, room, many, rows_many, long)
+  where
+    in_row : (value key : ℕ) (o : Option Held) → get rows key ≡ o → option_map (λ h. h.value) o ≡ Some value → is_some (lookup (eqb value) (by_value (entries rows))) ≡ true
+    in_row value key None row has = cc
+    in_row value key (Some held) row has =
+        let same : held.value ≡ value = cc in
+        subst (λ v. is_some (lookup (eqb v) (by_value (entries rows))) ≡ true) same (listed (entries rows) (key, held) ((Contains-entries rows key held).1 row))
+
+    has_row : (value : ℕ) (o : Option ℕ) → keys value ≡ o → is_some o ≡ true → is_some (lookup (eqb value) (by_value (entries rows))) ≡ true
+    has_row value None leads some = absurd (true≢false (sym some))
+    has_row value (Some key) leads some = in_row value key (get rows key) refl (lead value key leads)
 
 -- each of them is a handle value
 pub behind_value : (fourth step : ℕ) → IsHandleValue (behind fourth step)

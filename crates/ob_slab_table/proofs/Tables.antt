@@ -14,19 +14,16 @@ use Rattle.ob_handles.specs.Table.{IsTable, without}
 use Rattle.ob_slab_table.specs.declared.openings.Opening.{Opening}
 use Rattle.ob_slab_table.specs.Openings.{Rows, of_order, held_by, handles_of, LeadsToFirst, NoneIsNewer, OnlyStaleGo}
 use Rattle.ob_slab_table.specs.Kept.{IsKept}
+use Rattle.ob_slab_table.specs.Values.{Turns}
 use Rattle.ob_slab_table.proofs.Lists.{All-filter_map, AllPairs-filter_map, Contains-filter_map, filter_map_agree, passing, filter_map-passing, find_only, length-others, first_push}
 use Rattle.ob_slab_table.proofs.Stale.{row_of_held}
 
-differ : (a b : ℕ) → a ≢ b → (a == b) ≡ false
+pub differ : (a b : ℕ) → a ≢ b → (a == b) ≡ false
 differ a b other = go (a == b) refl
   where
     go : (t : Bool) → (a == b) ≡ t → (a == b) ≡ false
     go true same = absurd (other (eqb-true a b same))
     go false apart = apart
-
--- under one key another slot, under all others the same
-abbrev pub Turns : {X : Type 0} → (ℕ → Option X) → (ℕ → Option X) → ℕ → Option X → Type 0
-Turns old new key slot = (new key ≡ slot) × ((other : ℕ) → other ≢ key → new other ≡ old other)
 
 -- the opening of a row's handle leads to it
 own_opening : (rows : Rows) (key : ℕ) (held : Held) → rows key ≡ Some held → held_by rows (record { order = held.order; key = key }) ≡ Some held
@@ -66,7 +63,7 @@ module _ (rows : Rows) (keys : ℕ → Option ℕ) (opened : List Opening) (coun
       cc
 
   -- the row that a value leads to has a handle of that value
-  row_of_value : (value key : ℕ) → keys value ≡ Some key → (held : Held) × (rows key ≡ Some held) × (held.value ≡ value)
+  pub row_of_value : (value key : ℕ) → keys value ≡ Some key → (held : Held) × (rows key ≡ Some held) × (held.value ≡ value)
   row_of_value value key leads = go (rows key) refl (is.values_lead value key leads)
     where
       go : (o : Option Held) → rows key ≡ o → option_map (λ h. h.value) o ≡ Some value → (held : Held) × (rows key ≡ Some held) × (held.value ≡ value)

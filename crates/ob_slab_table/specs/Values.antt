@@ -1,7 +1,26 @@
--- Handle values in a circle, and the next unused one.
+-- Handle values: where they lead, and the next unused one in their circle.
 --
 -- Source: this profile.
-use Rattle.std.specs.Prelude.{◌≡◌, ℕ, ◌+◌, ◌*◌, ◌%◌, ◌<◌, Option, None, IsSome}
+use Rattle.std.specs.Prelude.{◌≡◌, ◌≢◌, ℕ, ◌+◌, ◌-◌, ◌*◌, ◌/◌, ◌%◌, ◌<◌, ◌==◌, if◌then◌else◌, Bool, false, Option, Some, None, IsSome}
+use Rattle.ob_model.specs.declared.state.Held.{Held}
+use Rattle.ob_slab_table.specs.Openings.{Rows}
+
+-- the key of the row whose own value this is: 0 for 4, and so on
+abbrev pub row_of : ℕ → ℕ
+row_of value = value / 4 - 1
+
+-- whether a row has a handle of this value
+abbrev pub has_value : Option Held → ℕ → Bool
+has_value None value = false
+has_value (Some held) value = held.value == value
+
+-- where a value leads: to its own row, if that has a handle of this value, and else where a map says
+abbrev pub key_in : Rows → (ℕ → Option ℕ) → ℕ → Option ℕ
+key_in rows foreign value = if has_value (rows (row_of value)) value then Some (row_of value) else foreign value
+
+-- under one key another slot, under all others the same
+abbrev pub Turns : {X : Type 0} → (ℕ → Option X) → (ℕ → Option X) → ℕ → Option X → Type 0
+Turns old new key slot = (new key ≡ slot) × ((other : ℕ) → other ≢ key → new other ≡ old other)
 
 -- the value that is so many behind the one of this fourth, in a circle: behind the greatest comes 4
 abbrev pub behind : ℕ → ℕ → ℕ

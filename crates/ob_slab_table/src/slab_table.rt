@@ -5,7 +5,7 @@ ghost use Rattle.ob_model.specs.State.{most_handles};
 ghost use Rattle.ob_handles.specs.Table.{IsUnused};
 
 use crate::openings::{Opening, drop_stale, held_by};
-use crate::values::{next_unused, value_of_row};
+use crate::values::{forget, key_of, next_unused, note, value_of_row};
 use indexmap::IndexMap;
 use ob_base::{Fault, Handle, ObjId, Proc, Status};
 use ob_handles::{HandleTable, MOST_HANDLES};
@@ -15,9 +15,10 @@ use std::alloc::{AllocError, Global};
 use std::collections::VecDeque;
 use std::marker::Model;
 
-/// A handle table whose handles lie in the rows of a slab, beside a hash table from their values to the
-/// rows' keys, and a queue of their openings. A handle that is taken leaves its opening behind, stale,
-/// until no other stands before it, or behind it, or there are more than two openings for each handle.
+/// A handle table whose handles lie in the rows of a slab, beside a queue of their openings, and a hash table
+/// from the values of those handles whose value isn't that of their row to the rows' keys. A handle that is
+/// taken leaves its opening behind, stale, until no other stands before it, or behind it, or there are more
+/// than two openings for each handle.
 ///
 /// A new handle gets the value of its row, four times the key and one; or, where another handle has that
 /// one, since a child inherited it, the first unused behind the value that was searched for last, in a
@@ -25,11 +26,13 @@ use std::marker::Model;
 ///
 /// `get`, `len` and `oldest` take a time that doesn't grow with the handles. So do `grant`, `put` and
 /// `take`, taken together over many calls, but for a grant that searches: it passes values in use, each once
-/// in a circle. `inheritable` passes at most two openings for each handle, and one more. (this profile)
+/// in a circle. None of these hashes where each handle, a new one too, has the value of its row.
+/// `inheritable` passes at most two openings for each handle, and one more. (this profile)
 #[derive(Drop)]
 pub struct SlabTable {
     rows: Slab<Held>,
-    keys: IndexMap<u32, usize>,
+    // The rows' keys of handles whose value isn't their row's own.
+    foreign: IndexMap<u32, usize>,
     opened: VecDeque<Opening>,
     // A fourth of the value that was searched for last; 0 at first.
     searched: u16,
@@ -37,18 +40,18 @@ pub struct SlabTable {
 
 impl Model for SlabTable {
     ghost use Rattle.std.specs.Prelude.{List, nat_eq};
-    ghost use Rattle.slab.specs.Slab.{get as row};
-    ghost use Rattle.indexmap.specs.IndexMap.{get as key_of, index_map_len};
+    ghost use Rattle.slab.specs.Slab.{get as row, slab_len};
+    ghost use Rattle.indexmap.specs.IndexMap.{get as key_of};
     ghost use Rattle.ob_model.specs.declared.state.Held.{Held as AHandle};
     ghost use Rattle.ob_slab_table.specs.Openings.{handles_of};
-    ghost use Rattle.ob_slab_table.specs.Kept.{IsKept};
+    ghost use Rattle.ob_slab_table.specs.Kept.{IsInRows};
 
     ghost Value = { List AHandle };
 
     ghost view = { λ table. handles_of (row table.rows) table.opened.items };
 
-    ghost invariant = { λ table. IsKept (row table.rows) (key_of nat_eq table.keys)
-        table.opened.items (index_map_len table.keys) };
+    ghost invariant = { λ table. IsInRows (row table.rows) (key_of nat_eq table.foreign)
+        table.opened.items (slab_len table.rows) };
 }
 
 impl SlabTable {
@@ -59,11 +62,11 @@ impl SlabTable {
         ensures unchanged { self.new ≡ self.old }
     {
         if let Some(value) = value_of_row(self.rows.vacant_key())
-            && !self.keys.contains_key(&value)
+            && key_of(&self.rows, &self.foreign, value).is_none()
         {
             return Handle(value);
         }
-        let value = next_unused(&self.keys, self.searched);
+        let value = next_unused(&self.rows, &self.foreign, self.searched);
         self.searched = (value / 4) as u16;
         Handle(value)
     }
@@ -75,7 +78,7 @@ impl HandleTable for SlabTable {
     fn new(alloc: Global) -> SlabTable {
         SlabTable {
             rows: Slab::new(alloc),
-            keys: IndexMap::new(alloc),
+            foreign: IndexMap::new(alloc),
             opened: VecDeque::new(alloc),
             searched: 0,
         }
@@ -107,26 +110,28 @@ impl HandleTable for SlabTable {
         self.rows.reserve(1)?;
         self.opened.reserve(1)?;
         let key = self.rows.vacant_key();
-        self.keys.insert(value.0, key)?;
+        note(&mut self.foreign, value.0, key)?;
         self.rows.insert_reserved(held);
         self.opened.push_back_reserved(Opening { order, key });
         Ok(())
     }
 
     fn get(&self, value: Handle) -> Option<Held> {
-        let key = self.keys.get(&value.0)?;
-        self.rows.get(*key).copied()
+        let key = key_of(&self.rows, &self.foreign, value.0)?;
+        self.rows.get(key).copied()
     }
 
     fn take(&mut self, value: Handle) -> Option<Held> {
-        let key = self.keys.swap_remove(&value.0)?;
+        let number = value.0;
+        let key = key_of(&self.rows, &self.foreign, number)?;
+        forget(&mut self.foreign, number, key);
         let held = self.rows.try_remove(key);
-        drop_stale(&mut self.opened, &self.rows, self.keys.len());
+        drop_stale(&mut self.opened, &self.rows, self.rows.len());
         held
     }
 
     fn len(&self) -> usize {
-        self.keys.len()
+        self.rows.len()
     }
 
     fn oldest(&self) -> Option<Held> {
