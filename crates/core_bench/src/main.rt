@@ -1,5 +1,6 @@
 //! Times operations of a core over the standard set of types: `core_bench ROUNDS` makes so many rounds of each, in a namespace of its
-//! own, and prints how many are made a second. A round before these isn't timed. Each step has to be answered as it should be.
+//! own, and prints how many are made a second. A round before these isn't timed, nor is making a command that is the same in each
+//! round. Each step has to be answered as it should be.
 //! Those deep in directories are made by the cache that a core has of itself, and then by one with room for a single prefix, which
 //! is never the one that is asked for.
 #![tactic(auto)]
@@ -210,12 +211,70 @@ const CHANGED: &'static [Ask] = &[
     Ask::Close,
 ];
 
+// The same with names of eight letters.
+const LONG_WAY: &'static [Ask] = &[
+    Ask::Directory("\\Device00"),
+    Ask::Directory("\\Device00\\Harddisk"),
+    Ask::Directory("\\Device00\\Harddisk\\Volume01"),
+    Ask::Directory("\\Device00\\Harddisk\\Volume01\\Sessions"),
+    Ask::Directory("\\Device00\\Harddisk\\Volume01\\Sessions\\BaseName"),
+    Ask::Directory("\\Device00\\Harddisk\\Volume01\\Sessions\\BaseName\\Objects0"),
+    Ask::Directory("\\Device00\\Harddisk\\Volume01\\Sessions\\BaseName\\Objects0\\Restrict"),
+    Ask::Directory(
+        "\\Device00\\Harddisk\\Volume01\\Sessions\\BaseName\\Objects0\\Restrict\\Windows0",
+    ),
+    Ask::Directory(
+        "\\Device00\\Harddisk\\Volume01\\Sessions\\BaseName\\Objects0\\Restrict\\Windows0\\Stations",
+    ),
+    Ask::Directory(
+        "\\Device00\\Harddisk\\Volume01\\Sessions\\BaseName\\Objects0\\Restrict\\Windows0\\Stations\\Service0",
+    ),
+    Ask::Directory(
+        "\\Device00\\Harddisk\\Volume01\\Sessions\\BaseName\\Objects0\\Restrict\\Windows0\\Stations\\Service0\\DosNames",
+    ),
+    Ask::Directory(
+        "\\Device00\\Harddisk\\Volume01\\Sessions\\BaseName\\Objects0\\Restrict\\Windows0\\Stations\\Service0\\DosNames\\Global00",
+    ),
+    Ask::Directory(
+        "\\Device00\\Harddisk\\Volume01\\Sessions\\BaseName\\Objects0\\Restrict\\Windows0\\Stations\\Service0\\DosNames\\Global00\\KnownDll",
+    ),
+    Ask::Directory(
+        "\\Device00\\Harddisk\\Volume01\\Sessions\\BaseName\\Objects0\\Restrict\\Windows0\\Stations\\Service0\\DosNames\\Global00\\KnownDll\\Security",
+    ),
+    Ask::Directory(
+        "\\Device00\\Harddisk\\Volume01\\Sessions\\BaseName\\Objects0\\Restrict\\Windows0\\Stations\\Service0\\DosNames\\Global00\\KnownDll\\Security\\Userdata",
+    ),
+    Ask::Directory(
+        "\\Device00\\Harddisk\\Volume01\\Sessions\\BaseName\\Objects0\\Restrict\\Windows0\\Stations\\Service0\\DosNames\\Global00\\KnownDll\\Security\\Machines",
+    ),
+    Ask::Event(FIRST_LONG, 0),
+    Ask::Event(OTHER_LONG, 0),
+];
+
+const FIRST_LONG: &'static str =
+    "\\Device00\\Harddisk\\Volume01\\Sessions\\BaseName\\Objects0\\Restrict\\Windows0\\Stations\\Service0\\DosNames\\Global00\\KnownDll\\Security\\Userdata\\EventOne";
+
+const OTHER_LONG: &'static str =
+    "\\Device00\\Harddisk\\Volume01\\Sessions\\BaseName\\Objects0\\Restrict\\Windows0\\Stations\\Service0\\DosNames\\Global00\\KnownDll\\Security\\Machines\\EventTwo";
+
+const BOTH_LONG: &'static [Ask] = &[
+    Ask::Open(FIRST_LONG, 0),
+    Ask::Close,
+    Ask::Open(OTHER_LONG, 0),
+    Ask::Close,
+];
+
 /// Operations that are made once by each cache.
 const DEEP: &'static [Operation] = &[
     Operation {
         name: "open and close two events sixteen components deep",
         before: &[(1, WAY)],
         round: BOTH_DEEP,
+    },
+    Operation {
+        name: "open and close two events sixteen components of eight letters deep",
+        before: &[(1, LONG_WAY)],
+        round: BOTH_LONG,
     },
     Operation {
         name: "ten steps sixteen components deep, two of which make and remove an event",
@@ -345,17 +404,53 @@ fn wanted(ask: Ask, child: Proc) -> (Proc, Status) {
     }
 }
 
+/// What is asked for, and the command by which it is, where that is the same in each round.
+#[derive(Drop)]
+struct Asked {
+    ask: Ask,
+    command: Option<Command<StandardKind>>,
+}
+
+/// Makes the commands that are the same in each round.
+fn with_commands(alloc: Global, asks: &[Ask]) -> Result<Vec<Asked>, AllocError> {
+    let mut all = Vec::new(alloc);
+    for ask in asks {
+        let command = match ask {
+            Ask::Numbered(_) | Ask::Close | Ask::Temporary | Ask::List | Ask::Entry => None,
+            _ => Some(command_of(alloc, *ask, Handle(0), 0)?),
+        };
+        all.push(Asked { ask: *ask, command })?;
+    }
+    Ok(all)
+}
+
 /// Asks for it; what was given last then.
 fn answered(
     alloc: Global,
     core: &mut StandardCore,
-    ask: Ask,
+    asked: &Asked,
     hand: Hand,
     number: u32,
 ) -> Result<Hand, Fault> {
-    let command = command_of(alloc, ask, hand.handle, number)?;
+    match &asked.command {
+        Some(command) => answered_by(alloc, core, asked.ask, command, hand),
+        None => {
+            let command = command_of(alloc, asked.ask, hand.handle, number)?;
+            answered_by(alloc, core, asked.ask, &command, hand)
+        }
+    }
+}
+
+/// Asks for it by this command; what was given last then.
+fn answered_by(
+    alloc: Global,
+    core: &mut StandardCore,
+    ask: Ask,
+    command: &Command<StandardKind>,
+    hand: Hand,
+) -> Result<Hand, Fault> {
     let (process, status) = wanted(ask, hand.child);
-    let reply = core.run(alloc, process, &command)?;
+    let reply = core.run(alloc, process, command)?;
     if reply.status != status {
         return Err(Fault::Refused(reply.status));
     }
@@ -366,13 +461,13 @@ fn answered(
 fn round(
     alloc: Global,
     core: &mut StandardCore,
-    asks: &[Ask],
+    all: &[Asked],
     hand: Hand,
     number: u32,
 ) -> Result<Hand, Fault> {
     let mut hand = hand;
-    for ask in asks {
-        hand = answered(alloc, core, *ask, hand, number)?;
+    for asked in all {
+        hand = answered(alloc, core, asked, hand, number)?;
     }
     Ok(hand)
 }
@@ -381,27 +476,33 @@ fn round(
 fn rounds(
     alloc: Global,
     core: &mut StandardCore,
-    rounds: (u32, &[Ask]),
+    times: u32,
+    all: &[Asked],
     hand: Hand,
 ) -> Result<Hand, Fault> {
-    let (times, asks) = rounds;
     let mut hand = hand;
     for number in 0..times {
-        hand = round(alloc, core, asks, hand, number)?;
+        hand = round(alloc, core, all, hand, number)?;
     }
     Ok(hand)
 }
 
-/// Makes what an operation wants before, and a first round.
-fn begin(alloc: Global, core: &mut StandardCore, operation: &Operation) -> Result<Hand, Fault> {
+/// Makes what an operation wants before, and a first round of this.
+fn begin(
+    alloc: Global,
+    core: &mut StandardCore,
+    before: &[Rounds],
+    first: &[Asked],
+) -> Result<Hand, Fault> {
     let mut hand = Hand {
         handle: Handle(0),
         child: Proc(0),
     };
-    for before in operation.before {
-        hand = rounds(alloc, core, *before, hand)?;
+    for (times, asks) in before {
+        let all = with_commands(alloc, asks)?;
+        hand = rounds(alloc, core, *times, all.as_slice(), hand)?;
     }
-    round(alloc, core, operation.round, hand, 0)
+    round(alloc, core, first, hand, 0)
 }
 
 /// How many rounds are made a second, where so many took this long.
@@ -421,12 +522,15 @@ fn timed(
     operation: &Operation,
     times: u32,
 ) -> io::Result<Result<u64, Fault>> {
-    let hand = match begin(alloc, core, operation) {
+    let Ok(all) = with_commands(alloc, operation.round) else {
+        return Ok(Err(Fault::Memory));
+    };
+    let hand = match begin(alloc, core, operation.before, all.as_slice()) {
         Ok(hand) => hand,
         Err(fault) => return Ok(Err(fault)),
     };
     let start = Instant::now(rt)?;
-    let made = rounds(alloc, core, (times, operation.round), hand);
+    let made = rounds(alloc, core, times, all.as_slice(), hand);
     let took = start.elapsed(rt)?;
     Ok(made.map(|_| rate_of(times, took)))
 }

@@ -152,7 +152,8 @@ fn write_text(text: &[u8], buffer: &mut [u8], place: usize) -> usize
     requires { place + length text.now < length buffer.old }
     ensures place { result ≡ place + length text.now + 1 }
     ensures bytes { buffer.new
-        ≡ take place buffer.old ++ zero_ended text.now ++ drop (place + length text.now + 1) buffer.old }
+        ≡ take place buffer.old ++ zero_ended text.now
+        ++ drop (place + length text.now + 1) buffer.old }
 {
     let end = place + text.len();
     buffer[place..end].copy_from_slice(text);

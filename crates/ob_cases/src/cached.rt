@@ -1,6 +1,6 @@
 //! Names that are looked up again, once what they lead through has changed: no answer comes from what a lookup left behind.
 
-use crate::runs::assert_cases;
+use crate::played::assert_cases;
 
 const CASES: &'static str =
     r#"== a directory that goes and comes again under its name is another one

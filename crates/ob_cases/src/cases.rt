@@ -1,6 +1,7 @@
 //! Worked cases of names, objects and handles.
 
-use crate::runs::{Input, assert_cases, performs};
+use crate::played::assert_cases;
+use ob_runs::{Input, performs};
 use ob_words::Task;
 
 const CASES: &'static str = r#"== an empty script prints nothing

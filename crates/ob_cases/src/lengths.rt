@@ -1,6 +1,6 @@
 //! Long names, lines and scripts, many handles and many processes: where the rules say that they end.
 
-use crate::runs::assert_cases;
+use crate::played::assert_cases;
 
 const LONG: &'static str = r#"== a name of 32,767 bytes is sought
 p1 opendir "\<<a*32766>>" - =x

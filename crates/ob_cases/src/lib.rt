@@ -1,5 +1,5 @@
-//! The worked cases: whole scripts and the program's words, with what they print and how they end. The
-//! crate holds tests alone, since a crate with tests is proved twice.
+//! The worked cases: whole scripts, with what they print and how they end. The crate holds tests alone, since a
+//! crate with tests is proved twice.
 #![tactic(auto)]
 
 #[cfg(test)]
@@ -19,10 +19,8 @@ mod parses;
 #[cfg(test)]
 mod permanence;
 #[cfg(test)]
+mod played;
+#[cfg(test)]
 mod processes;
-#[cfg(test)]
-mod program;
-#[cfg(test)]
-mod runs;
 #[cfg(test)]
 mod waiting;

@@ -1,6 +1,6 @@
 //! Worked cases of symbolic links.
 
-use crate::runs::assert_cases;
+use crate::played::assert_cases;
 
 const CASES: &'static str =
     r#"== a link to itself isn't followed for ever, and can be opened as a link

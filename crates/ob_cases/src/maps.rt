@@ -1,6 +1,6 @@
 //! Worked cases of device maps: what `\??` stands for in each process.
 
-use crate::runs::assert_cases;
+use crate::played::assert_cases;
 
 const CASES: &'static str =
     r#"== a local link of a device name shadows the global one, and gives it free when it goes

@@ -1,6 +1,6 @@
 //! Worked cases of directories that are listed in pages.
 
-use crate::runs::assert_cases;
+use crate::played::assert_cases;
 
 const CASES: &'static str =
     r#"== pages go on behind what was shown, while names go and come, and a room that is too small leaves the context

@@ -1,6 +1,6 @@
 //! Worked cases of devices, files and keys: opens that go into an object.
 
-use crate::runs::assert_cases;
+use crate::played::assert_cases;
 
 const CASES: &'static str =
     r#"== a path is opened on a device through a drive letter, a missing one is refused, and the device itself is a file too

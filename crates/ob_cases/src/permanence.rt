@@ -1,6 +1,6 @@
 //! Worked cases of permanence: objects that are made temporary or permanent, and what then goes.
 
-use crate::runs::assert_cases;
+use crate::played::assert_cases;
 
 const CASES: &'static str =
     r#"== a permanent object stays, and goes with its last handle once it was made temporary; a nameless one stays temporary

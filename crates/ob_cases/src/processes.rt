@@ -1,6 +1,6 @@
 //! Worked cases of processes: handles that go from one to another, children, and ends.
 
-use crate::runs::assert_cases;
+use crate::played::assert_cases;
 
 const CASES: &'static str =
     r#"== an exclusive object is opened and duplicated in its process alone, and gone with it

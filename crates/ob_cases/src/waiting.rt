@@ -1,6 +1,6 @@
 //! Worked cases of opens that wait for a parse while other lines run.
 
-use crate::runs::assert_cases;
+use crate::played::assert_cases;
 
 const CASES: &'static str =
     r#"== a device stays while an open of it waits, without a name, and goes when the open is given up

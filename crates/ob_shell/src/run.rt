@@ -191,11 +191,11 @@ fn ending_of(number: u64, outcome: &LineOutcome) -> Option<Ending>
     ensures { result ≡ outcome_end number outcome.now }
 {
     match outcome {
-        LineOutcome::Idle => None,
-        LineOutcome::Counted(_) => None,
-        LineOutcome::Replied(_) => None,
-        LineOutcome::Pending => None,
-        LineOutcome::Told(_) => None,
+        LineOutcome::Idle
+        | LineOutcome::Counted(_)
+        | LineOutcome::Replied(_)
+        | LineOutcome::Pending
+        | LineOutcome::Told(_) => None,
         LineOutcome::NoLine => Some(Ending::BadLine(number)),
         LineOutcome::NoMemory => Some(Ending::NoMemoryAt(number)),
     }

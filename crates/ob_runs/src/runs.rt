@@ -5,7 +5,6 @@ use ob_words::Task;
 use std::alloc::{AllocError, Global};
 use std::io;
 use std::io::{Error, ErrorKind, Read, Write};
-use std::process::Abort;
 use std::sync::Wait;
 use std::thread::Threads;
 
@@ -36,7 +35,7 @@ pub struct Output {
 
 impl Output {
     /// An output that is whole and empty.
-    pub(crate) fn new(alloc: Global) -> Output {
+    pub fn new(alloc: Global) -> Output {
         Output {
             bytes: Vec::new(alloc),
             is_broken: false,
@@ -68,7 +67,7 @@ pub struct Streams<'a> {
 
 impl<'a> Streams<'a> {
     /// An input, and outputs that are whole and empty.
-    pub(crate) fn new(alloc: Global, input: Input<'a>) -> Streams<'a> {
+    pub fn new(alloc: Global, input: Input<'a>) -> Streams<'a> {
         Streams {
             input,
             output: Output::new(alloc),
@@ -78,7 +77,7 @@ impl<'a> Streams<'a> {
     }
 
     /// Does a task.
-    pub(crate) fn perform<H: Threads + Wait + Sync>(
+    pub fn perform<H: Threads + Wait + Sync>(
         &mut self,
         rt: &H,
         alloc: Global,
@@ -96,7 +95,7 @@ impl<'a> Streams<'a> {
     }
 
     /// Serves the words, over the files of the tests.
-    pub(crate) fn serve<H: Threads + Wait + Sync>(
+    pub fn serve<H: Threads + Wait + Sync>(
         &mut self,
         rt: &H,
         alloc: Global,
@@ -116,16 +115,12 @@ impl<'a> Streams<'a> {
     }
 
     /// Tells a fault of the words.
-    pub(crate) fn refuse(
-        &mut self,
-        alloc: Global,
-        fault: &clap::Error,
-    ) -> (End, Result<(), Unwritten>) {
+    pub fn refuse(&mut self, alloc: Global, fault: &clap::Error) -> (End, Result<(), Unwritten>) {
         refuse(alloc, fault, &mut self.output, &mut self.errors)
     }
 
     /// Whether the run left this.
-    pub(crate) fn hold(&self, output: &[u8], errors: &[u8]) -> bool {
+    pub fn hold(&self, output: &[u8], errors: &[u8]) -> bool {
         self.output.bytes.as_slice() == output && self.errors.bytes.as_slice() == errors
     }
 }
@@ -147,7 +142,7 @@ fn open_one(path: &str) -> io::Result<Input<'static>> {
 }
 
 /// Whether a task over an input ends with this status and leaves this.
-pub(crate) fn performs<H: Threads + Wait + Sync>(
+pub fn performs<H: Threads + Wait + Sync>(
     rt: &H,
     alloc: Global,
     task: Task<'_>,
@@ -245,15 +240,23 @@ fn is_complaint(told: &[u8]) -> bool {
     told.starts_with(b"ntns: ") || told.starts_with(b"error: ")
 }
 
-/// Asserts that each case of a text leaves what it tells. A case begins with `== ` and what it shows.
-pub(crate) fn assert_cases<H: Abort + Threads + Wait + Sync>(rt: &H, alloc: Global, text: &str) {
+/// The first case of a text that doesn't leave what it tells; `None` where each does. A case begins with `== ` and
+/// what it shows.
+pub fn failing<'a, H: Threads + Wait + Sync>(
+    rt: &H,
+    alloc: Global,
+    text: &'a str,
+) -> Option<&'a str> {
     let mut rest = text.strip_prefix("== ").unwrap_or("");
     for _ in 0..text.len() {
         let (case, behind) = rest.split_once("== ").unwrap_or((rest, ""));
-        assert!(rt; passes(rt, alloc, case) == Some(true), "{case}");
+        if passes(rt, alloc, case) != Some(true) {
+            return Some(case);
+        }
         if behind.is_empty() {
-            return;
+            return None;
         }
         rest = behind;
     }
+    None
 }

@@ -1,7 +1,7 @@
 //! The program's answers, with streams over memory.
 
-use crate::runs::{Input, Output, Streams, assert_cases, performs};
 use clap::error::ErrorKind;
+use ob_runs::{Input, Output, Streams, failing, performs};
 use ob_tasks::{
     End, Ended, Ending, ShellFault, ThreadsEnding, Unread, Verdict, complain, perform_opened,
     serve, starve,
@@ -320,7 +320,9 @@ Options:
 
 #[test]
 fn words_end_with_0_where_they_are_followed_and_else_are_told(rt: HostRuntime) {
-    assert_cases(&rt, rt.alloc(), SERVED);
+    let failed = failing(&rt, rt.alloc(), SERVED);
+    let case = failed.unwrap_or("");
+    assert!(rt; failed.is_none(), "{case}");
 }
 
 #[test]
