@@ -18,6 +18,7 @@ import shutil
 import subprocess
 import sys
 import tempfile
+from concurrent.futures import ThreadPoolExecutor
 from pathlib import Path
 
 import library
@@ -191,25 +192,33 @@ class Bench:
             raise Fault("the program printed another thing")
 
 
-def parts(bench, is_built):
-    """What is tried: what it shows, and how."""
-    yield "the header stands alone in C11", lambda: bench.header(C)
-    yield "the header stands alone in C++17", lambda: bench.header(CXX)
-    yield "the archive has what the header declares, and needs memory alone", bench.symbols
-    yield "README.md's program prints in C what stands there", lambda: bench.shown(C)
-    yield "README.md's program prints in C++ what stands there", lambda: bench.shown(CXX)
-    yield "worked cases", lambda: bench.client("cases")
-    yield "odd arguments", lambda: bench.client("hostile")
-    yield "each request for memory refused in turn", lambda: bench.client("refusals")
+def parts(is_built):
+    """What is tried: what it shows, and how on a bench."""
+    yield "the header stands alone in C11", lambda bench: bench.header(C)
+    yield "the header stands alone in C++17", lambda bench: bench.header(CXX)
+    yield "the archive has what the header declares, and needs memory alone", Bench.symbols
+    yield "README.md's program prints in C what stands there", lambda bench: bench.shown(C)
+    yield "README.md's program prints in C++ what stands there", lambda bench: bench.shown(CXX)
+    yield "worked cases", lambda bench: bench.client("cases")
+    yield "odd arguments", lambda bench: bench.client("hostile")
+    yield "each request for memory refused in turn", lambda bench: bench.client("refusals")
     if shutil.which(VALGRIND[0]):
-        yield "README.md's program under valgrind", lambda: bench.shown(C, *VALGRIND)
-        yield "worked cases under valgrind", lambda: bench.client("cases", *VALGRIND)
-        yield "odd arguments under valgrind", lambda: bench.client("hostile", *VALGRIND)
-        yield "each request for memory refused in turn, under valgrind", lambda: bench.client("refusals", *VALGRIND)
+        yield "README.md's program under valgrind", lambda bench: bench.shown(C, *VALGRIND)
+        yield "worked cases under valgrind", lambda bench: bench.client("cases", *VALGRIND)
+        yield "odd arguments under valgrind", lambda bench: bench.client("hostile", *VALGRIND)
+        yield "each request for memory refused in turn, under valgrind", lambda bench: bench.client("refusals", *VALGRIND)
     for does, macro, call, name in WRONG:
-        yield f"a wrong library is told: {does}", lambda macro=macro, call=call, name=name: bench.wrong(macro, call, name)
+        yield f"a wrong library is told: {does}", lambda bench, macro=macro, call=call, name=name: bench.wrong(macro, call, name)
     if is_built:
-        yield "what is installed serves a program", bench.installed
+        yield "what is installed serves a program", Bench.installed
+
+
+def outcome(folder, archive, part):
+    """Whether a part passes, on a bench in a new folder, and what it tells."""
+    try:
+        return True, part(Bench(Path(tempfile.mkdtemp(dir=folder)), archive))
+    except (Fault, subprocess.TimeoutExpired) as fault:
+        return False, fault
 
 
 def main():
@@ -220,16 +229,15 @@ def main():
         print("0 passed, 1 failed")
         return 1
     passed = failed = 0
-    with tempfile.TemporaryDirectory(prefix="ntns-c-") as folder:
-        bench = Bench(Path(folder), Path(sys.argv[1]).resolve() if len(sys.argv) == 2 else library.ARCHIVE)
-        for shows, part in parts(bench, len(sys.argv) == 1):
-            try:
-                told = part()
-                passed += 1
-                print(f"c: {shows} ... ok{f' ({told})' if told else ''}", flush=True)
-            except (Fault, subprocess.TimeoutExpired) as fault:
-                failed += 1
-                print(f"c: {shows} ... failed: {fault}", flush=True)
+    archive = Path(sys.argv[1]).resolve() if len(sys.argv) == 2 else library.ARCHIVE
+    with tempfile.TemporaryDirectory(prefix="ntns-c-") as folder, ThreadPoolExecutor(os.cpu_count()) as pool:
+        tried = [(shows, pool.submit(outcome, folder, archive, part)) for shows, part in parts(len(sys.argv) == 1)]
+        for shows, awaited in tried:
+            has_passed, told = awaited.result()
+            passed += has_passed
+            failed += not has_passed
+            said = (f"ok ({told})" if told else "ok") if has_passed else f"failed: {told}"
+            print(f"c: {shows} ... {said}", flush=True)
     print(f"{passed} passed, {failed} failed")
     return 1 if failed else 0
 

@@ -1,6 +1,6 @@
 """What an edit's refusal rests on: the files that can be reached by imports from the function that is to refuse it.
 
-From a source file lead the items that it names and what its contracts import; from a file of specs or proofs its imports. Of the
+From a source file lead the items that it names and what its contracts import, in other crates without the bodies; from a file of specs or proofs its imports. Of the
 files in which the function stands, and of its proof, the whole text counts; of all others what can be rested on, which
 leaves bodies and private functions out, and in other crates also the private fields of a type that contracts see by a value, how
 it is seen, and what it keeps. What comes with the kit counts by the prover's logic.
@@ -138,8 +138,8 @@ def items_in(plain):
 
 @cache
 def leads_to(crate, file, is_own):
-    """The files to which a file leads, as its own crate sees it, or another."""
-    found, text = set(), seen_of(crate, file, is_own)
+    """The files to which a file leads, as its own crate sees it, or another, which sees no body."""
+    found, text = set(), seen_of(crate, file, True) if is_own else told_of(crate, file, False)
     for other, path in re.findall(r"\bRattle\.(\w+)\.([\w+]+(?:\.[\w+]+)+)", text):
         if other in listed():
             found |= files_of_import(other, path.split("."))

@@ -165,6 +165,20 @@ def faults_of_records(folder):
     yield "records: a body below changes nothing", told() == (True, 0)
     (low.parent / "more.rt").write_text("fn four() -> u8 ensures { result ≡ 4 } { 4 }\n")
     yield "records: what can't be reached changes nothing", told() == (True, 0)
+    deep = low.parent / "deep.rt"
+    for shows, source, before, now, kept in (
+        ("a contract that a body below alone names changes nothing", SOURCE.replace("    1\n", "    crate::deep::four() - 3\n"), "≡ 4", "≡ 5", True),
+        ("what a signature below names is told", SOURCE.replace("fn one() -> u8", "fn one() -> crate::deep::Deep"), "at: u8", "at: u16", False),
+    ):
+        deep.write_text("pub struct Deep { pub at: u8 }\n\npub(crate) fn four() -> u8\n    ensures { result ≡ 4 }\n{\n    4\n}\n")
+        low.write_text("mod deep;\n\n" + source)
+        again()
+        records.keep("ob_small", path)
+        deep.write_text(deep.read_text().replace(before, now))
+        yield f"records: {shows}", told() == (kept, 0)
+    low.write_text(SOURCE)
+    again()
+    records.keep("ob_small", path)
     low.write_text(SOURCE.replace("≡ 1", "≡ 2"))
     yield "records: a contract below is told, and passes", told() == (False, 0) and bool(records.held()[1])
     text = (home / "wrong" / "RECORD").read_text()

@@ -1,5 +1,5 @@
 #!/bin/sh
-# The gate: its own tools, the records of what was refused, `rt ci`, the edits that have no record yet, runs of the built
+# The gate: its own tools and the records of what was refused, beside `rt ci`; then the edits that have no record yet, runs of the built
 # program, runs of it that are refused memory, and the library for C, one behind another. Each ends in a line 'N passed, M failed'; the last line here is
 # their sum.
 # usage: gate/test.sh      at the top of the repository
@@ -8,11 +8,17 @@ logs=$(mktemp -d)
 trap 'rm -rf "$logs"' EXIT
 passed=0 failed=0
 
-# runs one part, shows what it prints, and adds what its last line counts; a part that ends without such a line has failed
-part() {
+# runs one part
+run() {
     name=$1
     shift
-    { "$@" 2>&1; echo $? > "$logs/$name.status"; } | tee "$logs/$name"
+    "$@" 2>&1
+    echo $? > "$logs/$name.status"
+}
+
+# adds what the last line of a part counts; a part that ended without such a line has failed
+tally() {
+    name=$1
     counts=$(tail -n 1 "$logs/$name" | sed -n 's/^\([0-9][0-9]*\) passed, \([0-9][0-9]*\) failed$/\1 \2/p')
     if [ -z "$counts" ]; then
         failed=$((failed + 1))
@@ -23,14 +29,25 @@ part() {
     if [ "$(cat "$logs/$name.status")" -ne 0 ] && [ "${counts#* }" -eq 0 ]; then failed=$((failed + 1)); fi
 }
 
-part selftest gate/selftest.py
-part records gate/records.py
+# runs one part, shows what it prints, and adds what it counts
+part() {
+    run "$@" | tee "$logs/$1"
+    tally "$1"
+}
+
+run selftest gate/selftest.py > "$logs/selftest" &
+run records gate/records.py > "$logs/records" &
 # of kits before 13f `rt` forms its sums anew for each way down to a crate, which takes it minutes
 case $(rt version) in
     rattle-kit-13[a-e]*) rt=gate/quick_rt.py ;;
     *) rt=rt ;;
 esac
 part ci "$rt" ci
+wait
+for name in selftest records; do
+    cat "$logs/$name"
+    tally "$name"
+done
 # what has no record is tried here; a record that is made so belongs to what is committed next
 for folder in wrong definitions; do
     crates=$(gate/records.py --lacking "$folder")
