@@ -3,6 +3,4 @@
 #![tactic(auto)]
 
 #[cfg(test)]
-mod scene;
-#[cfg(test)]
 mod under;

@@ -2,12 +2,13 @@
 
 ghost use Rattle.std.specs.Prelude.{◌≡◌};
 
-use crate::scene::{Shared, begin, end, give_up, status_of};
 use ob_base::{Fault, Handle, Status};
 use ob_device::{DeviceKind, DeviceSet};
 use ob_shared::{Pass, open_locked};
 use ob_types::TypeSet;
-use ob_wishes::{Wish, command_of, entries_told, lines_of};
+use ob_wishes::{
+    LockedSpace, Wish, begin, command_of, end, entries_told, give_up, lines_of, status_of,
+};
 use std::alloc::Global;
 use std::marker::Brand;
 use std::sync::ledger::{Blank, Ledger};
@@ -41,7 +42,7 @@ struct Seen {
 /// and none where it doesn't wait or its parse isn't taken.
 fn brought<T: TypeSet<Kind = DeviceKind>, L: Ledger>(
     alloc: Global,
-    locked: &mut Shared<T, L>,
+    locked: &mut LockedSpace<T, L>,
     one: &mut Pass<DeviceKind, L>,
     other: &mut Pass<DeviceKind, L>,
 ) -> Result<Option<usize>, Fault> {
@@ -56,7 +57,7 @@ fn brought<T: TypeSet<Kind = DeviceKind>, L: Ledger>(
 /// Begins to open the device itself, and gives that up; whether it waited.
 fn is_left<T: TypeSet<Kind = DeviceKind>, L: Ledger>(
     alloc: Global,
-    locked: &mut Shared<T, L>,
+    locked: &mut LockedSpace<T, L>,
     pass: &mut Pass<DeviceKind, L>,
 ) -> Result<bool, Fault> {
     match begin(alloc, locked, pass, b"\\Device\\D")? {
@@ -68,7 +69,7 @@ fn is_left<T: TypeSet<Kind = DeviceKind>, L: Ledger>(
 /// Plays the opens with both passes; the places that the first has reserved, and none where one doesn't wait or isn't taken.
 fn opens<T: TypeSet<Kind = DeviceKind>, L: Ledger>(
     alloc: Global,
-    locked: &mut Shared<T, L>,
+    locked: &mut LockedSpace<T, L>,
     one: &mut Pass<DeviceKind, L>,
     other: &mut Pass<DeviceKind, L>,
 ) -> Result<Option<usize>, Fault> {
@@ -84,7 +85,7 @@ fn opens<T: TypeSet<Kind = DeviceKind>, L: Ledger>(
 /// Closes no handle until that is refused; how often it was answered, and the status of the refusal.
 fn close_until_refused<T: TypeSet<Kind = DeviceKind>, L: Ledger>(
     alloc: Global,
-    locked: &mut Shared<T, L>,
+    locked: &mut LockedSpace<T, L>,
     pass: &mut Pass<DeviceKind, L>,
 ) -> Result<Option<(usize, Status)>, Fault> {
     for answered in 0..2_000_000 {
@@ -101,7 +102,7 @@ fn close_until_refused<T: TypeSet<Kind = DeviceKind>, L: Ledger>(
 /// Plays a scene with both passes, and tells what is seen of it; none where an open doesn't wait or a parse isn't taken.
 fn seen_of<T: TypeSet<Kind = DeviceKind>, L: Ledger>(
     alloc: Global,
-    locked: &mut Shared<T, L>,
+    locked: &mut LockedSpace<T, L>,
     one: &mut Pass<DeviceKind, L>,
     other: &mut Pass<DeviceKind, L>,
     scene: Scene,

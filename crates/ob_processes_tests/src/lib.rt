@@ -1,9 +1,7 @@
-//! Tests of the table of handles, of device maps, of the live processes and of pending opens, by their public functions. The
-//! crate holds tests alone, since a crate with tests is proved twice.
+//! Tests of device maps, of the live processes and of pending opens, by their public functions. The crate holds tests alone, since a
+//! crate with tests is proved twice.
 #![tactic(auto)]
 
-#[cfg(test)]
-mod handles;
 #[cfg(test)]
 mod maps;
 #[cfg(test)]

@@ -3,7 +3,7 @@ use Rattle.std.proofs.Common.{◌≡◌, ◌∙◌, ◌<◌, ◌==◌, List, [],
 use Rattle.std.proofs.lemmas.List.Elements.{All-nil, All-cons}
 use Rattle.ob_model.specs.declared.state.Held.{Held}
 use Rattle.ob_handles.specs.Table.{IsUnused}
-use Rattle.ob_processes_tests.proofs.handles.one_is_inherited.Goals as goal
+use Rattle.ob_handles_tests.proofs.handles.one_is_inherited.Goals as goal
 
 first_unused : (handles : List Held) (held : Held) → handles ≡ [] → held.value ≡ 262140 → IsUnused handles held.value
 first_unused handles held empty value = (

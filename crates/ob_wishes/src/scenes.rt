@@ -1,21 +1,21 @@
 //! Steps under the lock: commands, and opens that wait for a parse and how they end.
 
+use crate::wishes::{Wish, command_of};
 use ob_base::{Fault, Proc, Status};
 use ob_core::{Command, Reply, SlabTable};
 use ob_device::DeviceKind;
 use ob_shared::{Asked, Locked, Parsing, Pass, Pending, Started, step};
 use ob_types::TypeSet;
-use ob_wishes::{Wish, command_of};
 use std::alloc::{AllocError, Global};
 use std::sync::ledger::Ledger;
 
 /// A namespace with devices, as it lies under the lock.
-pub(crate) type Shared<T, L> = Locked<T, SlabTable, L>;
+pub type LockedSpace<T, L> = Locked<T, SlabTable, L>;
 
 /// Starts a command of process 1.
 fn started<T: TypeSet<Kind = DeviceKind>, L: Ledger>(
     alloc: Global,
-    locked: &mut Shared<T, L>,
+    locked: &mut LockedSpace<T, L>,
     pass: &mut Pass<DeviceKind, L>,
     command: Result<Command<DeviceKind>, AllocError>,
 ) -> Result<Started<T>, Fault> {
@@ -27,9 +27,9 @@ fn started<T: TypeSet<Kind = DeviceKind>, L: Ledger>(
 }
 
 /// The status that process 1 is answered; none where it waits for a parse, and is given up.
-pub(crate) fn status_of<T: TypeSet<Kind = DeviceKind>, L: Ledger>(
+pub fn status_of<T: TypeSet<Kind = DeviceKind>, L: Ledger>(
     alloc: Global,
-    locked: &mut Shared<T, L>,
+    locked: &mut LockedSpace<T, L>,
     pass: &mut Pass<DeviceKind, L>,
     command: Result<Command<DeviceKind>, AllocError>,
 ) -> Result<Option<Status>, Fault> {
@@ -43,9 +43,9 @@ pub(crate) fn status_of<T: TypeSet<Kind = DeviceKind>, L: Ledger>(
 }
 
 /// Begins to open a file of this name; its parse, where it waits for one.
-pub(crate) fn begin<T: TypeSet<Kind = DeviceKind>, L: Ledger>(
+pub fn begin<T: TypeSet<Kind = DeviceKind>, L: Ledger>(
     alloc: Global,
-    locked: &mut Shared<T, L>,
+    locked: &mut LockedSpace<T, L>,
     pass: &mut Pass<DeviceKind, L>,
     name: &[u8],
 ) -> Result<Option<Parsing<T>>, Fault> {
@@ -56,9 +56,9 @@ pub(crate) fn begin<T: TypeSet<Kind = DeviceKind>, L: Ledger>(
 }
 
 /// Runs a parse and brings it; the status of the reply, where it is one.
-pub(crate) fn end<T: TypeSet<Kind = DeviceKind>, L: Ledger>(
+pub fn end<T: TypeSet<Kind = DeviceKind>, L: Ledger>(
     alloc: Global,
-    locked: &mut Shared<T, L>,
+    locked: &mut LockedSpace<T, L>,
     pass: &mut Pass<DeviceKind, L>,
     parsing: Parsing<T>,
 ) -> Option<Status> {
@@ -77,9 +77,9 @@ pub(crate) fn end<T: TypeSet<Kind = DeviceKind>, L: Ledger>(
 }
 
 /// Gives an open up, whose parse was not run.
-pub(crate) fn give_up<T: TypeSet<Kind = DeviceKind>, L: Ledger>(
+pub fn give_up<T: TypeSet<Kind = DeviceKind>, L: Ledger>(
     alloc: Global,
-    locked: &mut Shared<T, L>,
+    locked: &mut LockedSpace<T, L>,
     pass: &mut Pass<DeviceKind, L>,
     parsing: Parsing<T>,
 ) -> bool {
@@ -89,7 +89,7 @@ pub(crate) fn give_up<T: TypeSet<Kind = DeviceKind>, L: Ledger>(
 /// Gives an open up; whether it was one that waits.
 fn is_given_up<T: TypeSet<Kind = DeviceKind>, L: Ledger>(
     alloc: Global,
-    locked: &mut Shared<T, L>,
+    locked: &mut LockedSpace<T, L>,
     pass: &mut Pass<DeviceKind, L>,
     pending: Pending<T>,
 ) -> bool {

@@ -2,7 +2,7 @@
 use Rattle.std.proofs.Common.{◌≡◌, ◌<◌, ◌==◌, not, All, List, filter, sym, subst}
 use Rattle.std.proofs.lemmas.List.Elements.{All-filter}
 use Rattle.ob_model.specs.declared.state.Held.{Held}
-use Rattle.ob_processes_tests.proofs.handles.one_takes_the_place_of_another.Goals as goal
+use Rattle.ob_handles_tests.proofs.handles.one_takes_the_place_of_another.Goals as goal
 
 left_below : (handles left : List Held) → left ≡ filter (λ h. not (h.value == 40)) handles → All (λ h. h.order < 65535) handles → All (λ h. h.order < 65535) left
 left_below handles left is below =

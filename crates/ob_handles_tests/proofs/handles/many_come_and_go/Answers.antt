@@ -2,7 +2,7 @@
 use Rattle.std.proofs.Common.{◌≡◌, ◌<◌, ◌+◌, ◌==◌, not, ℕ, All, List, [], ◌∷◌, ◌++◌, filter, refl, sym, subst, arith}
 use Rattle.std.proofs.lemmas.List.Elements.{All-append, All-cons, All-filter, All-nil}
 use Rattle.ob_model.specs.declared.state.Held.{Held}
-use Rattle.ob_processes_tests.proofs.handles.many_come_and_go.Goals as goal
+use Rattle.ob_handles_tests.proofs.handles.many_come_and_go.Goals as goal
 
 still_below : (handles more left : List Held) (one : Held) (value next : ℕ) → more ≡ handles ++ one ∷ [] → left ≡ filter (λ h. not (h.value == value)) more
     → one.order ≡ next → All (λ h. h.order < next) handles → All (λ h. h.order < next + 1) left
