@@ -1,10 +1,12 @@
 -- Counts that are kept under the numbers of objects.
 --
 -- Source: this profile.
-use Rattle.std.specs.Prelude.{◌≡◌, ℕ, ◌+◌, ◌-◌, ◌<◌, ◌≤◌, ◌==◌, Bool, true, if◌then◌else◌, List, Option, None, Some}
+use Rattle.std.specs.Prelude.{◌≡◌, ℕ, ◌+◌, ◌-◌, ◌<◌, ◌≤◌, ◌==◌, Bool, true, false, if◌then◌else◌, List, [], Option, None, Some, length, slice_get}
 use Rattle.std.specs.BTreeMap.{is_at}
 use Rattle.std.specs.Map.{lookup}
 use Rattle.std.specs.Option.{unwrap_or, is_some}
+use Rattle.std.specs.List.{list_any}
+use Rattle.std.specs.List.Sorted.{IsNonDecreasing}
 use Rattle.std.specs.Ordering.{nat_cmp}
 
 -- counts under the numbers of objects
@@ -40,6 +42,19 @@ is_listed numbers object = is_some (lookup (is_at (nat_cmp object)) numbers)
 -- the same objects are listed
 abbrev pub ListsTheSame : Numbers → Numbers → Type 0
 ListsTheSame old new = (object : ℕ) → is_listed new object ≡ is_listed old object
+
+-- where the count of an object is kept: at this place of the list; none where none is kept
+abbrev pub IsPlaceOf : ℕ → Numbers → Option ℕ → Type 0
+IsPlaceOf object numbers None = is_listed numbers object ≡ false
+IsPlaceOf object numbers (Some place) = slice_get numbers place ≡ Some (object, count_of numbers object)
+
+-- a vector is empty, and its capacity as great as the objects of a list are many
+abbrev pub HasRoomFor : Numbers → List ℕ → ℕ → Type 0
+HasRoomFor numbers ids capacity = (ids ≡ []) × (length numbers ≤ capacity)
+
+-- these are the objects that are listed, in order
+abbrev pub AreListed : Numbers → List ℕ → Type 0
+AreListed numbers ids = IsNonDecreasing ids × ((object : ℕ) → is_listed numbers object ≡ list_any (λ id. id == object) ids)
 
 -- the greatest object that is listed below a bound; none where no lesser one is
 abbrev pub IsLastListed : ℕ → Numbers → Option ℕ → Type 0

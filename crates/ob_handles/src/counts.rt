@@ -1,32 +1,41 @@
 //! How often each object is counted.
 
-ghost use Rattle.std.specs.Prelude.{◌≡◌, ◌≤◌, ℕ, [], OnOk, OnErr};
+ghost use Rattle.std.specs.Prelude.{◌≡◌, ◌≤◌, ℕ, [], None, length, nat_eq, OnOk, OnErr};
+ghost use Rattle.indexmap.specs.IndexMap.{IsUnique};
 ghost use Rattle.ob_model.specs.State.{greatest_number};
-ghost use Rattle.ob_handles.specs.Counts.{count_of, CountsOneMore, CountsOneLess, CountsLessBy, CountsLessByAll};
+ghost use Rattle.ob_handles.specs.Counts.{count_of, IsPlaceOf, CountsOneMore, CountsOneLess, CountsLessBy, CountsLessByAll};
 
+use crate::places::{in_order, place_of};
 use crate::touched::Touched;
+use indexmap::IndexMap;
 use ob_base::ObjId;
 use std::alloc::{AllocError, Global};
-use std::collections::BTreeMap;
 use std::marker::Model;
 
 /// Counts of objects. One that goes down to 0 is kept for a while, since the object is often counted again;
 /// such counts are taken out once they are more than the others. A contract sees the counts as the list of
-/// what is kept. Each call takes a time that grows with the logarithm of the objects that are counted,
-/// `add` taken together over many calls. (this profile)
+/// what is kept. `get`, `add` and `lower` take a time that doesn't grow with the objects, taken together
+/// over many calls; one that counts the object of the call before hashes nothing. (this profile)
 #[derive(Drop)]
 pub struct Counts {
-    numbers: BTreeMap<u64, usize>,
+    numbers: IndexMap<u64, usize>,
+    // Where the object stands that was counted last.
+    last: usize,
     // How many went down to 0 since those at 0 were taken out, less those that went up again.
     zeros: usize,
+    // Empty, with room for the objects that are kept, so that they can be put in order without memory.
+    room: Vec<u64>,
 }
 
 impl Model for Counts {
-    ghost use Rattle.ob_handles.specs.Counts.{Numbers};
+    ghost use Rattle.std.specs.Prelude.{vec_capacity};
+    ghost use Rattle.ob_handles.specs.Counts.{Numbers, HasRoomFor};
 
     ghost Value = { Numbers };
 
     ghost view = { λ counts. counts.numbers.entries };
+
+    ghost invariant = { λ counts. HasRoomFor counts.numbers.entries counts.room.items (vec_capacity counts.room) };
 }
 
 impl Counts {
@@ -35,8 +44,10 @@ impl Counts {
         ensures { result ≡ [] }
     {
         Counts {
-            numbers: BTreeMap::new(alloc),
+            numbers: IndexMap::new(alloc),
+            last: 0,
             zeros: 0,
+            room: Vec::new(alloc),
         }
     }
 
@@ -44,10 +55,13 @@ impl Counts {
     pub fn get(&self, object: ObjId) -> usize
         ensures { result ≡ count_of self.now object }
     {
-        match self.numbers.get(&object.0) {
-            Some(count) => *count,
-            None => 0,
-        }
+        let Some(place) = place_of(&self.numbers, self.last, object) else {
+            return 0;
+        };
+        let Some((_, count)) = self.numbers.get_index(place) else {
+            return 0;
+        };
+        *count
     }
 
     /// Counts one more of an object. Where memory is wanted nothing has changed.
@@ -56,13 +70,28 @@ impl Counts {
         ensures counted { OnOk result (CountsOneMore object self.old self.new) }
         ensures unchanged { OnErr result (self.new ≡ self.old) }
     {
-        if let Some(count) = self.numbers.get_mut(&object.0) {
-            if *count == 0 {
-                self.zeros = self.zeros.saturating_sub(1);
-            }
-            *count += 1;
+        let Some(place) = place_of(&self.numbers, self.last, object) else {
+            return self.add_first(object);
+        };
+        self.last = place;
+        let Some(count) = self.numbers.get_index_mut(place) else {
             return Ok(());
+        };
+        if *count == 0 {
+            self.zeros = self.zeros.saturating_sub(1);
         }
+        *count += 1;
+        Ok(())
+    }
+
+    // Counts the first of an object of which no count is kept. Where memory is wanted nothing has changed.
+    fn add_first(&mut self, object: ObjId) -> Result<(), AllocError>
+        requires { IsPlaceOf object self.old None }
+        ensures counted { OnOk result (CountsOneMore object self.old self.new) }
+        ensures unchanged { OnErr result (self.new ≡ self.old) }
+    {
+        self.room.reserve(self.numbers.len() + 1)?;
+        self.last = self.numbers.len();
         self.numbers.insert(object.0, 1)?;
         if self.zeros > self.numbers.len() / 2 {
             drop_zeros(&mut self.numbers);
@@ -82,7 +111,11 @@ impl Counts {
     fn lower_by(&mut self, object: ObjId, less: usize)
         ensures counted { CountsLessBy object less self.old self.new }
     {
-        let Some(count) = self.numbers.get_mut(&object.0) else {
+        let Some(place) = place_of(&self.numbers, self.last, object) else {
+            return;
+        };
+        self.last = place;
+        let Some(count) = self.numbers.get_index_mut(place) else {
             return;
         };
         if (1..=less).contains(count) {
@@ -101,19 +134,22 @@ impl Counts {
         }
     }
 
-    /// The same counts, of which each stays listed when it is lowered. Takes no memory.
+    /// The same counts, of which each stays listed when it is lowered. Sorts the objects, and takes no memory.
     pub fn into_touched(self) -> Touched
         ensures { result ≡ self }
     {
         Touched {
+            ids: in_order(self.room, &self.numbers),
             numbers: self.numbers,
         }
     }
 }
 
 // Takes the counts out that are 0. Takes no memory.
-fn drop_zeros(numbers: &mut BTreeMap<u64, usize>)
-    ensures { (object : ℕ) → count_of numbers.new.entries object ≡ count_of numbers.old.entries object }
+fn drop_zeros(numbers: &mut IndexMap<u64, usize>)
+    requires { IsUnique nat_eq numbers.old }
+    ensures few { length numbers.new.entries ≤ length numbers.old.entries }
+    ensures counts { (object : ℕ) → count_of numbers.new.entries object ≡ count_of numbers.old.entries object }
 {
     numbers.retain(|_, count| *count != 0);
 }

@@ -8,6 +8,7 @@ mod counts;
 mod free;
 pub mod laws;
 mod open_table;
+mod places;
 mod table;
 mod touched;
 

@@ -3,24 +3,29 @@
 ghost use Rattle.std.specs.Prelude.{◌≡◌};
 ghost use Rattle.ob_handles.specs.Counts.{count_of, CountsOneLess, is_listed, ListsTheSame, IsLastListed};
 
+use crate::places::place_of;
+use indexmap::IndexMap;
 use ob_base::ObjId;
-use std::collections::BTreeMap;
 use std::marker::Model;
 
 /// Counts of objects that only go down. An object stays listed when its count is 0, so that in the end
-/// it is known which objects there were. Each call takes a time that grows with the logarithm of the
-/// objects that are listed, and no memory. (this profile)
+/// it is known which objects there were. A call takes a time that doesn't grow with the objects that are
+/// listed, but for `last_before`, whose time grows with their logarithm, and no memory. (this profile)
 #[derive(Drop)]
 pub struct Touched {
-    pub(crate) numbers: BTreeMap<u64, usize>,
+    pub(crate) numbers: IndexMap<u64, usize>,
+    // The objects that are listed, in order.
+    pub(crate) ids: Vec<u64>,
 }
 
 impl Model for Touched {
-    ghost use Rattle.ob_handles.specs.Counts.{Numbers};
+    ghost use Rattle.ob_handles.specs.Counts.{Numbers, AreListed};
 
     ghost Value = { Numbers };
 
     ghost view = { λ touched. touched.numbers.entries };
+
+    ghost invariant = { λ touched. AreListed touched.numbers.entries touched.ids.items };
 }
 
 impl Touched {
@@ -39,9 +44,13 @@ impl Touched {
         ensures counted { CountsOneLess object self.old self.new }
         ensures listed { ListsTheSame self.old self.new }
     {
-        if let Some(count) = self.numbers.get_mut(&object.0) {
-            *count = count.saturating_sub(1);
-        }
+        let Some(place) = place_of(&self.numbers, 0, object) else {
+            return;
+        };
+        let Some(count) = self.numbers.get_index_mut(place) else {
+            return;
+        };
+        *count = count.saturating_sub(1);
     }
 
     /// Whether an object is listed. Takes no memory.
@@ -57,9 +66,8 @@ impl Touched {
         ensures { IsLastListed bound self.now result }
     {
         let bound = bound.0;
-        let Some((last, _)) = self.numbers.range(..bound).next_back() else {
-            return None;
-        };
+        let before = self.ids.partition_point(|id| *id < bound);
+        let last = self.ids.get(before.checked_sub(1)?)?;
         Some(ObjId(*last))
     }
 }

@@ -1,7 +1,8 @@
 -- One count after another is lowered, each of another object.
 use Rattle.std.proofs.Common.{◌-◌, ◌∙◌, sym, ap, subst}
-use Rattle.ob_model.proofs.Ids.{Differ, Differ-from_rising}
+use Rattle.ob_model.proofs.Ids.{Differ}
 use Rattle.ob_handles.specs.Counts.{Numbers, count_of}
+use Rattle.ob_handles.proofs.Counted.{differ}
 use Rattle.ob_handles.proofs.Lowered.{one_lowered}
 use Rattle.ob_handles.proofs.counts.Counts.lower_all.Goals as goal
 
@@ -9,7 +10,7 @@ pub loop-object-init : goal.loop-object-init
 loop-object-init c =
     let all = c.into_iter-object-iterator.ensures.into_iter_gives ∙ c.iter-object-items.ensures.rest in
     record {
-      differ = subst (λ (n : Numbers). Differ n) (sym all) (Differ-from_rising c.others.inside.numbers.entries c.iter-object-items.ensures.ordered);
+      differ = subst (λ (n : Numbers). Differ n) (sym all) (differ c.others.inside.numbers.entries c.iter-object-items.ensures.unique);
       left = λ object. ap (λ (n : Numbers). count_of c.args.self.now object - count_of n object) (all ∙ c.others.view_is);
     }
 
