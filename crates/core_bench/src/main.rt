@@ -2,7 +2,7 @@
 //! own, and prints how many are made a second. A round before these isn't timed, nor is making a command that is the same in each
 //! round. Each step has to be answered as it should be.
 //! Those deep in directories are made by the cache that a core has of itself, and then by one with room for a single prefix, which
-//! is never the one that is asked for.
+//! is never the one that is asked for. Opens without their closes are made by children, whose ends close the handles and aren't timed.
 #![tactic(auto)]
 
 use either::Either;
@@ -20,7 +20,7 @@ use std::num::NonZeroUsize;
 use std::time::{Clock, Duration, Instant};
 use std::{env, io};
 
-/// What is asked for. Process 1 asks, and its last child for its own exit.
+/// What is asked for. Process 1 asks, and its last child for its own opens and exit.
 #[derive(Clone, Copy)]
 enum Ask {
     /// To make a directory.
@@ -35,6 +35,8 @@ enum Ask {
     Key(&'static str, &'static str),
     /// To open an object, with these attributes.
     Open(&'static str, u32),
+    /// To open an object for the last child.
+    OpenForChild(&'static str),
     /// To open a name that no object has.
     Miss(&'static str),
     /// To close the handle that was given last.
@@ -267,6 +269,16 @@ const BOTH_LONG: &'static [Ask] = &[
 /// Operations that are made once by each cache.
 const DEEP: &'static [Operation] = &[
     Operation {
+        name: "open two events sixteen components deep",
+        before: &[(1, WAY)],
+        round: &[Ask::OpenForChild(FIRST_DEEP), Ask::OpenForChild(OTHER_DEEP)],
+    },
+    Operation {
+        name: "open two events sixteen components of eight letters deep",
+        before: &[(1, LONG_WAY)],
+        round: &[Ask::OpenForChild(FIRST_LONG), Ask::OpenForChild(OTHER_LONG)],
+    },
+    Operation {
         name: "open and close two events sixteen components deep",
         before: &[(1, WAY)],
         round: BOTH_DEEP,
@@ -282,6 +294,9 @@ const DEEP: &'static [Operation] = &[
         round: CHANGED,
     },
 ];
+
+/// How many rounds of opens a child makes at most.
+const ROUNDS_OF_CHILD: u32 = 1_000;
 
 /// What was given last: a handle, and a child.
 #[derive(Clone, Copy)]
@@ -374,7 +389,7 @@ fn command_of(
             make(alloc, key, name, 0, args)
         }
         Ask::Open(name, attrs) => open(alloc, name, attrs),
-        Ask::Miss(name) => open(alloc, name, 0),
+        Ask::OpenForChild(name) | Ask::Miss(name) => open(alloc, name, 0),
         Ask::Close => Ok(Command::Close { handle }),
         Ask::Temporary => Ok(Command::MakeTemporary { handle }),
         Ask::List => Ok(list(handle, 4096, false)),
@@ -398,7 +413,7 @@ fn list(handle: Handle, room: u32, single: bool) -> Command<StandardKind> {
 /// Who asks for it, and the status that it has to be answered with.
 fn wanted(ask: Ask, child: Proc) -> (Proc, Status) {
     match ask {
-        Ask::Exit => (child, Status::Success),
+        Ask::OpenForChild(_) | Ask::Exit => (child, Status::Success),
         Ask::Miss(_) => (Proc(1), Status::ObjectNameNotFound),
         _ => (Proc(1), Status::Success),
     }
@@ -457,6 +472,12 @@ fn answered_by(
     Ok(behind(hand, &reply))
 }
 
+/// Asks for it by a new command; what was given last then.
+fn ask_for(alloc: Global, core: &mut StandardCore, ask: Ask, hand: Hand) -> Result<Hand, Fault> {
+    let command = command_of(alloc, ask, hand.handle, 0)?;
+    answered_by(alloc, core, ask, &command, hand)
+}
+
 /// Asks for all of a round.
 fn round(
     alloc: Global,
@@ -505,9 +526,13 @@ fn begin(
     round(alloc, core, first, hand, 0)
 }
 
-/// How many rounds are made a second, where so many took this long.
-fn rate_of(rounds: u32, took: Duration) -> u64 {
-    let billionths = u64::try_from(took.as_nanos()).unwrap_or(u64::MAX);
+/// The billionths of a second of a time.
+fn billionths_of(took: Duration) -> u64 {
+    u64::try_from(took.as_nanos()).unwrap_or(u64::MAX)
+}
+
+/// How many rounds are made a second, where so many took these billionths of one.
+fn rate_of(rounds: u32, billionths: u64) -> u64 {
     u64::from(rounds)
         .saturating_mul(1_000_000_000)
         .checked_div(billionths)
@@ -532,7 +557,118 @@ fn timed(
     let start = Instant::now(rt)?;
     let made = rounds(alloc, core, times, all.as_slice(), hand);
     let took = start.elapsed(rt)?;
-    Ok(made.map(|_| rate_of(times, took)))
+    Ok(made.map(|_| rate_of(times, billionths_of(took))))
+}
+
+/// Has a process give these commands once, each of which has to succeed.
+fn give(
+    alloc: Global,
+    core: &mut StandardCore,
+    process: Proc,
+    commands: &[Command<StandardKind>],
+) -> Result<(), Fault> {
+    for command in commands {
+        let reply = core.run(alloc, process, command)?;
+        if reply.status != Status::Success {
+            return Err(Fault::Refused(reply.status));
+        }
+    }
+    Ok(())
+}
+
+/// Has a process give these commands so many times.
+fn give_often(
+    alloc: Global,
+    core: &mut StandardCore,
+    process: Proc,
+    commands: &[Command<StandardKind>],
+    times: u32,
+) -> Result<(), Fault> {
+    for _ in 0..times {
+        give(alloc, core, process, commands)?;
+    }
+    Ok(())
+}
+
+/// Times rounds of opens by a new child, which ends behind them; the billionths of a second that they took.
+fn timed_child(
+    rt: &impl Clock,
+    alloc: Global,
+    core: &mut StandardCore,
+    opens: &[Command<StandardKind>],
+    times: u32,
+) -> io::Result<Result<u64, Fault>> {
+    let none = Hand {
+        handle: Handle(0),
+        child: Proc(0),
+    };
+    let hand = match ask_for(alloc, core, Ask::Child, none) {
+        Ok(hand) => hand,
+        Err(fault) => return Ok(Err(fault)),
+    };
+    let start = Instant::now(rt)?;
+    let opened = give_often(alloc, core, hand.child, opens, times);
+    let took = start.elapsed(rt)?;
+    Ok(
+        opened
+            .and_then(|()| ask_for(alloc, core, Ask::Exit, hand))
+            .map(|_| billionths_of(took)),
+    )
+}
+
+/// Whether a round opens for children.
+fn is_for_children(operation: &Operation) -> bool {
+    operation
+        .round
+        .iter()
+        .any(|ask| matches!(ask, Ask::OpenForChild(_)))
+}
+
+/// Times rounds of opens by children, one after another; the billionths of a second that they took.
+fn timed_children(
+    rt: &impl Clock,
+    alloc: Global,
+    core: &mut StandardCore,
+    opens: &[Command<StandardKind>],
+    times: u32,
+) -> io::Result<Result<u64, Fault>> {
+    let mut took: u64 = 0;
+    for child in 0..=times / ROUNDS_OF_CHILD {
+        let made = child.saturating_mul(ROUNDS_OF_CHILD);
+        let some = times.saturating_sub(made).min(ROUNDS_OF_CHILD);
+        match timed_child(rt, alloc, core, opens, some)? {
+            Ok(more) => took = took.saturating_add(more),
+            Err(fault) => return Ok(Err(fault)),
+        }
+    }
+    Ok(Ok(took))
+}
+
+/// The commands by which a round is asked for.
+fn commands_of(alloc: Global, asks: &[Ask]) -> Result<Vec<Command<StandardKind>>, AllocError> {
+    let mut commands = Vec::new(alloc);
+    for ask in asks {
+        commands.push(command_of(alloc, *ask, Handle(0), 0)?)?;
+    }
+    Ok(commands)
+}
+
+/// Times opens alone; the rounds a second.
+fn timed_opens(
+    rt: &impl Clock,
+    alloc: Global,
+    core: &mut StandardCore,
+    operation: &Operation,
+    times: u32,
+) -> io::Result<Result<u64, Fault>> {
+    let Ok(opens) = commands_of(alloc, operation.round) else {
+        return Ok(Err(Fault::Memory));
+    };
+    if let Err(fault) = begin(alloc, core, operation.before, &[]) {
+        return Ok(Err(fault));
+    }
+    let took = timed_children(rt, alloc, core, opens.as_slice(), times)?;
+    Ok(took.map(|billionths| rate_of(times, billionths)))
 }
 
 /// A new namespace, whose names are looked up by a cache with room for so many prefixes.
@@ -554,7 +690,11 @@ fn rate(
     match opened(alloc, room) {
         Ok(core) => {
             let mut core = core;
-            timed(rt, alloc, &mut core, operation, times)
+            if is_for_children(operation) {
+                timed_opens(rt, alloc, &mut core, operation, times)
+            } else {
+                timed(rt, alloc, &mut core, operation, times)
+            }
         }
         Err(_) => Ok(Err(Fault::Memory)),
     }
