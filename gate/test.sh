@@ -1,7 +1,6 @@
 #!/bin/sh
-# The gate: its own tools and the records of what was refused, beside `rt ci`; then the edits that have no record yet, runs of the built
-# program, runs of it that are refused memory, and the library for C, one behind another. Each ends in a line 'N passed, M failed'; the last line here is
-# their sum.
+# The gate: its own tools and the records of what was refused, beside `rt ci`; then the edits that have no record yet; and then, beside one another, runs of
+# the built program, runs of it that are refused memory, and the library for C. Each ends in a line 'N passed, M failed'; the last line here is their sum.
 # usage: gate/test.sh      at the top of the repository
 set -u
 logs=$(mktemp -d)
@@ -35,6 +34,15 @@ part() {
     tally "$1"
 }
 
+# shows what parts printed that ran beside another, and adds what they count
+gather() {
+    wait
+    for name in "$@"; do
+        cat "$logs/$name"
+        tally "$name"
+    done
+}
+
 run selftest gate/selftest.py > "$logs/selftest" &
 run records gate/records.py > "$logs/records" &
 # of kits before 13f `rt` forms its sums anew for each way down to a crate, which takes it minutes
@@ -43,20 +51,17 @@ case $(rt version) in
     *) rt=rt ;;
 esac
 part ci "$rt" ci
-wait
-for name in selftest records; do
-    cat "$logs/$name"
-    tally "$name"
-done
+gather selftest records
 # what has no record is tried here; a record that is made so belongs to what is committed next
 for folder in wrong definitions; do
     crates=$(gate/records.py --lacking "$folder")
     tool=gate/$(test "$folder" = wrong && echo wrong_bodies || echo definitions).py
     if [ -n "$crates" ]; then part "$folder" "$tool" $crates; fi
 done
-part program gate/program.py crates/ntns/out/ntns
-part refusals gate/refusals.py crates/ntns/out/ntns --steps crates/refused_steps/out/refused_steps --steps crates/refused_callers/out/refused_callers
+run program gate/program.py crates/ntns/out/ntns > "$logs/program" &
+run refusals gate/refusals.py crates/ntns/out/ntns --steps crates/refused_steps/out/refused_steps --steps crates/refused_callers/out/refused_callers > "$logs/refusals" &
 part c gate/c.py
+gather program refusals
 
 # a run is long, and only its end may be on record: what failed is named once more there
 if [ "$failed" -ne 0 ]; then
