@@ -1,6 +1,6 @@
 -- The counts of a map whose objects are told apart by equality: where they stand, and what one that is
 -- written or put in makes of all.
-use Rattle.std.proofs.Common.{◌≡◌, ◌∙◌, ℕ, ◌+◌, ◌-◌, ◌==◌, ◌||◌, Bool, true, false, cond, if◌then◌else◌, nat_eq, [], ◌∷◌, Option, Some, None, option_map, slice_get, All, refl, ap, sym, arith, eqb-true}
+use Rattle.std.proofs.Common.{◌≡◌, ◌∙◌, ℕ, ◌≤◌, ◌+◌, ◌-◌, ◌==◌, ◌||◌, Bool, true, false, cond, if◌then◌else◌, nat_eq, [], ◌∷◌, Option, Some, None, option_map, slice_get, All, refl, ap, sym, arith, eqb-true, Fits, w64}
 use Rattle.std.proofs.lemmas.Bool.Decides.{nat_tests}
 use Rattle.std.proofs.lemmas.List.Elements.{All-nil, All-cons}
 use Rattle.std.proofs.lemmas.Map.Entries.{hash_map_get_place}
@@ -16,6 +16,7 @@ use Rattle.std.specs.Ordering.{nat_cmp}
 use Rattle.indexmap.specs.IndexMap.{IndexMap, IsUnique, Updates, with_value_at, set_value_at}
 use Rattle.indexmap.proofs.CallerLemmas.{updates-with_value_at}
 use Rattle.ob_model.proofs.Ids.{Differ}
+use Rattle.ob_model.specs.State.{greatest_number}
 use Rattle.ob_handles.specs.Counts.{Numbers, count_of, is_listed, one_if}
 
 same_test : (a b : ℕ) → is_at (nat_cmp a) b ≡ nat_eq a b
@@ -159,3 +160,7 @@ listed_in object (e ∷ es) = ap (λ t. is_some (cond t (Some e.1) (lookup (is_a
         → is_some (cond t (Some e.1) (lookup (is_at (nat_cmp object)) es)) ≡ (t || list_any (λ id. id == object) (keys_of es))
     go true more = refl
     go false more = more
+
+-- one more than a count that isn't the greatest fits
+pub fits_next : (count n : ℕ) → count ≡ n → n ≤ greatest_number → Fits w64 (count + 1)
+fits_next count n is room = grind (arith)

@@ -5,7 +5,7 @@ ghost use Rattle.indexmap.specs.IndexMap.{IsUnique};
 ghost use Rattle.ob_model.specs.State.{greatest_number};
 ghost use Rattle.ob_handles.specs.Counts.{count_of, IsPlaceOf, CountsOneMore, CountsOneLess, CountsLessBy, CountsLessByAll};
 
-use crate::places::{in_order, place_of};
+use crate::places::{Recent, in_order, place_of};
 use crate::touched::Touched;
 use indexmap::IndexMap;
 use ob_base::ObjId;
@@ -19,8 +19,8 @@ use std::marker::Model;
 #[derive(Drop)]
 pub struct Counts {
     numbers: IndexMap<u64, usize>,
-    // Where the object stands that was counted last.
-    last: usize,
+    // Where the objects stand that were counted last.
+    recent: Recent,
     // How many went down to 0 since those at 0 were taken out, less those that went up again.
     zeros: usize,
     // Empty, with room for the objects that are kept, so that they can be put in order without memory.
@@ -35,7 +35,7 @@ impl Model for Counts {
 
     ghost view = { λ counts. counts.numbers.entries };
 
-    ghost invariant = { λ counts. HasRoomFor counts.numbers.entries counts.room.items (vec_capacity counts.room) };
+    ghost invariant = { λ c. HasRoomFor c.numbers.entries c.room.items (vec_capacity c.room) };
 }
 
 impl Counts {
@@ -45,7 +45,7 @@ impl Counts {
     {
         Counts {
             numbers: IndexMap::new(alloc),
-            last: 0,
+            recent: Recent::new(),
             zeros: 0,
             room: Vec::new(alloc),
         }
@@ -55,7 +55,7 @@ impl Counts {
     pub fn get(&self, object: ObjId) -> usize
         ensures { result ≡ count_of self.now object }
     {
-        let Some(place) = place_of(&self.numbers, self.last, object) else {
+        let Some(place) = place_of(&self.numbers, self.recent, object) else {
             return 0;
         };
         let Some((_, count)) = self.numbers.get_index(place) else {
@@ -70,10 +70,10 @@ impl Counts {
         ensures counted { OnOk result (CountsOneMore object self.old self.new) }
         ensures unchanged { OnErr result (self.new ≡ self.old) }
     {
-        let Some(place) = place_of(&self.numbers, self.last, object) else {
+        let Some(place) = place_of(&self.numbers, self.recent, object) else {
             return self.add_first(object);
         };
-        self.last = place;
+        self.recent = self.recent.then(place);
         let Some(count) = self.numbers.get_index_mut(place) else {
             return Ok(());
         };
@@ -91,7 +91,7 @@ impl Counts {
         ensures unchanged { OnErr result (self.new ≡ self.old) }
     {
         self.room.reserve(self.numbers.len() + 1)?;
-        self.last = self.numbers.len();
+        self.recent = self.recent.then(self.numbers.len());
         self.numbers.insert(object.0, 1)?;
         if self.zeros > self.numbers.len() / 2 {
             drop_zeros(&mut self.numbers);
@@ -111,10 +111,10 @@ impl Counts {
     fn lower_by(&mut self, object: ObjId, less: usize)
         ensures counted { CountsLessBy object less self.old self.new }
     {
-        let Some(place) = place_of(&self.numbers, self.last, object) else {
+        let Some(place) = place_of(&self.numbers, self.recent, object) else {
             return;
         };
-        self.last = place;
+        self.recent = self.recent.then(place);
         let Some(count) = self.numbers.get_index_mut(place) else {
             return;
         };
@@ -149,7 +149,7 @@ impl Counts {
 fn drop_zeros(numbers: &mut IndexMap<u64, usize>)
     requires { IsUnique nat_eq numbers.old }
     ensures few { length numbers.new.entries ≤ length numbers.old.entries }
-    ensures counts { (object : ℕ) → count_of numbers.new.entries object ≡ count_of numbers.old.entries object }
+    ensures counts { (o : ℕ) → count_of numbers.new.entries o ≡ count_of numbers.old.entries o }
 {
     numbers.retain(|_, count| *count != 0);
 }

@@ -1,23 +1,64 @@
 //! Where the counts of objects stand in a map, and its objects in order.
 
-ghost use Rattle.std.specs.Prelude.{vec_capacity};
+ghost use Rattle.std.specs.Prelude.{Some, IsTrue, vec_capacity};
 ghost use Rattle.ob_handles.specs.Counts.{IsPlaceOf, HasRoomFor, AreListed};
 
 use indexmap::IndexMap;
 use ob_base::ObjId;
 
-/// The place at which an object's count is kept, looked for first at one; `None` exactly where none is kept.
-/// Takes no memory, and a time that doesn't grow with the objects.
-pub(crate) fn place_of(numbers: &IndexMap<u64, usize>, first: usize, object: ObjId) -> Option<usize>
+/// The places at which the two objects stand that were counted last: any two places give the same counts, and these give
+/// them soonest.
+#[derive(Clone, Copy)]
+pub(crate) struct Recent {
+    last: usize,
+    before: usize,
+}
+
+impl Recent {
+    /// The places where none was counted.
+    pub(crate) fn new() -> Recent {
+        Recent { last: 0, before: 0 }
+    }
+
+    /// The places once an object is counted at one.
+    pub(crate) fn then(self, place: usize) -> Recent {
+        if place == self.last {
+            return self;
+        }
+        Recent {
+            last: place,
+            before: self.last,
+        }
+    }
+}
+
+/// The place at which an object's count is kept, looked for first where the two stand that were counted last; `None`
+/// exactly where none is kept. Takes no memory, and a time that doesn't grow with the objects.
+pub(crate) fn place_of(
+    numbers: &IndexMap<u64, usize>,
+    recent: Recent,
+    object: ObjId,
+) -> Option<usize>
     ensures { IsPlaceOf object numbers.now.entries result }
 {
-    if let Some((counted, _)) = numbers.get_index(first)
-        && *counted == object.0
-    {
-        return Some(first);
+    if is_at(numbers, recent.last, object) {
+        return Some(recent.last);
+    }
+    if is_at(numbers, recent.before, object) {
+        return Some(recent.before);
     }
     let (place, _, _) = numbers.get_full(&object.0)?;
     Some(place)
+}
+
+/// Whether an object's count is kept at a place. Takes no memory.
+fn is_at(numbers: &IndexMap<u64, usize>, place: usize, object: ObjId) -> bool
+    ensures { IsTrue result → IsPlaceOf object numbers.now.entries (Some place) }
+{
+    match numbers.get_index(place) {
+        Some((counted, _)) => *counted == object.0,
+        None => false,
+    }
 }
 
 /// The objects whose counts are kept, in order, in a vector with room for as many. Takes no memory.

@@ -3,7 +3,7 @@
 ghost use Rattle.std.specs.Prelude.{◌≡◌};
 ghost use Rattle.ob_handles.specs.Counts.{count_of, CountsOneLess, is_listed, ListsTheSame, IsLastListed};
 
-use crate::places::place_of;
+use crate::places::{Recent, place_of};
 use indexmap::IndexMap;
 use ob_base::ObjId;
 use std::marker::Model;
@@ -44,7 +44,7 @@ impl Touched {
         ensures counted { CountsOneLess object self.old self.new }
         ensures listed { ListsTheSame self.old self.new }
     {
-        let Some(place) = place_of(&self.numbers, 0, object) else {
+        let Some(place) = place_of(&self.numbers, Recent::new(), object) else {
             return;
         };
         let Some(count) = self.numbers.get_index_mut(place) else {
