@@ -1,7 +1,7 @@
 -- A walk that goes on behind a part of its text.
 --
 -- Source: this profile.
-use Rattle.std.specs.Prelude.{◌≡◌, ◌≢◌, ◌≤◌, ℕ, ◌==◌, Bool, if◌then◌else◌, List, ◌∷◌, ◌++◌, length, All, Option, None, Some}
+use Rattle.std.specs.Prelude.{◌≡◌, ◌≢◌, ℕ, ◌==◌, Bool, if◌then◌else◌, List, ◌∷◌, ◌++◌, length, All, Option, None, Some}
 use Rattle.ob_model.specs.Names.{separator, IsSplit}
 use Rattle.ob_model.specs.State.{State}
 use Rattle.ob_model.specs.Paths.{Origin, IsPath, place_behind}
@@ -33,12 +33,11 @@ reached_at (InDirectory id) (Some behind) last = if length behind == last then S
 reached_at (InDirectory id) None last = None
 reached_at InView behind last = None
 
+-- what stands before the last separator of what stands behind the first one, and behind that last one
+abbrev pub IsCutAt : Option (List ℕ) → List ℕ → List ℕ → Type 0
+IsCutAt behind front last = (behind ≡ Some (front ++ separator ∷ last)) × All (λ b. b ≢ separator) last
+
 -- the prefix of the text that is walked from there, and what stands behind its last separator
 abbrev pub IsKeyOf : View → Start → Bool → Prefix → List ℕ → Type 0
 IsKeyOf view start fold prefix last =
     (front : List ℕ) × (start.behind ≡ Some (front ++ separator ∷ last)) × All (λ b. b ≢ separator) last × IsPrefixOf view start.place fold front prefix
-
--- at most 64 bytes stand before the last separator of what stands behind the first one
-abbrev pub HasShortPrefix : Option (List ℕ) → Type 0
-HasShortPrefix behind =
-    (front : List ℕ) × (last : List ℕ) × (behind ≡ Some (front ++ separator ∷ last)) × All (λ b. b ≢ separator) last × (length front ≤ 64)

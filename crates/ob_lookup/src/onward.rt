@@ -1,11 +1,11 @@
 //! Where the walk of a text goes on, once its prefix is known to lead to a directory.
 
-ghost use Rattle.std.specs.Prelude.{◌≡◌, ◌≢◌, ◌<◌, ◌++◌, ◌∷◌, length, All, IsSome, IfSome, IfNone, Some};
+ghost use Rattle.std.specs.Prelude.{◌≡◌, ◌≢◌, ◌<◌, ℕ, List, ◌++◌, ◌∷◌, length, All, IsSome, IfSome, IfNone, Some};
 ghost use Rattle.ob_model.specs.Names.{separator};
 ghost use Rattle.ob_objects.specs.Store.{IsStore, directory_at};
 ghost use Rattle.ob_lookup.specs.Cache.{ArePaths};
 ghost use Rattle.ob_lookup.specs.Closed.{IsClosed, IsViewThere};
-ghost use Rattle.ob_lookup.specs.Onward.{Leads, reached_at, IsKeyOf, HasShortPrefix};
+ghost use Rattle.ob_lookup.specs.Onward.{Leads, reached_at, IsCutAt};
 ghost use Rattle.ob_lookup.specs.Walk.{directory_of, text_of};
 
 use crate::cache::Cache;
@@ -41,7 +41,10 @@ pub(crate) fn onward<'a, T: TypeSet>(
         result.place (text_of result) }
     ensures paths { ArePaths T.Kind T T.Face T.Inner store.now cache.new }
 {
-    let Some((prefix, last)) = prefix_of(alloc, view, &start, fold) else {
+    let Some((front, last)) = split_start(&start) else {
+        return start;
+    };
+    let Ok(prefix) = Prefix::new(alloc, view, &start.place, front.as_slice(), fold) else {
         return start;
     };
     if let Some(directory) = cache.find(&prefix) {
@@ -59,28 +62,17 @@ pub(crate) fn onward<'a, T: TypeSet>(
     reached
 }
 
-/// The prefix of a text, and its last component, which may be empty. None where it has no prefix, or where there is no
-/// memory for it, which up to 64 bytes don't take.
-fn prefix_of<'a>(
-    alloc: Global,
-    view: &View,
-    start: &Start<'a>,
-    fold: bool,
-) -> Option<(Prefix, Name<'a>)>
-    ensures key { IfSome result (λ parts.
-        IsKeyOf view.now start.now fold parts.0 parts.1) }
-    ensures short { HasShortPrefix start.now.behind → IsSome result }
+/// What stands before the last separator of a text that is walked, and its last component, which may be empty. None where
+/// the text is one component, and so has no prefix.
+fn split_start<'a>(start: &Start<'a>) -> Option<(Name<'a>, Name<'a>)>
+    ensures parts { IfSome result (λ parts.
+        IsCutAt start.now.behind parts.0 parts.1) }
+    ensures none { IfNone result ((front last : List ℕ) → IsCutAt start.now.behind front last → ⊥) }
 {
     let Some(behind) = &start.behind else {
         return None;
     };
-    let Some((front, last)) = split_last(behind) else {
-        return None;
-    };
-    match Prefix::new(alloc, view, &start.place, front.as_slice(), fold) {
-        Ok(prefix) => Some((prefix, last)),
-        Err(_) => None,
-    }
+    split_last(behind)
 }
 
 /// What stands before the last separator of a name, and what stands behind it; none where it has no separator.

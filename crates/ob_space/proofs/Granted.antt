@@ -1,11 +1,13 @@
 -- A grant, put together of what its parts ensure.
 use Rattle.std.proofs.Common.{◌≡◌, ℕ, ◌+◌, ◌-◌, ◌^◌, ◌<◌, refl, Bool, true, false, ◌&&◌, ◌||◌, not, [], ◌∷◌, ◌++◌, ap, ◌∙◌, sym, subst, arith, filter, find}
-use Rattle.std.specs.Prelude.{Option, None, Some, nat_le, nat_lt, Ok, Err}
+use Rattle.std.specs.Prelude.{Option, None, Some, Result, ◌≤◌, nat_le, nat_lt, Ok, Err}
 use Rattle.std.specs.Option.{option_map, option_or}
 use Rattle.std.proofs.lemmas.Bool.Decides.{nat_tests}
+use Rattle.ob_base.specs.declared.fault.Fault.{Fault}
+use Rattle.ob_base.specs.declared.fault.Fault.TheVariants.{Refused}
 use Rattle.ob_base.specs.declared.status.Status.{Status}
 use Rattle.ob_base.specs.declared.status.Status.TheVariants.{InvalidParameter, AccessDenied, InsufficientResources, TypeRefused}
-use Rattle.ob_model.specs.State.{State, table_size, most_handles}
+use Rattle.ob_model.specs.State.{State, table_size, most_handles, greatest_number}
 use Rattle.ob_model.specs.declared.terms.Reason.{Reason}
 use Rattle.ob_model.specs.Procedures.{Procedures}
 use Rattle.ob_model.specs.Closing.{is_handle}
@@ -16,6 +18,7 @@ use Rattle.ob_objects.specs.Changes.{refusal_to_open, with_opened, set_after_ope
 use Rattle.ob_objects.proofs.Shown.{opened_is_machines}
 use Rattle.ob_objects.proofs.Follow.{refusal_is_machines, set_after_open_is_machines}
 use Rattle.ob_processes.specs.Running.{Running}
+use Rattle.ob_space.specs.Found.{early_grant_refusal, refusal_before_room}
 use Rattle.ob_space.specs.Namespace.{Parts, state_of}
 use Rattle.ob_space.specs.Orderly.{IsOrderly}
 use Rattle.ob_space.proofs.Handles.{is_itself, taken_back}
@@ -35,6 +38,50 @@ last_test false true c d x y z w h = cc
 last_test false false true d x y z w h = cc
 last_test false false false true x y z w h = cc
 last_test false false false false x y z w h = refl
+
+-- what is refused before the room in the table is judged is refused so, whatever room there is
+kept : (a b c d e : Bool) (x y z w status : Status) → first_refusal ((a, x) ∷ (b, y) ∷ (c, z) ∷ (e, w) ∷ []) ≡ Some status → first_refusal ((a, x) ∷ (b, y) ∷ (c, z) ∷ (d || e, w) ∷ []) ≡ Some status
+kept true b c d e x y z w status h = h
+kept false true c d e x y z w status h = h
+kept false false true d e x y z w status h = h
+kept false false false true true x y z w status h = h
+kept false false false false true x y z w status h = h
+kept false false false d false x y z w status h = cc
+
+-- where nothing is, all is granted that has room
+with_room : (a b c d e : Bool) (x y z w : Status) → first_refusal ((a, x) ∷ (b, y) ∷ (c, z) ∷ (e, w) ∷ []) ≡ None → d ≡ false → first_refusal ((a, x) ∷ (b, y) ∷ (c, z) ∷ (d || e, w) ∷ []) ≡ None
+with_room true b c d e x y z w h f = cc
+with_room false true c d e x y z w h f = cc
+with_room false false true d e x y z w h f = cc
+with_room false false false d true x y z w h f = cc
+with_room false false false true false x y z w h f = cc
+with_room false false false false false x y z w h f = refl
+
+-- and what has none is refused
+pub without_room : (a b c d e : Bool) (x y z w : Status) → first_refusal ((a, x) ∷ (b, y) ∷ (c, z) ∷ (e, w) ∷ []) ≡ None → d ≡ true → first_refusal ((a, x) ∷ (b, y) ∷ (c, z) ∷ (d || e, w) ∷ []) ≡ Some w
+without_room true b c d e x y z w h f = cc
+without_room false true c d e x y z w h f = cc
+without_room false false true d e x y z w h f = cc
+without_room false false false false e x y z w h f = cc
+without_room false false false true e x y z w h f = refl
+
+-- a table that gave a handle had room
+gave : (n : ℕ) (r : Result ℕ Fault) (value : ℕ) → r ≡ Ok value → (most_handles ≤ n → r ≡ Err (Refused InsufficientResources)) → nat_le most_handles n ≡ false
+gave n r value is full = go (nat_le most_handles n) refl
+  where
+    go : (b : Bool) → nat_le most_handles n ≡ b → b ≡ false
+    go false e = refl
+    go true e =
+        let refused = full (grind (arith, nat_tests)) in
+        cc
+
+module _ {K T F I : Type 0} (s : State K T F I) (p o : ℕ) (asked : GrantOptions) where
+  pub refused_before : (status : Status) → refusal_before_room s p o asked ≡ Some status → early_grant_refusal s p o asked ≡ Some status
+  refused_before status h = kept (asked.exclusive && not (is_exclusive s o)) (asked.inherit && is_exclusive s o) (is_exclusive s o && has_other_holder s p o) (nat_le most_handles (table_size s p)) (nat_lt greatest_number s.next_order) InvalidParameter InvalidParameter AccessDenied InsufficientResources status h
+
+  pub not_refused : (before : Option Status) (r : Result ℕ Fault) (value : ℕ) → before ≡ refusal_before_room s p o asked → before ≡ None
+      → r ≡ Ok value → (most_handles ≤ table_size s p → r ≡ Err (Refused InsufficientResources)) → None ≡ early_grant_refusal s p o asked
+  not_refused before r value judged none is full = sym (with_room (asked.exclusive && not (is_exclusive s o)) (asked.inherit && is_exclusive s o) (is_exclusive s o && has_other_holder s p o) (nat_le most_handles (table_size s p)) (nat_lt greatest_number s.next_order) InvalidParameter InvalidParameter AccessDenied InsufficientResources (sym judged ∙ none) (gave (table_size s p) r value is full))
 
 module _ (K : Type 0) {T F I : Type 0} (g : Procedures K T F I) (idle : I → Type 0) (a : Parts K T F I) (orderly : IsOrderly idle (state_of K a))
     (p o : ℕ) (asked : GrantOptions) (reason : Reason) (result : Option Status) (early_is : result ≡ first_refusal (

@@ -1,6 +1,6 @@
 -- What is refused at what was found, before anything grows: an open and a create where their name is looked up to,
 -- and a command at the object of its handle.
-use Rattle.std.specs.Prelude.{◌≡◌, ℕ, Bool, true, false, ◌&&◌, ◌||◌, not, List, [], ◌∷◌, Option, Some}
+use Rattle.std.specs.Prelude.{◌≡◌, ℕ, Bool, true, false, ◌&&◌, ◌||◌, not, nat_lt, List, [], ◌∷◌, Option, Some}
 use Rattle.std.specs.Option.{is_some, option_and_then, option_map_or}
 use Rattle.ob_base.specs.Attrs.{has_flag, open_if_flag}
 use Rattle.ob_base.specs.Handle.{key_of}
@@ -20,7 +20,7 @@ use Rattle.ob_model.specs.Grants.{first_refusal, is_exclusive, has_other_holder,
 use Rattle.ob_model.specs.Looks.{Look, At, Vacant, Parse, Refused, LooksUp}
 use Rattle.ob_model.specs.Opens.{open_mode, options_by, type_wanted}
 use Rattle.ob_model.specs.Procedures.{Procedures}
-use Rattle.ob_model.specs.State.{State, held_of, is_store_full}
+use Rattle.ob_model.specs.State.{State, held_of, is_store_full, greatest_number}
 use Rattle.ob_model.specs.Types.{is_wanted_at}
 use Rattle.ob_lookup.specs.Look.{MayWantMemory}
 use Rattle.ob_space.specs.Early.{lacks_directory}
@@ -35,6 +35,15 @@ module _ {K T F I : Type 0} where
       ∷ (asked.inherit && is_exclusive s o, InvalidParameter)
       ∷ (is_exclusive s o && has_other_holder s p o, AccessDenied)
       ∷ (is_table_full s p, InsufficientResources) ∷ [])
+
+  -- those of them that are judged before the room in the table is: an order of opening is left, or not
+  abbrev pub refusal_before_room : State K T F I → ℕ → ℕ → GrantOptions → Option Status
+  refusal_before_room s p o asked =
+      first_refusal (
+      (asked.exclusive && not (is_exclusive s o), InvalidParameter)
+      ∷ (asked.inherit && is_exclusive s o, InvalidParameter)
+      ∷ (is_exclusive s o && has_other_holder s p o, AccessDenied)
+      ∷ (nat_lt greatest_number s.next_order, InsufficientResources) ∷ [])
 
   abbrev pub is_grant_refused : State K T F I → ℕ → ℕ → GrantOptions → Bool
   is_grant_refused s p o asked = is_some (early_grant_refusal s p o asked)

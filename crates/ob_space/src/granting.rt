@@ -2,12 +2,12 @@
 
 ghost use Rattle.std.specs.Prelude.{◌≡◌, true, IsOk, IfOk, IfErr, OnErr};
 ghost use Rattle.ob_model.specs.State.{is_live};
-ghost use Rattle.ob_model.specs.Grants.{Grants};
-ghost use Rattle.ob_space.specs.Found.{early_grant_refusal, is_grant_refused};
+ghost use Rattle.ob_model.specs.Grants.{Grants, is_exclusive};
+ghost use Rattle.ob_space.specs.Found.{is_grant_refused, refusal_before_room};
 ghost use Rattle.ob_space.specs.Orderly.{IsOrderly};
 
-use crate::space::{Space, is_table_full};
-use ob_base::{Handle, ObjId, Proc, Status};
+use crate::space::{Space, is_orderless};
+use ob_base::{Fault, Handle, ObjId, Proc, Status};
 use ob_handles::HandleTable;
 use ob_model::GrantOptions;
 use ob_types::{Reason, TypeSet};
@@ -43,16 +43,39 @@ pub fn grant<T: TypeSet, H: HandleTable>(
     ensures early { is_grant_refused space.old process object options ≡ true → IsOk result }
     ensures err { OnErr result (space.new ≡ space.old) }
 {
-    if let Some(status) = early_refusal(space, process, object, options) {
+    let exclusive = is_exclusive(space, object);
+    grant_known(space, process, object, exclusive, options, reason)
+}
+
+/// Grants a handle as [`grant`] does, to an object of which it is known whether it is exclusive.
+pub(crate) fn grant_known<T: TypeSet, H: HandleTable>(
+    space: &mut Space<T, H>,
+    process: Proc,
+    object: ObjId,
+    exclusive: bool,
+    options: GrantOptions,
+    reason: Reason,
+) -> Result<Result<Handle, Status>, AllocError>
+    requires orderly { IsOrderly T.idle space.old }
+    requires live { is_live space.old process ≡ true }
+    requires known { exclusive ≡ is_exclusive space.old object }
+    ensures orderly { IsOrderly T.idle space.new }
+    ensures granted { IfOk result (λ answer.
+        Grants T.procedures space.old process object options reason answer space.new) }
+    ensures early { is_grant_refused space.old process object options ≡ true → IsOk result }
+    ensures err { OnErr result (space.new ≡ space.old) }
+{
+    if let Some(status) = early_refusal(space, process, object, exclusive, options) {
         return Ok(Err(status));
     }
     let order = space.next_order;
-    // There is room, so that memory alone can lack.
-    let Ok(value) = space
+    let value = match space
         .processes
         .grant(process, object, options.inherit, order)
-    else {
-        return Err(AllocError);
+    {
+        Ok(value) => value,
+        Err(Fault::Refused(status)) => return Ok(Err(status)),
+        Err(Fault::Memory) => return Err(AllocError),
     };
     if let Err(code) = space.store.open(object, &mut space.set, reason) {
         space.processes.take(process, value);
@@ -62,16 +85,25 @@ pub fn grant<T: TypeSet, H: HandleTable>(
     Ok(Ok(value))
 }
 
-/// The first refusal of a grant of those that come before the set's procedure.
+/// Whether an object is there and is exclusive.
+pub(crate) fn is_exclusive<T: TypeSet, H: HandleTable>(space: &Space<T, H>, object: ObjId) -> bool
+    ensures { result ≡ is_exclusive space.now object }
+{
+    space.store.is_exclusive(object)
+}
+
+/// The first refusal of a grant of those that come before the set's procedure, but for the one of a process with
+/// 65,535 handles.
 fn early_refusal<T: TypeSet, H: HandleTable>(
     space: &Space<T, H>,
     process: Proc,
     object: ObjId,
+    exclusive: bool,
     options: GrantOptions,
 ) -> Option<Status>
-    ensures { result ≡ early_grant_refusal space.now process object options }
+    requires known { exclusive ≡ is_exclusive space.now object }
+    ensures { result ≡ refusal_before_room space.now process object options }
 {
-    let exclusive = space.store.is_exclusive(object);
     if options.exclusive && !exclusive {
         return Some(Status::InvalidParameter);
     }
@@ -81,7 +113,7 @@ fn early_refusal<T: TypeSet, H: HandleTable>(
     if exclusive && space.processes.has_other_holder(process, object) {
         return Some(Status::AccessDenied);
     }
-    if is_table_full(space, process) {
+    if is_orderless(space) {
         return Some(Status::InsufficientResources);
     }
     None

@@ -1,9 +1,9 @@
 //! The parts of a namespace, and what can be read off them.
 
-ghost use Rattle.std.specs.Prelude.{◌≡◌, ◌||◌, length};
+ghost use Rattle.std.specs.Prelude.{◌≡◌, ◌||◌, nat_lt, length};
 ghost use Rattle.std.specs.Option.{option_and_then};
 ghost use Rattle.ob_base.specs.Handle.{key_of};
-ghost use Rattle.ob_model.specs.State.{is_live, held_of, is_store_full};
+ghost use Rattle.ob_model.specs.State.{is_live, held_of, is_store_full, greatest_number};
 ghost use Rattle.ob_model.specs.PendingOpens.{without_pending};
 ghost use Rattle.ob_model.specs.Grants.{is_table_full};
 ghost use Rattle.ob_model.specs.Creates.{is_stampless};
@@ -110,7 +110,14 @@ pub fn held_of<T: TypeSet, H: HandleTable>(
 pub fn is_table_full<T: TypeSet, H: HandleTable>(space: &Space<T, H>, process: Proc) -> bool
     ensures { result ≡ is_table_full space.now process }
 {
-    space.processes.len_of(process) >= MOST_HANDLES || space.next_order > GREATEST_NUMBER
+    space.processes.len_of(process) >= MOST_HANDLES || is_orderless(space)
+}
+
+/// Whether no order of opening is left.
+pub(crate) fn is_orderless<T: TypeSet, H: HandleTable>(space: &Space<T, H>) -> bool
+    ensures { result ≡ nat_lt greatest_number space.now.next_order }
+{
+    space.next_order > GREATEST_NUMBER
 }
 
 /// Whether no object and no pending open more fits, or no id is left.

@@ -1,6 +1,7 @@
 //! Whether an object is of the type that a command asks for.
 
 ghost use Rattle.std.specs.Prelude.{◌≡◌};
+ghost use Rattle.ob_model.specs.Grants.{is_exclusive};
 ghost use Rattle.ob_model.specs.Types.{is_wanted, is_wanted_at};
 ghost use Rattle.ob_objects.specs.Store.{body_of_stored};
 
@@ -39,5 +40,21 @@ pub fn is_wanted_at<T: TypeSet, H: HandleTable>(
     match space.store.get(id) {
         Some(stored) => is_wanted::<T>(&stored.body, wanted),
         None => false,
+    }
+}
+
+/// Whether an object is there and is of the type that is asked for, and whether it is there and is exclusive.
+pub(crate) fn judge_object<T: TypeSet, H: HandleTable>(
+    space: &Space<T, H>,
+    id: ObjId,
+    wanted: Wanted<T::Kind>,
+) -> (bool, bool)
+    ensures wanted { result.0 ≡ is_wanted_at T.procedures space.now id wanted }
+    ensures exclusive { result.1 ≡ is_exclusive space.now id }
+{
+    stored_is_the_object::<T::Kind, T, T::Face, T::Inner>();
+    match space.store.get(id) {
+        Some(stored) => (is_wanted::<T>(&stored.body, wanted), stored.exclusive),
+        None => (false, false),
     }
 }

@@ -11,8 +11,8 @@ use Rattle.ob_space.proofs.giving.open_at.Goals as goal
 pub returns-clause-step : goal.returns-clause-step
 returns-clause-step g c =
     let s = c.args.space.now in
-    let t = c.give_handle.new.space in
-    IfOk-map _ _ c.give_handle.result
-    (λ reply given. opens_at g.T.TypeSet.procedures s t c.args.process c.args.object c.args.attrs c.args.wanted c.args.status (Done reply) (sym c.is_wanted_at.ensures ∙ c.if-not-is_wanted_at.false)
+    let t = c.give_known.new.space in
+    IfOk-map _ _ c.give_known.result
+    (λ reply given. opens_at g.T.TypeSet.procedures s t c.args.process c.args.object c.args.attrs c.args.wanted c.args.status (Done reply) (sym c.judge_object-fits.ensures.wanted ∙ c.if-not-fits.false)
     (subst (λ (q : GrantOptions). GivesHandle g.T.TypeSet.procedures s c.args.process c.args.object q Opened c.args.status (Done reply) t) c.by-options.ensures given))
-    c.give_handle.ensures.step
+    c.give_known.ensures.step
