@@ -180,10 +180,8 @@ fn show<W: Write>(
         (block.old.items ++ outcome_text number outcome)) }
     ensures capacity { vec_capacity block.old ≤ vec_capacity block.new }
 {
-    match write_outcome(writer, block, number, &outcome) {
-        Ok(()) => Ok(ending_of(number, &outcome)),
-        Err(unwritten) => Err(unwritten),
-    }
+    write_outcome(writer, block, number, &outcome)?;
+    Ok(ending_of(number, &outcome))
 }
 
 // How what became of a line ends the run, where it does.
