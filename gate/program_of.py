@@ -3,9 +3,10 @@
 
 Proved is as the gate does it, by `rt ci`, in a copy without tests and edits: a crate reads the statements alone of those that it stands
 on, which takes less than reading their proofs, and what is proved is kept beside the kit, so that the gate behind it has that much less to do.
-`rt ci` makes no archive of a static library, so that `rt lib` makes it then. What the prover prints goes to a file, whose path is told. What
-was built is then brought into the work tree, as crates/NAME/out/NAME or crates/NAME/out/libNAME.a, and isn't built again while nothing that it
-is made of changes.
+`rt ci` makes no archive of a static library, so that `rt lib` makes it then; where all that it stands on is built in the work tree, as
+behind the gate's `rt ci`, that is all that is proved. What the prover prints goes to a file, whose path is told. What was built is then
+brought into the work tree, as crates/NAME/out/NAME or crates/NAME/out/libNAME.a, and isn't built again while nothing that it is made of
+changes.
 
     gate/program_of.py PROGRAM..
 
@@ -22,9 +23,10 @@ import tempfile
 import time
 from pathlib import Path
 
+import marks
 import quick_rt
 from build import TELLS, in_words, say
-from crates import EDITS, MADE, ROOT, begin_repository, folder_of, is_program, is_static, listed, with_dependencies
+from crates import EDITS, MADE, QUICK_RT, ROOT, begin_repository, below, folder_of, is_program, is_static, listed, with_dependencies, workshop
 
 LOG = ROOT / "out" / "program.log"
 
@@ -72,7 +74,7 @@ def prove(folder, count, log):
     """Runs `rt ci` there, and tells each crate that is done; gives the lines of a run that failed."""
     begun, done, lines = time.monotonic(), 0, []
     how = {"stdin": subprocess.DEVNULL, "stdout": subprocess.PIPE, "stderr": subprocess.STDOUT, "text": True, "errors": "replace"}
-    with subprocess.Popen(["rt", "ci"], cwd=folder, **how) as run:
+    with subprocess.Popen([QUICK_RT, "ci"], cwd=folder, **how) as run:
         for line in run.stdout:
             log.write(line)
             lines.append(line.rstrip("\n"))
@@ -84,32 +86,42 @@ def prove(folder, count, log):
     return [] if run.returncode == 0 else lines
 
 
-def mark_libraries(folder):
-    """Says of each library that `rt ci` made in this repository of what files it is, as `rt lib` does of one that it makes: else that makes all anew."""
-    for crate in quick_rt.loaded_quickly().rtlib.crates_below(str(folder)):
-        made = Path(crate.folder) / MADE / "rlib"
-        if made.is_dir():
-            (made / "stamp").write_text(crate.stamp())
-
-
 def archive(home, log):
-    """Builds the archive of a static library whose proof is done; gives the lines of a run that failed."""
-    mark_libraries(home.parent.parent)
-    run = subprocess.run(["rt", "lib"], cwd=home, stdin=subprocess.DEVNULL, stdout=subprocess.PIPE, stderr=subprocess.STDOUT, text=True, errors="replace", check=False)
+    """Builds the archive of a static library over libraries that are marked; gives the lines of a run that failed."""
+    run = subprocess.run([QUICK_RT, "lib"], cwd=home, stdin=subprocess.DEVNULL, stdout=subprocess.PIPE, stderr=subprocess.STDOUT, text=True, errors="replace", check=False)
     log.write(run.stdout)
     return [] if run.returncode == 0 else run.stdout.splitlines() or ["rt lib failed"]
+
+
+def stands_on_built(program):
+    """Whether all that a program stands on is built in the work tree, of today's files."""
+    known = {crate.name: crate for crate in quick_rt.loaded_quickly().rtlib.crates_below(str(ROOT))}
+    return all(known[crate].is_built() for crate in below(program))
+
+
+def made_anew(program, room, log):
+    """Proves a program or a static library and all that it stands on, in a repository of their own; gives the crate's folder, and the lines of a run that failed."""
+    folder = room / "repository"
+    count = copied(program, folder)
+    say(f"crates of {program}: {count}; with each the time since the beginning; the prover's own lines go to {LOG}")
+    lines = prove(folder, count, log)
+    home = folder / "crates" / program
+    if is_static(program) and not lines:
+        marks.mark(folder)
+        lines = archive(home, log)
+    return home, lines
 
 
 def make(program):
     """Proves and builds a program or a static library; whether all is proved."""
     LOG.parent.mkdir(exist_ok=True)
-    with tempfile.TemporaryDirectory(prefix="program-") as room, LOG.open("w") as log:
-        folder = Path(room) / "repository"
-        count = copied(program, folder)
-        say(f"crates of {program}: {count}; with each the time since the beginning; the prover's own lines go to {LOG}")
-        lines = prove(folder, count, log)
-        if is_static(program) and not lines:
-            lines = archive(folder / "crates" / program, log)
+    with tempfile.TemporaryDirectory(prefix="program-") as name, LOG.open("w") as log:
+        room = Path(name)
+        if is_static(program) and stands_on_built(program):
+            home = workshop(program, room / "over")
+            lines = archive(home, log)
+        else:
+            home, lines = made_anew(program, room, log)
         if lines:
             told = [line for line in lines if TELLS.search(line)]
             say(*(line[:400] for line in told[-40:] or lines[-40:]))
@@ -117,7 +129,7 @@ def make(program):
             return False
         made = folder_of(program) / MADE
         made.mkdir(exist_ok=True)
-        shutil.copy2(folder / "crates" / program / MADE / name_of(program), made)
+        shutil.copy2(home / MADE / name_of(program), made)
         stamp_of(program).write_text(sum_of(program))
         return True
 

@@ -18,6 +18,7 @@ from pathlib import Path
 import c
 import crates
 import edits
+import marks
 import records
 import refusals
 import rests
@@ -300,6 +301,24 @@ def faults_of_c():
     yield "c: each wrong library is tried", sorted(defined) == sorted(macro for _, macro, _, _ in c.WRONG)
 
 
+def faults_of_marks(folder):
+    """What is taken for a library of today's files otherwise than it should be."""
+    places = [folder / "crates" / crate / crates.MADE / "rlib" for crate in ("ob_low", "ob_small")]
+    for place in places:
+        (place / f"{place.parent.parent.name}.rlib").mkdir(parents=True)
+
+    def built():
+        return [crate.is_built() for crate, _ in marks.libraries_in(folder)]
+
+    before = marks.sum_of(folder)
+    yield "marks: libraries without a mark are none of today's", built() == [False, False]
+    yield "marks: those of one run are marked", marks.mark(folder) == 2 and built() == [True, True]
+    (places[0] / "stamp").unlink()
+    yield "marks: beside one that has a mark none is marked", marks.mark(folder) == 0 and not (places[0] / "stamp").exists()
+    (folder / "crates" / "ob_low" / "src" / "lib.rt").write_text(SOURCE + "// more\n")
+    yield "marks: the sum tells a changed file", marks.sum_of(folder) != before and built() == [False, False]
+
+
 def main():
     failed = passed = 0
     with tempfile.TemporaryDirectory(prefix="gate-") as name:
@@ -310,7 +329,7 @@ def main():
         (folder / "crates.txt").write_text("ob_low:\nob_small: ob_low\n")
         root, crates.ROOT = crates.ROOT, folder
         again()
-        parts = (faults_of_verdicts(), faults_of_edits(folder), faults_of_shown(), faults_of_records(folder), faults_of_carried(folder), faults_of_refusals(), faults_of_documents(root), faults_of_c())
+        parts = (faults_of_verdicts(), faults_of_edits(folder), faults_of_shown(), faults_of_records(folder), faults_of_carried(folder), faults_of_refusals(), faults_of_documents(root), faults_of_c(), faults_of_marks(folder))
         for part in parts:
             for shows, is_well in part:
                 passed, failed = passed + is_well, failed + (not is_well)

@@ -50,7 +50,10 @@ case $(rt version) in
     rattle-kit-13[a-e]*) rt=gate/quick_rt.py ;;
     *) rt=rt ;;
 esac
+sum=$(gate/marks.py)
 part ci "$rt" ci
+# so that the library for C is built over what was proved just now
+gate/marks.py "$sum"
 gather selftest records
 # what has no record is tried here; a record that is made so belongs to what is committed next
 for folder in wrong definitions; do
