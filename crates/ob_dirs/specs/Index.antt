@@ -4,15 +4,27 @@
 use Rattle.std.specs.Prelude.{◌≡◌, ℕ, ◌==◌, Bool, if◌then◌else◌, List, [], ◌∷◌, Option, None, Some, nat_eq, unwrap_or, filter, map}
 use Rattle.std.specs.Map.{values_of}
 use Rattle.std.specs.Option.{option_map, option_or}
-use Rattle.indexmap.specs.IndexMap.{get}
+use Rattle.std.specs.declared.alloc.Global.{Global}
+use Rattle.std.specs.declared.boxed.Box.{Box}
+use Rattle.indexmap.specs.IndexMap.{IndexMap, get}
+use Rattle.smallvec.specs.SmallVec.{SmallVec}
 use Rattle.ob_dirs.specs.declared.entry.DirEntry.{DirEntry}
 use Rattle.ob_dirs.specs.declared.index.NameIndex.{NameIndex}
 use Rattle.ob_dirs.specs.Dir.{IsDir, is_named}
 use Rattle.ob_dirs.specs.Hashes.{name_hash}
 
+-- the stamps under a hash among these
+abbrev pub stamps_in : {S : Type 0} → IndexMap ℕ (SmallVec ℕ) S → ℕ → List ℕ
+stamps_in buckets hash = unwrap_or (option_map (λ stamps. stamps.items) (get nat_eq buckets hash)) []
+
+-- the same, where there are any
+abbrev pub stamps_kept : {S : Type 0} → Option (Box (IndexMap ℕ (SmallVec ℕ) S) Global) → ℕ → List ℕ
+stamps_kept None hash = []
+stamps_kept (Some buckets) hash = stamps_in buckets.value hash
+
 -- the stamps under a hash
 abbrev pub stamps_under : NameIndex → ℕ → List ℕ
-stamps_under index hash = unwrap_or (option_map (λ stamps. stamps.items) (get nat_eq index.buckets hash)) []
+stamps_under index hash = stamps_kept index.buckets hash
 
 -- of these entries, the stamps of those whose names have the hash
 abbrev pub stamps_hashed : List DirEntry → ℕ → List ℕ

@@ -4,17 +4,22 @@ ghost use Rattle.std.specs.Prelude.{◌≡◌, ◌==◌, [], ◌∷◌, ◌++◌
 ghost use Rattle.std.specs.List.{position};
 ghost use Rattle.std.specs.Set.{remove_key};
 ghost use Rattle.ob_dirs.specs.Hashes.{name_hash, mixed};
-ghost use Rattle.ob_dirs.specs.Index.{stamps_under};
+ghost use Rattle.ob_dirs.specs.Index.{stamps_in, stamps_under};
 
 use indexmap::IndexMap;
 use smallvec::SmallVec;
 use std::alloc::{AllocError, Global};
 
+/// The stamps under each hash.
+type Buckets = IndexMap<u64, SmallVec<u64, 1>>;
+
 /// The stamps of entries under the hashes of their names, each list in the order in which they were
-/// put there; no list is kept empty. (this profile)
+/// put there; no list is kept empty. The lists lie behind a pointer, which is made with the first stamp: most
+/// objects that are directories have no name in them. (this profile)
 #[derive(Debug, Drop)]
 pub(crate) struct NameIndex {
-    buckets: IndexMap<u64, SmallVec<u64, 1>>,
+    buckets: Option<Box<Buckets>>,
+    alloc: Global,
 }
 
 impl NameIndex {
@@ -23,7 +28,8 @@ impl NameIndex {
         ensures { (hash : ℕ) → stamps_under result hash ≡ [] }
     {
         NameIndex {
-            buckets: IndexMap::new(alloc),
+            buckets: None,
+            alloc,
         }
     }
 
@@ -31,8 +37,8 @@ impl NameIndex {
     pub(crate) fn stamps_under(&self, hash: u64) -> &[u64]
         ensures { result.now ≡ stamps_under self.now hash }
     {
-        match self.buckets.get(&hash) {
-            Some(stamps) => stamps.as_slice(),
+        match &self.buckets {
+            Some(buckets) => stamps_in(buckets, hash),
             None => &[],
         }
     }
@@ -45,13 +51,12 @@ impl NameIndex {
         ensures unchanged { OnErr result ((h : ℕ)
             → stamps_under self.new h ≡ stamps_under self.old h) }
     {
-        if let Some(stamps) = self.buckets.get_mut(&hash) {
-            stamps.push(stamp)?;
-            return Ok(());
+        if let Some(buckets) = &mut self.buckets {
+            return add_to(buckets, hash, stamp);
         }
-        let mut stamps = SmallVec::new(*self.buckets.allocator());
-        stamps.push(stamp)?;
-        self.buckets.insert(hash, stamps)?;
+        let mut buckets = Box::new(self.alloc, IndexMap::new(self.alloc))?;
+        add_to(&mut buckets, hash, stamp)?;
+        self.buckets = Some(buckets);
         Ok(())
     }
 
@@ -61,12 +66,50 @@ impl NameIndex {
             ≡ (if hash == h then remove_key (λ s. s == stamp) (stamps_under self.old h)
             else stamps_under self.old h) }
     {
-        let Some(stamps) = self.buckets.get_mut(&hash) else {
-            return;
-        };
-        if take_from(stamps, stamp) {
-            self.buckets.swap_remove(&hash);
+        if let Some(buckets) = &mut self.buckets {
+            take_of(buckets, hash, stamp);
         }
+    }
+}
+
+// The stamps under a hash among these.
+fn stamps_in(buckets: &Buckets, hash: u64) -> &[u64]
+    ensures { result.now ≡ stamps_in buckets.now hash }
+{
+    match buckets.get(&hash) {
+        Some(stamps) => stamps.as_slice(),
+        None => &[],
+    }
+}
+
+// Puts a stamp under a hash among these, behind those that are there. Where memory is wanted nothing has changed.
+fn add_to(buckets: &mut Buckets, hash: u64, stamp: u64) -> Result<(), AllocError>
+    ensures last { OnOk result ((h : ℕ) → stamps_in buckets.new h
+        ≡ (if hash == h then stamps_in buckets.old h ++ stamp ∷ []
+        else stamps_in buckets.old h)) }
+    ensures unchanged { OnErr result ((h : ℕ) → stamps_in buckets.new h ≡ stamps_in buckets.old h) }
+{
+    if let Some(stamps) = buckets.get_mut(&hash) {
+        stamps.push(stamp)?;
+        return Ok(());
+    }
+    let mut stamps = SmallVec::new(*buckets.allocator());
+    stamps.push(stamp)?;
+    buckets.insert(hash, stamps)?;
+    Ok(())
+}
+
+// Takes a stamp away from under a hash among these, the first where it is there more than once.
+fn take_of(buckets: &mut Buckets, hash: u64, stamp: u64)
+    ensures { (h : ℕ) → stamps_in buckets.new h
+        ≡ (if hash == h then remove_key (λ s. s == stamp) (stamps_in buckets.old h)
+        else stamps_in buckets.old h) }
+{
+    let Some(stamps) = buckets.get_mut(&hash) else {
+        return;
+    };
+    if take_from(stamps, stamp) {
+        buckets.swap_remove(&hash);
     }
 }
 
