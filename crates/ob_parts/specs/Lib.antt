@@ -1,5 +1,6 @@
-pub mod Text
 pub mod Flags
 pub mod Kinds
 pub mod Pages
 pub mod Parts
+pub mod Plain
+pub mod Text

@@ -3,6 +3,7 @@
 ghost use Rattle.std.specs.Prelude.{◌≡◌, ◌<◌, ◌↔◌, ◌+◌, ℕ, List, length, IsTrue, IfSome, IfNone, IfOk};
 ghost use Rattle.std.specs.Char.{digit_value};
 ghost use Rattle.std.specs.List.{AllByRecursion};
+ghost use Rattle.ob_parts.specs.Plain.{is_plain};
 ghost use Rattle.ob_parts.specs.Text.{IsWord, IsProcessWord, IsPlain, IsHexDigit, SpellsByte, WritesByte, Spells, IsText, TextsSpellOneThing};
 
 use crate::split::split_at;
@@ -82,16 +83,18 @@ pub fn is_text(bytes: &[u8]) -> bool
     is_text_with_escapes(bytes)
 }
 
-// Whether each byte stands for itself.
+// Whether each byte stands for itself. Most texts are such: all bytes are looked at, without a branch for each.
 fn are_plain(bytes: &[u8]) -> bool
     ensures { IsTrue result ↔ AllByRecursion IsPlain bytes.now }
 {
-    bytes.iter().all(|byte| is_plain(*byte))
+    bytes
+        .iter()
+        .fold(true, |plain, byte| plain & is_plain(*byte))
 }
 
 // Whether a byte stands for itself.
 fn is_plain(byte: u8) -> bool
-    ensures { IsTrue result ↔ IsPlain byte }
+    ensures { result ≡ is_plain byte }
 {
     0x20 <= byte && byte <= 0x7E && byte != b'"' && byte != b'%'
 }
