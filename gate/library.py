@@ -66,7 +66,7 @@ def merge(archives, source, made):
 
 def make(prefix):
     """Makes the three files; whether that was possible."""
-    if not program_of.is_built(CRATE) and not program_of.make(CRATE):
+    if not any(way(CRATE) for way in (program_of.is_built, program_of.take, program_of.make)):
         return False
     OUT.mkdir(exist_ok=True)
     if not merge([folder_of(CRATE) / MADE / program_of.name_of(CRATE), kit() / OF_KIT], ROOT / "lib" / "ntns.c", ARCHIVE):

@@ -5,8 +5,8 @@ Proved is as the gate does it, by `rt ci`, in a copy without tests and edits: a 
 on, which takes less than reading their proofs, and what is proved is kept beside the kit, so that the gate behind it has that much less to do.
 `rt ci` makes no archive of a static library, so that `rt lib` makes it then; where all that it stands on is built in the work tree, as
 behind the gate's `rt ci`, that is all that is proved. What the prover prints goes to a file, whose path is told. What was built is then
-brought into the work tree, as crates/NAME/out/NAME or crates/NAME/out/libNAME.a, and isn't built again while nothing that it is made of
-changes.
+brought into the work tree, as crates/NAME/out/NAME or crates/NAME/out/libNAME.a, and isn't built again on this machine while nothing that it
+is made of changes (`gate/keeping.py` says where it is kept).
 
     gate/program_of.py PROGRAM..
 
@@ -23,6 +23,7 @@ import tempfile
 import time
 from pathlib import Path
 
+import keeping
 import marks
 import quick_rt
 from build import TELLS, in_words, say
@@ -112,6 +113,21 @@ def made_anew(program, room, log):
     return home, lines
 
 
+def put(program, made):
+    """Puts what was built into the work tree."""
+    folder = folder_of(program) / MADE
+    keeping.put(made, folder / name_of(program))
+    stamp_of(program).write_text(sum_of(program))
+
+
+def take(program):
+    """Takes what was built of these files on this machine; whether there is any."""
+    entry = keeping.Shelf(keeping.home()).take(f"{program}-built", sum_of(program))
+    if entry:
+        put(program, entry / "made" / name_of(program))
+    return bool(entry)
+
+
 def make(program):
     """Proves and builds a program or a static library; whether all is proved."""
     LOG.parent.mkdir(exist_ok=True)
@@ -127,10 +143,8 @@ def make(program):
             say(*(line[:400] for line in told[-40:] or lines[-40:]))
             say(f"{program} is not proved; all that the prover printed stands in {LOG}")
             return False
-        made = folder_of(program) / MADE
-        made.mkdir(exist_ok=True)
-        shutil.copy2(home / MADE / name_of(program), made)
-        stamp_of(program).write_text(sum_of(program))
+        put(program, home / MADE / name_of(program))
+        keeping.Shelf(keeping.home()).keep(f"{program}-built", sum_of(program), {name_of(program): home / MADE / name_of(program)}, "")
         return True
 
 
@@ -138,7 +152,7 @@ def main():
     parser = argparse.ArgumentParser(description="Proves programs and static libraries and all that they stand on, and builds them.")
     parser.add_argument("programs", nargs="+", metavar="PROGRAM", choices=[it for it in listed() if is_program(it) or is_static(it)])
     words = parser.parse_args()
-    return 0 if all(is_built(program) or make(program) for program in words.programs) else 1
+    return 0 if all(is_built(program) or take(program) or make(program) for program in words.programs) else 1
 
 
 if __name__ == "__main__":

@@ -14,10 +14,12 @@ import shutil
 import sys
 import tempfile
 from pathlib import Path
+from types import SimpleNamespace
 
 import c
 import crates
 import edits
+import keeping
 import marks
 import records
 import refusals
@@ -319,6 +321,99 @@ def faults_of_marks(folder):
     yield "marks: the sum tells a changed file", marks.sum_of(folder) != before and built() == [False, False]
 
 
+class Judge:
+    """In place of `rt` as a module: two libraries, the second over the first, of whose proofs and edits it is noted that they were tried."""
+
+    def __init__(self, folder):
+        self.KIT, self.__file__, self.rtlib = str(folder), str(folder / "rt"), SimpleNamespace(__file__=str(folder / "rt"))
+        self.files, self.tried, self.refuses, self.crates = {"low": "1", "high": "1"}, [], True, {}
+        judge = self
+
+        class Crate:
+            """A library."""
+
+            allowed = ()
+
+            def __init__(self, name, deps):
+                self.name, self.deps, self.folder, self.out = name, deps, str(folder / name), None
+                self.rlib = f"{self.folder}/out/rlib/{name}.rlib"
+
+            def below(self):
+                """The libraries that it stands on."""
+                return self.deps
+
+            def makes_rlib(self):
+                """It is no program."""
+                return True
+
+            def stamp(self):
+                """The sum of its files, and of those below."""
+                return repr([judge.files[it.name] for it in [self, *self.deps]])
+
+            def ci(self, _, tests):
+                """Proves it, where its files say nothing else."""
+                judge.tried.append((self.name, tests))
+                Path(self.rlib).mkdir(parents=True, exist_ok=True)
+                (Path(self.rlib) / "made").write_text(self.stamp())
+                return judge.files[self.name] == "wrong"
+
+        self.Crate = Crate
+        low = Crate("low", [])
+        self.crates = {"low": low, "high": Crate("high", [low])}
+
+    def say(self, *_):
+        """Nothing is told."""
+
+    def must_fail_all(self, crate, edits, _):
+        """Tries edits."""
+        self.tried.append((crate.name, len(edits)))
+        return [(self.refuses, "told") for _ in edits]
+
+    def run(self, shelf):
+        """What is tried of both, by an `rt` that begins anew."""
+        fresh = Judge(Path(self.KIT))
+        fresh.files, fresh.refuses = self.files, self.refuses
+        keeping.keep_passes(fresh, shelf)
+        for crate in fresh.crates.values():
+            shutil.rmtree(f"{crate.folder}/out", ignore_errors=True)
+            if fresh.Crate.ci(crate, [], False) == 0:
+                fresh.must_fail_all(crate, [f"{self.KIT}/edit"], [])
+        return fresh.tried
+
+
+def faults_of_keeping(folder):
+    """What is taken for passed otherwise than it should be."""
+    room, shelf = folder / "judge", folder / "shelf"
+    room.mkdir()
+    for file in ("rt", "KIT-ID", "edit"):
+        (room / file).write_text("1")
+    judge = Judge(room)
+    both = [("low", False), ("low", 1), ("high", False), ("high", 1)]
+    yield "keeping: nothing is kept at first", judge.run(shelf) == both
+    yield "keeping: what passed is taken", judge.run(shelf) == [] and (room / "high/out/rlib/high.rlib/made").read_text() == "['1', '1']"
+    yield "keeping: by no other folder", judge.run(folder / "other") == both
+    judge.files["high"] = "2"
+    yield "keeping: a crate that changed is tried", judge.run(shelf) == both[2:]
+    judge.files["high"] = "1"
+    yield "keeping: what passed before that is taken", judge.run(shelf) == []
+    (room / "edit").write_text("2")
+    yield "keeping: an edit that changed is tried", judge.run(shelf) == [("low", 1), ("high", 1)]
+    judge.files["low"] = "2"
+    yield "keeping: what stands on a changed crate is tried", judge.run(shelf) == both
+    judge.files["high"] = "wrong"
+    yield "keeping: what failed is not kept", judge.run(shelf) == judge.run(shelf) == [("high", False)]
+    judge.files["high"], judge.refuses = "3", False
+    yield "keeping: nor are edits that weren't refused", judge.run(shelf) == both[2:] and judge.run(shelf) == both[3:]
+    (room / "rt").write_text("2")
+    yield "keeping: another rt takes nothing", judge.run(shelf) == both
+    yield "keeping: of each crate two stay", {len(list(it.iterdir())) for it in shelf.iterdir()} == {2}
+    file = room / "made"
+    file.write_text("a program")
+    keeping.Shelf(shelf).keep("program-built", "sum", {"program": file}, "")
+    yield "keeping: a program is given by its sum", (keeping.Shelf(shelf).take("program-built", "sum") / "made" / "program").read_text() == "a program"
+    yield "keeping: and by no other", not keeping.Shelf(shelf).take("program-built", "other") and not keeping.Shelf(None).take("program-built", "sum")
+
+
 def main():
     failed = passed = 0
     with tempfile.TemporaryDirectory(prefix="gate-") as name:
@@ -329,7 +424,7 @@ def main():
         (folder / "crates.txt").write_text("ob_low:\nob_small: ob_low\n")
         root, crates.ROOT = crates.ROOT, folder
         again()
-        parts = (faults_of_verdicts(), faults_of_edits(folder), faults_of_shown(), faults_of_records(folder), faults_of_carried(folder), faults_of_refusals(), faults_of_documents(root), faults_of_c(), faults_of_marks(folder))
+        parts = (faults_of_verdicts(), faults_of_edits(folder), faults_of_shown(), faults_of_records(folder), faults_of_carried(folder), faults_of_refusals(), faults_of_documents(root), faults_of_c(), faults_of_marks(folder), faults_of_keeping(folder))
         for part in parts:
             for shows, is_well in part:
                 passed, failed = passed + is_well, failed + (not is_well)
