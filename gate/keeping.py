@@ -135,7 +135,7 @@ class Kept:
 
     def refusals(self, crate, edits, tried):
         """What is said of a crate's edits: what was said where all were refused before, else what `tried` gives."""
-        if any(it.name not in self.rlibs for it in crate.below()):
+        if not edits or any(it.name not in self.rlibs for it in crate.below()):
             return tried()
         key = self.key(crate, "edits", [(Path(it).name, Path(it).read_text(errors="replace")) for it in edits])
         entry = self.shelf.take(f"{crate.name}-edits", key)
