@@ -1,16 +1,18 @@
 -- Numbers of words, and the tables that keep them.
 use Rattle.std.proofs.Common.{◌≡◌, ℕ, zero, suc, ◌+◌, ◌<◌, ◌≤◌, Bool, true, false, not, cond, List, [], ◌∷◌, length, inl, inr, Option, Some, None, Result, Ok, Err, MatchResult, IfOk, is_some, sym, ap, ◌∙◌, refl, subst, arith}
 use Rattle.std.specs.Prelude.{unwrap_or}
-use Rattle.std.specs.List.{AllZip, position, position_or_len, slice_get}
+use Rattle.std.specs.List.{AllByRecursion, AllZip, IsDistinct, position, position_or_len, slice_get}
 use Rattle.std.specs.Map.{lookup, keys_of, values_of}
 use Rattle.std.specs.Str.{bytes_eq}
 use Rattle.std.specs.declared.vec.Vec.{Vec}
 use Rattle.std.specs.declared.alloc.Global.{Global}
+use Rattle.std.proofs.lemmas.Bool.{true≢false}
+use Rattle.std.proofs.lemmas.Map.Keys.{IsDistinct-head, IsDistinct-tail}
 use Rattle.std.proofs.lemmas.Slice.Eq.{bytes_eq-Decides}
 use Rattle.indexmap.specs.IndexMap.{IndexMap, insert_entry, set_value_at}
 use Rattle.indexmap.proofs.MapLemmas.{Found-position}
 use Rattle.ob_requests.specs.Words.{with_number}
-use Rattle.ob_requests.specs.Tables.{number_among, number_or, IsAt, IsKept}
+use Rattle.ob_requests.specs.Tables.{number_among, number_or, IsIn, IsSlotOf, IsKept}
 
 abbrev Entries : Type 0 → Type 0
 Entries N = List (Vec ℕ Global × N)
@@ -20,6 +22,12 @@ is_word word key = bytes_eq word key.items
 
 abbrev same_key : Vec ℕ Global → Vec ℕ Global → Bool
 same_key x y = bytes_eq x.items y.items
+
+-- the word's first entry is the one of this slot
+abbrev IsAt : {N : Type 0} → Entries N → ℕ → List ℕ → Type 0
+IsAt [] slot word = ⊥
+IsAt (entry ∷ entries) zero word = bytes_eq word entry.0.items ≡ true
+IsAt (entry ∷ entries) (suc slot) word = (bytes_eq word entry.0.items ≡ false) × IsAt entries slot word
 
 -- tests of bytes
 pub same_bytes : (xs ys : List ℕ) → bytes_eq xs ys ≡ true → xs ≡ ys
@@ -85,6 +93,45 @@ module _ {N : Type 0} where
       go true q h = picks_equal (bytes_eq k.items w) (bytes_eq w e.0.items) v e.1 (lookup (is_word w) es) (alike k.items w e.0.items q)
       go false q h = rw h (picks_apart (bytes_eq k.items w) (bytes_eq w e.0.items) v e.1 (lookup (is_word w) es) (apart k.items w e.0.items q))
 
+  -- a key that stands behind another one is not the same
+  not_later : (key : Vec ℕ Global) (es : Entries N) (slot : ℕ) (e : Vec ℕ Global × N) → AllByRecursion (λ k. same_key key k ≡ false) (keys_of es) → slice_get es slot ≡ Some e
+      → same_key key e.0 ≡ false
+  not_later key [] slot e all at = absurd (true≢false (sym (ap is_some at)))
+  not_later key (x ∷ es) zero e all at = ap (λ (o : Option (Vec ℕ Global × N)). same_key key (unwrap_or o x).0) (sym at) ∙ all.0
+  not_later key (x ∷ es) (suc slot) e all at = not_later key es slot e all.1 at
+
+  -- the entry of a word is its first, where no two keys are the same
+  first_in : (es : Entries N) (slot : ℕ) (word : List ℕ) (e : Vec ℕ Global × N) → IsDistinct same_key (keys_of es) → slice_get es slot ≡ Some e → bytes_eq word e.0.items ≡ true
+      → IsAt es slot word
+  first_in [] slot word e distinct at is = absurd (true≢false (sym (ap is_some at)))
+  first_in (x ∷ es) zero word e distinct at is = ap (λ (o : Option (Vec ℕ Global × N)). bytes_eq word (unwrap_or o x).0.items) at ∙ is
+  first_in (x ∷ es) (suc slot) word e distinct at is =
+      (other (bytes_eq word x.0.items) refl, first_in es slot word e (IsDistinct-tail same_key x.0 (keys_of es) distinct) at is)
+    where
+      later : same_key x.0 e.0 ≡ false
+      later = not_later x.0 es slot e (IsDistinct-head same_key x.0 (keys_of es) distinct) at
+
+      other : (b : Bool) → bytes_eq word x.0.items ≡ b → bytes_eq word x.0.items ≡ false
+      other true q = absurd (apart x.0.items word e.0.items later (own_bytes word e.0.items (same_bytes word e.0.items is)) (own_bytes x.0.items word (sym (same_bytes word x.0.items q))))
+      other false q = q
+
+  -- and its value stands there
+  pub value_there : (es : Entries N) (slot : ℕ) (word : List ℕ) → IsIn es slot word → is_some (slice_get (values_of es) slot) ≡ true
+  value_there [] slot word at = absurd (true≢false (sym (ap is_some at.1)))
+  value_there (x ∷ es) zero word at = refl
+  value_there (x ∷ es) (suc slot) word at = value_there es slot word at
+
+  -- and there is room for the word
+  pub found_in : (es : Entries N) (slot : ℕ) (word : List ℕ) (e : Vec ℕ Global × N) → slice_get es slot ≡ Some e → bytes_eq word e.0.items ≡ true
+      → is_some (lookup (is_word word) es) ≡ true
+  found_in [] slot word e at is = absurd (true≢false (sym (ap is_some at)))
+  found_in (x ∷ es) zero word e at is = ap (λ b. is_some (cond b (Some x.1) (lookup (is_word word) es))) (ap (λ (o : Option (Vec ℕ Global × N)). bytes_eq word (unwrap_or o x).0.items) at ∙ is)
+  found_in (x ∷ es) (suc slot) word e at is = go (bytes_eq word x.0.items) (found_in es slot word e at is)
+    where
+      go : (b : Bool) → is_some (lookup (is_word word) es) ≡ true → is_some (cond b (Some x.1) (lookup (is_word word) es)) ≡ true
+      go true later = refl
+      go false later = later
+
   same_values : (f g : List ℕ → N) → ((w : List ℕ) → f w ≡ g w) → f ≡ g
   same_values f g h = λ i w. h w i
 
@@ -93,18 +140,31 @@ module _ {N : Type 0} where
     chosen true v o = refl
     chosen false v o = refl
 
-    -- a slot that is set sets its word
-    pub set_values : {S : Type 0} (m n : IndexMap (Vec ℕ Global) N S) (slot : ℕ) (word : List ℕ) (v : N) → n.entries ≡ set_value_at m.entries slot v → IsAt m.entries slot word
-        → number_or none n ≡ with_number (number_or none m) word v
-    set_values {S} m n slot word v e at = same_values _ _ (λ w.
-        ap (λ (es : Entries N). number_among none es w) e
-        ∙ (ap (λ (o : Option N). unwrap_or o none) (lookup_set m.entries slot word v w at) ∙ chosen (bytes_eq word w) v (lookup (is_word w) m.entries)))
-
-    -- a word that is added without a number leaves all numbers as they were
     none_found : (o : Option N) → is_some o ≡ false → unwrap_or o none ≡ none
     none_found None e = refl
     none_found (Some x) e = cc
 
+    -- a slot that is set sets its word
+    pub set_values : {S : Type 0} (m n : IndexMap (Vec ℕ Global) N S) (slot : ℕ) (word : List ℕ) (v : N) → n.entries ≡ set_value_at m.entries slot v
+        → IsDistinct same_key (keys_of m.entries) → IsIn m.entries slot word → number_or none n ≡ with_number (number_or none m) word v
+    set_values {S} m n slot word v e distinct is_in = same_values _ _ (λ w.
+        ap (λ (es : Entries N). number_among none es w) e
+        ∙ (ap (λ (o : Option N). unwrap_or o none) (lookup_set m.entries slot word v w (first_in m.entries slot word is_in.0 distinct is_in.1 is_in.2))
+        ∙ chosen (bytes_eq word w) v (lookup (is_word w) m.entries)))
+
+    -- the number of the entry that stands in a word's slot is the word's
+    pub number_found : (es : Entries N) (key : Vec ℕ Global) (word : List ℕ) (v : N) → key.items ≡ word → lookup (same_key key) es ≡ Some v → v ≡ number_among none es word
+    number_found es key word v same found = sym (ap (λ (o : Option N). unwrap_or o none) (ap (λ w. lookup (is_word w) es) (sym same) ∙ found))
+
+    -- a word without room has no number
+    pub none_given_up : (es : Entries N) (word : List ℕ) → is_some (lookup (is_word word) es) ≡ false → number_among none es ≡ with_number (number_among none es) word none
+    none_given_up es word unknown = same_values _ _ (λ w. go w (bytes_eq word w) refl)
+      where
+        go : (w : List ℕ) (b : Bool) → bytes_eq word w ≡ b → number_among none es w ≡ cond b none (number_among none es w)
+        go w true q = rw (sym (same_bytes word w q)) (none_found (lookup (is_word word) es) unknown)
+        go w false q = refl
+
+    -- a word that is added without a number leaves all numbers as they were
     pub added_values : {S : Type 0} (m n : IndexMap (Vec ℕ Global) N S) (k : Vec ℕ Global) (word : List ℕ) → n.entries ≡ insert_entry same_key m.entries k none → k.items ≡ word
         → is_some (lookup (is_word word) m.entries) ≡ false → number_or none n ≡ number_or none m
     added_values {S} m n k word e same unknown = same_values _ _ (λ w.
@@ -126,9 +186,21 @@ module _ {N : Type 0} where
       let more = at_more (bytes_eq word e.0.items) (position_or_len (is_word word) (keys_of es)) slot p in
       (more.0, at_first es slot word more.1 (omega arith))
 
-  pub at_found : (es : Entries N) (slot : ℕ) (word : List ℕ) → position (is_word word) (keys_of es) ≡ Some slot → IsAt es slot word
+  in_first : (es : Entries N) (slot : ℕ) (word : List ℕ) → IsAt es slot word → IsIn es slot word
+  in_first [] slot word at = absurd at
+  in_first (e ∷ es) zero word at = (e, refl, at)
+  in_first (e ∷ es) (suc slot) word at = in_first es slot word at.1
+
+  pub at_found : (es : Entries N) (slot : ℕ) (word : List ℕ) → position (is_word word) (keys_of es) ≡ Some slot → IsIn es slot word
   at_found es slot word p =
-      let found = Found-position (is_word word) es slot p in at_first es slot word found.or_len found.within
+      let found = Found-position (is_word word) es slot p in in_first es slot word (at_first es slot word found.or_len found.within)
+
+module _ {S N : Type 0} where
+  -- what a search for a word gives is where it stands
+  pub slot_found : (m : IndexMap (Vec ℕ Global) N S) (word : List ℕ) (r : Option ℕ) → r ≡ position (is_word word) (keys_of m.entries)
+      → is_some r ≡ is_some (lookup (is_word word) m.entries) → IsSlotOf m word r
+  slot_found m word None at found = sym found
+  slot_found m word (Some slot) at found = at_found m.entries slot word (sym at)
 
 -- ---- a copy
 

@@ -1,7 +1,7 @@
 -- Tables: how the numbers of words are kept.
 --
 -- Source: this profile.
-use Rattle.std.specs.Prelude.{◌≡◌, ◌⊎◌, ℕ, zero, suc, Bool, true, false, List, [], ◌∷◌, Option, MatchOption, unwrap_or}
+use Rattle.std.specs.Prelude.{◌≡◌, ◌⊎◌, ℕ, Bool, true, false, List, Option, None, Some, MatchOption, slice_get, unwrap_or}
 use Rattle.std.specs.BTreeMap.{is_at}
 use Rattle.std.specs.Map.{lookup}
 use Rattle.std.specs.Option.{is_some, option_map_or}
@@ -19,6 +19,10 @@ module _ {N : Type 0} where
   abbrev pub number_among : N → List (Vec ℕ Global × N) → List ℕ → N
   number_among none entries word = unwrap_or (lookup (λ key. bytes_eq word key.items) entries) none
 
+  -- the entry of a word stands in this slot
+  abbrev pub IsIn : List (Vec ℕ Global × N) → ℕ → List ℕ → Type 0
+  IsIn entries slot word = (entry : Vec ℕ Global × N) × (slice_get entries slot ≡ Some entry) × (bytes_eq word entry.0.items ≡ true)
+
 module _ {S N : Type 0} where
   -- the numbers that words have in a table, and `none` where they have none
   abbrev pub number_or : N → IndexMap (Vec ℕ Global) N S → List ℕ → N
@@ -27,6 +31,11 @@ module _ {S N : Type 0} where
   -- there is room for a word
   abbrev pub has_word : IndexMap (Vec ℕ Global) N S → List ℕ → Bool
   has_word table word = is_some (lookup (λ key. bytes_eq word key.items) table.entries)
+
+  -- where a word stands: its slot, or none where there is no room for it
+  abbrev pub IsSlotOf : IndexMap (Vec ℕ Global) N S → List ℕ → Option ℕ → Type 0
+  IsSlotOf table word None = has_word table word ≡ false
+  IsSlotOf table word (Some slot) = IsIn table.entries slot word
 
   -- the table of a process
   abbrev pub table_at : List (ℕ × IndexMap (Vec ℕ Global) N S) → ℕ → Option (IndexMap (Vec ℕ Global) N S)
@@ -62,12 +71,6 @@ words_in words = record {
   contexts = numbers_or 0 words.contexts;
   tickets = numbers_or 0 words.tickets;
 }
-
--- the word's first entry is the one of this slot
-abbrev pub IsAt : {N : Type 0} → List (Vec ℕ Global × N) → ℕ → List ℕ → Type 0
-IsAt [] slot word = ⊥
-IsAt (entry ∷ entries) zero word = bytes_eq word entry.0.items ≡ true
-IsAt (entry ∷ entries) (suc slot) word = (bytes_eq word entry.0.items ≡ false) × IsAt entries slot word
 
 -- A number was kept by a test, which may say this of it: it stays where it passes, and is 0 where it
 -- doesn't; the number 0 isn't asked for.

@@ -13,6 +13,8 @@ use std::collections::BTreeMap;
 pub struct WordTables<N> {
     /// The words of each process, by its number. A process without a table has no word that was set.
     pub tables: BTreeMap<u32, Table<N>>,
+    // The slot of the word that was set last, or given room, in the table of its process: a word is looked for there first.
+    recent: usize,
 }
 
 impl<N: Copy> WordTables<N> {
@@ -22,6 +24,7 @@ impl<N: Copy> WordTables<N> {
     {
         WordTables {
             tables: BTreeMap::new(alloc),
+            recent: 0,
         }
     }
 
@@ -30,7 +33,7 @@ impl<N: Copy> WordTables<N> {
         ensures { result ≡ numbers_or none self.now process word.now }
     {
         match self.tables.get(&process) {
-            Some(table) => number_of(table, word, none),
+            Some(table) => number_of(table, self.recent, word, none),
             None => none,
         }
     }
@@ -62,7 +65,8 @@ impl<N: Copy> WordTables<N> {
         let Some(table) = self.tables.get_mut(&process) else {
             unreachable!();
         };
-        room_for(alloc, table, word, none)
+        self.recent = room_for(alloc, table, self.recent, word, none)?;
+        Ok(())
     }
 
     // Sets a word of a process, for which there is room. Takes no memory.
@@ -72,7 +76,7 @@ impl<N: Copy> WordTables<N> {
             ≡ with_number_of (numbers_or none self.old) process word.now number }
     {
         if let Some(table) = self.tables.get_mut(&process) {
-            set(table, word, number);
+            self.recent = set(table, self.recent, word, number);
         }
     }
 
@@ -82,7 +86,7 @@ impl<N: Copy> WordTables<N> {
             ≡ with_number_of (numbers_or none self.old) process word.now none }
     {
         if let Some(table) = self.tables.get_mut(&process) {
-            give_up(table, word, none);
+            give_up(table, self.recent, word, none);
         }
     }
 

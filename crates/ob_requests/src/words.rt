@@ -30,6 +30,8 @@ pub struct Words {
     pub contexts: WordTables<u64>,
     /// The ticket of the open that waits under each handle word of each process: 0 where none does.
     pub tickets: WordTables<u64>,
+    // The slot of the process word that was set last, or given room: a process word is looked for there first.
+    recent: usize,
 }
 
 impl Words {
@@ -46,6 +48,7 @@ impl Words {
             handles: WordTables::new(alloc),
             contexts: WordTables::new(alloc),
             tickets: WordTables::new(alloc),
+            recent: 0,
         })
     }
 
@@ -53,7 +56,7 @@ impl Words {
     pub fn process_of(&self, word: &[u8]) -> Proc
         ensures { result ≡ (words_in self.now).processes word.now }
     {
-        Proc(number_of(&self.processes, word, 0))
+        Proc(number_of(&self.processes, self.recent, word, 0))
     }
 
     /// The value of a handle word of a process. Takes no memory.
@@ -87,7 +90,8 @@ impl Words {
         ensures tickets { self.new.tickets ≡ self.old.tickets }
         ensures room { OnOk result (has_word self.new.processes word.now ≡ true) }
     {
-        room_for(self.alloc, &mut self.processes, word, 0)
+        self.recent = room_for(self.alloc, &mut self.processes, self.recent, word, 0)?;
+        Ok(())
     }
 
     /// Sets a process word, for which there is room. Takes no memory.
@@ -98,7 +102,7 @@ impl Words {
         ensures contexts { self.new.contexts ≡ self.old.contexts }
         ensures tickets { self.new.tickets ≡ self.old.tickets }
     {
-        set(&mut self.processes, word, process.0);
+        self.recent = set(&mut self.processes, self.recent, word, process.0);
     }
 
     /// Makes room for the words of a process, which keep their values. The only fault is out of memory.

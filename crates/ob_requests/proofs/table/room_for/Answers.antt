@@ -1,10 +1,14 @@
 -- An entry that is added has the number that the word had.
-use Rattle.std.proofs.Common.{◌≡◌, ◌∙◌, sym, rules}
-use Rattle.ob_requests.proofs.Tables.{added_values}
+use Rattle.std.proofs.Common.{◌≡◌, rules}
+use Rattle.ob_requests.proofs.Tables.{added_values, found_in}
 use Rattle.ob_requests.proofs.table.room_for.Goals as goal
 
-pub returns-in_ok-insert-clause-same : goal.returns-in_ok-insert-clause-same
-returns-in_ok-insert-clause-same g c =
+pub returns-in-Some-clause-room : goal.returns-in-Some-clause-room
+returns-in-Some-clause-room g c =
+    let at = c.in-Some.ensures in
+    found_in c.args.table.now.entries c.in-Some.slot c.args.word.now at.0 at.1 at.2
+
+pub returns-clause-same : goal.returns-clause-same
+returns-clause-same g c =
     let same : c.in_ok-own.own.items ≡ c.args.word.now = search rules in
-    added_values c.args.none c.args.table.now c.insert.new.self c.in_ok-own.own c.args.word.now c.in_ok-insert.ensures.entries same
-    (sym c.contains_key.ensures ∙ c.if-not-contains_key.true)
+    added_values c.args.none c.args.table.now c.insert.new.self c.in_ok-own.own c.args.word.now c.in_ok-insert.ensures.entries same c.in_default.ensures

@@ -6,4 +6,4 @@ use Rattle.ob_requests.proofs.words.Words.set_process.Goals as goal
 pub returns-clause-set : goal.returns-clause-set
 returns-clause-set c =
     process_set (number_in c.args.self.now.processes) (numbers_or 0 c.args.self.now.handles) (numbers_or 0 c.args.self.now.contexts) (numbers_or 0 c.args.self.now.tickets) _
-    c.args.word.now c.process.inside.0 c.args.process c.process.view_is (c.set.ensures 0)
+    c.args.word.now c.process.inside.0 c.args.process c.process.view_is (c.set-self.ensures 0)
