@@ -13,8 +13,9 @@ use std::collections::BTreeMap;
 pub struct WordTables<N> {
     /// The words of each process, by its number. A process without a table has no word that was set.
     pub tables: BTreeMap<u32, Table<N>>,
-    // The slot of the word that was set last, or given room, in the table of its process: a word is looked for there first.
-    recent: usize,
+    /// The slot of the word that was set last, or given room, in the table of its process. A word is looked for there first,
+    /// so that any number gives the same words.
+    pub recent: usize,
 }
 
 impl<N: Copy> WordTables<N> {

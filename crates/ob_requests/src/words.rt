@@ -30,8 +30,9 @@ pub struct Words {
     pub contexts: WordTables<u64>,
     /// The ticket of the open that waits under each handle word of each process: 0 where none does.
     pub tickets: WordTables<u64>,
-    // The slot of the process word that was set last, or given room: a process word is looked for there first.
-    recent: usize,
+    /// The slot of the process word that was set last, or given room. A process word is looked for there first, so that
+    /// any number gives the same words.
+    pub recent: usize,
 }
 
 impl Words {

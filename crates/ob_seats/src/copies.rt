@@ -18,10 +18,18 @@ pub(crate) fn words_for_worker(words: &Words) -> Result<Words, AllocError>
     Ok(Words {
         alloc: words.alloc,
         processes,
-        handles: WordTables { tables: handles },
-        contexts: WordTables { tables: contexts },
+        handles: WordTables {
+            tables: handles,
+            recent: words.handles.recent,
+        },
+        contexts: WordTables {
+            tables: contexts,
+            recent: words.contexts.recent,
+        },
         tickets: WordTables {
             tables: BTreeMap::new(words.alloc),
+            recent: 0,
         },
+        recent: words.recent,
     })
 }
