@@ -6,7 +6,7 @@
 The seconds are those of the prover's processes, looked at once a second while they run, so that a short
 one may be missed: what stands in docs/GATE.md is right to some seconds. A process belongs to the crate that
 its words name; it proves tests where they say `--test`, tries an edit where it works outside the
-repository, and else proves the crate itself.
+repository, and else proves the crate itself. Provers that the command didn't start don't count.
 """
 
 import os
@@ -20,6 +20,9 @@ ROOT = Path(__file__).resolve().parent.parent
 TICKS = os.sysconf("SC_CLK_TCK")
 PHASES = ("proof", "tests", "edits")
 
+# what all that the command starts has in its environment
+MARK = f"GATE_TIMES={os.getpid()}"
+
 
 def seen_of(process):
     """The crate and the phase of a prover's process, and its processor seconds so far."""
@@ -27,9 +30,10 @@ def seen_of(process):
     if not words or not words[0].endswith("/rattle") or "--crate-name" not in words:
         return None
     crate = words[words.index("--crate-name") + 1]
-    folder = Path(os.readlink(process / "cwd"))
-    inside = folder.is_relative_to(ROOT) and not any(word.startswith("/tmp/") for word in words)
-    phase = "edits" if not inside else "tests" if "--test" in words else "proof"
+    if MARK.encode() not in (process / "environ").read_bytes().split(b"\0"):
+        return None
+    is_inside = Path(os.readlink(process / "cwd")).is_relative_to(ROOT)
+    phase = "edits" if not is_inside else "tests" if "--test" in words else "proof"
     fields = (process / "stat").read_text().rpartition(")")[2].split()
     return crate, phase, (int(fields[11]) + int(fields[12])) / TICKS
 
@@ -65,7 +69,7 @@ def main():
         sys.exit("usage: gate/times.py COMMAND..")
     processes = {}
     started = time.monotonic()
-    with subprocess.Popen(sys.argv[1:]) as run:
+    with subprocess.Popen(sys.argv[1:], env=os.environ | dict([MARK.split("=")])) as run:
         while run.poll() is None:
             look(processes)
             time.sleep(1)
