@@ -1,5 +1,5 @@
 /*
- * Times operations of a namespace by calls from C, those that `core_bench` times in Rattle: `bench ROUNDS` makes so many rounds of each, in a namespace of
+ * Times operations of a namespace by calls from C, those that `cores` times in Rattle: `bench ROUNDS` makes so many rounds of each, in a namespace of
  * its own, and prints how many are made a second. A round before these isn't timed. Each call has to be answered as it should be.
  *
  *     cc -std=c11 -O2 -I out clients/bench.c out/libntns.a

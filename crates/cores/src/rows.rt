@@ -1,14 +1,13 @@
-//! The steps that are made, a line each: a name, a colon, the step, and behind a bar what is made before it, between semicolons.
+//! The steps that are made, a line each: a name, a colon, the step, and behind a bar what is made before it.
 //!
-//! A step begins with the process that asks. An absolute name begins with a backslash, a relative one with the value of a handle and a colon, and `-` is
-//! none. Attributes are hexadecimal: 2 inherit, 10 permanent, 20 exclusive, 40 case-insensitive, 80 OPENIF, 100 OPENLINK. The first handle of a
-//! process is 4, the next 8.
+//! What is made before are steps, between semicolons, or `N times` and steps between commas. A step begins with the process that asks. An absolute
+//! name begins with a backslash, a relative one with the value of a handle and a colon, and `-` is none. Attributes are hexadecimal: 2 inherit, 10 permanent,
+//! 20 exclusive, 40 case-insensitive, 80 OPENIF, 100 OPENLINK. The first handle of a process is 4, the next 8.
 //!
-//! `run` runs the parse that an open waits for, and resumes it; `run 32` does so as often. `drop` gives the open up, `dropran` one whose parse was run.
+//! `run` runs the parse that an open waits for, `resume` brings it, and `drop` gives the open up.
 
 /// The rows.
-pub(crate) const ROWS: &'static str = r"
-a directory: 1 dir \A 0 |
+pub(crate) const ROWS: &'static str = r"a directory: 1 dir \A 0 |
 a directory under a root: 1 dir 4:B 0 | 1 dir \A 0
 a directory without a name: 1 dir - 0 |
 a directory that is inherited and permanent: 1 dir \A 12 |
@@ -69,22 +68,22 @@ an open of a file begun: 1 open File \D\x 0 | 1 make Device \D 0 x
 an open of a file begun under a root: 1 open File 4:x 0 | 1 make Device \D 0 x
 an open of a file begun behind a link: 1 open File \L\x 0 | 1 make Device \D 0 x; 1 link \L 0 \D
 an open of a directory begun at a device: 1 opendir \D 0 | 1 make Device \D 0 x
-a resume that ends in a file that was made: run | 1 make Device \D 0 x; 1 open File \D\x 0
-a resume that ends in a file, of a process without handles: run | 1 make Device \D 0 x; 1 new plain; 2 open File \D\x 0
-a resume that ends in a key that was made: run | 1 make Key \K 0 S; 1 open Key \K\S 0
-a resume that ends in the key itself: run | 1 make Key \K 0 S; 1 open Key \K 0
-a resume that ends in a reparse to an event: run | 1 make Key \K 0 L>\E; 1 make Event \E 0; 1 open Event \K\L 0
-a resume that ends in a reparse behind a link: run | 1 make Key \K 0 L>\M\E; 1 link \M 0 \Device; 1 make Event \Device\E 0; 1 open Event \K\L 0
-a resume that ends in a reparse to another parse: run | 1 make Key \K 0 L>\D\x; 1 make Device \D 0 x; 1 open File \K\L 0
-a resume that ends in a reparse to nothing: run | 1 make Key \K 0 L>\E; 1 open Event \K\L 0
-a resume behind 33 parses: run | 1 make Key \K 0 L>\K\L; 1 open Key \K\L 0; run 32
-a resume that the type refuses: run | 1 make Device \D 0 x; 1 open File \D\y 0
-a resume to another type than was asked for: run | 1 make Device \D 0 x; 1 open Event \D\x 0
-a resume behind the close of its device: run | 1 make Device \D 0 x; 1 open File \D\x 0; 1 close 4
-a resume behind the end of its process: run | 1 make Device \D 0 x; 1 new plain; 2 open File \D\x 0; 2 exit
+a resume that ends in a file that was made: resume | 1 make Device \D 0 x; 1 open File \D\x 0; run
+a resume that ends in a file, of a process without handles: resume | 1 make Device \D 0 x; 1 new plain; 2 open File \D\x 0; run
+a resume that ends in a key that was made: resume | 1 make Key \K 0 S; 1 open Key \K\S 0; run
+a resume that ends in the key itself: resume | 1 make Key \K 0 S; 1 open Key \K 0; run
+a resume that ends in a reparse to an event: resume | 1 make Key \K 0 L>\E; 1 make Event \E 0; 1 open Event \K\L 0; run
+a resume that ends in a reparse behind a link: resume | 1 make Key \K 0 L>\M\E; 1 link \M 0 \Device; 1 make Event \Device\E 0; 1 open Event \K\L 0; run
+a resume that ends in a reparse to another parse: resume | 1 make Key \K 0 L>\D\x; 1 make Device \D 0 x; 1 open File \K\L 0; run
+a resume that ends in a reparse to nothing: resume | 1 make Key \K 0 L>\E; 1 open Event \K\L 0; run
+a resume behind 33 parses: resume | 1 make Key \K 0 L>\K\L; 1 open Key \K\L 0; 32 times run, resume; run
+a resume that the type refuses: resume | 1 make Device \D 0 x; 1 open File \D\y 0; run
+a resume to another type than was asked for: resume | 1 make Device \D 0 x; 1 open Event \D\x 0; run
+a resume behind the close of its device: resume | 1 make Device \D 0 x; 1 open File \D\x 0; 1 close 4; run
+a resume behind the end of its process: resume | 1 make Device \D 0 x; 1 new plain; 2 open File \D\x 0; 2 exit; run
 an open given up: drop | 1 make Device \D 0 x; 1 open File \D\x 0
 an open given up that holds its device: drop | 1 make Device \D 0 x; 1 open File \D\x 0; 1 close 4
-an open given up with a file that was made: dropran | 1 make Device \D 0 x; 1 open File \D\x 0
+an open given up with a file that was made: drop | 1 make Device \D 0 x; 1 open File \D\x 0; run
 the last handle closed: 1 close 4 | 1 make Event \E 0
 a handle of two closed: 1 close 4 | 1 make Event \E 0; 1 open Event \E 0
 a chain of directories closed: 1 close 8 | 1 dir \A 0; 1 dir 4:B 0; 1 close 4
