@@ -3,7 +3,7 @@
 
     bench/threads.py PROGRAM
 
-PROGRAM is the built `share_bench`. Each rate is that of many rounds less few, the least time of five runs each, so what a start takes is left
+PROGRAM is the built `callers`. Each rate is that of many rounds less few, the least time of five runs each, so what a start takes is left
 out. On one name most makes and opens of several callers are refused, and refusals are steps too, and cheaper ones. Nothing here fails; a run that is
 refused ends it.
 """
