@@ -1,13 +1,15 @@
 //! The words that every crate shares, against the public tables.
 
-use crate::tables::fields;
+use crate::tables::first_other;
 use ob_base::{Attrs, Fault, Handle, Status};
 use ob_model::Bytes;
 use std::alloc::{AllocError, Global};
 
-// Sets, in hexadecimal, and the flags of each, or that it is refused; then the values of handles, and what is left of
-// each without its low bits, where that isn't 0.
-const NUMBERS: &'static str = "
+// - `set`: a set, in hexadecimal, and its flags, or that it is refused.
+// - `key`: the value of a handle, and what is left of it without its low bits, where that isn't 0.
+// - `status`: the place of a status in the order below, and its word and number, in hexadecimal, as the public tables and
+//   this profile have them.
+const WORDS: &'static str = "
 set | 0        |
 set | 2        | inherit
 set | 10       | permanent
@@ -33,59 +35,31 @@ key | 7          | 4
 key | 262140     | 262140
 key | 262143     | 262140
 key | 4294967295 | 4294967292
+status |  0 | SUCCESS                | 00000000
+status |  1 | MORE_ENTRIES           | 00000105
+status |  2 | OBJECT_NAME_EXISTS     | 40000000
+status |  3 | NO_MORE_ENTRIES        | 8000001A
+status |  4 | INVALID_HANDLE         | C0000008
+status |  5 | INVALID_PARAMETER      | C000000D
+status |  6 | NO_MEMORY              | C0000017
+status |  7 | ACCESS_DENIED          | C0000022
+status |  8 | BUFFER_TOO_SMALL       | C0000023
+status |  9 | OBJECT_TYPE_MISMATCH   | C0000024
+status | 10 | OBJECT_NAME_INVALID    | C0000033
+status | 11 | OBJECT_NAME_NOT_FOUND  | C0000034
+status | 12 | OBJECT_NAME_COLLISION  | C0000035
+status | 13 | OBJECT_PATH_NOT_FOUND  | C000003A
+status | 14 | OBJECT_PATH_SYNTAX_BAD | C000003B
+status | 15 | INSUFFICIENT_RESOURCES | C000009A
+status | 16 | NAME_TOO_LONG          | C0000106
+status | 17 | REPARSE_LIMIT          | E0000001
+status | 18 | PROCESS_GONE           | E0000002
+status | 19 | JOURNAL_FULL           | E0000003
+status | 20 | TYPE_REFUSED           | E0010000
+status | 21 | TYPE_REFUSED           | E0010007
+status | 22 | TYPE_REFUSED           | E001FFFF
 ";
 
-// Whether a set says of each flag what a field says.
-fn says(attrs: Attrs, flags: &str) -> bool {
-    attrs.is_inherit() == flags.contains("inherit")
-        && attrs.is_permanent() == flags.contains("permanent")
-        && attrs.is_exclusive() == flags.contains("exclusive")
-        && attrs.is_case_insensitive() == flags.contains("without case")
-        && attrs.is_open_if() == flags.contains("open-if")
-        && attrs.is_open_link() == flags.contains("open-link")
-}
-
-// Whether a line of the table is so.
-fn is_so(line: &str) -> Option<bool> {
-    let [what, number, wanted, ..] = fields(line);
-    if what == "key" {
-        let key = match wanted {
-            "none" => None,
-            _ => Some(wanted.parse().ok()?),
-        };
-        return Some(Handle(number.parse().ok()?).key() == key);
-    }
-    let bits = u32::from_str_radix(number, 16).ok()?;
-    Some(match Attrs::check(bits) {
-        Ok(attrs) => wanted != "refused" && attrs.bits() == bits && says(attrs, wanted),
-        Err(status) => wanted == "refused" && status == Status::InvalidParameter,
-    })
-}
-
-#[test]
-fn sets_are_lawful_and_handles_have_keys(rt: HostRuntime) {
-    for line in NUMBERS.trim().lines() {
-        assert!(rt; is_so(line) == Some(true), "{line}");
-    }
-}
-
-fn stored(alloc: Global, refusal: Result<(), Status>) -> Result<usize, Fault> {
-    let mut list = Vec::new(alloc);
-    list.reserve(1)?;
-    list.push(1u8)?;
-    refusal?;
-    Ok(list.len())
-}
-
-#[test]
-fn faults_pass_up(rt: HostRuntime) {
-    assert!(rt; stored(rt.alloc(), Ok(())) == Ok(1));
-    let refused = stored(rt.alloc(), Err(Status::AccessDenied));
-    assert!(rt; refused == Err(Fault::Refused(Status::AccessDenied)));
-    assert!(rt; Fault::from(AllocError) == Fault::Memory);
-}
-
-// Each status, in the order of the table below.
 const STATUSES: [Status; 23] = [
     Status::Success,
     Status::MoreEntries,
@@ -112,61 +86,74 @@ const STATUSES: [Status; 23] = [
     Status::TypeRefused(65_535),
 ];
 
-// Their words and numbers, in hexadecimal, as the public tables and this profile have them.
-const WORDS: &'static str = "
-SUCCESS                | 00000000
-MORE_ENTRIES           | 00000105
-OBJECT_NAME_EXISTS     | 40000000
-NO_MORE_ENTRIES        | 8000001A
-INVALID_HANDLE         | C0000008
-INVALID_PARAMETER      | C000000D
-NO_MEMORY              | C0000017
-ACCESS_DENIED          | C0000022
-BUFFER_TOO_SMALL       | C0000023
-OBJECT_TYPE_MISMATCH   | C0000024
-OBJECT_NAME_INVALID    | C0000033
-OBJECT_NAME_NOT_FOUND  | C0000034
-OBJECT_NAME_COLLISION  | C0000035
-OBJECT_PATH_NOT_FOUND  | C000003A
-OBJECT_PATH_SYNTAX_BAD | C000003B
-INSUFFICIENT_RESOURCES | C000009A
-NAME_TOO_LONG          | C0000106
-REPARSE_LIMIT          | E0000001
-PROCESS_GONE           | E0000002
-JOURNAL_FULL           | E0000003
-TYPE_REFUSED           | E0010000
-TYPE_REFUSED           | E0010007
-TYPE_REFUSED           | E001FFFF
-";
+// The status at a place.
+fn status_at(place: usize) -> Option<Status> {
+    STATUSES.get(place).copied()
+}
 
-// How many of these statuses have, in their order, the words and numbers of the lines of a table.
-fn count(statuses: &[Status], table: &str) -> usize {
-    let mut count: usize = 0;
-    for (status, line) in statuses.iter().zip(table.trim().lines()) {
-        let [text, code, ..] = fields(line);
-        if status.text() == text && u32::from_str_radix(code, 16).ok() == Some(status.code()) {
-            count = count.saturating_add(1);
-        }
+// The flags, in the words of the table.
+const FLAGS: [&'static str; 6] = [
+    "inherit",
+    "permanent",
+    "exclusive",
+    "without case",
+    "open-if",
+    "open-link",
+];
+
+// Which of the flags a set has.
+fn flags(attrs: Attrs) -> [bool; 6] {
+    [
+        attrs.is_inherit(),
+        attrs.is_permanent(),
+        attrs.is_exclusive(),
+        attrs.is_case_insensitive(),
+        attrs.is_open_if(),
+        attrs.is_open_link(),
+    ]
+}
+
+// Whether a set has its bits and the flags that a field says, or is refused where the field says that.
+fn is_set(bits: u32, wanted: &str) -> bool {
+    match Attrs::check(bits) {
+        Ok(attrs) => (attrs.bits(), flags(attrs))
+            == (bits, FLAGS.map(|flag| wanted.contains(flag))),
+        Err(status) => (wanted, status) == ("refused", Status::InvalidParameter),
     }
-    count
+}
+
+// Whether a status has this word and this number.
+fn is_status(status: Status, text: &str, code: &str) -> Option<bool> {
+    let wanted = u32::from_str_radix(code, 16).ok()?;
+    Some((status.text(), status.code()) == (text, wanted))
+}
+
+/// Whether a line of the table is so.
+pub(crate) fn is_so(fields: [&str; 5]) -> Option<bool> {
+    let [what, number, wanted, code, _] = fields;
+    match what {
+        "set" => Some(is_set(u32::from_str_radix(number, 16).ok()?, wanted)),
+        "key" => Some(Handle(number.parse().ok()?).key() == wanted.parse().ok()),
+        _ => is_status(status_at(number.parse().ok()?)?, wanted, code),
+    }
 }
 
 #[test]
-fn statuses_have_their_words_and_numbers(rt: HostRuntime) {
-    assert_eq!(rt; count(&STATUSES, WORDS), 23);
+fn sets_are_lawful_handles_have_keys_and_statuses_words_and_numbers(rt: HostRuntime) {
+    assert_eq!(rt; first_other(rt.alloc(), WORDS), None);
 }
 
-// Whether a copy of bytes has them, and what takes them does.
-fn keeps(alloc: Global, bytes: &[u8]) -> Option<bool> {
+#[test]
+fn statuses_and_want_of_memory_are_faults(rt: HostRuntime) {
+    let status = Status::AccessDenied;
+    assert!(rt; Fault::from(status) == Fault::Refused(status));
+    assert!(rt; Fault::from(AllocError) == Fault::Memory);
+}
+
+/// Whether a copy of bytes has them, and what takes them does.
+pub(crate) fn keeps(alloc: Global, bytes: &[u8]) -> Option<bool> {
     let copied = Bytes::from_slice(alloc, bytes).ok()?;
     let is_copied = copied.as_slice() == bytes;
     let taken = Bytes::new(copied.into_vec());
     Some(is_copied && taken.as_slice() == bytes)
-}
-
-#[test]
-fn bytes_are_those_handed_in(rt: HostRuntime) {
-    for bytes in [b"".as_slice(), b"\\A", b"\x00\xFF"] {
-        assert!(rt; keeps(rt.alloc(), bytes) == Some(true), "at {bytes:?}");
-    }
 }

@@ -1,8 +1,10 @@
-//! Tests of what knows no namespace and no set of types: flags and statuses, bytes, and names, by their public
-//! functions: tables from outside, and what no clause says. The crate holds tests alone, since a crate with
-//! tests is proved twice.
+//! Tests of what knows no namespace and no set of types: flags and statuses, bytes, names and arguments, by their public
+//! functions: tables from outside, and what no clause says. The crate holds tests alone, since a crate with tests is
+//! proved twice.
 #![tactic(auto)]
 
+#[cfg(test)]
+mod arguments;
 #[cfg(test)]
 mod base;
 #[cfg(test)]

@@ -1,7 +1,10 @@
-//! Tests of the sets of types that parse, devices and keys, alone and in a sum with the plain types, and of a caller's
-//! own objects: tables from the rules, and what no clause says. The crate holds tests alone, since a crate with tests is proved twice.
+//! Tests of the sets of types: the plain ones, boxes, devices, keys and a caller's own objects, alone, in sums, and counted,
+//! recorded and refused; and of parses that callers run: tables from the rules, and what no clause says. The crate holds
+//! tests alone, since a crate with tests is proved twice.
 #![tactic(auto)]
 
+#[cfg(test)]
+mod boxes;
 #[cfg(test)]
 mod devices;
 #[cfg(test)]
@@ -9,4 +12,14 @@ mod host;
 #[cfg(test)]
 mod keys;
 #[cfg(test)]
-mod sum;
+mod lives;
+#[cfg(test)]
+mod objects;
+#[cfg(test)]
+mod parses;
+#[cfg(test)]
+mod plain;
+#[cfg(test)]
+mod sums;
+#[cfg(test)]
+mod tables;

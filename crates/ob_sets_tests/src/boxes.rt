@@ -2,15 +2,11 @@
 
 ghost use Rattle.std.specs.Prelude.{◌≡◌, true, false, refl};
 ghost use Rattle.std.proofs.Common.{rules};
-ghost use Rattle.ob_plain_tests.specs.Boxes.{box_procedures, box_front, box_itself, box_idle, box_same};
+ghost use Rattle.ob_sets_tests.specs.Boxes.{box_procedures, box_front, box_itself, box_idle, box_same};
 
-use crate::objects::{hand_over_laws, is_of_kind, refusal};
-use crate::tables::fields;
+use crate::objects::{Told, first_other};
 use ob_names::{Name, NameBuf};
-use ob_types::{
-    Outcome, ParseAnswer, Reason, Refusal, TypeSet, close_last, is_one_kind, open_or_leave,
-    run_parse,
-};
+use ob_types::{ParseAnswer, Reason, Refusal, TypeSet};
 use std::alloc::{AllocError, Global};
 
 /// Boxes within boxes. A face is the number of levels inside. A byte of a rest leads one level in, where
@@ -108,57 +104,49 @@ impl TypeSet for Boxes {
     ghost equal_kinds = { λ _ _. refl };
 }
 
-// Whether a new box is of its kind and no other, and is opened once.
-fn is_opened_once(alloc: Global) -> Option<bool> {
-    let (face, mut inner) = Boxes::make(alloc, true, b"").ok()?;
-    let is_box = is_of_kind::<Boxes>(&face, true, "Box", true);
-    let made = open_or_leave(&mut Boxes, &mut inner, Reason::Created);
-    let opened = open_or_leave(&mut Boxes, &mut inner, Reason::Opened);
-    let is_open = made == Ok(()) && opened == Err(9) && inner;
-    close_last(&mut Boxes, inner);
-    Some(is_box && is_open && !is_one_kind::<Boxes>(true, false))
-}
+/// The text of a box is the number of its levels, and its own number is 1 where it is open.
+impl Told for Boxes {
+    fn kind(name: &str) -> bool {
+        name == "Box"
+    }
 
-// Boxes of so many levels, a rest there, and how the run ends: with a box of so many levels, with a name, or with a
-// number that refuses.
-const RUNS: &'static str = r"
-3 |       | itself
-0 |       | itself
-3 | a     | box     | 2
-3 | ab    | box     | 1
-3 | abc   | box     | 0
-3 | >     | name    | \Box
-3 | abc>d | name    | \Box
-0 | a     | refused | 4
-1 | ab    | refused | 4
-2 | abcd> | refused | 4
-";
-
-fn ends(outcome: &Outcome<u8, bool>, word: &str, text: &str) -> bool {
-    match outcome {
-        Outcome::Itself => word == "itself",
-        Outcome::Made(face, inner) => {
-            word == "box" && text.parse().ok() == Some(**face) && !*inner
+    fn text(face: &u8) -> &[u8] {
+        match *face {
+            0 => b"0",
+            1 => b"1",
+            2 => b"2",
+            _ => b"3",
         }
-        Outcome::Reparse(name) => word == "name" && name.as_slice() == text.as_bytes(),
-        Outcome::Refused(code) => word == "refused" && text.parse().ok() == Some(*code),
-        Outcome::NoMemory => false,
+    }
+
+    fn number(inner: &bool) -> u64 {
+        u64::from(*inner)
     }
 }
 
-fn ends_so(alloc: Global, line: &str) -> Option<bool> {
-    let [levels, rest, word, text, _] = fields(line);
-    let outcome = run_parse::<Boxes>(alloc, &levels.parse().ok()?, rest.as_bytes());
-    Some(ends(&outcome, word, text))
-}
+const BOXES: &'static str = r"
+ends | Box         | Box 3
+ends | Box 1       | refused 7
+kind | Box         | Box         | parses
+same | Box         | Box         | same
+same | Box @ a     | Box @ b     | same
+same | Box @ a     | Box @ ab    | other
+life | Box | created 1 | opened refused 9 | 0 0 | opened 1
+ends | Box @       | itself
+ends | Box @ a     | Box 2
+ends | Box @ ab    | Box 1
+ends | Box @ abc   | Box 0
+ends | Box @ >     | name \Box
+ends | Box @ abc>d | name \Box
+ends | Box @ abab  | refused 4
+ends | Box @ abcd> | refused 4
+parse | Box @ abc  |             | itself
+parse | Box @ abc  | a           | refused 4
+parse | Box @ ab   | ab          | 1 Box 0
+";
 
 #[test]
 fn boxes_are_made_opened_and_lead_to_others(rt: HostRuntime) {
-    hand_over_laws::<Boxes>();
-    assert!(rt; is_opened_once(rt.alloc()) == Some(true));
-    assert!(rt; refusal::<Boxes>(rt.alloc(), true, b"1") == Some(Some(7)));
+    assert_eq!(rt; first_other(rt.alloc(), &mut Boxes, BOXES), None);
     assert!(rt; Refusal::from(AllocError) == Refusal::Memory);
-    for line in RUNS.trim().lines() {
-        assert!(rt; ends_so(rt.alloc(), line) == Some(true), "{line}");
-    }
 }
