@@ -2,11 +2,11 @@
 
 ghost use Rattle.std.specs.Prelude.{◌<◌};
 
-use crate::lookup::{ROOT, ends_within, mode_of};
+use crate::lookup::{DEVICES, FILES, ROOT, Types, ends_within, mode_of};
+use crate::rows::{Kind, PlainRow, find, search};
+use crate::space::Space;
 use ob_base::ObjId;
-use ob_device::{DeviceKind, DeviceSet};
 use ob_devmap::View;
-use ob_spaces::{Kind, PlainRow, Space, find, search};
 use ob_types::TypeSet;
 use std::alloc::Global;
 
@@ -20,6 +20,8 @@ const TARGETS: [&[u8]; 7] = [
 const LOOKED_UP: &'static str =
     r"\a \b \A\a \b\b \a\b\a \b\A\ \a\\b \b\a\b \?? \??\a \??\b\a \??\A\";
 
+const MODES: [&'static str; 4] = ["open", "folded", "link", "create"];
+
 // The digit of a number at a place, in a base above 0.
 fn digit(number: u64, place: u32, base: u64) -> u64
     requires { 0 < base }
@@ -32,28 +34,26 @@ fn digit(number: u64, place: u32, base: u64) -> u64
     left % base
 }
 
-// Fills the namespace of a number, and its rows: the directory that is seen as `\??`, and up to four objects, in directories
-// that came before them.
-fn fill<T: TypeSet>(
-    alloc: Global,
-    space: &mut Space<T>,
-    rows: &mut Vec<PlainRow>,
-    devices: T::Kind,
-    number: u64,
-) -> Option<()> {
-    let global = space.add(alloc, devices, ROOT, b"b", Kind::Directory)?;
-    rows.push(PlainRow {
+// The rows of the namespace of a number: the directory that is seen as `\??`, and up to four objects, in directories that
+// came before them. There are none where memory is wanted.
+fn rows_of(alloc: Global, number: u64) -> Option<Vec<PlainRow>> {
+    let mut rows = Vec::new(alloc);
+    let mut last = 2;
+    let global = PlainRow {
         directory: ROOT.0,
         name: b'b',
-        object: global.0,
+        object: last,
         kind: Kind::Directory,
-    })
-    .ok()?;
-    let mut last = global;
+    };
+    rows.push(global).ok()?;
     for k in 0..4u32 {
-        let directory = if digit(number, k, 2) == 0 { ROOT } else { last };
+        let directory = if digit(number, k, 2) == 0 {
+            ROOT.0
+        } else {
+            last
+        };
         let name = NAMES[(digit(number, k + 1, 3)) as usize];
-        if find(rows.as_slice(), false, directory.0, name).is_some() {
+        if find(rows.as_slice(), false, directory, name).is_some() {
             continue;
         }
         let kind = match digit(number, k, 7) {
@@ -61,19 +61,27 @@ fn fill<T: TypeSet>(
             3 => Kind::File,
             _ => Kind::Link(TARGETS[(digit(number, k + 2, 7)) as usize]),
         };
-        let id = space.add(alloc, devices, directory, &[name], kind)?;
-        rows.push(PlainRow {
-            directory: directory.0,
-            name,
-            object: id.0,
-            kind,
-        })
-        .ok()?;
+        let object = rows.len() as u64 + 2;
         if matches!(kind, Kind::Directory) {
-            last = id;
+            last = object;
         }
+        let row = PlainRow {
+            directory,
+            name,
+            object,
+            kind,
+        };
+        rows.push(row).ok()?;
     }
-    Some(())
+    Some(rows)
+}
+
+// Whether the objects of rows come in a namespace, under their numbers.
+fn is_filled<T: TypeSet>(space: &mut Space<T>, rows: &[PlainRow]) -> bool {
+    rows.iter().all(|row| {
+        let id = space.add(ObjId(row.directory), &[row.name], row.kind);
+        id == Some(ObjId(row.object))
+    })
 }
 
 // The view of a namespace: its first object is the global directory, and its last other directory the local one.
@@ -90,57 +98,64 @@ fn view_of(rows: &[PlainRow]) -> View {
     }
 }
 
-// Whether a lookup and the plain search end alike for a name in each mode, where at most three reparses are made; nothing where
-// memory is wanted.
+// Whether a lookup and the plain search end alike for a name in a mode, where at most three reparses are made; nothing
+// where memory is wanted.
 fn ends_alike<T: TypeSet>(
     alloc: Global,
     space: &Space<T>,
     rows: &[PlainRow],
-    view: &View,
+    mode: &str,
     name: &str,
 ) -> Option<bool> {
-    for mode in ["open", "folded", "link", "create"] {
-        let (mode, text) = (mode_of(mode), name.as_bytes());
-        let end = search(alloc, rows, view, mode, text, 3)?;
-        if !ends_within(alloc, space, view, (mode, 3), text, end)? {
-            return Some(false);
-        }
-    }
-    Some(true)
+    let (view, mode, name) = (view_of(rows), mode_of(mode), name.as_bytes());
+    let end = search(alloc, rows, &view, mode, name, 3)?;
+    ends_within(alloc, space, &view, (mode, 3), name, end)
 }
 
-// The first name that both don't end alike for, in the namespace of a number.
-fn first_other<T: TypeSet>(
+// The first name that both don't end alike for, in a mode.
+fn first_other_in<T: TypeSet>(
     alloc: Global,
     space: &mut Space<T>,
-    devices: T::Kind,
-    number: u64,
+    rows: &[PlainRow],
 ) -> Option<&'static str> {
-    let mut rows = Vec::new(alloc);
-    if fill(alloc, space, &mut rows, devices, number).is_none() {
+    if !is_filled(space, rows) {
         return Some("no memory");
     }
-    let view = view_of(rows.as_slice());
     for name in LOOKED_UP.split_whitespace() {
-        if ends_alike(alloc, space, rows.as_slice(), &view, name) != Some(true) {
-            return Some(name);
+        for mode in MODES.iter() {
+            if ends_alike(alloc, space, rows, *mode, name) != Some(true) {
+                return Some(name);
+            }
         }
     }
     None
 }
 
 // The same in a new namespace.
-fn differs<T: TypeSet>(alloc: Global, devices: T::Kind, number: u64) -> Option<&'static str> {
-    let Some(mut space) = Space::<T>::new(alloc) else {
-        return Some("no memory");
-    };
-    first_other(alloc, &mut space, devices, number)
+fn first_other<T: TypeSet>(
+    alloc: Global,
+    devices: T::Kind,
+    files: T::Kind,
+    rows: &[PlainRow],
+) -> Option<&'static str> {
+    match Space::<T>::new(alloc, devices, files) {
+        Some(mut space) => first_other_in(alloc, &mut space, rows),
+        None => Some("no memory"),
+    }
+}
+
+// The same in the namespace of a number.
+fn differs(alloc: Global, number: u64) -> Option<&'static str> {
+    match rows_of(alloc, number) {
+        Some(rows) => first_other::<Types>(alloc, DEVICES, FILES, rows.as_slice()),
+        None => Some("no memory"),
+    }
 }
 
 #[test]
-fn ends_as_a_plain_search(rt: HostRuntime) {
+fn names_end_as_in_a_plain_search(rt: HostRuntime) {
     for number in 0..343u64 {
-        let name = differs::<DeviceSet>(rt.alloc(), DeviceKind::Device, number * 7);
+        let name = differs(rt.alloc(), number * 7);
         assert!(rt; name.is_none(), "at {number} {name:?}");
     }
 }

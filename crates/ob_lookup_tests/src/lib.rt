@@ -8,3 +8,7 @@ mod beside;
 mod cached;
 #[cfg(test)]
 mod lookup;
+#[cfg(test)]
+mod rows;
+#[cfg(test)]
+mod space;

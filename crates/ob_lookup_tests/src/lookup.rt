@@ -1,4 +1,4 @@
-//! Names looked up in small namespaces. All but the tests is over any set of types with a kind of devices.
+//! Names looked up in small namespaces. All but the test is over any set of types with devices and files.
 //!
 //! A namespace is a text, line by line:
 //!
@@ -11,15 +11,21 @@
 //! - `open`, `folded` (without case), `link` (a link at the end isn't followed) and `create` look a name up, which stands
 //!   between bars, and what it ends with stands behind. The number of an object says that the name is relative to it, and
 //!   a number behind `-` how many reparses are made at most, 32 if nothing is said.
+//! - `twice` and two modes, each with a name, look both names up by one cache. Behind them stand the numbers of the
+//!   objects at which they end, 0 where they end at none, and how often the cache was of use.
 
+use crate::cached::in_turn;
+use crate::rows::{End, Kind};
+use crate::space::{Space, has_view};
+use either::Either;
 use ob_base::ObjId;
 use ob_device::{DeviceKind, DeviceSet};
 use ob_devmap::View;
 use ob_lookup::{Look, look};
 use ob_model::Mode;
 use ob_names::Name;
-use ob_spaces::{End, Kind, Space, has_view};
-use ob_types::TypeSet;
+use ob_plain::{Plain, PlainKind};
+use ob_types::{Both, TypeSet};
 use std::alloc::Global;
 
 pub(crate) const ROOT: ObjId = ObjId(1);
@@ -30,6 +36,13 @@ pub(crate) const PLAIN: View = View {
     global: ObjId(2),
 };
 
+/// Devices, and events in the place of files.
+pub(crate) type Types = Both<DeviceSet, Plain>;
+
+pub(crate) const DEVICES: Either<DeviceKind, PlainKind> = Either::Left(DeviceKind::Device);
+
+pub(crate) const FILES: Either<DeviceKind, PlainKind> = Either::Right(PlainKind::Event);
+
 /// The mode of a word.
 pub(crate) fn mode_of(word: &str) -> Mode {
     Mode {
@@ -39,28 +52,35 @@ pub(crate) fn mode_of(word: &str) -> Mode {
     }
 }
 
-// The first words of a text; those that it lacks are empty.
-fn words(text: &str) -> [&str; 5] {
-    let mut words = text.split_whitespace();
-    [
-        words.next().unwrap_or(""),
-        words.next().unwrap_or(""),
-        words.next().unwrap_or(""),
-        words.next().unwrap_or(""),
-        words.next().unwrap_or(""),
-    ]
+// The word at a place of a text; empty where the text lacks it.
+fn word(text: &str, place: usize) -> &str {
+    let mut left = place;
+    for word in text.split_ascii_whitespace() {
+        if left == 0 {
+            return word;
+        }
+        left -= 1;
+    }
+    ""
+}
+
+// The number that a word says, or another one.
+fn number(word: &str, other: u64) -> u64 {
+    word.parse().unwrap_or(other)
 }
 
 // What a text says that a lookup ends with: `at` an object, `vacant` in a directory under a name, `parse` by an object with
 // so many reparses left and a rest, or a status.
 fn end_of(text: &str) -> End<'_> {
-    let [what, first, second, third, ..] = words(text);
-    let number = first.parse().unwrap_or(0);
-    match what {
-        "at" => End::At(number),
-        "vacant" => End::Vacant(number, second.as_bytes()),
-        "parse" => End::Parse(number, third.as_bytes(), second.parse().unwrap_or(0)),
-        _ => End::Refused(what),
+    let object = number(word(text, 1), 0);
+    match word(text, 0) {
+        "at" => End::At(object),
+        "vacant" => End::Vacant(object, word(text, 2).as_bytes()),
+        "parse" => {
+            let left = word(text, 2).parse().unwrap_or(0);
+            End::Parse(object, word(text, 3).as_bytes(), left)
+        }
+        status => End::Refused(status),
     }
 }
 
@@ -121,40 +141,34 @@ fn ends_from<T: TypeSet>(
 
 // Whether a name is looked up to the end that a line says.
 fn ends_so<T: TypeSet>(alloc: Global, space: &Space<T>, view: &View, line: &str) -> Option<bool> {
-    let (asked, behind) = line.split_once('|').unwrap_or((line, ""));
+    let (how, behind) = line.split_once('|').unwrap_or((line, ""));
     let (name, end) = behind.split_once('|').unwrap_or((behind, ""));
-    let ([mode, root, budget, ..], name, end) = (words(asked), name.trim(), end_of(end));
-    let mode = mode_of(mode);
-    if let Some(root) = root.parse().ok() {
-        return ends_from(alloc, space, ObjId(root), mode, name.as_bytes(), end);
+    let (mode, name, end) = (mode_of(word(how, 0)), name.trim().as_bytes(), end_of(end));
+    let root = number(word(how, 1), 0);
+    if root != 0 {
+        return ends_from(alloc, space, ObjId(root), mode, name, end);
     }
-    let budget = budget.parse().unwrap_or(32);
-    ends_within(alloc, space, view, (mode, budget), name.as_bytes(), end)
+    let budget = word(how, 2).parse().unwrap_or(32);
+    ends_within(alloc, space, view, (mode, budget), name, end)
 }
 
 // Adds a chain of links, `\0` to `\P`, each to the one before it, the first of which leads to this target.
-fn add_chain<T: TypeSet>(
-    alloc: Global,
-    space: &mut Space<T>,
-    devices: T::Kind,
-    target: &[u8],
-) -> Option<()> {
-    space.add(alloc, devices, ROOT, b"0", Kind::Link(target))?;
+fn add_chain<T: TypeSet>(space: &mut Space<T>, target: &[u8]) -> Option<ObjId> {
+    let mut last = space.add(ROOT, b"0", Kind::Link(target))?;
     for k in 0..32u8 {
         let before = [b'\\', b'0' + k];
-        space.add(alloc, devices, ROOT, &[b'1' + k], Kind::Link(&before))?;
+        last = space.add(ROOT, &[b'1' + k], Kind::Link(&before))?;
     }
-    Some(())
+    Some(last)
 }
 
 // Adds a link `\L` to a name of 32,760 bytes that leads nowhere.
-fn add_long<T: TypeSet>(alloc: Global, space: &mut Space<T>, devices: T::Kind) -> Option<()> {
+fn add_long<T: TypeSet>(alloc: Global, space: &mut Space<T>) -> Option<ObjId> {
     let mut target = vec![in alloc; b'a'; 32_760].ok()?;
     if let Some(byte) = target.first_mut() {
         *byte = b'\\';
     }
-    space.add(alloc, devices, ROOT, b"L", Kind::Link(target.as_slice()))?;
-    Some(())
+    space.add(ROOT, b"L", Kind::Link(target.as_slice()))
 }
 
 // The kind of an object by a word, with this target where it is a link.
@@ -167,65 +181,79 @@ fn kind_of<'a>(word: &str, target: &'a str) -> Kind<'a> {
     }
 }
 
-// Adds what the words of a line say.
-fn add<T: TypeSet>(
+fn view_of(local: &str, global: &str) -> View {
+    let local = number(local, 0);
+    View {
+        local: (local != 0).then_some(ObjId(local)),
+        global: ObjId(number(global, 0)),
+    }
+}
+
+// Whether the names of a line end at its objects by one cache, which is so often of use.
+fn is_in_turn<T: TypeSet>(alloc: Global, space: &Space<T>, line: &str) -> Option<bool> {
+    let (first, then) = (
+        (word(line, 1), word(line, 2)),
+        (word(line, 3), word(line, 4)),
+    );
+    let told = in_turn(alloc, space.store(), first, then)?;
+    let wanted = (
+        word(line, 5).parse().ok()?,
+        word(line, 6).parse().ok()?,
+        word(line, 7).parse().ok()?,
+    );
+    Some(told == wanted)
+}
+
+// Whether a line does or tells what it says.
+fn is_so<T: TypeSet>(
     alloc: Global,
     space: &mut Space<T>,
-    devices: T::Kind,
-    words: [&str; 5],
-) -> Option<()> {
-    let [what, first, name, kind, target] = words;
-    match what {
-        "chain" => add_chain(alloc, space, devices, first.as_bytes()),
-        "long" => add_long(alloc, space, devices),
-        _ => {
-            let (directory, kind) = (ObjId(first.parse().ok()?), kind_of(kind, target));
-            space.add(alloc, devices, directory, name.as_bytes(), kind)?;
-            Some(())
+    view: &mut View,
+    line: &str,
+) -> Option<bool> {
+    let (first, second) = (word(line, 1), word(line, 2));
+    match word(line, 0) {
+        "add" => {
+            let kind = kind_of(word(line, 3), word(line, 4));
+            let directory = ObjId(number(first, 0));
+            Some(space.add(directory, second.as_bytes(), kind).is_some())
         }
+        "chain" => Some(add_chain(space, first.as_bytes()).is_some()),
+        "long" => Some(add_long(alloc, space).is_some()),
+        "view" => {
+            *view = view_of(first, second);
+            Some(has_view(space.store(), view) == (word(line, 3) == "there"))
+        }
+        "twice" => is_in_turn(alloc, space, line),
+        _ => ends_so(alloc, space, view, line),
     }
 }
 
 // The first line of a namespace that isn't as it says.
-fn first_other_in<'a, T: TypeSet>(
+fn first_other_in<T: TypeSet>(
     alloc: Global,
     space: &mut Space<T>,
-    devices: T::Kind,
-    lines: &'a str,
-) -> Option<&'a str> {
+    lines: &'static str,
+) -> Option<&'static str> {
     let mut view = PLAIN;
     for line in lines.trim().lines() {
-        let [what, first, second, third, ..] = words(line);
-        let is_so = match what {
-            "add" | "chain" | "long" => add(alloc, space, devices, words(line)).is_some(),
-            "view" => {
-                view = view_of(first, second);
-                has_view(space.store(), &view) == (third == "there")
-            }
-            _ => ends_so(alloc, space, &view, line) == Some(true),
-        };
-        if !is_so {
+        if is_so(alloc, space, &mut view, line) != Some(true) {
             return Some(line);
         }
     }
     None
 }
 
-fn view_of(local: &str, global: &str) -> View {
-    View {
-        local: match local.parse() {
-            Ok(local) => Some(ObjId(local)),
-            Err(_) => None,
-        },
-        global: ObjId(global.parse().unwrap_or(0)),
+fn first_other<T: TypeSet>(
+    alloc: Global,
+    devices: T::Kind,
+    files: T::Kind,
+    lines: &'static str,
+) -> Option<&'static str> {
+    match Space::<T>::new(alloc, devices, files) {
+        Some(mut space) => first_other_in(alloc, &mut space, lines),
+        None => Some("no memory"),
     }
-}
-
-fn first_other<T: TypeSet>(alloc: Global, devices: T::Kind, lines: &str) -> Option<&str> {
-    let Some(mut space) = Space::<T>::new(alloc) else {
-        return Some(lines);
-    };
-    first_other_in(alloc, &mut space, devices, lines)
 }
 
 // A small namespace: `\Device` is 2, and so what `\??` stands for, `\Device\Disk` the file 3, `\Device\Raw` the device 10, `\Link` leads to `\Device`,
@@ -390,12 +418,39 @@ open - 32 | \L\2345678 | NAME_TOO_LONG
 open - 0  | \L\2345678 | REPARSE_LIMIT
 ";
 
-const SPACES: [&'static str; 5] = [SMALL, CHAIN, CHAIN_TO_VIEW, DEVICE_NAMES, LONG];
+// Names looked up twice by one cache. The global directory is 2, `\A` 3, `\A\B` 4, `\A\B\C` 5, `\A\B\D` 6, `\L` a link to
+// `\A`, and `\GLOBAL??\C:` is 8 with `x` 9 in it.
+const TWICE: &'static str = r"
+add 1 GLOBAL?? directory
+add 1 A directory
+add 3 B directory
+add 4 C file
+add 4 D file
+add 1 L link \A
+add 2 C: directory
+add 8 x file
+twice open   \A\B       open   \A\B            4 4 1
+twice open   \A\B\C     open   \A\B\D          5 6 1
+twice open   \A\B\C     open   \A\B            5 4 0
+twice open   \A         open   \A              3 3 0
+twice open   \A\B\gone  open   \A\B\C          0 5 1
+twice open   \A\gone\C  open   \A\gone\C       0 0 0
+twice open   \A\B\C\D   open   \A\B\C\D        0 0 0
+twice open   \L\B       open   \L\B            4 4 1
+twice open   \L\B       open   \A\B            4 4 1
+twice folded \A\B\C     folded \a\b\d          5 6 1
+twice folded \A\B\C     open   \A\B\D          5 6 0
+twice open   \a\B\C     folded \a\B\C          0 5 0
+twice open   \??\C:\x   open   \??\C:\x        9 9 1
+twice open   \??\C:\x   open   \GLOBAL??\C:\x  9 9 0
+";
+
+const SPACES: [&'static str; 6] = [SMALL, CHAIN, CHAIN_TO_VIEW, DEVICE_NAMES, LONG, TWICE];
 
 #[test]
 fn names_end_at_objects_at_vacant_places_in_parses_and_in_refusals(rt: HostRuntime) {
-    for lines in SPACES {
-        let other = first_other::<DeviceSet>(rt.alloc(), DeviceKind::Device, lines);
+    for lines in SPACES.iter() {
+        let other = first_other::<Types>(rt.alloc(), DEVICES, FILES, *lines);
         assert_eq!(rt; other, None);
     }
 }

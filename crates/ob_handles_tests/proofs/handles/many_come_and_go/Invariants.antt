@@ -1,6 +1,0 @@
--- The orders so far are below the next one.
-use Rattle.std.proofs.Common.{◌<◌, All}
-use Rattle.ob_handles_tests.proofs.handles.many_come_and_go.Given as goal
-
-abbrev pub invariant-loop-order : goal.invariant-loop-order
-invariant-loop-order g l = All (λ h. h.order < l.order-counter) (g.H.HandleTable.handles l.table)
