@@ -1,9 +1,10 @@
 //! A namespace from whose set its owner takes the objects that were deleted, between its steps.
 
+use crate::scenes::first_other;
+use crate::sets::Staged;
 use ob_base::Fault;
 use ob_core::{Core, HandleTable, OpenTable, SlabTable};
 use ob_host::HostSet;
-use ob_scenes::{Staged, first_other};
 use std::alloc::Global;
 use std::test::Fail;
 

@@ -16,3 +16,9 @@ mod processes;
 mod recorded;
 #[cfg(test)]
 mod refusals;
+#[cfg(test)]
+mod scenes;
+#[cfg(test)]
+mod sets;
+#[cfg(test)]
+mod waiting;

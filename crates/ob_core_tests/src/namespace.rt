@@ -3,9 +3,9 @@
 
 mod doors;
 
+use crate::scenes::first_other_scene;
 use doors::Doors;
 use ob_core::{OpenTable, SlabTable};
-use ob_scenes::first_other_scene;
 
 // Doors are of the first kind and can be made and opened; walls are of the other.
 const SCENES: &'static str = r"# nothing is called at first | 6 0 0 0 0

@@ -1,8 +1,8 @@
 //! Pages of a directory, at their edges: the room, one entry alone, the context, and the order of refusals.
 
+use crate::scenes::first_other_scene;
 use ob_core::{OpenTable, SlabTable};
 use ob_plain::Plain;
-use ob_scenes::first_other_scene;
 
 // The events of the directory have rising stamps from 7 on. An entry has 4 bytes, those of the name, and the 5 of the
 // type's name.

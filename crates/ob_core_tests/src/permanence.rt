@@ -1,8 +1,8 @@
 //! Objects that are made temporary and permanent, told by the replies and by the counts that are left.
 
+use crate::scenes::first_other_scene;
 use ob_core::{OpenTable, SlabTable};
 use ob_plain::Plain;
-use ob_scenes::first_other_scene;
 
 const SCENES: &'static str =
     r"# a permanent object that is made temporary stays while it is open, and goes then | 6 0 3 3 1

@@ -1,9 +1,9 @@
 //! Processes: what they inherit, duplicate and close, and how many they and their handles may be, told by the replies and
 //! by the counts that are left.
 
+use crate::scenes::first_other_scene;
 use ob_core::{OpenTable, SlabTable};
 use ob_plain::Plain;
-use ob_scenes::first_other_scene;
 
 const SHARED: &'static str =
     r"# an inherited handle keeps its object, and the exit of the child closes it | 6 0 2 2 1

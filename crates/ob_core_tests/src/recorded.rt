@@ -1,9 +1,10 @@
 //! A namespace whose set records its calls: they are those that the commands make, in their order.
 
+use crate::scenes::first_other;
+use crate::sets::Staged;
 use ob_base::Fault;
 use ob_core::{Core, HandleTable, OpenTable, SlabTable};
 use ob_plain::{Call, CallKind, Plain, Recorder};
-use ob_scenes::{Staged, first_other};
 use ob_types::{Reason, TypeSet};
 use std::alloc::Global;
 use std::test::Fail;

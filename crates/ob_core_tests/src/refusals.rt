@@ -1,9 +1,9 @@
 //! What stands behind a set that refuses an open, wherever a handle is opened.
 
+use crate::scenes::first_other_scene;
 use ob_core::{HandleTable, OpenTable, SlabTable};
 use ob_device::DeviceSet;
 use ob_plain::{Plain, Refusing};
-use ob_scenes::first_other_scene;
 use std::alloc::Global;
 use std::process::Abort;
 

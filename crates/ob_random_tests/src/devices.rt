@@ -1,10 +1,13 @@
 //! Random opens of ten processes that wait for the parses of a device, ended and given up in any order, beside a
 //! plain model over flat lists.
 
+use crate::asks::{Ask, Deed, EXCLUSIVE, INHERIT, Kind, PERMANENT, Turn};
+use crate::dice::Dice;
 use crate::game::{Played, agreed, rooms};
+use crate::model::Model;
+use crate::names::{Name, Path};
 use ob_core::{OpenTable, SlabTable};
 use ob_device::{DeviceKind, DeviceSet};
-use ob_flat::{Ask, Deed, Dice, EXCLUSIVE, INHERIT, Kind, Model, Name, PERMANENT, Path, Turn};
 use ob_plain::Counting;
 use std::test::Fail;
 

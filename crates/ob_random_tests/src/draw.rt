@@ -1,9 +1,12 @@
 //! What comes next, at random.
 
-use ob_flat::{
-    Ask, CASE_INSENSITIVE, Deed, Dice, EXCLUSIVE, INHERIT, Kind, LARGEST_ROOM, Model, Name, OPENIF,
-    OPENLINK, PERMANENT, Part, Path,
+use crate::asks::{
+    Ask, CASE_INSENSITIVE, Deed, EXCLUSIVE, INHERIT, Kind, LARGEST_ROOM, OPENIF, OPENLINK,
+    PERMANENT, Part,
 };
+use crate::dice::Dice;
+use crate::model::Model;
+use crate::names::{Name, Path};
 
 // The number of the last object of those that every game begins with.
 const LAST_BUILT: u32 = 9;

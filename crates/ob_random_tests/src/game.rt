@@ -3,9 +3,12 @@
 ghost use Rattle.std.specs.Prelude.{◌≡◌, [], OnOk};
 ghost use Rattle.ob_runner.specs.Begun.{AreAwaited, tickets_of, with_begun, without};
 
+use crate::asks::{Ask, Deed, Kind, Turn};
+use crate::dice::Dice;
+use crate::model::Model;
+use crate::names::{Name, text};
 use ob_base::{Fault, Handle, Proc};
 use ob_core::{Bytes, Cache, Command, Core, HandleTable, Place};
-use ob_flat::{Ask, Deed, Dice, Kind, Model, Name, Turn, text};
 use ob_runner::{Begun, Waits, begin_open, drop_open, end_open, give_all_up};
 use ob_types::TypeSet;
 use std::alloc::{AllocError, Global};

@@ -1,9 +1,12 @@
 //! Random commands of a dozen processes, some of which have device maps, beside a plain model of the namespace.
 
+use crate::asks::{Ask, INHERIT, Kind, PERMANENT, Turn};
+use crate::dice::Dice;
 use crate::draw::{any_process, next};
 use crate::game::{Played, agreed, rooms};
+use crate::model::Model;
+use crate::names::{Name, Path};
 use ob_core::{OpenTable, SlabTable};
-use ob_flat::{Ask, Dice, INHERIT, Kind, Model, Name, PERMANENT, Path, Turn};
 use ob_plain::{Counting, Plain, PlainKind};
 use std::env;
 use std::test::Fail;

@@ -6,7 +6,7 @@ ghost use Rattle.std.proofs.Common.{rules};
 ghost use Rattle.ob_model.specs.Procedures.{Refused};
 ghost use Rattle.ob_core_tests.specs.declared.namespace.doors.Door.TheVariants.{Free, Through, Locked};
 
-use ob_scenes::Staged;
+use crate::sets::Staged;
 use ob_types::{ParseAnswer, Reason, Refusal, TypeSet};
 use std::alloc::{AllocError, Global};
 

@@ -1,10 +1,11 @@
 //! Opens that wait for a parse: they go on when it is brought, in the state as it is then, or are given up. The
 //! object that they pin stays until then.
 
+use crate::scenes::{answer, first_other, is_counted, is_status, start, tell, words};
+use crate::sets::Staged;
 use ob_base::{Fault, Handle, Proc, Status};
 use ob_core::{Brought, Core, HandleTable, OpenTable, SlabTable, Started};
 use ob_device::DeviceSet;
-use ob_scenes::{Staged, answer, first_other, is_counted, is_status, start, tell, words};
 use ob_types::TypeSet;
 use std::alloc::Global;
 

@@ -28,21 +28,21 @@ use ob_types::TypeSet;
 use std::alloc::Global;
 
 /// The words of a step, or of what it is told.
-pub type Line<'a> = [&'a str; 7];
+pub(crate) type Line<'a> = [&'a str; 7];
 
 /// What a reply tells: its status, the handle that it gives, or 0, and of a page the last byte of each of its first three
 /// names, and its context.
 #[derive(Clone, Copy)]
-pub struct Told {
+pub(crate) struct Told {
     /// The status.
-    pub status: Status,
+    pub(crate) status: Status,
     /// The handle that it gives, or 0.
-    pub handle: Handle,
+    pub(crate) handle: Handle,
     page: ([u8; 3], u64),
 }
 
 /// The words of a text; those that it lacks are empty.
-pub fn words(text: &str) -> Line<'_> {
+pub(crate) fn words(text: &str) -> Line<'_> {
     let mut words = text.split_ascii_whitespace();
     [
         words.next().unwrap_or(""),
@@ -185,7 +185,7 @@ fn letter(entries: &Entries, place: usize) -> u8 {
 }
 
 /// What a reply tells.
-pub fn tell(reply: &Reply) -> Told {
+pub(crate) fn tell(reply: &Reply) -> Told {
     let mut told = Told {
         status: reply.status,
         handle: Handle(0),
@@ -204,7 +204,7 @@ pub fn tell(reply: &Reply) -> Told {
 }
 
 /// Whether a word says this status, with the number by which a type refuses.
-pub fn is_status(status: Status, word: &str, number: &str) -> bool {
+pub(crate) fn is_status(status: Status, word: &str, number: &str) -> bool {
     let is_number = match status {
         Status::TypeRefused(code) => number.parse().ok() == Some(code),
         _ => true,
@@ -213,7 +213,7 @@ pub fn is_status(status: Status, word: &str, number: &str) -> bool {
 }
 
 /// How the command ends that a process asks for; `None` where that can't be asked, or there is no memory.
-pub fn start<T: TypeSet, H: HandleTable>(
+pub(crate) fn start<T: TypeSet, H: HandleTable>(
     alloc: Global,
     core: &mut Core<T, H>,
     kinds: (T::Kind, T::Kind),
@@ -241,7 +241,7 @@ fn brought<T: TypeSet, H: HandleTable>(core: &mut Core<T, H>, parsed: Parsed<T>)
 }
 
 /// What a process is told that asks for this. A parse that an open waits for is run and brought.
-pub fn answer<T: TypeSet, H: HandleTable>(
+pub(crate) fn answer<T: TypeSet, H: HandleTable>(
     alloc: Global,
     core: &mut Core<T, H>,
     kinds: (T::Kind, T::Kind),
@@ -341,7 +341,7 @@ fn last_of<T: TypeSet, H: HandleTable>(
 }
 
 /// The first line whose step isn't told what it says.
-pub fn first_other<'a, T: TypeSet, H: HandleTable>(
+pub(crate) fn first_other<'a, T: TypeSet, H: HandleTable>(
     alloc: Global,
     core: &mut Core<T, H>,
     kinds: (T::Kind, T::Kind),
@@ -360,7 +360,7 @@ pub fn first_other<'a, T: TypeSet, H: HandleTable>(
 }
 
 /// Whether there are so many objects, and handles.
-pub fn is_counted<T: TypeSet, H: HandleTable>(
+pub(crate) fn is_counted<T: TypeSet, H: HandleTable>(
     core: &Core<T, H>,
     objects: &str,
     handles: &str,
@@ -405,7 +405,7 @@ fn first_other_of<T: Staged, H: HandleTable>(
 
 /// The first scene of a text that isn't played as it says, and the line that isn't so. The first line of a scene begins with
 /// `#` and what it shows; behind a bar stands what is left of it: objects, handles, and the set's opens, closes and deletes.
-pub fn first_other_scene<T: Staged, H: HandleTable>(
+pub(crate) fn first_other_scene<T: Staged, H: HandleTable>(
     alloc: Global,
     scenes: &str,
 ) -> Result<Option<(&str, &str)>, Fault> {

@@ -2,27 +2,27 @@
 
 use crate::names::{Name, Path};
 
-pub const INHERIT: u32 = 0x2;
+pub(crate) const INHERIT: u32 = 0x2;
 
-pub const PERMANENT: u32 = 0x10;
+pub(crate) const PERMANENT: u32 = 0x10;
 
-pub const EXCLUSIVE: u32 = 0x20;
+pub(crate) const EXCLUSIVE: u32 = 0x20;
 
-pub const CASE_INSENSITIVE: u32 = 0x40;
+pub(crate) const CASE_INSENSITIVE: u32 = 0x40;
 
-pub const OPENIF: u32 = 0x80;
+pub(crate) const OPENIF: u32 = 0x80;
 
-pub const OPENLINK: u32 = 0x100;
+pub(crate) const OPENLINK: u32 = 0x100;
 
 /// Every flag that there is.
-pub const FLAGS: u32 = 0x1f2;
+pub(crate) const FLAGS: u32 = 0x1f2;
 
 // The greatest room of a page, in bytes.
-pub const LARGEST_ROOM: u32 = 1_048_576;
+pub(crate) const LARGEST_ROOM: u32 = 1_048_576;
 
 /// The type of an object.
 #[derive(Clone, Copy)]
-pub enum Kind {
+pub(crate) enum Kind {
     Directory,
     Link,
     Event,
@@ -36,15 +36,15 @@ pub enum Kind {
 /// and whether it begins with the first. Else it begins behind the last page that the process was shown of any
 /// directory.
 #[derive(Clone, Copy)]
-pub struct Part {
-    pub room: u32,
-    pub single: bool,
-    pub restart: bool,
+pub(crate) struct Part {
+    pub(crate) room: u32,
+    pub(crate) single: bool,
+    pub(crate) restart: bool,
 }
 
 /// What a process does with a handle.
 #[derive(Clone, Copy)]
-pub enum Deed {
+pub(crate) enum Deed {
     Close,
     Turn { permanent: bool },
     Map,
@@ -57,7 +57,7 @@ pub enum Deed {
 /// What a process asks for: values are those of handles. What is made without a name has none, and what an open wants no
 /// type of may be of any. The target is that of a link.
 #[derive(Clone, Copy)]
-pub enum Ask {
+pub(crate) enum Ask {
     Make {
         of: Kind,
         target: Path,
@@ -82,15 +82,15 @@ pub enum Ask {
 /// An open that waits for a parse: its number, which is its ticket and that of the file that the parse makes, its
 /// process, what it asks for, and whether the device has the file.
 #[derive(Clone, Copy)]
-pub struct Waiting {
-    pub number: u32,
-    pub process: u32,
-    pub ask: Ask,
-    pub is_there: bool,
+pub(crate) struct Waiting {
+    pub(crate) number: u32,
+    pub(crate) process: u32,
+    pub(crate) ask: Ask,
+    pub(crate) is_there: bool,
 }
 
 impl Waiting {
-    pub fn ticket(&self) -> u64 {
+    pub(crate) fn ticket(&self) -> u64 {
         u64::from(self.number)
     }
 }
@@ -98,14 +98,14 @@ impl Waiting {
 /// What comes next: a process asks for something, or an open that waits, at a place among those that do, is ended or given
 /// up.
 #[derive(Clone, Copy)]
-pub enum Turn {
+pub(crate) enum Turn {
     Start(u32, Ask),
     End(usize),
     Drop(usize),
 }
 
 /// Whether an object of a type is what an open wants.
-pub fn is_wanted(of: Kind, want: Option<Kind>) -> bool {
+pub(crate) fn is_wanted(of: Kind, want: Option<Kind>) -> bool {
     match want {
         Some(wanted) => of as u8 == wanted as u8,
         None => true,
@@ -113,7 +113,7 @@ pub fn is_wanted(of: Kind, want: Option<Kind>) -> bool {
 }
 
 /// The name of a type.
-pub fn type_name(of: Kind) -> &'static str {
+pub(crate) fn type_name(of: Kind) -> &'static str {
     match of {
         Kind::Directory => "Directory",
         Kind::Link => "SymbolicLink",

@@ -6,7 +6,7 @@ use ob_plain::{Plain, PlainKind, Refusing};
 use ob_types::TypeSet;
 
 /// A set over which scenes are played.
-pub trait Staged: TypeSet {
+pub(crate) trait Staged: TypeSet {
     /// A new one.
     fn new() -> Self;
 

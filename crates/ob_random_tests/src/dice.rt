@@ -4,13 +4,13 @@ ghost use Rattle.std.specs.Prelude.{◌<◌};
 
 /// Numbers that look random: each state is the next one of a linear congruence.
 #[derive(Drop)]
-pub struct Dice {
-    pub state: u64,
+pub(crate) struct Dice {
+    pub(crate) state: u64,
 }
 
 impl Dice {
     /// The next number below so many.
-    pub fn below(&mut self, sides: u64) -> u64
+    pub(crate) fn below(&mut self, sides: u64) -> u64
         requires { 0 < sides }
         ensures { result < sides }
     {

@@ -35,8 +35,8 @@ struct Spot {
 /// An object. Numbers and stamps rise in the order of making; what never had a name has stamp 0. The target is that of a
 /// link.
 #[derive(Clone, Copy)]
-pub struct Object {
-    pub number: u32,
+pub(crate) struct Object {
+    pub(crate) number: u32,
     of: Kind,
     target: Path,
     spot: Option<Spot>,
@@ -59,8 +59,8 @@ struct Open {
 /// A live process, the directory of its map, which is GLOBAL where it has no map, and the context that its last page
 /// gave, 0 before the first.
 #[derive(Clone, Copy)]
-pub struct Live {
-    pub number: u32,
+pub(crate) struct Live {
+    pub(crate) number: u32,
     map: u32,
     context: u64,
 }
@@ -78,21 +78,21 @@ enum Answer {
 
 /// The model. Last are how often the set opened, closed and deleted an object.
 #[derive(Drop)]
-pub struct Model {
-    pub alloc: Global,
+pub(crate) struct Model {
+    pub(crate) alloc: Global,
     objects: Vec<Object>,
     handles: Vec<Open>,
-    pub processes: Vec<Live>,
-    pub waiting: Vec<Waiting>,
+    pub(crate) processes: Vec<Live>,
+    pub(crate) waiting: Vec<Waiting>,
     last_object: u32,
     last_stamp: u64,
     last_process: u32,
-    pub calls: (u64, u64, u64),
+    pub(crate) calls: (u64, u64, u64),
 }
 
 impl Model {
     /// The opening state.
-    pub fn new(alloc: Global) -> Result<Model, AllocError> {
+    pub(crate) fn new(alloc: Global) -> Result<Model, AllocError> {
         let mut model = Model {
             alloc,
             objects: Vec::new(alloc),
@@ -134,7 +134,7 @@ impl Model {
     }
 
     /// How many objects and handles there are, and how many handles a process has.
-    pub fn counts(&self, process: u32) -> (usize, usize, usize) {
+    pub(crate) fn counts(&self, process: u32) -> (usize, usize, usize) {
         let mut own: usize = 0;
         for open in &self.handles {
             if open.process == process {
@@ -154,7 +154,7 @@ impl Model {
     }
 
     /// The context that the last page of a process gave.
-    pub fn context(&self, process: u32) -> u64 {
+    pub(crate) fn context(&self, process: u32) -> u64 {
         match self.live(process) {
             Some(live) => live.context,
             None => 0,
@@ -171,7 +171,7 @@ impl Model {
     }
 
     /// What a handle of a process leads to. The low two bits of its value don't count.
-    pub fn behind(&self, process: u32, value: u32) -> Option<Object> {
+    pub(crate) fn behind(&self, process: u32, value: u32) -> Option<Object> {
         for open in &self.handles {
             if open.process == process && open.value == value & !3 {
                 return self.numbered(open.object);
@@ -191,7 +191,7 @@ impl Model {
     }
 
     /// The value of the first handle from a place on of a process to what is wanted.
-    pub fn value_from(&self, place: usize, process: u32, want: Option<Kind>) -> Option<u32> {
+    pub(crate) fn value_from(&self, place: usize, process: u32, want: Option<Kind>) -> Option<u32> {
         for open in self.handles.get(place..)? {
             if let Some(object) = self.numbered(open.object)
                 && open.process == process
@@ -204,7 +204,7 @@ impl Model {
     }
 
     /// A place in the list of handles, or right behind them, and the value of the handle there, or 0.
-    pub fn any_handle(&self, dice: &mut Dice) -> (usize, u32) {
+    pub(crate) fn any_handle(&self, dice: &mut Dice) -> (usize, u32) {
         let many = self.handles.len() as u64;
         let place = dice.below(many.saturating_add(1)) as usize;
         match self.handles.get(place) {
@@ -214,14 +214,14 @@ impl Model {
     }
 
     /// A live process, or now and then none.
-    pub fn any_live(&self, dice: &mut Dice) -> Option<u32> {
+    pub(crate) fn any_live(&self, dice: &mut Dice) -> Option<u32> {
         let many = self.processes.len() as u64;
         let place = dice.below(many.saturating_add(1)) as usize;
         Some(self.processes.get(place)?.number)
     }
 
     /// Takes the open out that waits at a place, so that nothing of it is left.
-    pub fn take(&mut self, place: usize) -> Option<Waiting> {
+    pub(crate) fn take(&mut self, place: usize) -> Option<Waiting> {
         if place >= self.waiting.len() {
             return None;
         }
@@ -229,7 +229,12 @@ impl Model {
     }
 
     /// Whether what a process asked for became of it what is to; then the model is what it leaves.
-    pub fn starts(&mut self, process: u32, ask: Ask, begun: &Begun) -> Result<bool, AllocError> {
+    pub(crate) fn starts(
+        &mut self,
+        process: u32,
+        ask: Ask,
+        begun: &Begun,
+    ) -> Result<bool, AllocError> {
         match (self.answer(process, ask)?, begun) {
             (Answer::Waits(is_there), Begun::Waits(ticket)) => {
                 self.last_object = self.last_object.wrapping_add(1);
@@ -249,7 +254,7 @@ impl Model {
 
     /// Whether an open that waited ends as it is to; then the model is what it leaves. A file that its parse made is
     /// there, and goes where no handle to it is granted.
-    pub fn ends(&mut self, waiting: Waiting, begun: &Begun) -> Result<bool, AllocError> {
+    pub(crate) fn ends(&mut self, waiting: Waiting, begun: &Begun) -> Result<bool, AllocError> {
         let Begun::Replied(reply) = begun else {
             return Ok(false);
         };

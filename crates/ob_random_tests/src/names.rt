@@ -4,20 +4,20 @@ use std::alloc::{AllocError, Global};
 
 /// A path: the letters of the components before the last, and that of the last, where there is one.
 #[derive(Clone, Copy)]
-pub struct Path {
-    pub way: &'static [u8],
-    pub last: Option<u8>,
+pub(crate) struct Path {
+    pub(crate) way: &'static [u8],
+    pub(crate) last: Option<u8>,
 }
 
 /// A name that commands have: absolute, or relative to what the handle of a value leads to.
 #[derive(Clone, Copy)]
-pub struct Name {
-    pub root: Option<u32>,
-    pub path: Path,
+pub(crate) struct Name {
+    pub(crate) root: Option<u32>,
+    pub(crate) path: Path,
 }
 
 /// The letters of all components of a path.
-pub fn letters(alloc: Global, path: Path) -> Result<Vec<u8>, AllocError> {
+pub(crate) fn letters(alloc: Global, path: Path) -> Result<Vec<u8>, AllocError> {
     let mut letters = path.way.to_vec(alloc)?;
     if let Some(last) = path.last {
         letters.push(last)?;
@@ -26,7 +26,7 @@ pub fn letters(alloc: Global, path: Path) -> Result<Vec<u8>, AllocError> {
 }
 
 /// How a component is spelled.
-pub fn spelled(letter: u8) -> &'static [u8] {
+pub(crate) fn spelled(letter: u8) -> &'static [u8] {
     match letter {
         b'A' => b"A",
         b'B' => b"B",
@@ -49,7 +49,7 @@ pub fn spelled(letter: u8) -> &'static [u8] {
 }
 
 /// The absolute text of components: a backslash alone where there is none.
-pub fn joined(alloc: Global, letters: &[u8]) -> Result<Vec<u8>, AllocError> {
+pub(crate) fn joined(alloc: Global, letters: &[u8]) -> Result<Vec<u8>, AllocError> {
     let mut text = Vec::new(alloc);
     for letter in letters {
         text.push(b'\\')?;
@@ -62,7 +62,7 @@ pub fn joined(alloc: Global, letters: &[u8]) -> Result<Vec<u8>, AllocError> {
 }
 
 /// The text of a name: no backslash stands before a relative one.
-pub fn text(alloc: Global, name: Name) -> Result<Vec<u8>, AllocError> {
+pub(crate) fn text(alloc: Global, name: Name) -> Result<Vec<u8>, AllocError> {
     let letters = letters(alloc, name.path)?;
     let text = joined(alloc, letters.as_slice())?;
     match name.root {
