@@ -1,8 +1,6 @@
 //! Worked cases of names, objects and handles.
 
-use crate::played::assert_cases;
-use ob_runs::{Input, performs};
-use ob_words::Task;
+use crate::played::{assert_cases, leaves};
 
 const CASES: &'static str = r#"== an empty script prints nothing
 -- ends with 0
@@ -519,16 +517,6 @@ fn worked_cases_print_what_they_show(rt: HostRuntime) {
 #[test]
 fn comments_and_empty_lines_are_counted_and_the_last_line_may_lack_its_end(rt: HostRuntime) {
     let script = b"# a comment\n\np1 opendir \"\\\" - =a";
-    let input = Input::Bytes(script);
-    assert!(rt;
-        performs(
-            &rt,
-            rt.alloc(),
-            Task::Script,
-            input,
-            0,
-            b"3: SUCCESS\n",
-            b""
-        )
-    );
+    let is_left = leaves(&rt, rt.alloc(), "ntns", script, 0, b"3: SUCCESS\n");
+    assert!(rt; is_left == Some(true));
 }

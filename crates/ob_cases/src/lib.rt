@@ -1,4 +1,4 @@
-//! The worked cases: whole scripts, with what they print and how they end. The crate holds tests alone, since a
+//! The worked cases: whole scripts and words of the program, with what they print and how they end. The crate holds tests alone, since a
 //! crate with tests is proved twice.
 #![tactic(auto)]
 
@@ -24,3 +24,5 @@ mod played;
 mod processes;
 #[cfg(test)]
 mod waiting;
+#[cfg(test)]
+mod words;
