@@ -42,11 +42,11 @@ build:
 	@gate/program_of.py ntns
 
 bench: build lib
-	@gate/program_of.py share_bench core_bench
+	@gate/program_of.py callers cores
 	bench/lines.py crates/ntns/out/ntns
 	bench/journal.py crates/ntns/out/ntns
-	bench/threads.py crates/share_bench/out/share_bench
-	bench/calls.py crates/core_bench/out/core_bench 100000
+	bench/threads.py crates/callers/out/callers
+	bench/calls.py crates/cores/out/cores 100000
 
 hostile: build
 	gate/refusals.py crates/ntns/out/ntns $(if $(filter command environment,$(firstword $(origin SCRIPT))),$(SCRIPT),--long)

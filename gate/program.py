@@ -54,11 +54,14 @@ SEATED = (
 CLOSES = 1_048_543
 OVERFULL = b"p1 close z\n" * (CLOSES + 1)
 
+# a line of as many bytes as one may have
+LONGEST = b"#" * 262_144
 
-def overfull():
-    """The journal of closes of no handle, up to the last one that it takes."""
+
+def closes(count):
+    """The journal of so many closes of no handle."""
     lines = [b'{"journal":1,"seats":1}\n']
-    for number in range(1, CLOSES + 1):
+    for number in range(1, count + 1):
         lines.append(b'{"n":%d,"reply":{"status":3221225480},"seat":0,"step":{"handle":0,"op":"close","proc":1}}\n' % number)
     return b"".join(lines)
 
@@ -99,7 +102,12 @@ FILES = {
     "seats": SEATS,
     "join": b"join\n",
     "overfull": OVERFULL,
-    "full": overfull(),
+    "full": closes(CLOSES),
+    "longest": closes(1_048_576),
+    "longer": closes(1_048_577),
+    "too long": b"thread\n" + LONGEST + b"#\nthread\n",
+    "crowd": b"thread\nstat\n" * 63 + b"join\n#\n",
+    "too many": b"thread\nstat\n" * 64 + b"stats\n",
 }
 
 HELP = (
@@ -128,6 +136,19 @@ OPENED = b'p1 open Event "\\E" - =o\n'
 FULL = b'p1 make Event "\\E" - "" =e\np1 name e+3\n' + OPENED * 65_535 + b"p1 close e+1\np1 close e\n" + OPENED
 FILLED = b"1: SUCCESS\n2: SUCCESS \"\\E\"\n" + b"".join(b"%d: SUCCESS\n" % n for n in range(3, 65_537))
 NO_MORE = b"65537: INSUFFICIENT_RESOURCES\n65538: SUCCESS\n65539: INVALID_HANDLE\n65540: SUCCESS\n"
+
+# as many handles to one event, all of which a child inherits under their values
+INHERITED = b'p1 make Event "\\E" I "" =e\n' + b'p1 open Event "\\E" I =o\n' * 65_534 + b"p1 new inherit =q\nq name e\nq name o\nstat\n"
+INHERITS = b"".join(b"%d: SUCCESS\n" % n for n in range(1, 65_537)) + (
+    b'65537: SUCCESS "\\E"\n65538: SUCCESS "\\E"\n65539: objects 7 handles 131070 opens 131070 closes 0 deletes 0\n'
+)
+
+# a hundred thousand directories in two others, each found and told by its path once all are made
+PLACED = [b"\\0\\%d" % n if n % 2 else b"\\%d" % n for n in range(100_000)]
+PLACE = b"".join(b'p1 dir "%s" P =d\np1 close d\n' % name for name in PLACED)
+FIND = b"".join(b'p1 opendir "%s" - =d\np1 name d\np1 close d\n' % name for name in PLACED)
+IN_PLACE = b"".join(b"%d: SUCCESS\n" % n for n in range(1, 200_001))
+FOUND = b"".join(b'%d: SUCCESS\n%d: SUCCESS "%s"\n%d: SUCCESS\n' % (n, n + 1, name, n + 2) for n, name in zip(range(200_001, 500_001, 3), PLACED))
 
 # a thousand nested directories, closed from the outermost one: each goes when the name in it does
 NESTED = b'p1 dir "\\d" - =d0\n' + b"".join(b'p1 dir d%d:"d" - =d%d\n' % (n - 1, n) for n in range(1, 1_000))
@@ -190,6 +211,28 @@ def pages():
     return b"".join(script), b"".join(prints)
 
 
+# words that are a mistake, each with what is told of it first
+MISTAKES = [
+    (("ntns",), b"unrecognized subcommand 'ntns'"),
+    (("RUN",), b"unrecognized subcommand 'RUN'"),
+    (("runs",), b"unrecognized subcommand 'runs'"),
+    (("thread",), b"unrecognized subcommand 'thread'"),
+    (("replays",), b"unrecognized subcommand 'replays'"),
+    (("-",), b""),
+    (("",), b""),
+    (("-x",), b"unexpected argument '-x' found"),
+    (("--other",), b"unexpected argument '--other' found"),
+    (("--run",), b"unexpected argument '--run' found"),
+    (("--", "run", "a"), b""),
+    (("run", "-x"), b"unexpected argument '-x' found"),
+    (("run", "a", "b"), b"unexpected argument 'b' found"),
+    (("threads", "a", "b"), b"unexpected argument 'b' found"),
+    (("threads", "-x"), b"unexpected argument '-x' found"),
+    (("replay", "a", "b"), b"unexpected argument 'b' found"),
+    (("replay", "-x"), b"unexpected argument '-x' found"),
+]
+
+
 @dataclass(frozen=True)
 class Case:
     shows: str
@@ -217,7 +260,7 @@ CASES = [
     Case("a worker's steps stand behind those of the lines before it", ("threads", "workers"), 0, WORKED),
     Case("each seat has its own words, and its own opens that wait", ("threads", "seats"), 0, SEATED),
     Case("a join before any worker runs nothing", ("threads", "join"), 1, b"1: not a script line\n"),
-    Case("a journal that is full refuses a step, and is written", ("threads", "overfull"), 1, overfull(), b"ntns: step refused\n"),
+    Case("a journal that is full refuses a step, and is written", ("threads", "overfull"), 1, closes(CLOSES), b"ntns: step refused\n"),
     Case("an empty script with workers has a journal without a step", ("threads", "empty"), 0, b'{"journal":1,"seats":1}\n'),
     Case("a journal of two entries is accepted", ("replay", "journal"), 0, b"accepted 2 entries\n"),
     Case("its last line may have no end", ("replay", "no line end"), 0, b"accepted 2 entries\n"),
@@ -245,6 +288,14 @@ CASES = [
     Case("words that are no text end with 2", (b"\xff",), 2, errors=NO_TEXT),
     Case("help that is asked for ends with 0", ("--help",), 0, HELP),
     Case("a process has 65,535 handles and no more", (), 0, FILLED + NO_MORE, script=FULL),
+    Case("a child inherits 65,535 handles", (), 0, INHERITS, script=INHERITED),
+    Case("each of 100,000 names in two directories is found", (), 0, IN_PLACE + FOUND, script=PLACE + FIND),
+    Case("a line has at most 262,144 bytes", (), 1, b"1: INVALID_HANDLE\n3: not a script line\n", script=b"p1 close a\n" + LONGEST + b"\n" + LONGEST + b"#"),
+    Case("so it is with workers", ("threads", "too long"), 1, b"2: not a script line\n"),
+    Case("a script has at most 63 workers", ("threads", "crowd"), 0, b'{"journal":1,"seats":64}\n'),
+    Case("and no 64th", ("threads", "too many"), 1, b"127: not a script line\n"),
+    Case("a journal has at most 1,048,576 entries", ("replay", "longest"), 0, b"accepted 1048576 entries\n"),
+    Case("and no more", ("replay", "longer"), 3, b"line 1048578: number\n"),
     Case("a thousand nested directories go one by one", (), 0, IN_NEST + OUT_OF_NEST, script=NESTED + UNNESTED),
     Case("a thousand objects go with their process", (), 0, HELD + ENDED, script=HOLDS + ENDS),
     Case("a view is found behind 32 links, and not behind 33", (), 0, LINKED, script=LINKS + VIEWED + BEHIND),
@@ -267,6 +318,13 @@ def fault_of(case, program, folder):
     return "" if left == wanted else f"it left {str(left)[:2000]}, and not {str(wanted)[:2000]}"
 
 
+def fault_of_mistake(words, told, program, folder):
+    """What is wrong with a run of the program whose words are a mistake, or nothing."""
+    run = subprocess.run([program, *words], input=SCRIPT, capture_output=True, cwd=folder, timeout=300, check=False)
+    is_told = (run.returncode, run.stdout) == (2, b"") and run.stderr.startswith(b"error: " + told)
+    return "" if is_told else f"it left {str((run.returncode, run.stdout, run.stderr))[:2000]}"
+
+
 def main():
     if len(sys.argv) != 2:
         sys.exit("usage: gate/program.py PROGRAM")
@@ -284,7 +342,11 @@ def main():
                 fault = str(error)
             failed += bool(fault)
             print(f"program: {case.shows} ... {fault or 'ok'}")
-    print(f"{len(CASES) - failed} passed, {failed} failed")
+        for words, told in MISTAKES:
+            fault = fault_of_mistake(words, told, program, folder)
+            failed += bool(fault)
+            print(f"program: {' '.join(words)!r} is a mistake ... {fault or 'ok'}")
+    print(f"{len(CASES) + len(MISTAKES) - failed} passed, {failed} failed")
     return 1 if failed else 0
 
 

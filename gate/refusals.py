@@ -12,10 +12,10 @@ A run that finds no memory ends as the whole run, or with `N: want of memory` be
 `ntns: want of memory` and no output. A parse that finds none ends nothing: its line replies NO_MEMORY, and the run goes on as that of the script
 in which the open there is refused, or given up. A run whose read fails writes nothing; one whose write fails leaves a beginning of the output.
 
-`refused_steps` makes steps of a namespace, and `refused_callers` steps of one that four callers share, a line each, and both tell whether anything changed
-where one was refused memory. They are run with each request of each step refused in turn: each line then has to say that nothing had changed, and what it
-says without. How many requests each step makes has to be what `hostile/` has in the text of the program's name, so that one that creeps into an open, or into
-a close, is seen.
+A program that `--steps` names makes steps of a namespace, a line each, where its word is `refused`, and the Nth alone where N stands behind that, and tells
+whether anything changed where one was refused memory: `cores` makes steps of a core, and `callers` steps of one that four callers share. It is run with each
+request of each step refused in turn: each line then has to say that nothing had changed, and what it says without. How many requests each step makes has to be
+what `hostile/` has in the text of the program's name, so that one that creeps into an open, or into a close, is seen.
 
     gate/refusals.py PROGRAM [--steps STEPS]* [--long] [SCRIPT..]      --long: longer scripts, and the scripts that are named, in place of the gate's cases
     gate/refusals.py PROGRAM [--steps STEPS]* --renew                  writes these texts anew
@@ -422,6 +422,9 @@ def tried(bench, case):
 # what a step's line says behind its name, where it was refused memory and the namespace was as before
 UNCHANGED = b" .. refused, nothing changed, then "
 
+# the word by which a program makes the steps
+REFUSED_STEPS = "refused"
+
 # how often a line is written to: its name, the end of the step, what it was told, and the line's end
 WRITES = 4
 
@@ -448,7 +451,7 @@ def fault_of_step(line, end, left):
 
 def faults_of_steps(bench):
     """What is wrong with the run of each step whose Nth request is refused, for every N."""
-    whole = bench.whole((), b"")
+    whole = bench.whole((REFUSED_STEPS,), b"")
     yield "" if whole.status == 0 and not whole.errors else f"it ends in {whole.status}"
     requests, kept = requests_of(whole), kept_of(bench).read_text().splitlines()
     yield "" if requests == kept else f"{kept_of(bench).name} differs: " + "; ".join(sorted(set(requests) ^ set(kept), key=lambda line: line[3:]))
@@ -456,7 +459,7 @@ def faults_of_steps(bench):
     for place, line in enumerate(lines):
         count, refused = whole.asked[1 + WRITES * place], 0
         for number in range(1, count + 1):
-            left = bench.run((str(place + 1),), b"", REFUSE_BEHIND=1, REFUSE_REQUEST=number)
+            left = bench.run((REFUSED_STEPS, str(place + 1)), b"", REFUSE_BEHIND=1, REFUSE_REQUEST=number)
             fault, is_refused = fault_of_step(line, end, left)
             refused += is_refused
             yield fault and f"refused request {number}: {fault}"
@@ -491,7 +494,7 @@ def main():
         steps = [Bench(str(path.resolve()), folder) for path in asked.steps]
         if asked.renew:
             for made in steps:
-                kept_of(made).write_text("\n".join(requests_of(made.whole((), b""))) + "\n")
+                kept_of(made).write_text("\n".join(requests_of(made.whole((REFUSED_STEPS,), b""))) + "\n")
             return 0
         (bench.folder / "workers").write_bytes(WORKERS)
         found, files = cases(bench.run(("threads", "workers"), b"").output)

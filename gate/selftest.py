@@ -129,9 +129,9 @@ MERGED = re.compile(r"^(?:<{7}|>{7}) ", re.MULTILINE)
 
 def faults_of_documents(root):
     """What a document shows otherwise than it is."""
-    source = (root / "crates" / "four_callers" / "src" / "main.rt").read_text()
+    source = "".join(path.read_text() for path in sorted((root / "crates" / "callers" / "src").glob("*.rt")))
     shown = re.findall(r"\n```rust\n(.*?)```\n", (root / "docs" / "threads.md").read_text(), re.DOTALL)
-    yield "documents: what threads.md shows is the source of four_callers", len(shown) == 1 and all(part in source for part in shown)
+    yield "documents: what threads.md shows is the source of callers", len(shown) == 1 and all(part in source for part in shown)
     told = [*root.glob("*.md"), *root.glob("docs/*.md"), *(path for part in ("src", "specs", "proofs") for path in root.glob(f"crates/*/{part}/**/*") if path.is_file())]
     yield "documents: none has the marks of a merge", not [path for path in told if MERGED.search(path.read_text())]
 

@@ -62,13 +62,14 @@ for folder in wrong definitions; do
     if [ -n "$crates" ]; then part "$folder" "$tool" $crates; fi
 done
 run program gate/program.py crates/ntns/out/ntns > "$logs/program" &
-run refusals gate/refusals.py crates/ntns/out/ntns --steps crates/refused_steps/out/refused_steps --steps crates/refused_callers/out/refused_callers > "$logs/refusals" &
+run cases gate/cases.py crates/ntns/out/ntns crates/cores/out/cores > "$logs/cases" &
+run refusals gate/refusals.py crates/ntns/out/ntns --steps crates/cores/out/cores --steps crates/callers/out/callers > "$logs/refusals" &
 part c gate/c.py
-gather program refusals
+gather program cases refusals
 
 # a run is long, and only its end may be on record: what failed is named once more there
 if [ "$failed" -ne 0 ]; then
-    cat "$logs"/selftest "$logs"/records "$logs"/ci "$logs"/wrong "$logs"/definitions "$logs"/program "$logs"/refusals "$logs"/c 2> /dev/null | grep -E '(^|[^0-9])error|[Ff]ailed|FAILED|NOT REFUSED|not proved|refused:' | tail -n 100
+    cat "$logs"/selftest "$logs"/records "$logs"/ci "$logs"/wrong "$logs"/definitions "$logs"/program "$logs"/cases "$logs"/refusals "$logs"/c 2> /dev/null | grep -E '(^|[^0-9])error|[Ff]ailed|FAILED|NOT REFUSED|not proved|refused:' | tail -n 100
 fi
 echo "$passed passed, $failed failed"
 [ "$failed" -eq 0 ]

@@ -1,0 +1,190 @@
+#!/usr/bin/env python3
+"""Runs the built program `ntns` on the tables of `cases/`, a run a row or more, and compares what it leaves byte for byte.
+
+- `lines.txt`: lines that are no script line, each closed by a bar. Each alone is told so, in scripts with and without workers, of which those with workers have the
+  line `thread`.
+- `scripts.txt`: scripts, each under a line `== NAME`. A row is a line and, behind ` | `, its reply. Where `| N letters` or `| N to M letters` stands behind a
+  name, `@` is so many letters, and the script is run for each number.
+- `requests.txt`: a script whose journal shows each form of a line as a step: the line, then the steps that it makes, each with its reply.
+- `workers.txt`: scripts with workers, with `/` for the end of a line: how many seats the journal has, or which line is none.
+- `operations.txt`: what `cores time` times, each operation once.
+- `journals.txt`: what the check of a journal says. Under a line `# NAME`, a row is a verdict and, behind ` | `, the text; lines with `>` stand before it, a text
+  behind `(` or `)` before or behind each text of the rows. `^41` is the byte 0x41, `^41*20;` twenty of them.
+
+    gate/cases.py PROGRAM [CORES]      CORES: the built program `cores`, whose operations are made too
+
+The last line is 'N passed, M failed'. The exit status is 0 where none failed, else 1.
+"""
+
+import os
+import re
+import subprocess
+import sys
+import tempfile
+from concurrent.futures import ThreadPoolExecutor
+from dataclasses import dataclass
+from pathlib import Path
+
+CASES = Path(__file__).resolve().parent.parent / "cases"
+
+# the status of the program behind a verdict
+REFUSED, ACCEPTED = 3, 0
+
+
+@dataclass(frozen=True)
+class Run:
+    """What the program is run on, and what it has to leave."""
+
+    shows: str
+    script: bytes
+    status: int
+    output: bytes
+    words: tuple = ()
+
+
+def rows_of(name):
+    """The lines of a table."""
+    return (CASES / name).read_text(encoding="ascii").splitlines()
+
+
+def lines():
+    """Runs of lines that are none."""
+    for row in rows_of("lines.txt"):
+        script = row.removesuffix("|").encode()
+        for words in ((), ("threads", "FILE"))[: 1 if script == b"thread" else 2]:
+            yield Run(f"no line: {row}", script, 1, b"1: not a script line\n", words)
+
+
+def scripts():
+    """Runs of scripts with their replies."""
+    name, rows, letters = "", [], range(1)
+    for row in [*rows_of("scripts.txt"), "== "]:
+        if not row.startswith("== "):
+            rows.append(row)
+            continue
+        for number in letters if name else ():
+            yield script_of(name, rows, number)
+        name, _, counts = row.removeprefix("== ").partition(" | ")
+        first, *last = map(int, re.findall(r"\d+", counts) or [0])
+        rows, letters = [], range(first, (last or [first])[0] + 1)
+
+
+def script_of(name, rows, letters):
+    """A run of a script, where `@` is so many letters."""
+    asked, shown = [], []
+    for number, row in enumerate(rows, 1):
+        line, _, reply = row.replace("@", "a" * letters).partition(" | ")
+        asked.append(f"{line}\n")
+        shown += [f"{number}: {reply}\n"] if reply else []
+    return Run(f"{name}, {letters} letters" if letters else name, "".join(asked).encode(), 0, "".join(shown).encode())
+
+
+def requests():
+    """The run whose journal shows what each line asks for, and that of the journal's check."""
+    asked, entries = [], []
+    for row in rows_of("requests.txt"):
+        line, *steps = row.split(" | ")
+        asked.append(f"{line}\n")
+        for step, reply in zip(steps[::2], steps[1::2], strict=True):
+            entries.append(f'{{"n":{len(entries) + 1},"reply":{reply},"seat":0,"step":{step}}}\n')
+    journal = '{"journal":1,"seats":1}\n' + "".join(entries)
+    yield Run("what each line asks for", "".join(asked).encode(), 0, journal.encode(), ("threads", "FILE"))
+    yield Run("the journal of that", journal.encode(), ACCEPTED, b"accepted %d entries\n" % len(entries), ("replay", "FILE"))
+    for number in range(len(entries)):
+        cut = journal[: journal.index(f'{{"n":{number + 1},')]
+        yield Run(f"its first {number} entries", cut.encode(), ACCEPTED, b"accepted %d entries\n" % number, ("replay", "FILE"))
+        told = b"line %d: syntax\n" % (number + 2)
+        yield Run(f"its first {number} entries and a part of the next", (cut + '{"n"').encode(), REFUSED, told, ("replay", "FILE"))
+
+
+def workers():
+    """Runs of scripts with workers."""
+    for row in rows_of("workers.txt"):
+        script, _, wanted = row.rpartition(" | ")
+        text = script.replace("/", "\n").encode()
+        number = int(re.search(r"\d+", wanted)[0])
+        if wanted.startswith("line"):
+            yield Run(f"workers: {row}", text, 1, b"%d: not a script line\n" % number, ("threads", "FILE"))
+        else:
+            header = b'{"journal":1,"seats":%d}\n' % number
+            steps = b"".join(entry_of(line) for line in text.splitlines() if line.startswith(b"p1"))
+            yield Run(f"workers: {row}", text, 0, header + steps, ("threads", "FILE"))
+
+
+def entry_of(line):
+    """The entry of a line of `workers.txt` that asks for a step."""
+    number, step = {b"p1 close a": (1, b'{"handle":0,"op":"close","proc":1}'), b"p1 exit": (2, b'{"op":"exit","proc":1}')}[line]
+    return b'{"n":%d,"reply":{"status":%d},"seat":0,"step":%s}\n' % (number, 3221225480 if number == 1 else 0, step)
+
+
+def spelled(text):
+    """The bytes that a text of a journal spells."""
+    def many(found):
+        return bytes([int(found[1], 16)]) * int(found[2] or 1)
+
+    return re.sub(rb"\^([0-9A-F]{2})(?:\*(\d+);)?", many, text.encode())
+
+
+def journals():
+    """Runs of journals with their verdicts."""
+    name, front, before, behind = "", "", "", ""
+    for row in rows_of("journals.txt"):
+        kind, rest = row[:2], row[2:]
+        if kind == "# ":
+            name, front, before, behind = rest, "", "", ""
+        elif kind == "> ":
+            front += rest + "\n"
+        elif kind == "( ":
+            before = rest
+        elif kind == ") ":
+            behind = rest
+        else:
+            verdict, _, text = row.partition(" | ") if " | " in row else (row.removesuffix(" |"), "", "")
+            word, number = verdict.split()
+            told = f"accepted {number} entries\n" if word == "accepted" else f"line {number}: {word}\n"
+            status = ACCEPTED if word == "accepted" else REFUSED
+            yield Run(f"{name}: {row[:200]}", spelled(front + before + text + behind), status, told.encode(), ("replay", "FILE"))
+
+
+def fault_of_operations(program):
+    """What is wrong with a run of the program `cores` that makes each operation once, or nothing."""
+    ran = subprocess.run([program, "time", "0"], capture_output=True, timeout=300, check=False)
+    wanted = "".join(f"{row}: 0 a second\n" for row in rows_of("operations.txt")).encode()
+    return "" if (ran.returncode, ran.stdout, ran.stderr) == (0, wanted, b"") else f"cases: operations: it left {str((ran.returncode, ran.stdout, ran.stderr))[:2000]}"
+
+
+def fault_of(run, program, folder):
+    """What is wrong with a run, or nothing."""
+    words, given = run.words, run.script
+    with tempfile.NamedTemporaryFile(dir=folder) as file:
+        if words:
+            file.write(given)
+            file.flush()
+            words, given = [file.name if it == "FILE" else it for it in words], b""
+        ran = subprocess.run([program, *words], input=given, capture_output=True, timeout=300, check=False)
+    if (ran.returncode, ran.stdout, ran.stderr) == (run.status, run.output, b""):
+        return ""
+    return f"cases: {run.shows}: it left {str((ran.returncode, ran.stdout, ran.stderr))[:2000]}, and not {str((run.status, run.output))[:2000]}"
+
+
+def main():
+    if len(sys.argv) not in (2, 3):
+        sys.exit("usage: gate/cases.py PROGRAM [CORES]")
+    program = str(Path(sys.argv[1]).resolve())
+    passed = failed = 0
+    with tempfile.TemporaryDirectory(prefix="ntns-cases-") as folder, ThreadPoolExecutor(len(os.sched_getaffinity(0))) as pool:
+        for table in (lines, scripts, requests, workers, journals):
+            faults = [fault for fault in pool.map(lambda run: fault_of(run, program, folder), table()) if fault]
+            count = sum(1 for _ in table())
+            passed, failed = passed + count - len(faults), failed + len(faults)
+            print(f"cases: {table.__name__}: {count} runs ... {'ok' if not faults else f'{len(faults)} failed'}", *faults[:20], sep="\n", flush=True)
+    for cores in sys.argv[2:]:
+        fault = fault_of_operations(str(Path(cores).resolve()))
+        passed, failed = passed + (not fault), failed + bool(fault)
+        print(f"cases: operations: 1 run ... {fault or 'ok'}")
+    print(f"{passed} passed, {failed} failed")
+    return 1 if failed else 0
+
+
+if __name__ == "__main__":
+    sys.exit(main())
