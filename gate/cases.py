@@ -10,6 +10,10 @@
 - `operations.txt`: what `cores time` times, each operation once.
 - `journals.txt`: what the check of a journal says. Under a line `# NAME`, a row is a verdict and, behind ` | `, the text; lines with `>` stand before it, a text
   behind `(` or `)` before or behind each text of the rows. `^41` is the byte 0x41, `^41*20;` twenty of them.
+- `worked/`: worked cases, a file a subject, which its first line tells. A case is a line `== WHAT IT SHOWS`, then its script, which stands on standard input, or a
+  line `$ ntns|WORD|WORD` of the program's words, then `-- ends with STATUS` and what is left: on standard error where it begins with `ntns: ` or `error: `,
+  else on standard output, with nothing on the other. `<<a*3>>` is `aaa`, `<<{}*3>>` is `123`, `<<successes*3>>` says of the lines 1 to 3 that they succeed;
+  `<<` at the end of a line, with `*0>>` at the beginning of the next, takes that end away. Words name the files of `FILES`, and `two`, which isn't there.
 
     gate/cases.py PROGRAM [CORES]      CORES: the built program `cores`, whose operations are made too
 
@@ -30,6 +34,14 @@ CASES = Path(__file__).resolve().parent.parent / "cases"
 # the status of the program behind a verdict
 REFUSED, ACCEPTED = 3, 0
 
+# what the words of worked cases name: a script, one with a line that is none, and a journal of one entry
+FILES = {
+    "one": b"p1 close z\nq close z\n",
+    "bad": b"no line\n",
+    "journal": b'{"journal":1,"seats":1}\n'
+    b'{"n":1,"reply":{"handle":4,"status":0},"seat":0,"step":{"flags":0,"name":"\\\\A","op":"dir","proc":1,"root":null}}\n',
+}
+
 
 @dataclass(frozen=True)
 class Run:
@@ -40,6 +52,7 @@ class Run:
     status: int
     output: bytes
     words: tuple = ()
+    errors: bytes = b""
 
 
 def rows_of(name):
@@ -146,6 +159,35 @@ def journals():
             yield Run(f"{name}: {row[:200]}", spelled(front + before + text + behind), status, told.encode(), ("replay", "FILE"))
 
 
+def repeated(text, times):
+    """A text so many times, in which `{}` is the number of each; `successes` are lines that succeed."""
+    text = "{}: SUCCESS\n" if text == "successes" else text
+    return "".join(text.replace("{}", str(number)) for number in range(1, times + 1)) if "{}" in text else text * times
+
+
+def unfolded(text):
+    """The bytes of a text of a worked case."""
+    return re.sub(r"<<([^*]*)\*(\d+)>>", lambda found: repeated(found[1], int(found[2])), text).encode()
+
+
+def worked():
+    """Runs of the worked cases."""
+    for path in sorted((CASES / "worked").iterdir()):
+        for case in re.split("^== ", path.read_bytes().decode("ascii"), flags=re.MULTILINE)[1:]:
+            yield worked_case(path.stem, case)
+
+
+def worked_case(subject, case):
+    """The run of a worked case."""
+    shows, _, case = case.partition("\n")
+    script, _, case = case.partition("-- ends with ")
+    status, _, case = case.partition("\n")
+    words, script = (script[2:].rstrip().split("|"), "") if script.startswith("$ ") else (["ntns"], script)
+    told = unfolded(case)
+    output, errors = (b"", told) if told.startswith((b"ntns: ", b"error: ")) else (told, b"")
+    return Run(f"{subject}: {shows}", unfolded(script), int(status), output, tuple(words[1:]), errors)
+
+
 def fault_of_operations(program):
     """What is wrong with a run of the program `cores` that makes each operation once, or nothing."""
     ran = subprocess.run([program, "time", "0"], capture_output=True, timeout=300, check=False)
@@ -161,10 +203,9 @@ def fault_of(run, program, folder):
             file.write(given)
             file.flush()
             words, given = [file.name if it == "FILE" else it for it in words], b""
-        ran = subprocess.run([program, *words], input=given, capture_output=True, timeout=300, check=False)
-    if (ran.returncode, ran.stdout, ran.stderr) == (run.status, run.output, b""):
-        return ""
-    return f"cases: {run.shows}: it left {str((ran.returncode, ran.stdout, ran.stderr))[:2000]}, and not {str((run.status, run.output))[:2000]}"
+        ran = subprocess.run(["ntns", *words], executable=program, input=given, capture_output=True, cwd=folder, timeout=300, check=False)
+    left, wanted = (ran.returncode, ran.stdout, ran.stderr), (run.status, run.output, run.errors)
+    return "" if left == wanted else f"cases: {run.shows}: it left {str(left)[:2000]}, and not {str(wanted)[:2000]}"
 
 
 def main():
@@ -173,11 +214,13 @@ def main():
     program = str(Path(sys.argv[1]).resolve())
     passed = failed = 0
     with tempfile.TemporaryDirectory(prefix="ntns-cases-") as folder, ThreadPoolExecutor(len(os.sched_getaffinity(0))) as pool:
-        for table in (lines, scripts, requests, workers, journals):
-            faults = [fault for fault in pool.map(lambda run: fault_of(run, program, folder), table()) if fault]
-            count = sum(1 for _ in table())
-            passed, failed = passed + count - len(faults), failed + len(faults)
-            print(f"cases: {table.__name__}: {count} runs ... {'ok' if not faults else f'{len(faults)} failed'}", *faults[:20], sep="\n", flush=True)
+        for name, text in FILES.items():
+            (Path(folder) / name).write_bytes(text)
+        for table in (lines, scripts, requests, workers, journals, worked):
+            runs = list(table())
+            faults = [fault for fault in pool.map(lambda run: fault_of(run, program, folder), runs) if fault]
+            passed, failed = passed + len(runs) - len(faults), failed + len(faults)
+            print(f"cases: {table.__name__}: {len(runs)} runs ... {'ok' if not faults else f'{len(faults)} failed'}", *faults[:20], sep="\n", flush=True)
     for cores in sys.argv[2:]:
         fault = fault_of_operations(str(Path(cores).resolve()))
         passed, failed = passed + (not fault), failed + bool(fault)
