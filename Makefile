@@ -4,7 +4,7 @@
 # make wrong  tries the wrong bodies that no record covers; those of one crate with CRATE=name, all anew with ALL=1
 # make definitions  the same for the turned definitions, which the laws and examples must refuse
 # make random plays COMMANDS random commands, 1,000,000 if nothing is said, beside a plain model; the 60 seconds of a test allow some 5,000,000
-# make times  the gate again, with the processor seconds of each crate
+# make times  the gate again, with the processor seconds of each crate, which gate/seconds.txt keeps
 # make hostile refuses each request for memory of longer scripts in turn, or of the script that SCRIPT names, as the gate does of short ones
 # make bench  times the built program on generated scripts and journals, steps of threads that share a namespace, and operations of a core, also by calls from C; it fails nothing
 # make lib    the static library for C and C++: out/libntns.a, out/ntns.h and out/ntns.pc; the first build proves every crate below it
@@ -36,7 +36,7 @@ random:
 	cd crates/ob_random_tests && COMMANDS=$(COMMANDS) ../../gate/quick_rt.py test
 
 times:
-	gate/times.py gate/test.sh
+	gate/times.py --keep gate/test.sh
 
 build:
 	@gate/program_of.py ntns

@@ -1,5 +1,5 @@
 #!/usr/bin/env python3
-"""Times steps on a namespace: on a core alone, and by callers on threads of their own that share it.
+"""Times steps on a namespace by callers on threads of their own that share it.
 
     bench/threads.py PROGRAM
 
@@ -39,7 +39,6 @@ def main():
     if len(sys.argv) != 2:
         sys.exit("usage: bench/threads.py PROGRAM")
     program = sys.argv[1]
-    rate(program, "a core, with no lock and no journal", ["core"], 1)
     rate(program, "one caller", ["own", "1"], 1)
     for callers in (2, 4):
         rate(program, f"{callers} callers on names of their own", ["own", str(callers)], callers)

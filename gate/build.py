@@ -1,8 +1,8 @@
 #!/usr/bin/env python3
 """Proves crates and builds the program, with a line a crate.
 
-Crates that don't stand on one another are proved side by side, those with the longest chain of crates behind them first;
-a proof that has processors to itself gets up to four. What is proved is kept in the work tree, and isn't proved again
+Crates that don't stand on one another are proved side by side, those with the longest chain of crates behind them first, which get half of
+the processors, or more where nothing else is ready (`lanes.py`). What is proved is kept in the work tree, and isn't proved again
 while nothing changes in it or below it; nor is a crate below that `rt ci` has passed on this machine. What the prover prints
 goes to a file, whose path is told.
 
@@ -19,14 +19,18 @@ import subprocess
 import sys
 import tempfile
 import time
-from concurrent.futures import FIRST_COMPLETED, ThreadPoolExecutor, wait
 from functools import cache
 from pathlib import Path
+from threading import Lock
 
+import lanes
 import quick_rt
 from crates import MADE, QUICK_RT, ROOT, bring_back, folder_of, is_program, is_static, listed, with_dependencies, workshop
 
 LOG = ROOT / "out" / "build.log"
+
+# memory is not counted here
+ENOUGH = 1_000_000
 
 # what tells in a prover's lines why a crate isn't proved
 TELLS = re.compile(r"error|^(fn|impl|struct|enum) \S+: (no proof|not proved|could not tell)|it is not proved that|^rt: ")
@@ -75,21 +79,19 @@ def is_made(crate, has_work):
     return stamp.read_text() == known.stamp() + quick_rt.loaded_quickly().rtlib.sum_of(str(program))
 
 
-@cache
-def behind(crate):
-    """The lines of a crate and of the longest chain of crates that stand on it: what has most is proved first."""
-    lines = sum(len(path.read_bytes().splitlines()) for path in (folder_of(crate) / "src").rglob("*.rt"))
-    return lines + max((behind(other) for other, needs in listed().items() if crate in needs), default=0)
+def lines_of(crate):
+    """The lines of a crate's sources, definitions and proofs."""
+    files = (path for part in ("src", "specs", "proofs") for path in (folder_of(crate) / part).rglob("*") if path.is_file())
+    return sum(len(path.read_bytes().splitlines()) for path in files)
 
 
 class Build:
     """Crates that are to be proved, and how far that is."""
 
-    def __init__(self, crates, lanes, folder, log):
+    def __init__(self, crates, processors, folder, log):
         self.checked = {crate for crate in crates if not is_program(crate) and known_to_rt()[crate].is_built()}
-        self.left = sorted(crates, key=behind, reverse=True)
-        self.all, self.lanes, self.folder, self.log = len(crates), lanes, folder, log
-        self.proved, self.failed = set(), []
+        self.crates, self.processors, self.folder, self.log = crates, processors, folder, log
+        self.proved, self.failed, self.telling = set(), [], Lock()
 
     def prove(self, crate, jobs):
         """Proves a crate, or builds it where it is a program; gives what was printed, and whether all is well."""
@@ -108,32 +110,30 @@ class Build:
         self.log.flush()
         if is_well:
             self.proved.add(crate)
-            say(f"{len(self.proved)} of {self.all} proved: {crate}, {in_words(seconds)}")
+            say(f"{len(self.proved)} of {len(self.crates)} proved: {crate}, {in_words(seconds)}")
             return
         self.failed.append(crate)
         told = [line for line in printed.splitlines() if TELLS.search(line)]
         say(*(line[:400] for line in told[:40] or printed.splitlines()[-40:]))
         say(f"{crate} is not proved; all that the prover printed stands in {LOG}")
 
+    def step(self, crate, jobs):
+        """Proves a crate, and tells it; whether all is well. After a failure nothing more is begun."""
+        if self.failed:
+            return False
+        begun = time.monotonic()
+        printed, is_well = self.prove(crate, jobs)
+        with self.telling:
+            self.after(crate, time.monotonic() - begun, printed, is_well)
+        return is_well
+
     def run(self):
-        """Proves all; after a failure what has begun is brought to its end."""
-        missing = set(self.left)
-        running = {}
-        with ThreadPoolExecutor(self.lanes) as pool:
-            while True:
-                ready = [it for it in self.left if not with_dependencies(it) & (missing - self.proved) - {it}]
-                for place, crate in enumerate([] if self.failed else ready):
-                    idle = self.lanes - sum(jobs for _, jobs, _ in running.values())
-                    if idle <= 0:
-                        break
-                    jobs = max(1, min(4, idle // (len(ready) - place)))
-                    self.left.remove(crate)
-                    running[pool.submit(self.prove, crate, jobs)] = crate, jobs, time.monotonic()
-                if not running:
-                    return not self.failed
-                for ended in wait(running, return_when=FIRST_COMPLETED).done:
-                    crate, _, begun = running.pop(ended)
-                    self.after(crate, time.monotonic() - begun, *ended.result())
+        """Proves all; whether all is well."""
+        tasks = {}
+        for crate in (it for it in listed() if it in self.crates):
+            waits = [(it, "proof") for it in with_dependencies(crate) & set(self.crates) - {crate}]
+            tasks[crate, "proof"] = waits, lines_of(crate), 1, lambda _, jobs, it=crate: self.step(it, jobs)
+        return all(lanes.Lanes(tasks, lanes.measured(lanes.SECONDS.read_text()), self.processors, ENOUGH, False).run().values())
 
 
 def in_words(seconds):
@@ -147,7 +147,7 @@ def say(*lines):
         print(line, file=sys.stderr, flush=True)
 
 
-def make(crates, lanes):
+def make(crates, processors):
     """Proves what isn't proved of these crates and those below, and has the work of their own checks kept; whether all is."""
     needed = set().union(*(with_dependencies(crate) for crate in crates))
     take_kept(needed)
@@ -157,7 +157,7 @@ def make(crates, lanes):
     LOG.parent.mkdir(exist_ok=True)
     say(f"crates to be proved: {len(missing)}; the prover's own lines go to {LOG}")
     with tempfile.TemporaryDirectory(prefix="build-") as folder, LOG.open("w") as log:
-        return Build(missing, lanes, Path(folder), log).run()
+        return Build(missing, processors, Path(folder), log).run()
 
 
 def main():

@@ -15,7 +15,10 @@
   else on standard output, with nothing on the other. `<<a*3>>` is `aaa`, `<<{}*3>>` is `123`, `<<successes*3>>` says of the lines 1 to 3 that they succeed;
   `<<` at the end of a line, with `*0>>` at the beginning of the next, takes that end away. Words name the files of `FILES`, and `two`, which isn't there.
 
-    gate/cases.py PROGRAM [CORES]      CORES: the built program `cores`, whose operations are made too
+Of two other programs, where they are named, it makes each operation of `cores`, once, and has `PROGRAM` accept each journal that `callers` writes, of what its callers
+do together, at once and without memory.
+
+    gate/cases.py PROGRAM [CORES CALLERS]
 
 The last line is 'N passed, M failed'. The exit status is 0 where none failed, else 1.
 """
@@ -28,6 +31,8 @@ import tempfile
 from concurrent.futures import ThreadPoolExecutor
 from dataclasses import dataclass
 from pathlib import Path
+
+import journal_lines
 
 CASES = Path(__file__).resolve().parent.parent / "cases"
 
@@ -195,6 +200,15 @@ def fault_of_operations(program):
     return "" if (ran.returncode, ran.stdout, ran.stderr) == (0, wanted, b"") else f"cases: operations: it left {str((ran.returncode, ran.stdout, ran.stderr))[:2000]}"
 
 
+def faults_of_callers(callers, program):
+    """What is wrong with the journals that `callers` writes."""
+    for words, count in (((), 16), (("mix",), 1)):
+        ran = subprocess.run([callers, *words], capture_output=True, timeout=300, check=False)
+        _, written = journal_lines.parted(ran.stdout)
+        yield "" if (ran.returncode, len(written)) == (0, count) else f"cases: callers: it ends in {ran.returncode} with {len(written)} journals"
+        yield from (fault and f"cases: callers: {fault}" for fault in (journal_lines.fault_of(program, it) for it in written))
+
+
 def fault_of(run, program, folder):
     """What is wrong with a run, or nothing."""
     words, given = run.words, run.script
@@ -209,8 +223,8 @@ def fault_of(run, program, folder):
 
 
 def main():
-    if len(sys.argv) not in (2, 3):
-        sys.exit("usage: gate/cases.py PROGRAM [CORES]")
+    if len(sys.argv) not in (2, 4):
+        sys.exit("usage: gate/cases.py PROGRAM [CORES CALLERS]")
     program = str(Path(sys.argv[1]).resolve())
     passed = failed = 0
     with tempfile.TemporaryDirectory(prefix="ntns-cases-") as folder, ThreadPoolExecutor(len(os.sched_getaffinity(0))) as pool:
@@ -221,10 +235,12 @@ def main():
             faults = [fault for fault in pool.map(lambda run: fault_of(run, program, folder), runs) if fault]
             passed, failed = passed + len(runs) - len(faults), failed + len(faults)
             print(f"cases: {table.__name__}: {len(runs)} runs ... {'ok' if not faults else f'{len(faults)} failed'}", *faults[:20], sep="\n", flush=True)
-    for cores in sys.argv[2:]:
-        fault = fault_of_operations(str(Path(cores).resolve()))
-        passed, failed = passed + (not fault), failed + bool(fault)
-        print(f"cases: operations: 1 run ... {fault or 'ok'}")
+    if sys.argv[2:]:
+        cores, callers = (str(Path(it).resolve()) for it in sys.argv[2:])
+        for name, told in (("operations", [fault_of_operations(cores)]), ("callers", list(faults_of_callers(callers, program)))):
+            faults = [fault for fault in told if fault]
+            passed, failed = passed + len(told) - len(faults), failed + len(faults)
+            print(f"cases: {name}: {len(told)} checks ... {'ok' if not faults else f'{len(faults)} failed'}", *faults[:20], sep="\n", flush=True)
     print(f"{passed} passed, {failed} failed")
     return 1 if failed else 0
 

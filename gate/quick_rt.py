@@ -1,10 +1,12 @@
 #!/usr/bin/env python3
-"""Runs `rt`, and has it form the sum of each crate once, and `rt ci` keep what it passes: for kits before `rattle-kit-13f`, which do so of themselves.
+"""Runs `rt`, and has it form the sum of each crate once, and `rt ci` keep what it passes and give the longest chain of crates more processors: for kits
+before `rattle-kit-13f`, which do so of themselves.
 
 Whether what is kept of a crate can be used, `rt` tells by a sum of its files and of those of all crates below. Such a kit,
 `rattle-kit-13b` among them, forms that anew for each way that leads down to a crate, of which the highest crates have
 thousands, so that it takes them minutes before a check begins. Here the sum of a crate is kept, for as long as one command
-runs: nothing may change the files meanwhile. What is proved, and how, is the same; what `rt ci` keeps, and when that is taken, `gate/keeping.py` says.
+runs: nothing may change the files meanwhile. What is proved, and how, is the same; what `rt ci` keeps, and when that is taken, `gate/keeping.py` says, and which proof gets how many
+processors `gate/lanes.py`.
 
     gate/quick_rt.py WORD..
 """
@@ -17,6 +19,7 @@ import shutil
 import sys
 
 import keeping
+import lanes
 
 
 @functools.cache
@@ -26,8 +29,10 @@ def loaded_quickly():
     made = importlib.util.module_from_spec(importlib.util.spec_from_loader("rt", loader))
     loader.exec_module(made)
     made.rtlib.Crate.stamp = functools.cache(made.rtlib.Crate.stamp)
-    if not hasattr(made, "Kept") and keeping.home():
-        keeping.keep_passes(made, keeping.home())
+    if not hasattr(made, "Kept"):
+        lanes.divide(made)
+        if keeping.home():
+            keeping.keep_passes(made, keeping.home())
     return made
 
 

@@ -14,8 +14,9 @@ in which the open there is refused, or given up. A run whose read fails writes n
 
 A program that `--steps` names makes steps of a namespace, a line each, where its word is `refused`, and the Nth alone where N stands behind that, and tells
 whether anything changed where one was refused memory: `cores` makes steps of a core, and `callers` steps of one that four callers share. It is run with each
-request of each step refused in turn: each line then has to say that nothing had changed, and what it says without. How many requests each step makes has to be
-what `hostile/` has in the text of the program's name, so that one that creeps into an open, or into a close, is seen.
+request of each step refused in turn: each line then has to say that nothing had changed, and what it says without. Where a journal stands behind a line, it has to be
+accepted. How many requests each step makes has to be what `hostile/` has in the text of the program's name, so that one that creeps into an open, or into a
+close, is seen.
 
     gate/refusals.py PROGRAM [--steps STEPS]* [--long] [SCRIPT..]      --long: longer scripts, and the scripts that are named, in place of the gate's cases
     gate/refusals.py PROGRAM [--steps STEPS]* --renew                  writes these texts anew
@@ -34,6 +35,8 @@ import tempfile
 from concurrent.futures import ThreadPoolExecutor
 from dataclasses import dataclass, field
 from pathlib import Path
+
+import journal_lines
 
 ROOT = Path(__file__).resolve().parent.parent
 EXAMPLES = ROOT / "examples"
@@ -431,7 +434,7 @@ WRITES = 4
 
 def requests_of(whole):
     """A line for each step: how many requests it makes, its name, and what it is told, but for the sum of the picture behind it."""
-    lines = whole.output.decode().splitlines()[:-1]
+    lines = journal_lines.parted(whole.output)[0].decode().splitlines()[:-1]
     counts = whole.asked[1::WRITES][: len(lines)]
     return [f"{count:2} {line.rpartition(' ')[0]}" for count, line in zip(counts, lines, strict=True)]
 
@@ -441,35 +444,38 @@ def kept_of(bench):
     return ROOT / "hostile" / f"{Path(bench.program).name}.txt"
 
 
-def fault_of_step(line, end, left):
+def fault_of_step(line, end, left, program):
     """What is wrong with a run of a step alone that was refused memory, where this is its line without, and the last one; and whether the step says
-    that it was refused."""
-    is_refused = UNCHANGED in left.output
-    is_alike = (left.status, left.output.replace(UNCHANGED, b" .. ", 1), left.errors) == (0, line + b"\n" + end + b"\n", b"")
-    return "" if is_alike else f"it left {str((left.status, left.output, left.errors))}", is_refused
+    that it was refused. The program is the one that judges journals."""
+    output, written = journal_lines.parted(left.output)
+    is_refused = UNCHANGED in output
+    is_alike = (left.status, output.replace(UNCHANGED, b" .. ", 1), left.errors) == (0, line + b"\n" + end + b"\n", b"")
+    if not is_alike:
+        return f"it left {str((left.status, left.output, left.errors))}", is_refused
+    return next(filter(None, (journal_lines.fault_of(program, it) for it in written)), ""), is_refused
 
 
-def faults_of_steps(bench):
+def faults_of_steps(bench, program):
     """What is wrong with the run of each step whose Nth request is refused, for every N."""
     whole = bench.whole((REFUSED_STEPS,), b"")
     yield "" if whole.status == 0 and not whole.errors else f"it ends in {whole.status}"
     requests, kept = requests_of(whole), kept_of(bench).read_text().splitlines()
     yield "" if requests == kept else f"{kept_of(bench).name} differs: " + "; ".join(sorted(set(requests) ^ set(kept), key=lambda line: line[3:]))
-    *lines, end = whole.output.splitlines()
+    *lines, end = journal_lines.parted(whole.output)[0].splitlines()
     for place, line in enumerate(lines):
         count, refused = whole.asked[1 + WRITES * place], 0
         for number in range(1, count + 1):
             left = bench.run((REFUSED_STEPS, str(place + 1)), b"", REFUSE_BEHIND=1, REFUSE_REQUEST=number)
-            fault, is_refused = fault_of_step(line, end, left)
+            fault, is_refused = fault_of_step(line, end, left, program)
             refused += is_refused
             yield fault and f"refused request {number}: {fault}"
         yield "" if refused or not count else f"{line.decode()}: it was never refused"
 
 
-def tried_steps(bench):
+def tried_steps(bench, program):
     """As `tried`, of the steps of a namespace."""
     try:
-        faults = list(faults_of_steps(bench))
+        faults = list(faults_of_steps(bench, program))
     except (OSError, ValueError, subprocess.TimeoutExpired) as error:
         faults = [str(error)]
     bad = [fault for fault in faults if fault]
@@ -504,7 +510,7 @@ def main():
             found = [Case(shows, (), script) for shows, script in longer().items() if asked.long]
             found += [Case(str(path), (), path.read_bytes()) for path in asked.scripts]
         with ThreadPoolExecutor(len(os.sched_getaffinity(0))) as pool:
-            played = [pool.submit(tried_steps, made) for made in steps]
+            played = [pool.submit(tried_steps, made, bench.program) for made in steps]
             played += [pool.submit(tried, bench, case) for case in found]
             for good, bad, line in (it.result() for it in played):
                 passed, failed = passed + good, failed + bad

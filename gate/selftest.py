@@ -19,11 +19,14 @@ from types import SimpleNamespace
 import c
 import crates
 import edits
+import journal_lines
 import keeping
+import lanes
 import marks
 import records
 import refusals
 import rests
+import times
 import wrong_bodies
 from verdicts import judge, verdicts, without_answers
 
@@ -129,9 +132,10 @@ MERGED = re.compile(r"^(?:<{7}|>{7}) ", re.MULTILINE)
 
 def faults_of_documents(root):
     """What a document shows otherwise than it is."""
-    source = "".join(path.read_text() for path in sorted((root / "crates" / "callers" / "src").glob("*.rt")))
-    shown = re.findall(r"\n```rust\n(.*?)```\n", (root / "docs" / "threads.md").read_text(), re.DOTALL)
-    yield "documents: what threads.md shows is the source of callers", len(shown) == 1 and all(part in source for part in shown)
+    for document, crate in (("docs/threads.md", "callers"), ("README.md", "ob_standard_core")):
+        source = "".join(path.read_text() for path in sorted((root / "crates" / crate / "src").glob("*.rt")))
+        shown = re.findall(r"\n```rust\n(.*?)```\n", (root / document).read_text(), re.DOTALL)
+        yield f"documents: what {document} shows is the source of {crate}", len(shown) == 1 and shown[0] in source
     told = [*root.glob("*.md"), *root.glob("docs/*.md"), *(path for part in ("src", "specs", "proofs") for path in root.glob(f"crates/*/{part}/**/*") if path.is_file())]
     yield "documents: none has the marks of a merge", not [path for path in told if MERGED.search(path.read_text())]
 
@@ -272,6 +276,9 @@ def faults_of_refusals():
         left = refusals.Left(0, output, b"")
         fault = refusals.fault_of_lines(Bench(), refusals.Case("two"), b"p1 end v\np1 end w\n", refusals.Left(0, b"1: SUCCESS\n2: SUCCESS\n", b""), left)
         yield f"refusals: {shows}", (not fault) == wanted
+    first, second = b'{"journal":1,"seats":1}\n{"n":1}\n', b'{"journal":1,"seats":2}\n'
+    yield "refusals: journals stand behind lines", journal_lines.parted(b"a\n" + first + b"b\n" + second + b"end\n") == (b"a\nb\nend\n", [first, second])
+    yield "refusals: a line of its own is no journal", journal_lines.parted(b'{"n":1}\na\n') == (b'{"n":1}\na\n', [])
     line, end = b"b .. SUCCESS 2f", b"end"
     for shows, status, said, wanted in (
         ("a step that changed nothing", 0, b"b .. refused, nothing changed, then SUCCESS 2f", (True, True)),
@@ -280,7 +287,7 @@ def faults_of_refusals():
         ("a step that answers another thing when it is made again", 0, b"b .. refused, nothing changed, then SUCCESS 3f", (False, True)),
         ("a step that is lost", 0, b"", (False, False)),
     ):
-        fault, is_refused = refusals.fault_of_step(line, end, refusals.Left(status, said + b"\nend\n", b""))
+        fault, is_refused = refusals.fault_of_step(line, end, refusals.Left(status, said + b"\nend\n", b""), "ntns")
         yield f"refusals: {shows}", (not fault, is_refused) == wanted
 
 
@@ -414,6 +421,36 @@ def faults_of_keeping(folder):
     yield "keeping: and by no other", not keeping.Shelf(shelf).take("program-built", "other") and not keeping.Shelf(None).take("program-built", "sum")
 
 
+def faults_of_lanes():
+    """What is begun otherwise than it should be of a chain of three crates, two that stand alone, and tests of which one crate has none."""
+    begun = []
+
+    def task(key, waits, lines):
+        def call(given, jobs):
+            assert all(it in given for it in waits), key
+            begun.append((key[0], jobs))
+            return key[0]
+
+        return [(it, "proof") for it in waits], lines, 1, lambda given, jobs: call({name for name, _ in given}, jobs)
+
+    order = (("low", (), 10), ("alone", (), 900), ("other", (), 800), ("middle", ("low",), 2_000), ("top", ("low", "middle"), 2_000))
+    tasks = {(name, "proof"): task((name, "proof"), waits, lines) for name, waits, lines in order}
+    tasks["low", "tests"] = task(("low", "tests"), ("low",), 0)
+    given = lanes.Lanes(tasks, {("low", "proof"): 1.0}, 4, 100, False).run()
+    yield "lanes: each task gives what its call gave", given == {key: key[0] for key in tasks}
+    yield "lanes: the longest chain is first, and gets half of the processors", begun[:3] == [("low", 2), ("alone", 1), ("other", 1)]
+    begun.clear()
+    lanes.Lanes(tasks, {}, 2, 100, True).run()
+    yield "lanes: a number of runs that is asked for has one processor each", {jobs for _, jobs in begun} == {1}
+    yield "lanes: what no memory is left for waits", lanes.Lanes({("a", "proof"): task(("a", "proof"), (), 5)}, {}, 4, 0, False).run() == {("a", "proof"): "a"}
+    rows = (3, 4, 4, True, 0, 2), (3, 4, 4, False, 0, 1), (1, 4, 4, False, 0, 2), (1, 3, 4, False, 1, 1), (1, 2, 4, False, 2, 0), (1, 8, 8, True, 0, 4), (2, 1, 2, True, 1, 1), (1, 1, 1, False, 0, 1)
+    yield "lanes: shares of processors", all(lanes.jobs_of(*row[:5]) == row[5] for row in rows)
+    text = "# a\nlow proof 2\nlow tests 3\ngone proof 9\n"
+    told = times.kept(text, {"low": {"proof": 1.6, "tests": 0.0, "edits": 7.0}, "top": {"proof": 12.2, "tests": 0.0, "edits": 0.0}}, {"low", "top"})
+    yield "times: what took long is kept, of the crates that are listed", told == "# a\ntop proof 12\nlow tests 3\nlow proof 2\n"
+    yield "lanes: a table of seconds", lanes.measured("# a\nlow proof 2\n\nlow tests 3.5\n") == {("low", "proof"): 2, ("low", "tests"): 3.5}
+
+
 def main():
     failed = passed = 0
     with tempfile.TemporaryDirectory(prefix="gate-") as name:
@@ -424,7 +461,7 @@ def main():
         (folder / "crates.txt").write_text("ob_low:\nob_small: ob_low\n")
         root, crates.ROOT = crates.ROOT, folder
         again()
-        parts = (faults_of_verdicts(), faults_of_edits(folder), faults_of_shown(), faults_of_records(folder), faults_of_carried(folder), faults_of_refusals(), faults_of_documents(root), faults_of_c(), faults_of_marks(folder), faults_of_keeping(folder))
+        parts = (faults_of_verdicts(), faults_of_edits(folder), faults_of_shown(), faults_of_records(folder), faults_of_carried(folder), faults_of_refusals(), faults_of_documents(root), faults_of_c(), faults_of_marks(folder), faults_of_keeping(folder), faults_of_lanes())
         for part in parts:
             for shows, is_well in part:
                 passed, failed = passed + is_well, failed + (not is_well)

@@ -62,7 +62,7 @@ for folder in wrong definitions; do
     if [ -n "$crates" ]; then part "$folder" "$tool" $crates; fi
 done
 run program gate/program.py crates/ntns/out/ntns > "$logs/program" &
-run cases gate/cases.py crates/ntns/out/ntns crates/cores/out/cores > "$logs/cases" &
+run cases gate/cases.py crates/ntns/out/ntns crates/cores/out/cores crates/callers/out/callers > "$logs/cases" &
 run refusals gate/refusals.py crates/ntns/out/ntns --steps crates/cores/out/cores --steps crates/callers/out/callers > "$logs/refusals" &
 part c gate/c.py
 gather program cases refusals

@@ -1,7 +1,7 @@
 #!/usr/bin/env python3
 """Runs a command, as gate/test.sh, and tells the processor seconds that the prover took by crate.
 
-    gate/times.py COMMAND..
+    gate/times.py [--keep] COMMAND..      --keep: what a crate's proof and tests took goes into gate/seconds.txt, by which the longest chain is begun first
 
 The seconds are those of the prover's processes, looked at once a second while they run, so that a short
 one may be missed: what stands in docs/GATE.md is right to some seconds. A process belongs to the crate that
@@ -15,6 +15,9 @@ import sys
 import time
 from collections import defaultdict
 from pathlib import Path
+
+import crates
+import lanes
 
 ROOT = Path(__file__).resolve().parent.parent
 TICKS = os.sysconf("SC_CLK_TCK")
@@ -50,11 +53,26 @@ def look(processes):
             processes[process.name, crate, phase] = seconds
 
 
-def table(processes):
-    """The seconds by crate and phase, as a table of Markdown."""
+def totals_of(processes):
+    """The seconds by crate and phase."""
     totals = defaultdict(lambda: dict.fromkeys(PHASES, 0.0))
     for (_, crate, phase), seconds in processes.items():
         totals[crate][phase] += seconds
+    return totals
+
+
+def kept(text, totals, crates):
+    """The text of the table of seconds, with what proofs and tests of these crates took now in place of what it had, the longest first."""
+    head = [line for line in text.splitlines() if line.startswith("#")]
+    rows = {key: seconds for key, seconds in lanes.measured(text).items() if key[0] in crates}
+    for crate, by_phase in totals.items():
+        rows |= {(crate, phase): by_phase[phase] for phase in ("proof", "tests") if by_phase[phase] and crate in crates}
+    ordered = sorted(rows.items(), key=lambda row: (-round(row[1]), row[0]))
+    return "\n".join([*head, *(f"{crate} {phase} {seconds:.0f}" for (crate, phase), seconds in ordered)]) + "\n"
+
+
+def table(totals):
+    """The seconds by crate and phase, as a table of Markdown."""
     lines = ["| crate | " + " | ".join(PHASES) + " | in all |", "|---|---:|---:|---:|---:|"]
     for crate, by_phase in sorted(totals.items(), key=lambda item: -sum(item[1].values())):
         cells = [f"{by_phase[phase]:.0f}" for phase in PHASES] + [f"{sum(by_phase.values()):.0f}"]
@@ -65,16 +83,22 @@ def table(processes):
 
 
 def main():
-    if len(sys.argv) < 2:
-        sys.exit("usage: gate/times.py COMMAND..")
+    words = sys.argv[1:]
+    is_kept = words[:1] == ["--keep"]
+    command = words[is_kept:]
+    if not command:
+        sys.exit("usage: gate/times.py [--keep] COMMAND..")
     processes = {}
     started = time.monotonic()
-    with subprocess.Popen(sys.argv[1:], env=os.environ | dict([MARK.split("=")])) as run:
+    with subprocess.Popen(command, env=os.environ | dict([MARK.split("=")])) as run:
         while run.poll() is None:
             look(processes)
             time.sleep(1)
     minutes = (time.monotonic() - started) / 60
-    print(f"\n{table(processes)}\n\n{minutes:.0f} minutes on {os.cpu_count()} processors")
+    totals = totals_of(processes)
+    if is_kept:
+        lanes.SECONDS.write_text(kept(lanes.SECONDS.read_text(), totals, crates.listed()))
+    print(f"\n{table(totals)}\n\n{minutes:.0f} minutes on {os.cpu_count()} processors")
     return run.returncode
 
 

@@ -1,33 +1,51 @@
 //! What a journal says.
 
+use ob_base::Status;
 use ob_device::DeviceKind;
 use ob_journal::{Entry, write_header, write_line};
-use ob_replay::check_journal;
+use ob_model::{Answer, Event};
 use ob_types::TypeSet;
 use std::alloc::{AllocError, Global};
 
-/// The lines of a journal's entries.
-pub(crate) fn lines_of<T: TypeSet<Kind = DeviceKind>>(
+/// Puts the lines of entries behind others.
+fn put_lines<T: TypeSet<Kind = DeviceKind>>(
     alloc: Global,
-    journal: &[Entry<DeviceKind>],
-) -> Result<Vec<u8>, AllocError> {
-    let mut lines = Vec::new(alloc);
-    for entry in journal {
+    lines: &mut Vec<u8>,
+    entries: &[Entry<DeviceKind>],
+) -> Result<(), AllocError> {
+    for entry in entries {
         lines.extend_from_slice(write_line::<T>(alloc, entry)?.as_slice())?;
     }
-    Ok(lines)
+    Ok(())
 }
 
-/// How many entries the checker of journals tells of one of so many seats with these lines; none where it isn't accepted.
-pub(crate) fn entries_told(
+/// The lines of a journal of so many seats; none where memory is wanted.
+pub(crate) fn journal_of<T: TypeSet<Kind = DeviceKind>>(
     alloc: Global,
     seats: u32,
-    lines: &[u8],
-) -> Result<Option<usize>, AllocError> {
-    let mut text = write_header(alloc, seats)?;
-    text.extend_from_slice(lines)?;
-    Ok(match check_journal(alloc, text.as_slice()) {
-        Ok(report) => Some(report.entries),
+    entries: &[Entry<DeviceKind>],
+) -> Option<Vec<u8>> {
+    let Ok(mut lines) = write_header(alloc, seats) else {
+        return None;
+    };
+    match put_lines::<T>(alloc, &mut lines, entries) {
+        Ok(()) => Some(lines),
         Err(_) => None,
-    })
+    }
+}
+
+/// Whether an entry ends an open that was refused memory: it was given up, or its parse found none.
+fn is_refused_open(entry: &Entry<DeviceKind>) -> bool {
+    match &entry.reply {
+        Answer::Done(reply) if reply.status == Status::NoMemory => true,
+        _ => matches!(entry.step, Event::Abandon { .. }),
+    }
+}
+
+/// How many opens of a journal were refused memory.
+pub(crate) fn refused_opens(journal: &[Entry<DeviceKind>]) -> usize {
+    journal
+        .iter()
+        .filter(|entry| is_refused_open(entry))
+        .count()
 }

@@ -1,11 +1,10 @@
 //! Callers on threads of their own.
 
-use crate::asking::{Back, NoGate, Space, ask, mix};
-use crate::wishes::{Wish, command_of};
-use ob_base::{Fault, Status};
-use ob_core::Command;
+use crate::caller::{Answer, Asked, Caller, NoGate, own_name, round};
+use ob_base::{Handle, Status};
+use ob_core::SlabTable;
 use ob_device::{DeviceKind, DeviceSet};
-use ob_shared::{Gate, Pass};
+use ob_shared::{Gate, Pass, Shared};
 use std::alloc::{AllocError, Global};
 use std::sync::Wait;
 use std::sync::atomic::AtomicBool;
@@ -16,10 +15,10 @@ use std::thread::{Threads, join};
 use std::time::{Clock, Duration};
 
 /// A namespace with devices.
-pub(crate) type Devices<L> = Space<DeviceSet, L>;
+pub(crate) type Devices<L> = Shared<DeviceSet, SlabTable, L>;
 
-/// A caller of it.
-pub(crate) type Caller<L> = Pass<DeviceKind, L>;
+/// A caller that came back, with what it was answered last.
+pub(crate) type Back<L> = (Caller<L>, Answer);
 
 /// How far two callers have come.
 #[derive(Drop)]
@@ -59,16 +58,19 @@ fn is_given<R: Clock>(rt: &R, signal: &AtomicBool) -> bool {
     false
 }
 
-/// Opens a file of the device, and waits in its gate until the other caller was answered.
+/// Makes a device and opens a file of it, and waits in the gate of that until the other caller was answered.
 fn open_slowly<R: Wait + Clock, L: Ledger>(
     rt: &R,
     alloc: Global,
     space: &Devices<L>,
-    pass: Caller<L>,
+    pass: Pass<DeviceKind, L>,
     signals: &Signals,
 ) -> Back<L> {
-    let file = command_of(alloc, Wish::File(b"\\Device\\D\\x"));
-    ask(rt, space, pass, file, &UntilAnswered { rt, signals })
+    let mut caller = Caller::new(alloc, pass);
+    caller.ask(rt, space, Asked::Device, b"\\Device\\D");
+    let gate = UntilAnswered { rt, signals };
+    let opened = caller.ask_through(rt, space, Asked::File, b"\\Device\\D\\x", &gate);
+    (caller, opened)
 }
 
 /// Makes another device and asks for its path, once the other caller has entered its gate.
@@ -76,32 +78,28 @@ fn make_meanwhile<R: Wait + Clock, L: Ledger>(
     rt: &R,
     alloc: Global,
     space: &Devices<L>,
-    pass: Caller<L>,
+    pass: Pass<DeviceKind, L>,
     signals: &Signals,
 ) -> Back<L> {
+    let mut caller = Caller::new(alloc, pass);
     if !is_given(rt, &signals.entered) {
-        return (pass, Err(Fault::Refused(Status::InvalidParameter)));
+        return (caller, None);
     }
-    let device = command_of(alloc, Wish::Device(b"\\Device\\E"));
-    let (pass, made) = ask(rt, space, pass, device, &NoGate);
-    let handle = match made {
-        Ok((_, handle)) => handle,
-        Err(fault) => return (pass, Err(fault)),
-    };
-    let name = command_of(alloc, Wish::Name(handle));
-    let (pass, named) = ask(rt, space, pass, name, &NoGate);
+    let made = caller.ask(rt, space, Asked::Device, b"\\Device\\E");
+    let (_, handle) = made.unwrap_or((Status::Success, Handle(0)));
+    let named = caller.ask(rt, space, Asked::Name(handle), b"");
     signals.answered.store(true, SeqCst);
-    (pass, named)
+    (caller, named)
 }
 
-/// What both callers are answered, each on a thread of its own.
+/// What both callers are answered, each on a thread of its own, and whether the one was in its gate until the other was answered.
 pub(crate) fn beside<R: Threads + Wait + Clock + Sync, L: Ledger + Send + Sync>(
     rt: &R,
     alloc: Global,
     space: &Devices<L>,
-    one: Caller<L>,
-    other: Caller<L>,
-) -> Option<(Back<L>, Back<L>)> {
+    one: Pass<DeviceKind, L>,
+    other: Pass<DeviceKind, L>,
+) -> (Back<L>, Back<L>, bool) {
     let signals = Signals {
         entered: AtomicBool::new(false),
         answered: AtomicBool::new(false),
@@ -113,26 +111,77 @@ pub(crate) fn beside<R: Threads + Wait + Clock + Sync, L: Ledger + Send + Sync>(
         move || open_slowly(rt, alloc, space, one, signals),
         move || make_meanwhile(rt, alloc, space, other, signals),
     );
-    (!signals.hurried.load(SeqCst)).then_some((one, other))
+    (one, other, !signals.hurried.load(SeqCst))
 }
 
-/// Runs a command on a thread that ends then.
+/// Makes a directory, or opens it.
+fn make_or_open<R: Wait, L: Ledger>(
+    rt: &R,
+    alloc: Global,
+    space: &Devices<L>,
+    pass: Pass<DeviceKind, L>,
+    is_maker: bool,
+) -> Back<L> {
+    let mut caller = Caller::new(alloc, pass);
+    let asked = if is_maker { Asked::Make } else { Asked::Open };
+    let answer = caller.ask(rt, space, asked, b"\\W");
+    (caller, answer)
+}
+
+/// Makes a directory, or opens it, on a thread that ends then.
 pub(crate) fn on_a_thread<R: Threads + Wait + Sync, L: Ledger + Send + Sync>(
     rt: &R,
+    alloc: Global,
     space: &Devices<L>,
-    pass: Caller<L>,
-    command: Command<DeviceKind>,
+    pass: Pass<DeviceKind, L>,
+    is_maker: bool,
 ) -> Back<L> {
-    let asked = move || ask(rt, space, pass, Ok(command), &NoGate);
+    let asked = move || make_or_open(rt, alloc, space, pass, is_maker);
     join(rt, asked, || ()).0
 }
 
-/// Has each pass mix its steps on a thread of its own.
+/// What each of many callers does.
+#[derive(Clone, Copy)]
+pub(crate) struct Rounds {
+    /// Whether it makes rounds on a name of its own.
+    pub(crate) on_its_own: bool,
+    /// Whether it makes rounds on a name that all callers share. What is answered there depends on the others.
+    pub(crate) on_one: bool,
+    /// How many times over.
+    pub(crate) count: u32,
+}
+
+/// Makes rounds of a caller; it stops at a fault, so that receipts are missing then.
+fn make_rounds<R: Wait, L: Ledger>(
+    rt: &R,
+    alloc: Global,
+    space: &Devices<L>,
+    pass: Pass<DeviceKind, L>,
+    rounds: &Rounds,
+) -> Caller<L> {
+    let mut caller = Caller::new(alloc, pass);
+    let own = own_name(caller.seat());
+    for _ in 0..rounds.count {
+        let is_well = !rounds.on_its_own || round(rt, space, &mut caller, &own) == Some(true);
+        let is_made = !rounds.on_one || round(rt, space, &mut caller, b"\\S").is_some();
+        if !is_well || !is_made {
+            return caller;
+        }
+    }
+    caller
+}
+
+/// Has each pass make its rounds on a thread of its own.
 pub(crate) fn at_once<R: Threads + Wait + Sync, L: Ledger + Send + Sync>(
     rt: &R,
     alloc: Global,
     space: &Devices<L>,
-    passes: Vec<Caller<L>>,
-) -> Result<Vec<Result<Caller<L>, Fault>>, AllocError> {
-    thread::map_vec(rt, passes, &|pass| mix(rt, alloc, space, pass, 625))
+    passes: Vec<Pass<DeviceKind, L>>,
+    rounds: &Rounds,
+) -> Result<Vec<Caller<L>>, AllocError> {
+    thread::map_vec(
+        rt,
+        passes,
+        &|pass| make_rounds(rt, alloc, space, pass, rounds),
+    )
 }

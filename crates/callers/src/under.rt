@@ -2,124 +2,203 @@
 
 ghost use Rattle.std.specs.Prelude.{◌≡◌};
 
-use crate::journals::{entries_told, lines_of};
-use crate::scenes::{LockedSpace, begin, end, give_up, status_of};
-use crate::wishes::{Wish, command_of};
-use ob_base::{Fault, Status};
+use crate::caller::{Asked, command_of};
+use crate::journals::journal_of;
+use crate::steps::mark;
+use ob_base::{Fault, Proc, Status};
+use ob_core::{HandleTable, Reply, SlabTable};
 use ob_device::{DeviceKind, DeviceSet};
-use ob_shared::{Pass, open_locked};
+use ob_shared::{Asked as Step, Locked, Parsing, Pass, Pending, Started, open_locked, step};
 use ob_types::TypeSet;
 use std::alloc::Global;
+use std::io::Write;
 use std::marker::Brand;
 use std::sync::ledger::{Blank, Ledger};
+
+/// Starts what process 1 asks for.
+fn started<T: TypeSet<Kind = DeviceKind>, H: HandleTable, L: Ledger>(
+    alloc: Global,
+    locked: &mut Locked<T, H, L>,
+    pass: &mut Pass<DeviceKind, L>,
+    asked: Asked,
+    name: &[u8],
+) -> Result<Started<T>, Fault> {
+    let command = command_of(alloc, asked, name)?;
+    match step(alloc, locked, pass, Step::Start(Proc(1), &command)) {
+        Ok(started) => Ok(started),
+        Err((fault, None)) => Err(fault),
+        Err((_, Some(_parsed))) => unreachable!(),
+    }
+}
+
+/// Makes a device; whether that was done at once.
+fn is_device_made<T: TypeSet<Kind = DeviceKind>, H: HandleTable, L: Ledger>(
+    alloc: Global,
+    locked: &mut Locked<T, H, L>,
+    pass: &mut Pass<DeviceKind, L>,
+) -> bool {
+    match started(alloc, locked, pass, Asked::Device, b"\\Device\\D") {
+        Ok(Started::Done(reply)) => reply.status == Status::Success,
+        Ok(Started::Parsing(parsing)) => {
+            is_given_up(alloc, locked, pass, Pending::Unrun(parsing));
+            false
+        }
+        Err(_) => false,
+    }
+}
+
+/// Begins to open a file of this name; its parse, where it waits for one.
+fn begun<T: TypeSet<Kind = DeviceKind>, H: HandleTable, L: Ledger>(
+    alloc: Global,
+    locked: &mut Locked<T, H, L>,
+    pass: &mut Pass<DeviceKind, L>,
+    name: &[u8],
+) -> Option<Parsing<T>> {
+    match started(alloc, locked, pass, Asked::File, name) {
+        Ok(Started::Parsing(parsing)) => Some(parsing),
+        Ok(Started::Done(_)) => None,
+        Err(_) => None,
+    }
+}
+
+/// Runs a parse and brings it; whether the open was done then.
+fn is_brought<T: TypeSet<Kind = DeviceKind>, H: HandleTable, L: Ledger>(
+    alloc: Global,
+    locked: &mut Locked<T, H, L>,
+    pass: &mut Pass<DeviceKind, L>,
+    parsing: Parsing<T>,
+) -> bool {
+    match step(alloc, locked, pass, Step::Resume(parsing.run(alloc))) {
+        Ok(Started::Done(reply)) => reply.status == Status::Success,
+        Ok(Started::Parsing(next)) => {
+            is_given_up(alloc, locked, pass, Pending::Unrun(next));
+            false
+        }
+        Err((_, Some(parsed))) => {
+            is_given_up(alloc, locked, pass, Pending::Run(parsed));
+            false
+        }
+        Err((_, None)) => false,
+    }
+}
+
+/// Gives an open up; whether it was one that waits.
+fn is_given_up<T: TypeSet<Kind = DeviceKind>, H: HandleTable, L: Ledger>(
+    alloc: Global,
+    locked: &mut Locked<T, H, L>,
+    pass: &mut Pass<DeviceKind, L>,
+    pending: Pending<T>,
+) -> bool {
+    match step(alloc, locked, pass, Step::Abandon(pending)) {
+        Ok(Started::Done(Reply { status, .. })) => status == Status::Success,
+        Ok(Started::Parsing(_parsing)) => unreachable!(),
+        Err((_, None)) => false,
+        Err((_, Some(_parsed))) => unreachable!(),
+    }
+}
+
+/// Plays opens with both passes: the one makes a device, the other begins to open a file of it, the one ends that, and the other begins to open the device
+/// and gives that up. The places of the journal that the first open has reserved while it waits; none where something was not done.
+fn played<T: TypeSet<Kind = DeviceKind>, H: HandleTable, L: Ledger>(
+    alloc: Global,
+    locked: &mut Locked<T, H, L>,
+    one: &mut Pass<DeviceKind, L>,
+    other: &mut Pass<DeviceKind, L>,
+) -> Option<usize> {
+    if !is_device_made(alloc, locked, one) {
+        return None;
+    }
+    let parsing = begun(alloc, locked, other, b"\\Device\\D\\x")?;
+    let reserved = locked.reserved();
+    if !is_brought(alloc, locked, one, parsing) {
+        return None;
+    }
+    let parsing = begun(alloc, locked, other, b"\\Device\\D")?;
+    match is_given_up(alloc, locked, other, Pending::Unrun(parsing)) {
+        true => Some(reserved),
+        false => None,
+    }
+}
+
+/// What is told of the opens, a line each.
+const TOLD: [&'static str; 7] = [
+    "places that an open reserves while it waits",
+    "places that are reserved at the end",
+    "entries",
+    "receipts of the one pass",
+    "receipts of the other",
+    "the last step of the one",
+    "the last step of the other",
+];
+
+/// The numbers of these lines.
+fn numbers<T: TypeSet<Kind = DeviceKind>, H: HandleTable, L: Ledger>(
+    locked: &Locked<T, H, L>,
+    one: &Pass<DeviceKind, L>,
+    other: &Pass<DeviceKind, L>,
+    reserved: usize,
+) -> [u64; 7] {
+    [
+        reserved as u64,
+        locked.reserved() as u64,
+        locked.len() as u64,
+        one.count() as u64,
+        other.count() as u64,
+        one.last(),
+        other.last(),
+    ]
+}
 
 /// What is seen of the opens.
 #[derive(Drop)]
 struct Seen {
-    /// The places that an open has reserved while it waits, and those at the end.
-    reserved: (usize, usize),
-    /// How many entries there are, and the steps of both passes.
-    counts: (usize, usize, usize),
-    /// The numbers of the last steps of both.
-    last: (u64, u64),
-    /// The journal's lines.
+    numbers: [u64; 7],
     journal: Vec<u8>,
 }
 
-/// Begins to open a file of the device by the one pass, and ends it by the other; the places that it has reserved while it waits,
-/// and none where it doesn't wait or its parse isn't taken.
-fn brought<T: TypeSet<Kind = DeviceKind>, L: Ledger>(
-    alloc: Global,
-    locked: &mut LockedSpace<T, L>,
-    one: &mut Pass<DeviceKind, L>,
-    other: &mut Pass<DeviceKind, L>,
-) -> Result<Option<usize>, Fault> {
-    let Some(parsing) = begin(alloc, locked, other, b"\\Device\\D\\x")? else {
-        return Ok(None);
-    };
-    let reserved = locked.reserved();
-    let is_ended = end(alloc, locked, one, parsing) == Some(Status::Success);
-    Ok(is_ended.then_some(reserved))
-}
-
-/// Begins to open the device itself, and gives that up; whether it waited.
-fn is_left<T: TypeSet<Kind = DeviceKind>, L: Ledger>(
-    alloc: Global,
-    locked: &mut LockedSpace<T, L>,
-    pass: &mut Pass<DeviceKind, L>,
-) -> Result<bool, Fault> {
-    match begin(alloc, locked, pass, b"\\Device\\D")? {
-        Some(parsing) => Ok(give_up(alloc, locked, pass, parsing)),
-        None => Ok(false),
-    }
-}
-
-/// Plays the opens with both passes; the places that the first has reserved, and none where one doesn't wait or isn't taken.
-fn opens<T: TypeSet<Kind = DeviceKind>, L: Ledger>(
-    alloc: Global,
-    locked: &mut LockedSpace<T, L>,
-    one: &mut Pass<DeviceKind, L>,
-    other: &mut Pass<DeviceKind, L>,
-) -> Result<Option<usize>, Fault> {
-    let device = command_of(alloc, Wish::Device(b"\\Device\\D"));
-    if status_of(alloc, locked, one, device)? != Some(Status::Success) {
-        return Ok(None);
-    }
-    let reserved = brought(alloc, locked, one, other)?;
-    let is_left = is_left(alloc, locked, other)?;
-    Ok(reserved.filter(|_| is_left))
-}
-
-/// Plays the opens with both passes, and tells what is seen of them; none where one doesn't wait or a parse isn't taken.
-fn seen_of<T: TypeSet<Kind = DeviceKind>, L: Ledger>(
-    alloc: Global,
-    locked: &mut LockedSpace<T, L>,
-    one: &mut Pass<DeviceKind, L>,
-    other: &mut Pass<DeviceKind, L>,
-) -> Result<Option<Seen>, Fault> {
-    let Some(reserved) = opens(alloc, locked, one, other)? else {
-        return Ok(None);
-    };
-    Ok(Some(Seen {
-        reserved: (reserved, locked.reserved()),
-        counts: (locked.len(), one.count(), other.count()),
-        last: (one.last(), other.last()),
-        journal: lines_of::<T>(alloc, locked.journal())?,
-    }))
-}
-
-/// Opens a namespace with two passes, and plays the opens in it.
-fn played<T: TypeSet<Kind = DeviceKind>, L: Ledger>(
+/// Opens a namespace with two passes, and plays the opens in it; what is seen of them.
+fn look<T: TypeSet<Kind = DeviceKind>, H: HandleTable, L: Ledger>(
     alloc: Global,
     blank: Blank,
     types: T,
-) -> Result<Option<Seen>, Fault>
+) -> Option<Seen>
     requires name { blank.name ≡ L.name }
     requires parts { blank.parts ≡ L.parts }
     requires whole { L.parts ≡ 1024 }
 {
-    let (mut locked, mut passes) = open_locked::<T, _, L>(alloc, blank, types, 2)?;
-    let (Some(mut other), Some(mut one)) = (passes.pop(), passes.pop()) else {
-        return Ok(None);
+    let Ok((mut locked, mut passes)) = open_locked::<T, H, L>(alloc, blank, types, 2) else {
+        return None;
     };
-    seen_of(alloc, &mut locked, &mut one, &mut other)
+    let (Some(mut other), Some(mut one)) = (passes.pop(), passes.pop()) else {
+        return None;
+    };
+    let reserved = played(alloc, &mut locked, &mut one, &mut other)?;
+    let journal = journal_of::<T>(alloc, 2, locked.journal())?;
+    Some(Seen {
+        numbers: numbers(&locked, &one, &other, reserved),
+        journal,
+    })
 }
 
-const JOURNAL: &'static str =
-    r#"{"n":1,"reply":{"handle":4,"status":0},"seat":0,"step":{"args":"x","flags":0,"kind":"Device","name":"\\Device\\D","op":"make","proc":1,"root":null}}
-{"n":2,"reply":{"ticket":8},"seat":1,"step":{"flags":0,"name":"\\Device\\D\\x","op":"open","proc":1,"root":null,"want":"File"}}
-{"n":3,"reply":{"handle":8,"status":0},"seat":0,"step":{"op":"resume","parse":"ran","ticket":8}}
-{"n":4,"reply":{"ticket":9},"seat":1,"step":{"flags":0,"name":"\\Device\\D","op":"open","proc":1,"root":null,"want":"File"}}
-{"n":5,"reply":{"status":0},"seat":1,"step":{"op":"abandon","parse":"none","ticket":9}}
-"#;
+/// Tells a number; whether memory is found.
+fn tell_number<W: Write>(writer: &mut W, alloc: Global, name: &str, number: u64) -> bool {
+    match format!(in alloc; "  {name}: {number}\n") {
+        Ok(text) => writer.write_all(text.as_bytes()).is_ok(),
+        Err(_) => false,
+    }
+}
 
-/// Whether two passes make their steps under the lock, and the journal has each once.
-pub(crate) fn are_made(alloc: Global) -> Result<bool, Fault> {
-    let Some(seen) = played::<DeviceSet, Brand>(alloc, Blank::new(1024), DeviceSet)? else {
-        return Ok(false);
+/// Tells what two passes do under the lock, and the journal; whether it could be made.
+pub(crate) fn tell_lock<W: Write>(writer: &mut W, alloc: Global) -> bool {
+    let seen = look::<DeviceSet, SlabTable, Brand>(alloc, Blank::new(1024), DeviceSet);
+    let Some(seen) = seen else {
+        return false;
     };
-    let is_counted = seen.counts == (5, 2, 3) && seen.last == (3, 5);
-    let is_written = seen.journal.as_slice() == JOURNAL.as_bytes();
-    let is_accepted = entries_told(alloc, 2, seen.journal.as_slice())? == Some(5);
-    Ok(seen.reserved == (33, 0) && is_counted && is_written && is_accepted)
+    mark(writer, "two passes make steps under the lock\n");
+    for (name, number) in TOLD.iter().zip(seen.numbers.iter()) {
+        if !tell_number(writer, alloc, *name, *number) {
+            return false;
+        }
+    }
+    writer.write_all(seen.journal.as_slice()).is_ok()
 }
