@@ -5,6 +5,8 @@
   line `thread`.
 - `scripts.txt`: scripts, each under a line `== NAME`. A row is a line and, behind ` | `, its reply. Where `| N letters` or `| N to M letters` stands behind a
   name, `@` is so many letters, and the script is run for each number.
+- `lookups.txt`: such scripts of names that are looked up. `gate/lookups.py` makes more, by a plain search.
+- `objects.txt`: such scripts of what makes an object, and of names behind devices and keys.
 - `requests.txt`: a script whose journal shows each form of a line as a step: the line, then the steps that it makes, each with its reply.
 - `workers.txt`: scripts with workers, with `/` for the end of a line: how many seats the journal has, or which line is none.
 - `operations.txt`: what `cores time` times, each operation once.
@@ -33,6 +35,7 @@ from dataclasses import dataclass
 from pathlib import Path
 
 import journal_lines
+import lookups as searched
 
 CASES = Path(__file__).resolve().parent.parent / "cases"
 
@@ -73,10 +76,10 @@ def lines():
             yield Run(f"no line: {row}", script, 1, b"1: not a script line\n", words)
 
 
-def scripts():
+def scripts(table="scripts.txt"):
     """Runs of scripts with their replies."""
     name, rows, letters = "", [], range(1)
-    for row in [*rows_of("scripts.txt"), "== "]:
+    for row in [*rows_of(table), "== "]:
         if not row.startswith("== "):
             rows.append(row)
             continue
@@ -95,6 +98,18 @@ def script_of(name, rows, letters):
         asked.append(f"{line}\n")
         shown += [f"{number}: {reply}\n"] if reply else []
     return Run(f"{name}, {letters} letters" if letters else name, "".join(asked).encode(), 0, "".join(shown).encode())
+
+
+def lookups():
+    """Runs of scripts that look names up."""
+    yield from scripts("lookups.txt")
+    for name, rows in searched.scripts():
+        yield script_of(name, rows, 0)
+
+
+def objects():
+    """Runs of scripts that make objects and open names behind them."""
+    return scripts("objects.txt")
 
 
 def requests():
@@ -230,7 +245,7 @@ def main():
     with tempfile.TemporaryDirectory(prefix="ntns-cases-") as folder, ThreadPoolExecutor(len(os.sched_getaffinity(0))) as pool:
         for name, text in FILES.items():
             (Path(folder) / name).write_bytes(text)
-        for table in (lines, scripts, requests, workers, journals, worked):
+        for table in (lines, scripts, lookups, objects, requests, workers, journals, worked):
             runs = list(table())
             faults = [fault for fault in pool.map(lambda run: fault_of(run, program, folder), runs) if fault]
             passed, failed = passed + len(runs) - len(faults), failed + len(faults)

@@ -211,6 +211,25 @@ def pages():
     return b"".join(script), b"".join(prints)
 
 
+# a directory of 20,000 names of four letters, of which every second one goes, from the first on
+LETTERS = [bytes(97 + n // 26**place % 26 for place in range(4)) for n in range(20_000)]
+THIN = b'p1 dir "\\T" - =t\n' + b"".join(b'p1 make Event t:"%s" P "" =e\np1 close e\n' % name for name in LETTERS)
+THIN += b"".join(b'p1 open Event t:"%s" - =e\np1 temp e\np1 close e\n' % name for name in LETTERS[::2])
+
+
+def thinned():
+    """Searches of each name as it is, and in large letters without case and with it, and what they print; at last the names that are left are listed."""
+    script, statuses = [THIN], [b"SUCCESS"] * 70_001
+    for number, name in enumerate(LETTERS):
+        asked = (name, b"-"), (name.upper(), b"C"), (name.upper(), b"-")
+        script += [b'p1 open Event t:"%s" %s =e\n' % it for it in asked]
+        found = b"SUCCESS" if number % 2 else b"OBJECT_NAME_NOT_FOUND"
+        statuses += [found, found, b"OBJECT_NAME_NOT_FOUND"]
+    script.append(b"p1 list t 1048576 first\n")
+    statuses.append(b"SUCCESS" + b"".join(b' "%s" Event' % name for name in LETTERS[1::2]))
+    return b"".join(script), b"".join(b"%d: %s\n" % line for line in enumerate(statuses, 1))
+
+
 # words that are a mistake, each with what is told of it first
 MISTAKES = [
     (("ntns",), b"unrecognized subcommand 'ntns'"),
@@ -302,6 +321,7 @@ CASES = [
     Case("a table that is filled refuses an open that waited, and takes it when there is room", (), 0, WAITED, script=WAITS + ROOM_AGAIN),
     Case("a thousand opens that wait outlive their processes", (), 0, MANY_WAIT + ALL_LEFT, script=MANY + LEFT),
     Case("20,000 names are shown whole in pages of six sizes", (), 0, pages()[1], script=pages()[0]),
+    Case("of 20,000 names every second one goes, and the others are found and stand in their order", (), 0, thinned()[1], script=thinned()[0]),
 ] + [
     Case(f"examples/{script.name} prints what stands beside it", ("run", str(script)), 0, script.with_suffix(".out").read_bytes())
     for script in sorted(EXAMPLES.glob("*.ntns"))

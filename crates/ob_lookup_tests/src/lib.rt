@@ -1,14 +1,8 @@
-//! Tests of lookup: tables of names in small namespaces, and many namespaces beside a plain search.
+//! Tests of lookups by a cache: which of them are hits. That names end where they should is tried by runs of the program.
 //! The crate holds tests alone, since a crate with tests is proved twice.
 #![tactic(auto)]
 
 #[cfg(test)]
-mod beside;
-#[cfg(test)]
-mod cached;
-#[cfg(test)]
-mod lookup;
-#[cfg(test)]
-mod rows;
+mod hits;
 #[cfg(test)]
 mod space;

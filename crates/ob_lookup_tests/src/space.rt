@@ -1,4 +1,4 @@
-//! Small namespaces, over any set of types that has devices and files.
+//! Small namespaces, over any set of types.
 
 ghost use Rattle.std.specs.Prelude.{◌≡◌, ◌≢◌, ◌<◌, ◌+◌, ◌^◌, ◌-◌, [], All, IfSome, IsSome, IsTrue};
 ghost use Rattle.std.specs.Option.{option_copied};
@@ -6,7 +6,6 @@ ghost use Rattle.ob_objects.specs.Store.{directory_at, entries_at, entries_in, I
 ghost use Rattle.ob_lookup.specs.Closed.{IsClosed, IsViewThere};
 ghost use Rattle.ob_lookup_tests.specs.Space.{IsSpace};
 
-use crate::rows::Kind;
 use ob_base::{Fault, ObjId};
 use ob_devmap::View;
 use ob_dirs::Dir;
@@ -17,15 +16,24 @@ use std::alloc::Global;
 use std::marker::Model;
 use std::sync::Arc;
 
+/// What an object is.
+#[derive(Clone, Copy)]
+pub(crate) enum Kind<'a> {
+    /// A directory.
+    Directory,
+    /// A link to a name.
+    Link(&'a [u8]),
+    /// A file.
+    File,
+}
+
 /// A store in which each name leads to an object, and the number that the next object gets, which is
-/// the stamp of its name too. The first one is the root. Of the kinds of the set these are those of devices, which parse, and
-/// of files, which don't.
+/// the stamp of its name too. The first one is the root. Files are of this kind of the set.
 #[derive(Drop)]
 pub(crate) struct Space<T: TypeSet> {
     store: Store<T>,
     next: u64,
     alloc: Global,
-    devices: T::Kind,
     files: T::Kind,
 }
 
@@ -42,7 +50,7 @@ impl<T: TypeSet> Model for Space<T> {
 
 impl<T: TypeSet> Space<T> {
     /// A namespace of a root directory alone.
-    pub(crate) fn new(alloc: Global, devices: T::Kind, files: T::Kind) -> Option<Space<T>> {
+    pub(crate) fn new(alloc: Global, files: T::Kind) -> Option<Space<T>> {
         let mut store = Store::new(alloc);
         let root = temporary(StoredBody::Directory(Dir::new(alloc)));
         store.insert(ObjId(1), root).ok()?;
@@ -50,7 +58,6 @@ impl<T: TypeSet> Space<T> {
             store,
             next: 2,
             alloc,
-            devices,
             files,
         })
     }
@@ -62,36 +69,56 @@ impl<T: TypeSet> Space<T> {
         &self.store
     }
 
-    /// Adds an object of a kind under a name in a directory, and gives its id; nothing where the directory has no place
-    /// for it, or memory is wanted.
-    pub(crate) fn add(&mut self, directory: ObjId, name: &[u8], kind: Kind<'_>) -> Option<ObjId> {
-        let name = NameBuf::from_name(self.alloc, Name::read(name).ok()?).ok()?;
+    /// Adds an object of a kind under a name in a directory; not where the directory has no place for it, or memory is
+    /// wanted.
+    pub(crate) fn add(&mut self, directory: ObjId, name: &[u8], kind: Kind<'_>) -> bool {
+        let Some(name) = name_of(self.alloc, name) else {
+            return false;
+        };
         let id = self.next;
         if id == u64::MAX || !is_free(&self.store, directory, name.as_slice()) {
-            return None;
+            return false;
         }
-        let body = self.body(kind)?;
+        let Some(body) = self.body(kind) else {
+            return false;
+        };
         self.next += 1;
-        put(&mut self.store, directory, id, name, temporary(body)).ok()?;
-        Some(ObjId(id))
+        put(&mut self.store, directory, id, name, temporary(body)).is_ok()
     }
 
     // The body of an object of a kind; a directory is empty. There is none where memory is wanted.
     fn body(&self, kind: Kind<'_>) -> Option<StoredBody<T::Face, T::Inner>>
         ensures { IfSome result (λ body. entries_in body ≡ []) }
     {
-        let kind = match kind {
-            Kind::Directory => return Some(StoredBody::Directory(Dir::new(self.alloc))),
-            Kind::Link(target) => {
-                let target = Name::read(target).ok()?;
-                return Some(StoredBody::Link(NameBuf::from_name(self.alloc, target).ok()?));
-            }
-            Kind::File => self.files,
-            Kind::Device => self.devices,
+        match kind {
+            Kind::Directory => Some(StoredBody::Directory(Dir::new(self.alloc))),
+            Kind::Link(target) => Some(StoredBody::Link(name_of(self.alloc, target)?)),
+            Kind::File => self.file(),
+        }
+    }
+
+    // The body of a file. There is none where memory is wanted.
+    fn file(&self) -> Option<StoredBody<T::Face, T::Inner>>
+        ensures { IfSome result (λ body. entries_in body ≡ []) }
+    {
+        let Ok((face, inner)) = T::make(self.alloc, self.files, b"") else {
+            return None;
         };
-        let (face, inner) = T::make(self.alloc, kind, b"1").ok()?;
-        let face = Arc::new(self.alloc, face).ok()?;
-        Some(StoredBody::Other { face, inner })
+        match Arc::new(self.alloc, face) {
+            Ok(face) => Some(StoredBody::Other { face, inner }),
+            Err(_) => None,
+        }
+    }
+}
+
+// A name with a copy of these bytes; there is none where they make none, or memory is wanted.
+fn name_of(alloc: Global, bytes: &[u8]) -> Option<NameBuf> {
+    let Ok(name) = Name::read(bytes) else {
+        return None;
+    };
+    match NameBuf::from_name(alloc, name) {
+        Ok(name) => Some(name),
+        Err(_) => None,
     }
 }
 
