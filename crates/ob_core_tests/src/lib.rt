@@ -3,22 +3,16 @@
 #![tactic(auto)]
 
 #[cfg(test)]
-mod deleted;
+mod commands;
 #[cfg(test)]
-mod namespace;
+mod doors;
 #[cfg(test)]
-mod pages;
+mod lines;
 #[cfg(test)]
-mod permanence;
-#[cfg(test)]
-mod processes;
-#[cfg(test)]
-mod recorded;
-#[cfg(test)]
-mod refusals;
+mod played;
 #[cfg(test)]
 mod scenes;
 #[cfg(test)]
-mod sets;
+mod stage;
 #[cfg(test)]
-mod waiting;
+mod told;

@@ -1,11 +1,8 @@
-//! Objects that are made temporary and permanent, told by the replies and by the counts that are left.
+//! Objects that are made temporary and permanent.
 
-use crate::scenes::first_other_scene;
-use ob_core::{OpenTable, SlabTable};
-use ob_plain::Plain;
-
-const SCENES: &'static str =
-    r"# a permanent object that is made temporary stays while it is open, and goes then | 6 0 3 3 1
+/// They stay or go by their permanence.
+pub(super) const PERMANENCE: &[&str] = &[
+    r"# a permanent object that is made temporary stays while it is open, and goes then
 1 make first \E 10 | SUCCESS
 1 temporary 0      | SUCCESS
 1 open any \E 0    | SUCCESS
@@ -14,14 +11,16 @@ const SCENES: &'static str =
 1 close 2          | SUCCESS
 1 close 4          | SUCCESS
 1 open any \E 0    | OBJECT_NAME_NOT_FOUND
-# a handle that was closed, and a process that never was, turn nothing | 7 1 2 1 0
+all left | 6 0 3 3 1",
+    r"# a handle that was closed, and a process that never was, turn nothing
 1 make first \E 10 | SUCCESS
 2 temporary 0      | PROCESS_GONE
 1 close 0          | SUCCESS
 1 temporary 0      | INVALID_HANDLE
 1 permanent 0      | INVALID_HANDLE
 1 open any \E 0    | SUCCESS
-# a temporary object that is made permanent stays without handles, and may be turned again | 7 0 2 2 0
+all left | 7 1 2 1 0",
+    r"# a temporary object that is made permanent stays without handles, and may be turned again
 1 make first \E 0  | SUCCESS
 1 permanent 0      | SUCCESS
 1 permanent 0      | SUCCESS
@@ -30,11 +29,13 @@ const SCENES: &'static str =
 1 temporary 4      | SUCCESS
 1 permanent 4      | SUCCESS
 1 close 4          | SUCCESS
-# an object without a name goes with its last handle, though it is made permanent | 6 0 1 1 1
+all left | 7 0 2 2 0",
+    r"# an object without a name goes with its last handle, though it is made permanent
 1 make first - 10  | SUCCESS
 1 permanent 0      | SUCCESS
 1 close 0          | SUCCESS
-# a directory that is made temporary loses its name at once, and stays while it holds names | 9 3 2 0 0
+all left | 6 0 1 1 1",
+    r"# a directory that is made temporary loses its name at once, and stays while it holds names
 1 make directory \D 10 | SUCCESS
 1 make first \D\E 10   | SUCCESS
 1 temporary 0          | SUCCESS
@@ -42,29 +43,20 @@ const SCENES: &'static str =
 1 close 0              | SUCCESS
 1 open any \D\E 0      | OBJECT_PATH_NOT_FOUND
 1 make directory \D 0  | SUCCESS
-# it goes with the last name in it | 6 0 1 1 1
+all left | 9 3 2 0 0",
+    r"# it goes with the last name in it
 1 make directory \D 10 | SUCCESS
 1 make first \D\E 10   | SUCCESS
 1 temporary 0          | SUCCESS
 1 close 0              | SUCCESS
 1 temporary 1          | SUCCESS
 1 close 1              | SUCCESS
-# the root stays, whatever it is made | 6 1 0 0 0
+all left | 6 0 1 1 1",
+    r"# the root stays, whatever it is made
 1 open any \ 0     | SUCCESS
 1 temporary 0      | SUCCESS
 1 permanent 0      | SUCCESS
 1 close 0          | SUCCESS
 1 open any \ 0     | SUCCESS
-";
-
-#[test]
-fn objects_stay_or_go_by_their_permanence(rt: HostRuntime) {
-    assert_eq!(rt;
-        first_other_scene::<Plain, OpenTable>(rt.alloc(), SCENES),
-        Ok(None)
-    );
-    assert_eq!(rt;
-        first_other_scene::<Plain, SlabTable>(rt.alloc(), SCENES),
-        Ok(None)
-    );
-}
+all left | 6 1 0 0 0",
+];

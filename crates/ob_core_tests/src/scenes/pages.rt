@@ -1,12 +1,8 @@
 //! Pages of a directory, at their edges: the room, one entry alone, the context, and the order of refusals.
 
-use crate::scenes::first_other_scene;
-use ob_core::{OpenTable, SlabTable};
-use ob_plain::Plain;
-
-// The events of the directory have rising stamps from 7 on. An entry has 4 bytes, those of the name, and the 5 of the
-// type's name.
-const SCENES: &'static str = r"# pages end where the room does | 10 4 3 0 0
+/// The events of the directory have rising stamps from 7 on. An entry has 4 bytes, those of the name, and the 5 of the type's name.
+pub(super) const PAGES: &[&str] = &[
+    r"# pages end where the room does
 1 make directory \D 10 | SUCCESS
 1 make first \D\E 0    | SUCCESS
 1 make first \D\F 0    | SUCCESS
@@ -23,7 +19,8 @@ const SCENES: &'static str = r"# pages end where the room does | 10 4 3 0 0
 1 list 0 0 1048576 all next | SUCCESS EFH 9           | the greatest room
 1 list 9 0 1048577 all next | INVALID_PARAMETER ... 0 | the room is judged before the handle
 1 list 1 0 31 all next      | OBJECT_TYPE_MISMATCH ... 0 | an event has no pages
-# a page goes on behind an entry that went, and shows another that came under its name | 10 4 4 1 1
+all left | 10 4 3 0 0",
+    r"# a page goes on behind an entry that went, and shows another that came under its name
 1 make directory \D 10 | SUCCESS
 1 make first \D\E 0    | SUCCESS
 1 make first \D\F 0    | SUCCESS
@@ -32,16 +29,5 @@ const SCENES: &'static str = r"# pages end where the room does | 10 4 3 0 0
 1 close 2              | SUCCESS
 1 make first \D\F 0    | SUCCESS
 1 list 0 8 31 all next | SUCCESS HF. 10
-";
-
-#[test]
-fn pages_of_a_directory_show_what_is_behind_their_context(rt: HostRuntime) {
-    assert_eq!(rt;
-        first_other_scene::<Plain, OpenTable>(rt.alloc(), SCENES),
-        Ok(None)
-    );
-    assert_eq!(rt;
-        first_other_scene::<Plain, SlabTable>(rt.alloc(), SCENES),
-        Ok(None)
-    );
-}
+all left | 10 4 4 1 1",
+];

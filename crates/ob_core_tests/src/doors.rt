@@ -4,9 +4,8 @@ ghost use Rattle.std.specs.Prelude.{◌≡◌, true, false, List, [], ◌∷◌,
 ghost use Rattle.std.specs.Bool.{beq};
 ghost use Rattle.std.proofs.Common.{rules};
 ghost use Rattle.ob_model.specs.Procedures.{Refused};
-ghost use Rattle.ob_core_tests.specs.declared.namespace.doors.Door.TheVariants.{Free, Through, Locked};
+ghost use Rattle.ob_core_tests.specs.declared.doors.Door.TheVariants.{Free, Through, Locked};
 
-use crate::sets::Staged;
 use ob_types::{ParseAnswer, Reason, Refusal, TypeSet};
 use std::alloc::{AllocError, Global};
 
@@ -123,14 +122,4 @@ impl TypeSet for Doors {
     ghost own_kind = { Prim.search rules };
 
     ghost equal_kinds = { λ _ _. refl };
-}
-
-impl Staged for Doors {
-    fn new() -> Doors {
-        Doors
-    }
-
-    fn kinds() -> (bool, bool) {
-        (true, false)
-    }
 }

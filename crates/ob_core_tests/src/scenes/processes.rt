@@ -1,19 +1,16 @@
-//! Processes: what they inherit, duplicate and close, and how many they and their handles may be, told by the replies and
-//! by the counts that are left.
+//! Processes: what they inherit, duplicate and close, and how many they and their handles may be.
 
-use crate::scenes::first_other_scene;
-use ob_core::{OpenTable, SlabTable};
-use ob_plain::Plain;
-
-const SHARED: &'static str =
-    r"# an inherited handle keeps its object, and the exit of the child closes it | 6 0 2 2 1
+/// Processes share objects by their handles.
+pub(super) const SHARED: &[&str] = &[
+    r"# an inherited handle keeps its object, and the exit of the child closes it
 1 make first \E 2 | SUCCESS
 1 begin inherit   | SUCCESS
 1 close 0         | SUCCESS
 2 path 1          | SUCCESS
 2 exit            | SUCCESS
 2 path 1          | PROCESS_GONE
-# a child that inherits nothing has no handle, nor one that isn't marked | 7 3 3 0 0
+all left | 6 0 2 2 1",
+    r"# a child that inherits nothing has no handle, nor one that isn't marked
 1 make first \E 2 | SUCCESS
 1 open first \E 0 | SUCCESS
 1 begin not       | SUCCESS
@@ -21,7 +18,8 @@ const SHARED: &'static str =
 1 begin inherit   | SUCCESS
 3 path 0          | SUCCESS
 3 path 1          | INVALID_HANDLE
-# what was inherited is inherited again | 6 0 3 3 1
+all left | 7 3 3 0 0",
+    r"# what was inherited is inherited again
 1 make first \E 2 | SUCCESS
 1 begin inherit   | SUCCESS
 2 begin inherit   | SUCCESS
@@ -29,7 +27,8 @@ const SHARED: &'static str =
 2 exit            | SUCCESS
 3 path 2          | SUCCESS
 3 close 2         | SUCCESS
-# an exclusive object is its holder's alone, and free again after its exit | 7 1 5 4 0
+all left | 6 0 3 3 1",
+    r"# an exclusive object is its holder's alone, and free again after its exit
 1 begin not          | SUCCESS
 1 make first \E 30   | SUCCESS
 1 open first \E 20   | SUCCESS
@@ -40,10 +39,12 @@ const SHARED: &'static str =
 1 duplicate 1 1 not  | SUCCESS
 1 exit               | SUCCESS
 2 open first \E 20   | SUCCESS
-# exclusive is refused where the object isn't | 7 1 1 0 0
+all left | 7 1 5 4 0",
+    r"# exclusive is refused where the object isn't
 1 make first \E 0    | SUCCESS
 1 open first \E 20   | INVALID_PARAMETER
-# a duplicate goes to a live process, and has its own mark | 7 1 2 1 0
+all left | 7 1 1 0 0",
+    r"# a duplicate goes to a live process, and has its own mark
 1 make first \E 2    | SUCCESS
 1 begin not          | SUCCESS
 1 duplicate 0 2 not  | SUCCESS
@@ -52,13 +53,15 @@ const SHARED: &'static str =
 2 exit               | SUCCESS
 1 duplicate 0 2 not  | PROCESS_GONE
 1 duplicate 6 1 not  | INVALID_HANDLE
-# a process that was never made, and one that ended, are gone | 6 0 0 0 0
+all left | 7 1 2 1 0",
+    r"# a process that was never made, and one that ended, are gone
 0 begin inherit   | PROCESS_GONE
 2 exit            | PROCESS_GONE
 1 exit            | SUCCESS
 1 exit            | PROCESS_GONE
 1 begin not       | PROCESS_GONE
-# a handle leads to its object until it is closed, and no other process by it | 7 3 1 0 0
+all left | 6 0 0 0 0",
+    r"# a handle leads to its object until it is closed, and no other process by it
 1 make directory \D 0      | SUCCESS
 1 make first \E 0          | SUCCESS
 1 open directory \ 0       | SUCCESS
@@ -70,7 +73,8 @@ const SHARED: &'static str =
 2 leads 1                  | nothing
 1 close 0                  | SUCCESS
 1 leads 0                  | nothing
-# a value that was given up is used again for another handle | 6 0 3 3 2
+all left | 7 3 1 0 0",
+    r"# a value that was given up is used again for another handle
 1 make first \E 0 | SUCCESS
 1 open first \E 0 | SUCCESS
 1 close 0         | SUCCESS
@@ -79,7 +83,8 @@ const SHARED: &'static str =
 1 path 4          | SUCCESS
 1 close 4         | SUCCESS
 1 close 4         | INVALID_HANDLE
-# a child of a process with 1,000 handles begins and ends | 6 0 2000 2000 1
+all left | 6 0 3 3 2",
+    r"# a child of a process with 1,000 handles begins and ends
 1 make first \E 2     | SUCCESS
 1*999 open first \E 2 | SUCCESS
 1 begin inherit       | SUCCESS
@@ -92,26 +97,18 @@ const SHARED: &'static str =
 2 holds 4004          | false
 1 holds 4             | false
 2 exit                | SUCCESS
-";
+all left | 6 0 2000 2000 1",
+];
 
-#[test]
-fn processes_share_objects_by_their_handles(rt: HostRuntime) {
-    assert_eq!(rt;
-        first_other_scene::<Plain, OpenTable>(rt.alloc(), SHARED),
-        Ok(None)
-    );
-    assert_eq!(rt;
-        first_other_scene::<Plain, SlabTable>(rt.alloc(), SHARED),
-        Ok(None)
-    );
-}
-
-const FULL: &'static str = r"# a process that ends makes room for another | 6 0 0 0 0
+/// There are 1,024 processes of 65,535 handles at most.
+pub(super) const FULL: &[&str] = &[
+    r"# a process that ends makes room for another
 1*1023 begin inherit | SUCCESS
 1 begin inherit      | INSUFFICIENT_RESOURCES
 1024 exit            | SUCCESS
 1 begin inherit      | SUCCESS
-# a full table has room for a handle where one was closed, under its value | 6 65535 0 0 0
+all left | 6 0 0 0 0",
+    r"# a full table has room for a handle where one was closed, under its value
 1*65535 open directory \ 0 | SUCCESS
 1 has                      | 65535
 2 has                      | 0
@@ -120,16 +117,5 @@ const FULL: &'static str = r"# a process that ends makes room for another | 6 0 
 1 holds 262140             | false
 1 open directory \ 0       | SUCCESS
 1 holds 262140             | true
-";
-
-#[test]
-fn there_are_1024_processes_of_65535_handles_at_most(rt: HostRuntime) {
-    assert_eq!(rt;
-        first_other_scene::<Plain, OpenTable>(rt.alloc(), FULL),
-        Ok(None)
-    );
-    assert_eq!(rt;
-        first_other_scene::<Plain, SlabTable>(rt.alloc(), FULL),
-        Ok(None)
-    );
-}
+all left | 6 65535 0 0 0",
+];

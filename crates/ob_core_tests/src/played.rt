@@ -1,0 +1,184 @@
+//! Scenes are played, over each set of types and each handle table.
+
+use crate::doors::Doors;
+use crate::lines::{number_of, sides_of, word_of};
+use crate::scenes::{SCENES, Scenes, Set};
+use crate::stage::{End, Listing, Stage};
+use crate::told::{are_calls, counts_of, is_reply};
+use ob_base::{Fault, Proc};
+use ob_core::{HandleTable, OpenTable, SlabTable};
+use ob_device::{DeviceKind, DeviceSet};
+use ob_plain::{Plain, PlainKind, Recorder, Refusing};
+use ob_types::TypeSet;
+use std::alloc::Global;
+
+/// Makes the step of a line, where it has one.
+fn make<T: Listing, H: HandleTable>(stage: &mut Stage<T, H>, other: &mut Stage<T, H>, line: &str) {
+    match (word_of(line, 0), word_of(line, 1)) {
+        ("all", _) => {}
+        ("parse", "run") => stage.run(),
+        ("parse", "resume") => stage.resume(),
+        ("parse", "drop") => stage.give_up(),
+        ("parse", "swap") => stage.swap(other),
+        (asker, _) => {
+            let (process, times) = sides_of(asker, "*");
+            let times = if times.is_empty() {
+                1
+            } else {
+                number_of(times)
+            };
+            stage.make(Proc(number_of(process)), times, line);
+        }
+    }
+}
+
+/// Whether the last step was told what a line says.
+fn is_told<T: Listing, H: HandleTable>(stage: &Stage<T, H>, told: &str) -> bool {
+    match (stage.end(), word_of(told, 0)) {
+        (End::Done(reply), _) => is_reply(reply, told),
+        (End::Waits, "waits") => stage.is_waited_for(word_of(told, 1), word_of(told, 2)),
+        (End::Back(is_stranger), "stranger") => *is_stranger,
+        (End::GivenUp(did_wait), "given") => *did_wait,
+        (End::GivenUp(did_wait), "kept") => !*did_wait,
+        _ => false,
+    }
+}
+
+/// Whether there are so many objects and handles as a line says.
+fn is_counted<T: Listing, H: HandleTable>(stage: &Stage<T, H>, told: &str) -> bool {
+    let (objects, handles) = stage.counts();
+    objects == number_of(word_of(told, 0)) as usize
+        && handles == number_of(word_of(told, 1)) as usize
+}
+
+/// Whether the set opened, closed and deleted as often as a line says behind objects and handles.
+fn is_called<T: Listing, H: HandleTable>(stage: &Stage<T, H>, told: &str) -> bool {
+    let (calls, lost) = stage.calls();
+    let (opens, closes, deletes) = counts_of(calls);
+    opens == number_of(word_of(told, 2))
+        && closes == number_of(word_of(told, 3))
+        && deletes == number_of(word_of(told, 4))
+        && lost == 0
+}
+
+/// Whether the step of a line, or what a line looks at, is as it says.
+fn is_so<T: Listing, H: HandleTable>(stage: &Stage<T, H>, line: &str, told: &str) -> bool {
+    let (asker, first) = (word_of(line, 0), word_of(line, 2));
+    let (process, said) = (Proc(number_of(asker)), word_of(told, 0));
+    match word_of(line, 1) {
+        "has" => stage.handles_of(process) == number_of(said) as usize,
+        "holds" => stage.holds(process, first) == (said == "true"),
+        "leads" => {
+            stage.led_to(process, first) == (said, u64::from(number_of(word_of(told, 1))))
+        }
+        "counts" => is_counted(stage, told),
+        "left" => is_counted(stage, told) && is_called(stage, told),
+        "waits" => stage.left(first) == number_of(said),
+        "calls" => {
+            let (calls, _) = stage.calls();
+            are_calls(calls, [number_of(first), number_of(word_of(line, 3))], told)
+        }
+        "recorded" => {
+            let (calls, lost) = stage.calls();
+            calls.len() == number_of(said) as usize
+                && lost == u64::from(number_of(word_of(told, 1)))
+        }
+        "swap" => true,
+        _ => is_told(stage, told),
+    }
+}
+
+/// Whether a line of a namespace is as it says, beside another namespace.
+fn is_played<T: Listing, H: HandleTable>(
+    stage: &mut Stage<T, H>,
+    other: &mut Stage<T, H>,
+    line: &str,
+) -> bool {
+    let (asked, told) = sides_of(line, "|");
+    make(stage, other, asked);
+    stage.note();
+    is_so(stage, asked, told)
+}
+
+/// The first line of a scene that isn't as it says; empty where each is.
+fn first_other<'a, T: Listing, H: HandleTable>(
+    stage: &mut Stage<T, H>,
+    other: &mut Stage<T, H>,
+    scene: &'a str,
+) -> &'a str {
+    for line in scene.lines() {
+        let is_played = match word_of(line, 0) {
+            "#" => true,
+            "there" => is_played(other, stage, sides_of(line, "there ").1),
+            _ => is_played(stage, other, line),
+        };
+        if !is_played {
+            return line;
+        }
+    }
+    ""
+}
+
+/// A new namespace for some scenes.
+fn stage_of<T: TypeSet, H: HandleTable>(
+    alloc: Global,
+    scenes: &Scenes,
+    set: T,
+    kinds: (T::Kind, T::Kind),
+) -> Result<Stage<Refusing<Recorder<T>>, H>, Fault> {
+    let recorder = Recorder::new(alloc, set, scenes.room as usize)?;
+    Stage::new(
+        alloc,
+        Refusing::new(recorder, u64::from(scenes.accepts)),
+        kinds,
+    )
+}
+
+/// The first line of a scene that isn't as it says, in new namespaces over two sets.
+fn other_over<'a, T: TypeSet, H: HandleTable>(
+    alloc: Global,
+    scenes: &Scenes,
+    sets: (T, T),
+    kinds: (T::Kind, T::Kind),
+    scene: &'a str,
+) -> &'a str {
+    let (set, other_set) = sets;
+    let Ok(mut stage) = stage_of::<T, H>(alloc, scenes, set, kinds) else {
+        return scene;
+    };
+    let Ok(mut other) = stage_of::<T, H>(alloc, scenes, other_set, kinds) else {
+        stage.close();
+        return scene;
+    };
+    let line = first_other(&mut stage, &mut other, scene);
+    stage.close();
+    other.close();
+    line
+}
+
+/// The same over the set that the scenes name.
+fn other_in<'a, H: HandleTable>(alloc: Global, scenes: &Scenes, scene: &'a str) -> &'a str {
+    match scenes.set {
+        Set::Plain => {
+            let kinds = (PlainKind::Event, PlainKind::Mutant);
+            other_over::<Plain, H>(alloc, scenes, (Plain, Plain), kinds, scene)
+        }
+        Set::Doors => other_over::<Doors, H>(alloc, scenes, (Doors, Doors), (true, false), scene),
+        Set::Devices => {
+            let kinds = (DeviceKind::Device, DeviceKind::File);
+            other_over::<DeviceSet, H>(alloc, scenes, (DeviceSet, DeviceSet), kinds, scene)
+        }
+    }
+}
+
+#[test]
+fn scenes_are_played_as_they_say(rt: HostRuntime) {
+    for scenes in SCENES {
+        for scene in scenes.texts {
+            let over_maps = other_in::<OpenTable>(rt.alloc(), scenes, scene);
+            assert_eq!(rt; over_maps, "", "over an OpenTable, of {scene}");
+            let over_a_slab = other_in::<SlabTable>(rt.alloc(), scenes, scene);
+            assert_eq!(rt; over_a_slab, "", "over a SlabTable, of {scene}");
+        }
+    }
+}

@@ -1,0 +1,237 @@
+//! A namespace on which the steps of lines are made, over any set of types whose calls are recorded.
+
+use crate::commands::command_of;
+use crate::lines::{number_of, word_of};
+use ob_base::{Fault, Handle, Proc, Status};
+use ob_core::{Brought, Command, Core, Given, HandleTable, Referent, Reply, Started};
+use ob_plain::{Call, Recorder, Refusing};
+use ob_types::TypeSet;
+use std::alloc::Global;
+use std::mem;
+
+/// A set whose calls are recorded.
+pub(crate) trait Listing: TypeSet {
+    /// The calls that there was room for, the first of them first, and how many are behind them.
+    fn calls(&self) -> (&[Call], u64);
+}
+
+/// A set that refuses opens records those that it accepts.
+impl<T: TypeSet> Listing for Refusing<Recorder<T>> {
+    fn calls(&self) -> (&[Call], u64) {
+        let recorder = self.part();
+        (recorder.calls(), recorder.lost())
+    }
+}
+
+/// What a step came to.
+#[derive(Drop)]
+pub(crate) enum End {
+    /// It was replied to.
+    Done(Reply),
+    /// Its open waits for the parse at hand.
+    Waits,
+    /// The parse was handed back, as a stranger's where this is true.
+    Back(bool),
+    /// The parse was given up; whether its open did wait.
+    GivenUp(bool),
+    /// It found no memory, or is no step.
+    Unmade,
+}
+
+/// A namespace, the parse at hand, and what steps came to.
+pub(crate) struct Stage<T: Listing, H: HandleTable> {
+    alloc: Global,
+    core: Core<T, H>,
+    /// The first and the other kind of lines.
+    kinds: (T::Kind, T::Kind),
+    parse: Option<Brought<T>>,
+    /// What the last step came to.
+    end: End,
+    /// The handle that each line's step was given at last, or 0.
+    given: Vec<Handle>,
+}
+
+impl<T: Listing, H: HandleTable> Stage<T, H> {
+    /// The opening state.
+    pub(crate) fn new(
+        alloc: Global,
+        set: T,
+        kinds: (T::Kind, T::Kind),
+    ) -> Result<Stage<T, H>, Fault> {
+        Ok(Stage {
+            alloc,
+            core: Core::new(alloc, set)?,
+            kinds,
+            parse: None,
+            end: End::Unmade,
+            given: Vec::new(alloc),
+        })
+    }
+
+    /// Gives the parse at hand up, and lets the namespace go.
+    pub(crate) fn close(self) {
+        let Stage {
+            alloc: _alloc,
+            mut core,
+            kinds: _kinds,
+            parse,
+            end: _end,
+            given: _given,
+        } = self;
+        if let Some(parse) = parse {
+            core.abandon(parse);
+        }
+    }
+
+    /// Makes the step of a line so often.
+    pub(crate) fn make(&mut self, process: Proc, times: u32, line: &str) {
+        let handle = self.given_to(word_of(line, 2));
+        self.end = End::Unmade;
+        if let Some(command) = command_of(self.alloc, self.kinds, handle, line) {
+            self.start(process, times, &command);
+        }
+    }
+
+    /// Starts a command of a process so often.
+    fn start(&mut self, process: Proc, times: u32, command: &Command<T::Kind>) {
+        for _ in 0..times {
+            match self.core.start(process, command) {
+                Ok(started) => self.came(started),
+                Err(_) => self.end = End::Unmade,
+            }
+        }
+    }
+
+    /// Keeps what a step came to.
+    fn came(&mut self, started: Started<T>) {
+        match started {
+            Started::Done(reply) => self.end = End::Done(reply),
+            Started::Parsing(parsing) => {
+                self.end = End::Waits;
+                self.hold(Brought::Unrun(parsing));
+            }
+        }
+    }
+
+    /// Has a parse at hand. Another is given up.
+    fn hold(&mut self, parse: Brought<T>) {
+        if let Some(other) = self.parse.replace(parse) {
+            self.core.abandon(other);
+        }
+    }
+
+    /// Runs the parse at hand.
+    pub(crate) fn run(&mut self) {
+        match self.parse.take() {
+            Some(Brought::Unrun(parsing)) => self.hold(Brought::Run(parsing.run(self.alloc))),
+            Some(parse) => self.hold(parse),
+            None => {}
+        }
+    }
+
+    /// Brings the parse at hand to its open.
+    pub(crate) fn resume(&mut self) {
+        if let Some(parse) = self.parse.take() {
+            match self.core.resume(parse.into_parsed()) {
+                Ok(started) => self.came(started),
+                Err((fault, parsed)) => {
+                    self.end = End::Back(fault == Fault::Refused(Status::InvalidParameter));
+                    self.hold(Brought::Run(parsed));
+                }
+            }
+        }
+    }
+
+    /// Gives the parse at hand up.
+    pub(crate) fn give_up(&mut self) {
+        if let Some(parse) = self.parse.take() {
+            self.end = End::GivenUp(self.core.abandon(parse));
+        }
+    }
+
+    /// Changes the parse at hand for that of another namespace.
+    pub(crate) fn swap(&mut self, other: &mut Stage<T, H>) {
+        mem::swap(&mut self.parse, &mut other.parse);
+    }
+
+    /// Ends a line: the handle that its step was given is kept.
+    pub(crate) fn note(&mut self) {
+        let handle = match &self.end {
+            End::Done(reply) => handle_in(&reply.given),
+            _ => Handle(0),
+        };
+        let _ = self.given.push(handle);
+    }
+
+    /// What the last step came to.
+    pub(crate) fn end(&self) -> &End {
+        &self.end
+    }
+
+    /// The handle that was given to the line of a number, from 0; 0 where none was.
+    fn given_to(&self, word: &str) -> Handle {
+        let place = number_of(word) as usize;
+        match self.given.get(place) {
+            Some(handle) => *handle,
+            None => Handle(0),
+        }
+    }
+
+    /// Whether the parse at hand has this ticket and this rest.
+    pub(crate) fn is_waited_for(&self, ticket: &str, rest: &str) -> bool {
+        let (own, text) = match &self.parse {
+            Some(Brought::Unrun(parsing)) => (parsing.ticket(), parsing.rest()),
+            Some(Brought::Run(parsed)) => (parsed.ticket(), parsed.rest()),
+            None => return false,
+        };
+        own == u64::from(number_of(ticket)) && text == rest.as_bytes()
+    }
+
+    /// How many reparses are left to the open that waits under a ticket; `u32::MAX` where none does.
+    pub(crate) fn left(&self, ticket: &str) -> u32 {
+        let ticket = u64::from(number_of(ticket));
+        self.core.left(ticket).unwrap_or(u32::MAX)
+    }
+
+    /// How many objects and handles there are.
+    pub(crate) fn counts(&self) -> (usize, usize) {
+        (self.core.objects(), self.core.handles())
+    }
+
+    /// The calls of the set that there was room for, and how many are behind them.
+    pub(crate) fn calls(&self) -> (&[Call], u64) {
+        self.core.set().calls()
+    }
+
+    /// How many handles a process has.
+    pub(crate) fn handles_of(&self, process: Proc) -> usize {
+        self.core.handles_of(process)
+    }
+
+    /// Whether a process has a handle of exactly this value.
+    pub(crate) fn holds(&self, process: Proc, value: &str) -> bool {
+        self.core.holds(process, Handle(number_of(value)))
+    }
+
+    /// What the handle that was given to a line leads to, a word and an id.
+    pub(crate) fn led_to(&self, process: Proc, line: &str) -> (&'static str, u64) {
+        match self.core.referent(process, self.given_to(line)) {
+            Some((id, Referent::Directory)) => ("directory", id.0),
+            Some((id, Referent::Link(_))) => ("link", id.0),
+            Some((id, Referent::Other { .. })) => ("object", id.0),
+            None => ("nothing", u64::from(u32::MAX)),
+        }
+    }
+}
+
+/// The handle that a reply gives, of those that a process inherits the first; 0 where it gives none.
+fn handle_in(given: &Given) -> Handle {
+    match given {
+        Given::Handle(handle) => *handle,
+        Given::Process(_, values) => match values.as_slice() {
+            [first, ..] => *first,
+            [] => Handle(0),
+        },
+        _ => Handle(0),
+    }
+}
