@@ -189,26 +189,37 @@ impl Stage {
     pub(crate) fn parse(&self, alloc: Global) -> Result<String, AllocError> {
         match &self.brought {
             Some(Brought::Unrun(parsing)) => {
-                let (ticket, rest) = (parsing.ticket(), parsing.rest());
                 let asked = Standard::type_name(Standard::kind_of(parsing.face()));
-                format!(in alloc; "{ticket} {asked} {rest:?}")
+                asked_text(alloc, parsing.ticket(), asked, parsing.rest())
             }
             Some(Brought::Run(parsed)) => {
-                let (ticket, rest) = (parsed.ticket(), parsed.rest());
                 let asked = Standard::type_name(Standard::kind_of(parsed.face()));
+                let mut text = asked_text(alloc, parsed.ticket(), asked, parsed.rest())?;
                 let (word, code, name) = outcome_of(parsed.outcome());
-                format!(in alloc; "{ticket} {asked} {rest:?} {word} {code} {name:?}")
+                write!(text, " {word} {code}")?;
+                write!(text, " {name:?}")?;
+                Ok(text)
             }
-            None => format!(in alloc; ""),
+            None => Ok(String::new(alloc)),
         }
     }
 
     /// How many objects and handles there are, the number that the next process gets, and how often the set opened, closed and deleted.
     pub(crate) fn counts(&self, alloc: Global) -> Result<String, AllocError> {
         let (core, set) = (&self.core, self.core.set());
-        let (objects, handles, next) = (core.objects(), core.handles(), core.next_process().0);
-        let (opens, closes, deletes) = (set.opens(), set.closes(), set.deletes());
-        format!(in alloc; "{objects} {handles} {next} {opens} {closes} {deletes}\n")
+        let mut text = format!(in alloc; "{}", core.objects())?;
+        let others = [
+            core.handles() as u64,
+            u64::from(core.next_process().0),
+            set.opens(),
+            set.closes(),
+            set.deletes(),
+        ];
+        for number in others.iter() {
+            write!(text, " {number}")?;
+        }
+        write!(text, "\n")?;
+        Ok(text)
     }
 
     /// The number that the next process gets.
@@ -235,6 +246,13 @@ impl Stage {
         let left = self.core.left(ticket)?;
         Some((asker.0, left))
     }
+}
+
+/// What is to be told of a parse that is to be run.
+fn asked_text(alloc: Global, ticket: u64, asked: &str, rest: &[u8]) -> Result<String, AllocError> {
+    let mut text = format!(in alloc; "{ticket} {asked}")?;
+    write!(text, " {rest:?}")?;
+    Ok(text)
 }
 
 /// What a parse ended with: a word, a code, and the name that it led to or the type that it made.
