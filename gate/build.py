@@ -79,6 +79,7 @@ def is_made(crate, has_work):
     return stamp.read_text() == known.stamp() + quick_rt.loaded_quickly().rtlib.sum_of(str(program))
 
 
+@cache
 def lines_of(crate):
     """The lines of a crate's sources, definitions and proofs."""
     files = (path for part in ("src", "specs", "proofs") for path in (folder_of(crate) / part).rglob("*") if path.is_file())

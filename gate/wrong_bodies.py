@@ -118,7 +118,7 @@ class Work:
         made = batches(tries)
         self.under_way[tries[0].edit.crate] += len(made)
         self.left += made
-        self.left.sort(key=lambda batch: (build.behind(batch[0].edit.crate), len(batch)))
+        self.left.sort(key=lambda batch: (build.lines_of(batch[0].edit.crate), len(batch)))
 
     def next(self):
         """A check to begin, as a function to call and the edits that it tries."""
