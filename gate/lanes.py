@@ -1,10 +1,11 @@
-"""How the tasks of `rt ci` run side by side: for kits before `rattle-kit-13f`, whose own division leaves the longest chain of crates with one or two processors.
+"""How the tasks of `rt ci` run side by side: `rt`'s own division leaves the longest chain of crates with one or two processors.
 
 A task begins once all that it waits for has ended, and first those with the longest chain of others behind them, by the processor seconds that
 `gate/seconds.txt` has for a crate, or by its lines. Half of the processors are kept for the longest chain, which gets more where no other is ready; a task
 without work, as the tests of a crate that has none, takes none. What a task does, and what it gives, is `rt`'s alone.
 """
 
+import contextlib
 import os
 from concurrent.futures import FIRST_COMPLETED, ThreadPoolExecutor, wait
 from pathlib import Path
@@ -117,6 +118,8 @@ def divide(rt):
         number = os.environ.get("RT_JOBS", "")
         fixed = int(number) if number.isdigit() else 0
         seconds = measured(SECONDS.read_text()) if SECONDS.is_file() else {}
-        return Lanes(tasks, seconds, fixed or rt.processors(), 0.85 * rt.free(), bool(fixed)).run()
+        # (later kits remove there what they keep for edits)
+        with getattr(rt, "ending", contextlib.nullcontext)():
+            return Lanes(tasks, seconds, fixed or rt.processors(), 0.85 * rt.free(), bool(fixed)).run()
 
     rt.in_lanes = in_lanes

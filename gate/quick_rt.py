@@ -1,12 +1,11 @@
 #!/usr/bin/env python3
-"""Runs `rt`, and has it form the sum of each crate once, and `rt ci` keep what it passes and give the longest chain of crates more processors: for kits
-before `rattle-kit-13f`, which do so of themselves.
+"""Runs `rt`, and has `rt ci` give the longest chain of crates more processors (`gate/lanes.py`); with kits before `rattle-kit-13f` it also forms the sum of
+each crate once, and keeps what `rt ci` passes, as later ones do of themselves.
 
 Whether what is kept of a crate can be used, `rt` tells by a sum of its files and of those of all crates below. Such a kit,
 `rattle-kit-13b` among them, forms that anew for each way that leads down to a crate, of which the highest crates have
 thousands, so that it takes them minutes before a check begins. Here the sum of a crate is kept, for as long as one command
-runs: nothing may change the files meanwhile. What is proved, and how, is the same; what `rt ci` keeps, and when that is taken, `gate/keeping.py` says, and which proof gets how many
-processors `gate/lanes.py`.
+runs: nothing may change the files meanwhile. What is proved, and how, is the same; what `rt ci` keeps, and when that is taken, `gate/keeping.py` says.
 
     gate/quick_rt.py WORD..
 """
@@ -29,10 +28,9 @@ def loaded_quickly():
     made = importlib.util.module_from_spec(importlib.util.spec_from_loader("rt", loader))
     loader.exec_module(made)
     made.rtlib.Crate.stamp = functools.cache(made.rtlib.Crate.stamp)
-    if not hasattr(made, "Kept"):
-        lanes.divide(made)
-        if keeping.home():
-            keeping.keep_passes(made, keeping.home())
+    lanes.divide(made)
+    if not hasattr(made, "Kept") and keeping.home():
+        keeping.keep_passes(made, keeping.home())
     return made
 
 

@@ -45,13 +45,8 @@ gather() {
 
 run selftest gate/selftest.py > "$logs/selftest" &
 run records gate/records.py > "$logs/records" &
-# of kits before 13f `rt` forms its sums anew for each way down to a crate, which takes it minutes
-case $(rt version) in
-    rattle-kit-13[a-e]*) rt=gate/quick_rt.py ;;
-    *) rt=rt ;;
-esac
 sum=$(gate/marks.py)
-part ci "$rt" ci
+part ci gate/quick_rt.py ci
 # so that the library for C is built over what was proved just now
 gate/marks.py "$sum"
 gather selftest records
