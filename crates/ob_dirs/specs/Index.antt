@@ -1,24 +1,38 @@
 -- The stamps of a directory's entries by hashes of their names, and what the index of a directory holds.
 --
 -- Source: this profile.
-use Rattle.std.specs.Prelude.{◌≡◌, ℕ, ◌==◌, Bool, if◌then◌else◌, List, [], ◌∷◌, Option, None, Some, nat_eq, unwrap_or, filter, map}
+use Rattle.std.specs.Prelude.{◌≡◌, ℕ, ◌==◌, Bool, if◌then◌else◌, List, [], ◌∷◌, Option, None, Some, nat_eq, filter, map}
+use Rattle.std.specs.BTreeMap.{get as several_at}
 use Rattle.std.specs.Map.{values_of}
-use Rattle.std.specs.Option.{option_map, option_or}
+use Rattle.std.specs.Option.{option_or}
+use Rattle.std.specs.Ordering.{nat_cmp}
 use Rattle.std.specs.declared.alloc.Global.{Global}
 use Rattle.std.specs.declared.boxed.Box.{Box}
-use Rattle.indexmap.specs.IndexMap.{IndexMap, get}
-use Rattle.smallvec.specs.SmallVec.{SmallVec}
+use Rattle.std.specs.declared.vec.Vec.{Vec}
+use Rattle.indexmap.specs.IndexMap.{get}
+use Rattle.ob_dirs.specs.declared.index.Buckets.{Buckets}
 use Rattle.ob_dirs.specs.declared.entry.DirEntry.{DirEntry}
 use Rattle.ob_dirs.specs.declared.index.NameIndex.{NameIndex}
 use Rattle.ob_dirs.specs.Dir.{IsDir, is_named}
 use Rattle.ob_dirs.specs.Hashes.{name_hash}
 
+-- the stamps under a hash: those of a list that is kept for it, or else the single one
+abbrev pub stamps_among : Option (Vec ℕ Global) → Option ℕ → List ℕ
+stamps_among (Some several) single = several.items
+stamps_among None (Some stamp) = stamp ∷ []
+stamps_among None None = []
+
 -- the stamps under a hash among these
-abbrev pub stamps_in : {S : Type 0} → IndexMap ℕ (SmallVec ℕ) S → ℕ → List ℕ
-stamps_in buckets hash = unwrap_or (option_map (λ stamps. stamps.items) (get nat_eq buckets hash)) []
+abbrev pub stamps_in : Buckets → ℕ → List ℕ
+stamps_in buckets hash = stamps_among (several_at nat_cmp buckets.several hash) (get nat_eq buckets.single hash)
+
+-- a stamp, if it is another than this one
+abbrev pub without_stamp : ℕ → Option ℕ → Option ℕ
+without_stamp stamp None = None
+without_stamp stamp (Some s) = if s == stamp then None else Some s
 
 -- the same, where there are any
-abbrev pub stamps_kept : {S : Type 0} → Option (Box (IndexMap ℕ (SmallVec ℕ) S) Global) → ℕ → List ℕ
+abbrev pub stamps_kept : Option (Box Buckets Global) → ℕ → List ℕ
 stamps_kept None hash = []
 stamps_kept (Some buckets) hash = stamps_in buckets.value hash
 

@@ -1,25 +1,33 @@
 //! The stamps of a directory's entries, by hashes of their names.
 
-ghost use Rattle.std.specs.Prelude.{◌≡◌, ◌==◌, [], ◌∷◌, ◌++◌, ℕ, length, OnOk, OnErr, if◌then◌else◌};
+ghost use Rattle.std.specs.Prelude.{◌≡◌, ◌==◌, [], ◌∷◌, ◌++◌, ℕ, Some, nat_eq, length, OnOk, OnErr, if◌then◌else◌};
 ghost use Rattle.std.specs.List.{position};
 ghost use Rattle.std.specs.Set.{remove_key};
+ghost use Rattle.indexmap.specs.IndexMap.{get};
 ghost use Rattle.ob_dirs.specs.Hashes.{name_hash, mixed};
-ghost use Rattle.ob_dirs.specs.Index.{stamps_in, stamps_under};
+ghost use Rattle.ob_dirs.specs.Index.{stamps_in, stamps_under, without_stamp};
 
 use indexmap::IndexMap;
-use smallvec::SmallVec;
 use std::alloc::{AllocError, Global};
-
-/// The stamps under each hash.
-type Buckets = IndexMap<u64, SmallVec<u64, 1>>;
+use std::collections::BTreeMap;
+use std::slice;
 
 /// The stamps of entries under the hashes of their names, each list in the order in which they were
-/// put there; no list is kept empty. The lists lie behind a pointer, which is made with the first stamp: most
+/// put there. The lists lie behind a pointer, which is made with the first stamp: most
 /// objects that are directories have no name in them. (this profile)
 #[derive(Debug, Drop)]
 pub(crate) struct NameIndex {
     buckets: Option<Box<Buckets>>,
     alloc: Global,
+}
+
+/// The stamps under each hash that has any. (this profile)
+#[derive(Debug, Drop)]
+pub(crate) struct Buckets {
+    /// The stamp under a hash that came to have one alone; where a list is kept for it, that counts.
+    single: IndexMap<u64, u64>,
+    /// The stamps under a hash that came to have several, as long as one is left.
+    several: BTreeMap<u64, Vec<u64>>,
 }
 
 impl NameIndex {
@@ -54,7 +62,7 @@ impl NameIndex {
         if let Some(buckets) = &mut self.buckets {
             return add_to(buckets, hash, stamp);
         }
-        let mut buckets = Box::new(self.alloc, IndexMap::new(self.alloc))?;
+        let mut buckets = Box::new(self.alloc, no_buckets(self.alloc))?;
         add_to(&mut buckets, hash, stamp)?;
         self.buckets = Some(buckets);
         Ok(())
@@ -72,12 +80,25 @@ impl NameIndex {
     }
 }
 
+// No stamp is under any hash.
+fn no_buckets(alloc: Global) -> Buckets
+    ensures { (hash : ℕ) → stamps_in result hash ≡ [] }
+{
+    Buckets {
+        single: IndexMap::new(alloc),
+        several: BTreeMap::new(alloc),
+    }
+}
+
 // The stamps under a hash among these.
 fn stamps_in(buckets: &Buckets, hash: u64) -> &[u64]
     ensures { result.now ≡ stamps_in buckets.now hash }
 {
-    match buckets.get(&hash) {
-        Some(stamps) => stamps.as_slice(),
+    if let Some(stamps) = buckets.several.get(&hash) {
+        return stamps.as_slice();
+    }
+    match buckets.single.get(&hash) {
+        Some(stamp) => slice::from_ref(stamp),
         None => &[],
     }
 }
@@ -89,13 +110,16 @@ fn add_to(buckets: &mut Buckets, hash: u64, stamp: u64) -> Result<(), AllocError
         else stamps_in buckets.old h)) }
     ensures unchanged { OnErr result ((h : ℕ) → stamps_in buckets.new h ≡ stamps_in buckets.old h) }
 {
-    if let Some(stamps) = buckets.get_mut(&hash) {
+    if let Some(stamps) = buckets.several.get_mut(&hash) {
         stamps.push(stamp)?;
         return Ok(());
     }
-    let mut stamps = SmallVec::new(*buckets.allocator());
-    stamps.push(stamp)?;
-    buckets.insert(hash, stamps)?;
+    let Some(first) = buckets.single.get(&hash).copied() else {
+        buckets.single.insert(hash, stamp)?;
+        return Ok(());
+    };
+    let stamps = vec![in *buckets.single.allocator(); first, stamp]?;
+    buckets.several.insert(hash, stamps)?;
     Ok(())
 }
 
@@ -105,16 +129,29 @@ fn take_of(buckets: &mut Buckets, hash: u64, stamp: u64)
         ≡ (if hash == h then remove_key (λ s. s == stamp) (stamps_in buckets.old h)
         else stamps_in buckets.old h) }
 {
-    let Some(stamps) = buckets.get_mut(&hash) else {
+    let Some(stamps) = buckets.several.get_mut(&hash) else {
+        take_single(&mut buckets.single, hash, stamp);
         return;
     };
     if take_from(stamps, stamp) {
-        buckets.swap_remove(&hash);
+        buckets.several.remove(&hash);
+        buckets.single.swap_remove(&hash);
+    }
+}
+
+// Takes the stamp of a hash away, where it is this one.
+fn take_single(single: &mut IndexMap<u64, u64>, hash: u64, stamp: u64)
+    ensures { (h : ℕ) → get nat_eq single.new h
+        ≡ (if hash == h then without_stamp stamp (get nat_eq single.old h)
+        else get nat_eq single.old h) }
+{
+    if single.get(&hash).copied() == Some(stamp) {
+        single.swap_remove(&hash);
     }
 }
 
 // Takes a stamp away from others, the first where it is there more than once; whether none is left.
-fn take_from(stamps: &mut SmallVec<u64, 1>, stamp: u64) -> bool
+fn take_from(stamps: &mut Vec<u64>, stamp: u64) -> bool
     ensures others { stamps.new.items ≡ remove_key (λ s. s == stamp) stamps.old.items }
     ensures empty { result ≡ (length stamps.new.items == 0) }
 {
