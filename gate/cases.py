@@ -17,8 +17,8 @@
   else on standard output, with nothing on the other. `<<a*3>>` is `aaa`, `<<{}*3>>` is `123`, `<<successes*3>>` says of the lines 1 to 3 that they succeed;
   `<<` at the end of a line, with `*0>>` at the beginning of the next, takes that end away. Words name the files of `FILES`, and `two`, which isn't there.
 
-Of two other programs, where they are named, it makes each operation of `cores`, once, and has `PROGRAM` accept each journal that `callers` writes, of what its callers
-do together, at once and without memory.
+Of two other programs, where they are named, it makes each operation of `cores`, once, sees how much memory it takes for many directories, and has `PROGRAM` accept
+each journal that `callers` writes, of what its callers do together, at once and without memory.
 
     gate/cases.py PROGRAM [CORES CALLERS]
 
@@ -38,6 +38,9 @@ import journal_lines
 import lookups as searched
 
 CASES = Path(__file__).resolve().parent.parent / "cases"
+
+# so many permanent directories in one, without handles, take at most so many bytes each
+MANY, MOST_EACH = 500_000, 250
 
 # the status of the program behind a verdict
 REFUSED, ACCEPTED = 3, 0
@@ -215,6 +218,23 @@ def fault_of_operations(program):
     return "" if (ran.returncode, ran.stdout, ran.stderr) == (0, wanted, b"") else f"cases: operations: it left {str((ran.returncode, ran.stdout, ran.stderr))[:2000]}"
 
 
+def memory_of(program, number):
+    """The most KiB that a run of the program `cores` took that holds so many directories, and what it left."""
+    with subprocess.Popen([program, "hold", str(number)], stdout=subprocess.PIPE) as ran:
+        told = ran.stdout.read()
+        _, status, used = os.wait4(ran.pid, 0)
+        ran.returncode = os.waitstatus_to_exitcode(status)
+    return used.ru_maxrss, (ran.returncode, told)
+
+
+def fault_of_memory(program):
+    """What is wrong with the memory of many directories, or nothing."""
+    (none, left), (many, held) = memory_of(program, 0), memory_of(program, MANY)
+    wanted, each = (0, b"each directory was made\n"), (many - none) * 1024 / MANY
+    print(f"cases: {MANY} directories take {each:.0f} bytes each")
+    return "" if left == held == wanted and each <= MOST_EACH else f"cases: memory: it left {left}, {held} and {each:.0f} bytes a directory"
+
+
 def faults_of_callers(callers, program):
     """What is wrong with the journals that `callers` writes."""
     for words, count in (((), 16), (("mix",), 1)):
@@ -252,7 +272,7 @@ def main():
             print(f"cases: {table.__name__}: {len(runs)} runs ... {'ok' if not faults else f'{len(faults)} failed'}", *faults[:20], sep="\n", flush=True)
     if sys.argv[2:]:
         cores, callers = (str(Path(it).resolve()) for it in sys.argv[2:])
-        for name, told in (("operations", [fault_of_operations(cores)]), ("callers", list(faults_of_callers(callers, program)))):
+        for name, told in (("operations", [fault_of_operations(cores)]), ("memory", [fault_of_memory(cores)]), ("callers", list(faults_of_callers(callers, program)))):
             faults = [fault for fault in told if fault]
             passed, failed = passed + len(told) - len(faults), failed + len(faults)
             print(f"cases: {name}: {len(told)} checks ... {'ok' if not faults else f'{len(faults)} failed'}", *faults[:20], sep="\n", flush=True)
