@@ -7,10 +7,8 @@ use Rattle.std.specs.Map.{values_of}
 use Rattle.std.specs.Option.{option_or}
 use Rattle.std.specs.Ordering.{nat_cmp}
 use Rattle.std.specs.declared.alloc.Global.{Global}
-use Rattle.std.specs.declared.boxed.Box.{Box}
 use Rattle.std.specs.declared.vec.Vec.{Vec}
 use Rattle.indexmap.specs.IndexMap.{get}
-use Rattle.ob_dirs.specs.declared.index.Buckets.{Buckets}
 use Rattle.ob_dirs.specs.declared.entry.DirEntry.{DirEntry}
 use Rattle.ob_dirs.specs.declared.index.NameIndex.{NameIndex}
 use Rattle.ob_dirs.specs.Dir.{IsDir, is_named}
@@ -22,23 +20,14 @@ stamps_among (Some several) single = several.items
 stamps_among None (Some stamp) = stamp ∷ []
 stamps_among None None = []
 
--- the stamps under a hash among these
-abbrev pub stamps_in : Buckets → ℕ → List ℕ
-stamps_in buckets hash = stamps_among (several_at nat_cmp buckets.several hash) (get nat_eq buckets.single hash)
-
 -- a stamp, if it is another than this one
 abbrev pub without_stamp : ℕ → Option ℕ → Option ℕ
 without_stamp stamp None = None
 without_stamp stamp (Some s) = if s == stamp then None else Some s
 
--- the same, where there are any
-abbrev pub stamps_kept : Option (Box Buckets Global) → ℕ → List ℕ
-stamps_kept None hash = []
-stamps_kept (Some buckets) hash = stamps_in buckets.value hash
-
 -- the stamps under a hash
 abbrev pub stamps_under : NameIndex → ℕ → List ℕ
-stamps_under index hash = stamps_kept index.buckets hash
+stamps_under index hash = stamps_among (several_at nat_cmp index.several hash) (get nat_eq index.single hash)
 
 -- of these entries, the stamps of those whose names have the hash
 abbrev pub stamps_hashed : List DirEntry → ℕ → List ℕ

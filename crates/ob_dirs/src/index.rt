@@ -5,7 +5,7 @@ ghost use Rattle.std.specs.List.{position};
 ghost use Rattle.std.specs.Set.{remove_key};
 ghost use Rattle.indexmap.specs.IndexMap.{get};
 ghost use Rattle.ob_dirs.specs.Hashes.{name_hash, mixed};
-ghost use Rattle.ob_dirs.specs.Index.{stamps_in, stamps_under, without_stamp};
+ghost use Rattle.ob_dirs.specs.Index.{stamps_under, without_stamp};
 
 use indexmap::IndexMap;
 use std::alloc::{AllocError, Global};
@@ -13,17 +13,9 @@ use std::collections::BTreeMap;
 use std::slice;
 
 /// The stamps of entries under the hashes of their names, each list in the order in which they were
-/// put there. The lists lie behind a pointer, which is made with the first stamp: most
-/// objects that are directories have no name in them. (this profile)
+/// put there. (this profile)
 #[derive(Debug, Drop)]
 pub(crate) struct NameIndex {
-    buckets: Option<Box<Buckets>>,
-    alloc: Global,
-}
-
-/// The stamps under each hash that has any. (this profile)
-#[derive(Debug, Drop)]
-pub(crate) struct Buckets {
     /// The stamp under a hash that came to have one alone; where a list is kept for it, that counts.
     single: IndexMap<u64, u64>,
     /// The stamps under a hash that came to have several, as long as one is left.
@@ -36,8 +28,8 @@ impl NameIndex {
         ensures { (hash : ℕ) → stamps_under result hash ≡ [] }
     {
         NameIndex {
-            buckets: None,
-            alloc,
+            single: IndexMap::new(alloc),
+            several: BTreeMap::new(alloc),
         }
     }
 
@@ -45,8 +37,11 @@ impl NameIndex {
     pub(crate) fn stamps_under(&self, hash: u64) -> &[u64]
         ensures { result.now ≡ stamps_under self.now hash }
     {
-        match &self.buckets {
-            Some(buckets) => stamps_in(buckets, hash),
+        if let Some(stamps) = self.several.get(&hash) {
+            return stamps.as_slice();
+        }
+        match self.single.get(&hash) {
+            Some(stamp) => slice::from_ref(stamp),
             None => &[],
         }
     }
@@ -59,12 +54,16 @@ impl NameIndex {
         ensures unchanged { OnErr result ((h : ℕ)
             → stamps_under self.new h ≡ stamps_under self.old h) }
     {
-        if let Some(buckets) = &mut self.buckets {
-            return add_to(buckets, hash, stamp);
+        if let Some(stamps) = self.several.get_mut(&hash) {
+            stamps.push(stamp)?;
+            return Ok(());
         }
-        let mut buckets = Box::new(self.alloc, no_buckets(self.alloc))?;
-        add_to(&mut buckets, hash, stamp)?;
-        self.buckets = Some(buckets);
+        let Some(first) = self.single.get(&hash).copied() else {
+            self.single.insert(hash, stamp)?;
+            return Ok(());
+        };
+        let stamps = vec![in *self.single.allocator(); first, stamp]?;
+        self.several.insert(hash, stamps)?;
         Ok(())
     }
 
@@ -74,68 +73,14 @@ impl NameIndex {
             ≡ (if hash == h then remove_key (λ s. s == stamp) (stamps_under self.old h)
             else stamps_under self.old h) }
     {
-        if let Some(buckets) = &mut self.buckets {
-            take_of(buckets, hash, stamp);
+        let Some(stamps) = self.several.get_mut(&hash) else {
+            take_single(&mut self.single, hash, stamp);
+            return;
+        };
+        if take_from(stamps, stamp) {
+            self.several.remove(&hash);
+            self.single.swap_remove(&hash);
         }
-    }
-}
-
-// No stamp is under any hash.
-fn no_buckets(alloc: Global) -> Buckets
-    ensures { (hash : ℕ) → stamps_in result hash ≡ [] }
-{
-    Buckets {
-        single: IndexMap::new(alloc),
-        several: BTreeMap::new(alloc),
-    }
-}
-
-// The stamps under a hash among these.
-fn stamps_in(buckets: &Buckets, hash: u64) -> &[u64]
-    ensures { result.now ≡ stamps_in buckets.now hash }
-{
-    if let Some(stamps) = buckets.several.get(&hash) {
-        return stamps.as_slice();
-    }
-    match buckets.single.get(&hash) {
-        Some(stamp) => slice::from_ref(stamp),
-        None => &[],
-    }
-}
-
-// Puts a stamp under a hash among these, behind those that are there. Where memory is wanted nothing has changed.
-fn add_to(buckets: &mut Buckets, hash: u64, stamp: u64) -> Result<(), AllocError>
-    ensures last { OnOk result ((h : ℕ) → stamps_in buckets.new h
-        ≡ (if hash == h then stamps_in buckets.old h ++ stamp ∷ []
-        else stamps_in buckets.old h)) }
-    ensures unchanged { OnErr result ((h : ℕ) → stamps_in buckets.new h ≡ stamps_in buckets.old h) }
-{
-    if let Some(stamps) = buckets.several.get_mut(&hash) {
-        stamps.push(stamp)?;
-        return Ok(());
-    }
-    let Some(first) = buckets.single.get(&hash).copied() else {
-        buckets.single.insert(hash, stamp)?;
-        return Ok(());
-    };
-    let stamps = vec![in *buckets.single.allocator(); first, stamp]?;
-    buckets.several.insert(hash, stamps)?;
-    Ok(())
-}
-
-// Takes a stamp away from under a hash among these, the first where it is there more than once.
-fn take_of(buckets: &mut Buckets, hash: u64, stamp: u64)
-    ensures { (h : ℕ) → stamps_in buckets.new h
-        ≡ (if hash == h then remove_key (λ s. s == stamp) (stamps_in buckets.old h)
-        else stamps_in buckets.old h) }
-{
-    let Some(stamps) = buckets.several.get_mut(&hash) else {
-        take_single(&mut buckets.single, hash, stamp);
-        return;
-    };
-    if take_from(stamps, stamp) {
-        buckets.several.remove(&hash);
-        buckets.single.swap_remove(&hash);
     }
 }
 
