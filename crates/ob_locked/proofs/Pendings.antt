@@ -37,7 +37,7 @@ use Rattle.ob_model.specs.Step.{Step}
 use Rattle.ob_model.proofs.Ended.{live_numbered}
 use Rattle.ob_model.proofs.Finds.{filter_none}
 use Rattle.ob_model.proofs.Turned.{turned_either}
-use Rattle.ob_runner.proofs.Fewer.{HandsOn, looks_hand_on, again_hands_on_fewer}
+use Rattle.ob_opens.proofs.HandedOn.{HandsOn, looks_hand_on, again_hands_on_fewer}
 use Rattle.ob_locked.specs.Entered.{HasFew, PendingAfter, EndedAfter}
 use Rattle.ob_locked.specs.Rooms.{wants_memory, values_given, values_wanted, is_plain}
 use Rattle.ob_locked.proofs.Placed.{found_ticket}

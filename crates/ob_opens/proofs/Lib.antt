@@ -12,3 +12,4 @@ pub mod Begun
 pub mod Abandoned
 pub mod Resumed
 pub mod Refusing
+pub mod HandedOn
