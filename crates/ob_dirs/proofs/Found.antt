@@ -1,6 +1,6 @@
 -- Entries by rising stamps, cut where the stamps aren't below one any more: what is found there, and what stays
 -- without it.
-use Rattle.std.proofs.Common.{◌≡◌, ◌≢◌, ◌⊎◌, ◌∙◌, ℕ, zero, suc, ◌+◌, ◌-◌, ◌<◌, ◌≤◌, Bool, true, false, cond, not, ◌==◌, nat_lt, List, [], ◌∷◌, ◌++◌, length, take, drop, get_or, filter, find, map, slice_get, All, None, Some, refl, ap, sym, subst, arith, inl, inr, eq-eqb, lt-ltb, le-ltb, add-one}
+use Rattle.std.proofs.Common.{◌≡◌, ◌≢◌, ◌⊎◌, ◌∙◌, ℕ, zero, suc, ◌+◌, ◌-◌, ◌^◌, ◌<◌, ◌≤◌, Bool, true, false, cond, not, ◌==◌, nat_lt, List, [], ◌∷◌, ◌++◌, length, take, drop, get_or, filter, find, map, slice_get, All, None, Some, refl, ap, sym, subst, arith, inl, inr, eq-eqb, lt-ltb, le-ltb, add-one}
 use Rattle.std.proofs.Math.Seq.{drop-cons}
 use Rattle.std.specs.List.{AllPairs, AllWithin}
 use Rattle.std.specs.List.Sorted.{IsNonDecreasingBy, IsPartitionedBy}
@@ -8,6 +8,7 @@ use Rattle.std.proofs.lemmas.Bool.{cases_lt, ltb-true, ne_eqb}
 use Rattle.std.proofs.lemmas.List.{append-nil, length-append, length-drop, take-append-drop, take_all, get_or_default}
 use Rattle.std.proofs.lemmas.List.Concat.{flat_map-append}
 use Rattle.std.proofs.lemmas.List.Elements.{All-nil, All-append, All-cons, All-head, All-same, All-tail, All-weaker, filter-append}
+use Rattle.std.proofs.lemmas.List.Filters.{length-filter_both}
 use Rattle.std.proofs.lemmas.List.Kept.{AllPairs-filter}
 use Rattle.ob_model.proofs.Finds.{filter_all}
 use Rattle.ob_dirs.specs.declared.entry.DirEntry.{DirEntry}
@@ -262,6 +263,11 @@ cut-found {stamp} {count} {runs} {read} {i} {at} run e all held view same found 
 pub below-found : (stamp : ℕ) (runs read : List Run) (all : List DirEntry) → joined runs ≡ all → read ≡ runs → AreBelow stamp (joined read) → AreBelow stamp all
 below-found stamp runs read all view same each = subst (AreBelow stamp) (ap joined same ∙ view) each
 
+-- those behind a context are no more than all
+pub few-behind : {count : ℕ} {runs : List Run} (all behind : List DirEntry) (context : ℕ) → AreRuns runs count → joined runs ≡ all → behind ≡ entries_behind all context → length behind < 2 ^ 64
+few-behind {count} {runs} all behind context held view is =
+    omega (arith, held.small, held.counted, ap length view, ap length is, length-filter_both (λ x. nat_lt context x.stamp) (λ x. not (nat_lt context x.stamp)) (λ x. refl) all)
+
 -- what is lent from a place on
 rest : {X : Type 0} (n : ℕ) (xs : List X) → take (length xs - n) (drop n xs) ≡ drop n xs
 rest n xs = take_all (length xs - n) (drop n xs) (omega (arith, length-drop n xs))
@@ -284,6 +290,7 @@ runs-left {stamp} {count} {runs} {left} {front} {e} {back} held filled cut is ot
   filled = filled;
   counted =
       omega (arith, held.counted, ap length cut.is, ap length others, length-append front (e ∷ back), length-append front back);
+  small = omega (arith, held.small);
 }
 
 pub some-there : {stamp count : ℕ} {runs : List Run} {front : List DirEntry} {e : DirEntry} {back : List DirEntry} → AreRuns runs count → IsCut stamp (joined runs) front e back → 1 ≤ count

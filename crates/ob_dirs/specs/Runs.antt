@@ -1,7 +1,7 @@
 -- Entries in runs, one run behind another: what is looked up in them, and where.
 --
 -- Source: this profile.
-use Rattle.std.specs.Prelude.{◌≡◌, ℕ, ◌+◌, ◌<◌, ◌≤◌, Bool, true, nat_lt, List, [], ◌∷◌, ◌++◌, length, take, drop, map, slice_index_or, All, Vec}
+use Rattle.std.specs.Prelude.{◌≡◌, ℕ, ◌+◌, ◌^◌, ◌<◌, ◌≤◌, Bool, true, nat_lt, List, [], ◌∷◌, ◌++◌, length, take, drop, map, slice_index_or, All, Vec}
 use Rattle.std.specs.List.{AllPairs, flat_map}
 use Rattle.std.specs.declared.alloc.Global.{Global}
 use Rattle.ob_dirs.specs.declared.entry.DirEntry.{DirEntry}
@@ -25,11 +25,12 @@ run_at runs place = slice_index_or (map entries_of runs) place []
 abbrev pub AreFilled : List (Vec DirEntry Global) → Type 0
 AreFilled runs = All (λ run. 0 < length run.items) runs
 
--- what runs hold: entries by rising stamps, counted, and no empty run
+-- what runs hold: entries by rising stamps, counted in 64 bits, and no empty run
 pub record AreRuns (runs : List (Vec DirEntry Global)) (count : ℕ) : Type 0 where
   pub rises : Rises (joined runs)
   pub filled : AreFilled runs
   pub counted : count ≡ length (joined runs)
+  pub small : count < 2 ^ 64
 
 -- the stamps of all entries are below one, and none is
 abbrev pub AreBelow : ℕ → List DirEntry → Type 0

@@ -1,6 +1,6 @@
 //! Entries by rising stamps, in runs.
 
-ghost use Rattle.std.specs.Prelude.{◌≡◌, ◌<◌, ◌≤◌, ◌+◌, ◌==◌, [], ◌∷◌, ◌++◌, length, filter, not};
+ghost use Rattle.std.specs.Prelude.{◌≡◌, ◌<◌, ◌≤◌, ◌+◌, ◌^◌, ◌==◌, [], ◌∷◌, ◌++◌, length, filter, not};
 ghost use Rattle.std.specs.Prelude.{All, IfOk, OnErr, MatchOption, false, take, drop, slice_index_or};
 ghost use Rattle.std.specs.List.{find};
 ghost use Rattle.std.specs.Option.{option_copied};
@@ -130,7 +130,8 @@ impl EntryRuns {
     /// The entries of a stamp above a context, by rising stamps. Where they begin is sought as in a sorted
     /// list.
     pub(crate) fn behind(&self, context: u64) -> EntriesBehind<'_>
-        ensures { result ≡ entries_behind self.now context }
+        ensures entries { result ≡ entries_behind self.now context }
+        ensures counted { length result < 2 ^ 64 }
     {
         let Some(place) = first_from(&self.runs, context) else {
             return EntriesBehind::new(&[], &[]);
