@@ -1,8 +1,5 @@
 -- What a directory holds stays so, as an entry comes, is taken back, and goes.
-use Rattle.std.proofs.Common.{◌≡◌, ◌≢◌, ◌∙◌, ℕ, ◌<◌, true, false, cond, ◌==◌, List, [], ◌∷◌, ◌++◌, filter, find, map, All, Option, Some, ap, sym, subst}
-use Rattle.std.specs.BTreeMap.{insert_entry, is_at}
-use Rattle.std.specs.Map.{lookup, remove_entry, values_of}
-use Rattle.std.specs.Ordering.{nat_cmp}
+use Rattle.std.proofs.Common.{◌≡◌, ◌≢◌, ◌∙◌, ℕ, ◌<◌, Bool, true, false, cond, not, ◌==◌, List, [], ◌∷◌, ◌++◌, filter, find, map, All, None, Some, refl, ap, sym, subst}
 use Rattle.std.specs.Result.{is_err, OnErr, OnOk}
 use Rattle.std.specs.Set.{remove_key}
 use Rattle.std.proofs.Common.{Result, Ok, Err}
@@ -13,9 +10,9 @@ use Rattle.ob_dirs.specs.declared.entry.DirEntry.{DirEntry}
 use Rattle.ob_dirs.specs.declared.index.NameIndex.{NameIndex}
 use Rattle.ob_dirs.specs.Dir.{ComesBefore, IsDir}
 use Rattle.ob_dirs.specs.Hashes.{name_hash}
-use Rattle.ob_dirs.specs.Index.{IsHeld, stamps_hashed, stamps_under, under_stamp}
+use Rattle.ob_dirs.specs.Index.{IsHeld, stamps_hashed, stamps_under}
 use Rattle.ob_dirs.proofs.Hashed.{stamps-push, stamps-taken, taken_back}
-use Rattle.ob_dirs.proofs.Held.{each_is_found, insert_entry-held, lookup-held, remove_entry-held, values-held}
+use Rattle.ob_dirs.proofs.Held.{each_is_found}
 use Rattle.ob_dirs.proofs.Removed.{has_stamp, has_other}
 
 -- what a result says by its test
@@ -34,66 +31,60 @@ AddsStamp old new hash stamp = (h : ℕ) → stamps_under new h ≡ cond (hash =
 abbrev pub TakesStamp : NameIndex → NameIndex → ℕ → ℕ → Type 0
 TakesStamp old new hash stamp = (h : ℕ) → stamps_under new h ≡ cond (hash == h) (remove_key (λ s. s == stamp) (stamps_under old h)) (stamps_under old h)
 
-module _ (es fs : List (ℕ × DirEntry)) (old : NameIndex) (held : IsHeld es old) where
+-- where no entry has a stamp all stay without it
+none_goes : (stamp : ℕ) (es : List DirEntry) → None ≡ find (has_stamp stamp) es → filter (has_other stamp) es ≡ es
+none_goes stamp [] none = refl
+none_goes stamp (e ∷ es) none = go (has_stamp stamp e) none (none_goes stamp es)
+  where
+    go : (b : Bool) → None ≡ cond b (Some e) (find (has_stamp stamp) es) → (None ≡ find (has_stamp stamp) es → filter (has_other stamp) es ≡ es)
+        → cond (not b) (e ∷ filter (has_other stamp) es) (filter (has_other stamp) es) ≡ e ∷ es
+    go true at more = cc
+    go false at more = ap (λ xs. e ∷ xs) (more at)
+
+module _ (es fs : List DirEntry) (old : NameIndex) (held : IsHeld es old) where
   -- an entry comes behind the others
-  module _ (new : NameIndex) (e : DirEntry) (hash : ℕ) (same : hash ≡ name_hash e.name) (newest : All (λ x. x.stamp < e.stamp) (values_of es))
-      (inserted : fs ≡ insert_entry nat_cmp es e.stamp e) where
-    under : fs ≡ map under_stamp (values_of es ++ e ∷ [])
-    under = inserted ∙ ap (λ l. insert_entry nat_cmp l e.stamp e) held.stamps ∙ insert_entry-held e (values_of es) newest
-
-    pub values-inserted : values_of fs ≡ values_of es ++ e ∷ []
-    values-inserted = ap values_of under ∙ values-held (values_of es ++ e ∷ [])
-
-    pub held-inserted : All (λ x. x.name ≢ e.name) (values_of es) → AddsStamp old new hash e.stamp → IsHeld fs new
-    held-inserted free adds = record {
-      dir =
-          subst IsDir (sym values-inserted)
-          (all_pairs_push ComesBefore (values_of es) e held.dir (λ k d below. (newest k d below, free k d below)));
-      stamps = under ∙ ap (map under_stamp) (sym values-inserted);
-      index = λ h.
-          adds h ∙ ap (λ n. cond (n == h) (stamps_under old h ++ e.stamp ∷ []) (stamps_under old h)) same
-          ∙ ap (λ ss. cond (name_hash e.name == h) (ss ++ e.stamp ∷ []) ss) (held.index h)
-          ∙ stamps-push (values_of es) e h ∙ ap (λ l. stamps_hashed l h) (sym values-inserted);
-    }
+  pub held-inserted : (new : NameIndex) (e : DirEntry) (hash : ℕ) → hash ≡ name_hash e.name → All (λ x. x.stamp < e.stamp) es → fs ≡ es ++ e ∷ []
+      → All (λ x. x.name ≢ e.name) es → AddsStamp old new hash e.stamp → IsHeld fs new
+  held-inserted new e hash same newest inserted free adds = record {
+    dir =
+        subst IsDir (sym inserted)
+        (all_pairs_push ComesBefore es e held.dir (λ k d below. (newest k d below, free k d below)));
+    index = λ h.
+        adds h ∙ ap (λ n. cond (n == h) (stamps_under old h ++ e.stamp ∷ []) (stamps_under old h)) same
+        ∙ ap (λ ss. cond (name_hash e.name == h) (ss ++ e.stamp ∷ []) ss) (held.index h)
+        ∙ stamps-push es e h ∙ ap (λ l. stamps_hashed l h) (sym inserted);
+  }
 
   -- it is taken back from the index, where no entry came
-  pub held-taken_back : (mid new : NameIndex) (hash stamp : ℕ) → All (λ x. x.stamp < stamp) (values_of es) → fs ≡ es
+  pub held-taken_back : (mid new : NameIndex) (hash stamp : ℕ) → All (λ x. x.stamp < stamp) es → fs ≡ es
       → AddsStamp old mid hash stamp → TakesStamp mid new hash stamp → IsHeld fs new
   held-taken_back mid new hash stamp newest stay adds takes =
       subst (λ l. IsHeld l new) (sym stay) (record {
         dir = held.dir;
-        stamps = held.stamps;
         index = λ h.
             takes h
-            ∙ taken_back (values_of es) hash stamp h (stamps_under mid h) newest
+            ∙ taken_back es hash stamp h (stamps_under mid h) newest
             (adds h ∙ ap (λ ss. cond (hash == h) (ss ++ stamp ∷ []) ss) (held.index h));
       })
 
+  -- no entry has the stamp that is to go
+  pub held-none : (stamp : ℕ) → fs ≡ filter (has_other stamp) es → None ≡ find (has_stamp stamp) es → IsHeld fs old
+  held-none stamp removed none = subst (λ l. IsHeld l old) (sym (removed ∙ none_goes stamp es none)) held
+
   -- the entry of a stamp goes
-  module _ (stamp : ℕ) (removed : fs ≡ remove_entry (is_at (nat_cmp stamp)) es) where
-    left : fs ≡ map under_stamp (filter (has_other stamp) (values_of es))
-    left = removed ∙ ap (remove_entry (is_at (nat_cmp stamp))) held.stamps ∙ remove_entry-held stamp (values_of es) held.dir
-
-    pub values-removed : values_of fs ≡ filter (has_other stamp) (values_of es)
-    values-removed = ap values_of left ∙ values-held (filter (has_other stamp) (values_of es))
-
-    pub found-removed : (o : Option DirEntry) → o ≡ lookup (is_at (nat_cmp stamp)) es → o ≡ find (has_stamp stamp) (values_of es)
-    found-removed o at = at ∙ ap (lookup (is_at (nat_cmp stamp))) held.stamps ∙ lookup-held stamp (values_of es)
-
-    pub held-removed : (new : NameIndex) (e : DirEntry) (hash : ℕ) → hash ≡ name_hash e.name → Some e ≡ lookup (is_at (nat_cmp stamp)) es
-        → TakesStamp old new hash stamp → IsHeld fs new
-    held-removed new e hash same at takes = record {
-      dir = subst IsDir (sym values-removed) (AllPairs-filter ComesBefore (has_other stamp) (values_of es) held.dir);
-      stamps = left ∙ ap (map under_stamp) (sym values-removed);
-      index = λ h.
-          takes h ∙ ap (λ ss. cond (hash == h) (remove_key (λ s. s == stamp) ss) ss) (held.index h)
-          ∙ stamps-taken stamp hash h (values_of es) held.dir (λ k d below. own _ (each_is_found (values_of es) held.dir k d below))
-          ∙ ap (λ l. stamps_hashed l h) (sym values-removed);
-    }
-      where
-        own : (x : DirEntry) → find (has_stamp x.stamp) (values_of es) ≡ Some x → has_stamp stamp x ≡ true → name_hash x.name ≡ hash
-        own x there here =
-            let found : find (has_stamp x.stamp) (values_of es) ≡ Some e = ap (λ n. find (has_stamp n) (values_of es)) (eqb-true x.stamp stamp here) ∙ sym (found-removed (Some e) at) in
-            let both : Some x ≡ Some e = sym there ∙ found in
-            let is : x ≡ e = cc in
-            ap (λ (y : DirEntry). name_hash y.name) is ∙ sym same
+  pub held-removed : (stamp : ℕ) → fs ≡ filter (has_other stamp) es → (new : NameIndex) (e : DirEntry) (hash : ℕ) → hash ≡ name_hash e.name → Some e ≡ find (has_stamp stamp) es
+      → TakesStamp old new hash stamp → IsHeld fs new
+  held-removed stamp removed new e hash same at takes = record {
+    dir = subst IsDir (sym removed) (AllPairs-filter ComesBefore (has_other stamp) es held.dir);
+    index = λ h.
+        takes h ∙ ap (λ ss. cond (hash == h) (remove_key (λ s. s == stamp) ss) ss) (held.index h)
+        ∙ stamps-taken stamp hash h es held.dir (λ k d below. own _ (each_is_found es held.dir k d below))
+        ∙ ap (λ l. stamps_hashed l h) (sym removed);
+  }
+    where
+      own : (x : DirEntry) → find (has_stamp x.stamp) es ≡ Some x → has_stamp stamp x ≡ true → name_hash x.name ≡ hash
+      own x there here =
+          let found : find (has_stamp x.stamp) es ≡ Some e = ap (λ n. find (has_stamp n) es) (eqb-true x.stamp stamp here) ∙ sym at in
+          let both : Some x ≡ Some e = sym there ∙ found in
+          let is : x ≡ e = cc in
+          ap (λ (y : DirEntry). name_hash y.name) is ∙ sym same

@@ -1,6 +1,8 @@
 pub mod Earliest
 pub mod Lists
 pub mod Removed
+pub mod Joined
+pub mod Found
 pub mod Held
 pub mod Hashed
 pub mod Kept

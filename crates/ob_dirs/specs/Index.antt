@@ -3,7 +3,7 @@
 -- Source: this profile.
 use Rattle.std.specs.Prelude.{◌≡◌, ℕ, ◌==◌, Bool, if◌then◌else◌, List, [], ◌∷◌, Option, None, Some, nat_eq, filter, map}
 use Rattle.std.specs.BTreeMap.{get as several_at}
-use Rattle.std.specs.Map.{values_of}
+use Rattle.std.specs.List.{find}
 use Rattle.std.specs.Option.{option_or}
 use Rattle.std.specs.Ordering.{nat_cmp}
 use Rattle.std.specs.declared.alloc.Global.{Global}
@@ -37,15 +37,14 @@ stamps_hashed entries hash = map (λ e. e.stamp) (filter (λ e. name_hash e.name
 abbrev pub IsIndexOf : NameIndex → List DirEntry → Type 0
 IsIndexOf index entries = (hash : ℕ) → stamps_under index hash ≡ stamps_hashed entries hash
 
--- an entry under its stamp
-abbrev pub under_stamp : DirEntry → ℕ × DirEntry
-under_stamp e = (e.stamp, e)
+-- the entry of a stamp among these
+abbrev pub entry_at : List DirEntry → ℕ → Option DirEntry
+entry_at entries stamp = find (λ e. e.stamp == stamp) entries
 
--- what a directory holds: entries that may stand in one, each under its own stamp, and the index of them
-pub record IsHeld (entries : List (ℕ × DirEntry)) (names : NameIndex) : Type 0 where
-  pub dir : IsDir (values_of entries)
-  pub stamps : entries ≡ map under_stamp (values_of entries)
-  pub index : IsIndexOf names (values_of entries)
+-- what a directory holds: entries that may stand in one, and the index of them
+pub record IsHeld (entries : List DirEntry) (names : NameIndex) : Type 0 where
+  pub dir : IsDir entries
+  pub index : IsIndexOf names entries
 
 -- an entry, where there is one and its name is equal to the component
 abbrev pub entry_named : List ℕ → Bool → Option DirEntry → Option DirEntry

@@ -2,13 +2,10 @@
 
 ghost use Rattle.std.specs.Prelude.{◌≡◌, ◌≢◌, ◌<◌, ◌^◌, ◌↔◌, ◌==◌, [], ◌∷◌, ◌++◌, length, filter, not};
 ghost use Rattle.std.specs.Prelude.{All, IfOk, IfErr, OnErr};
-ghost use Rattle.std.specs.BTreeMap.{get};
 ghost use Rattle.std.specs.List.{find};
-ghost use Rattle.std.specs.Map.{values_of};
 ghost use Rattle.std.specs.Option.{option_copied, option_map};
-ghost use Rattle.std.specs.Ordering.{nat_cmp};
 ghost use Rattle.ob_dirs.specs.Dir.{entry_found, IsDir};
-ghost use Rattle.ob_dirs.specs.Index.{entry_named, first_named};
+ghost use Rattle.ob_dirs.specs.Index.{entry_at, entry_named, first_named};
 ghost use Rattle.ob_dirs.specs.Page.{entries_behind};
 ghost use Rattle.ob_dirs.specs.Dir.{DirFindsWhatTheStateFinds, NotFoundIsFree};
 ghost use Rattle.ob_dirs.specs.Dir.{
@@ -19,14 +16,12 @@ ghost use Rattle.ob_dirs.specs.Dir.{
 };
 
 use crate::index::{NameIndex, name_hash};
+use crate::runs::{EntriesBehind, EntryRuns};
 use crate::{DirEntries, DirEntry};
 use ob_base::ObjId;
 use ob_names::{NameBuf, same};
 use std::alloc::{AllocError, Global};
-use std::collections::BTreeMap;
-use std::collections::btree_map::Range;
 use std::marker::Model;
-use std::ops::Bound;
 
 /// One object directory. A contract sees a `Dir` as the list of its entries, whose stamps rise
 /// strictly and whose spellings differ from one another; two names that only the case of letters
@@ -35,21 +30,20 @@ use std::ops::Bound;
 /// Source: Windows Internals, Object Manager: object directories; the order is this profile.
 #[derive(Debug, Drop)]
 pub struct Dir {
-    entries: BTreeMap<u64, DirEntry>,
+    entries: EntryRuns,
     names: NameIndex,
 }
 
 impl Model for Dir {
     ghost use Rattle.std.specs.Prelude.{List};
-    ghost use Rattle.std.specs.Map.{values_of};
     ghost use Rattle.ob_dirs.specs.declared.entry.DirEntry.{DirEntry};
     ghost use Rattle.ob_dirs.specs.Index.{IsHeld};
 
     ghost Value = { List DirEntry };
 
-    ghost view = { λ dir. values_of dir.entries.entries };
+    ghost view = { λ dir. dir.entries };
 
-    ghost invariant = { λ dir. IsHeld dir.entries.entries dir.names };
+    ghost invariant = { λ dir. IsHeld dir.entries dir.names };
 }
 
 impl Dir {
@@ -58,7 +52,7 @@ impl Dir {
         ensures { result ≡ [] }
     {
         Dir {
-            entries: BTreeMap::new(alloc),
+            entries: EntryRuns::new(alloc),
             names: NameIndex::new(alloc),
         }
     }
@@ -87,16 +81,15 @@ impl Dir {
         // What holds of every directory's entries.
         ensures entries { IsDir self.now }
     {
-        DirEntries::new(self.entries.range(..), self.entries.len())
+        DirEntries::new(self.entries.iter(), self.entries.len())
     }
 
     // The entries of a stamp above a context, by rising stamps.
-    pub(crate) fn behind(&self, context: u64) -> Range<'_, u64, DirEntry>
-        ensures entries { values_of result ≡ entries_behind self.now context }
-        ensures counted { length result < 2 ^ 63 }
+    pub(crate) fn behind(&self, context: u64) -> EntriesBehind<'_>
+        ensures entries { result ≡ entries_behind self.now context }
+        ensures counted { length result < 2 ^ 64 }
     {
-        self.entries
-            .range((Bound::Excluded(context), Bound::Unbounded))
+        self.entries.behind(context)
     }
 
     /// What stands under a component, of any length and with any bytes: of the entries whose names
@@ -137,7 +130,7 @@ impl Dir {
             name,
             object,
         };
-        if self.entries.insert(stamp, entry).is_err() {
+        if self.entries.push(entry).is_err() {
             self.names.take(hash, stamp);
             return Err(AllocError);
         }
@@ -151,7 +144,7 @@ impl Dir {
     pub fn get(&self, stamp: u64) -> Option<&DirEntry>
         ensures { option_copied result ≡ find (λ entry. entry.stamp == stamp) self.now }
     {
-        self.entries.get(&stamp)
+        self.entries.get(stamp)
     }
 
     /// Takes away the entry of a stamp, which may be any number, and hands it back; where no entry
@@ -163,7 +156,7 @@ impl Dir {
         ensures there { result ≡ find (λ entry. entry.stamp == stamp) self.old }
         ensures others { self.new ≡ filter (λ entry. not (entry.stamp == stamp)) self.old }
     {
-        let entry = self.entries.remove(&stamp)?;
+        let entry = self.entries.remove(stamp)?;
         self.names.take(name_hash(entry.name.as_slice()), stamp);
         Some(entry)
     }
@@ -171,13 +164,13 @@ impl Dir {
 
 // Of the entries that have these stamps, the first whose name is equal to a component; none where no name is.
 fn first_named<'a>(
-    entries: &'a BTreeMap<u64, DirEntry>,
+    entries: &'a EntryRuns,
     stamps: &[u64],
     component: &[u8],
     fold: bool,
 ) -> Option<&'a DirEntry>
     ensures { option_copied result
-        ≡ first_named (get nat_cmp entries.now) component.now fold stamps.now }
+        ≡ first_named (entry_at entries.now) component.now fold stamps.now }
 {
     for stamp in stamps {
         if let Some(entry) = entry_named(entries, *stamp, component, fold) {
@@ -189,15 +182,15 @@ fn first_named<'a>(
 
 // The entry of a stamp, where its name is equal to a component.
 fn entry_named<'a>(
-    entries: &'a BTreeMap<u64, DirEntry>,
+    entries: &'a EntryRuns,
     stamp: u64,
     component: &[u8],
     fold: bool,
 ) -> Option<&'a DirEntry>
     ensures { option_copied result
-        ≡ entry_named component.now fold (get nat_cmp entries.now stamp) }
+        ≡ entry_named component.now fold (entry_at entries.now stamp) }
 {
-    let entry = entries.get(&stamp)?;
+    let entry = entries.get(stamp)?;
     if same(entry.name.as_slice(), component, fold) {
         Some(entry)
     } else {

@@ -2,37 +2,35 @@
 
 ghost use Rattle.std.specs.Prelude.{◌≡◌, ◌≤◌, ◌==◌, length, take};
 ghost use Rattle.std.specs.Iterator.{YieldsFirstRef, item_count};
-ghost use Rattle.std.specs.Map.{values_of};
 
 use crate::DirEntry;
-use std::collections::btree_map::Range;
+use crate::runs::EntriesBehind;
 use std::marker::Model;
 
 /// Entries of a directory by rising stamps, each lent: as many as are left of those that were asked
 /// for. A contract sees them as the list of the entries that are left. (this profile)
 #[derive(Drop)]
 pub struct DirEntries<'a> {
-    behind: Range<'a, u64, DirEntry>,
+    behind: EntriesBehind<'a>,
     shown: usize,
 }
 
 impl<'a> Model for DirEntries<'a> {
     ghost use Rattle.std.specs.Prelude.{◌≤◌, List, length, take};
-    ghost use Rattle.std.specs.Map.{values_of};
     ghost use Rattle.ob_dirs.specs.declared.entry.DirEntry.{DirEntry};
 
     ghost Value = { List DirEntry };
 
-    ghost view = { λ entries. take entries.shown (values_of entries.behind) };
+    ghost view = { λ entries. take entries.shown entries.behind };
 
     ghost invariant = { λ entries. entries.shown ≤ length entries.behind };
 }
 
 impl<'a> DirEntries<'a> {
     // The first of these entries, so many.
-    pub(crate) fn new(behind: Range<'a, u64, DirEntry>, shown: usize) -> DirEntries<'a>
+    pub(crate) fn new(behind: EntriesBehind<'a>, shown: usize) -> DirEntries<'a>
         requires { shown ≤ length behind }
-        ensures { result ≡ take shown (values_of behind.entry) }
+        ensures { result ≡ take shown behind.entry }
     {
         DirEntries { behind, shown }
     }
@@ -63,7 +61,7 @@ impl<'a> Iterator for DirEntries<'a> {
         if self.shown == 0 {
             return None;
         }
-        let (_, entry) = self.behind.next()?;
+        let entry = self.behind.next()?;
         self.shown -= 1;
         Some(entry)
     }

@@ -7,6 +7,7 @@ mod entries;
 mod entry;
 mod index;
 mod page;
+mod runs;
 
 pub use dir::{Dir, dir_finds_what_the_state_finds, entries_follow_the_rows, not_found_is_free};
 pub use entries::DirEntries;

@@ -1,7 +1,6 @@
 //! Pages of a directory.
 
 ghost use Rattle.std.specs.Prelude.{◌≡◌, ◌≤◌, ◌<◌, ◌^◌, ℕ, List, length, map, IsOk, IfOk};
-ghost use Rattle.std.specs.Map.{values_of};
 ghost use Rattle.ob_model.specs.Enumeration.{room_of};
 ghost use Rattle.ob_dirs.specs.Page.{
   IsPage,
@@ -14,9 +13,9 @@ ghost use Rattle.ob_dirs.specs.Page.{
   shown_entry,
 };
 
+use crate::runs::EntriesBehind;
 use crate::{Dir, DirEntries, DirEntry};
 use ob_base::{Fault, ObjId, Status};
-use std::collections::btree_map::Range;
 
 /// A page of a directory: its entries behind a context, as many as fit into a room.
 ///
@@ -37,7 +36,7 @@ impl Dir {
     /// A page of the directory behind a context, which may be any number: of the entries of a greater stamp,
     /// by rising stamps, as many as fit into the room, or the first alone for a single one. An entry takes
     /// 4 bytes of the room, and the lengths of its name and of the name of its object's type, which `len_of`
-    /// tells of one entry after another. Where the page begins is sought in the tree of stamps; then only what
+    /// tells of one entry after another. Where the page begins is sought as in a sorted list; then only what
     /// is shown is looked at, and the first entry that isn't.
     ///
     /// The only fault is `Memory`. A page lends its entries and takes no memory, so it is always `Ok`.
@@ -58,11 +57,16 @@ impl Dir {
             (entries_behind self.now context) page) }
         ensures no_memory { IsOk result }
     {
-        let behind = self.behind(context);
-        let fit = fitting(behind.clone()?, context, room as usize, single, len_of);
+        let fit = fitting(
+            self.behind(context),
+            context,
+            room as usize,
+            single,
+            len_of,
+        );
         Ok(DirPage {
             status: page_status(&fit, single),
-            entries: DirEntries::new(behind, fit.count),
+            entries: DirEntries::new(self.behind(context), fit.count),
             context: fit.context,
         })
     }
@@ -79,18 +83,18 @@ struct Fit {
 
 // Of these entries those that a page shows: as many as fit into the room, or the first of them alone.
 fn fitting<F: FnMut(ObjId) -> usize>(
-    mut behind: Range<'_, u64, DirEntry>,
+    mut behind: EntriesBehind<'_>,
     context: u64,
     room: usize,
     single: bool,
     mut len_of: F,
 ) -> Fit
     requires called { F.IsAlwaysCallable len_of }
-    requires counted { length behind < 2 ^ 63 }
+    requires counted { length behind < 2 ^ 64 }
     ensures fit { (type_name : ℕ → List ℕ) → TellsLengths (λ f id n g.
         F.step f id n g) len_of type_name
         → result
-        ≡ fit_of (map (shown_entry type_name) (values_of behind.entry)) 0 context room single }
+        ≡ fit_of (map (shown_entry type_name) behind.entry) 0 context room single }
     ensures within { result.count ≤ length behind.entry }
 {
     let mut fit = Fit {
@@ -99,7 +103,7 @@ fn fitting<F: FnMut(ObjId) -> usize>(
         context,
     };
     let mut free = room;
-    while let Some((_, entry)) = behind.next() {
+    while let Some(entry) = behind.next() {
         let type_length = len_of(entry.object);
         let Some(less) = room_behind(entry, type_length, free) else {
             fit.more = true;
