@@ -87,8 +87,8 @@ module _ (stamp : ℕ) where
       let run = get_or runs j d in
       let each : AreBelow stamp run.items = all-from_last run.items (rises_at runs j d inside (pairs-right Before r.items (joined runs) rises)) is in
       let across : All (λ x. All (Before x) run.items) r.items =
-          All-weaker (λ x. All (Before x) (joined runs)) (λ x. All (Before x) run.items) (λ x. holds_at (Before x) runs j d inside) r.items
-          (pairs-across Before r.items (joined runs) rises) in
+      All-weaker (λ x. All (Before x) (joined runs)) (λ x. All (Before x) run.items) (λ x. holds_at (Before x) runs j d inside) r.items
+      (pairs-across Before r.items (joined runs) rises) in
       last-from_all r.items (across_below r.items run.items across (All-tail (λ x. 0 < length x.items) r runs filled j d inside) each)
   runs-parted (r ∷ runs) rises filled (suc i) zero d low below is = absurd (omega (arith, low))
   runs-parted (r ∷ runs) rises filled (suc i) (suc j) d low below is =
@@ -104,7 +104,7 @@ module _ (stamp : ℕ) where
   pub first_runs-below : (runs : List Run) (i : ℕ) → Rises (joined runs) → All (λ run. last_is_below stamp run.items ≡ true) (take i runs) → AreBelow stamp (joined (take i runs))
   first_runs-below runs i rises each =
       let cut : joined runs ≡ joined (take i runs) ++ joined (drop i runs) =
-          ap joined (sym (take-append-drop i runs)) ∙ flat_map-append entries_of (take i runs) (drop i runs) in
+      ap joined (sym (take-append-drop i runs)) ∙ flat_map-append entries_of (take i runs) (drop i runs) in
       all_joined (take i runs) (pairs-left Before (joined (take i runs)) (joined (drop i runs)) (subst Rises cut rises)) each
 
   -- ---- the search in a run

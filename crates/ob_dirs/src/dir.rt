@@ -1,11 +1,10 @@
 //! A directory.
 
-ghost use Rattle.std.specs.Prelude.{◌≡◌, ◌≢◌, ◌<◌, ◌^◌, ◌↔◌, ◌==◌, [], ◌∷◌, ◌++◌, length, filter, not};
-ghost use Rattle.std.specs.Prelude.{All, IfOk, IfErr, OnErr};
+ghost use Rattle.std.specs.Prelude.{◌≡◌, ◌≢◌, ◌<◌, ◌^◌, ◌==◌, [], ◌∷◌, ◌++◌, length, filter, not};
+ghost use Rattle.std.specs.Prelude.{All, IfOk, OnErr};
 ghost use Rattle.std.specs.List.{find};
 ghost use Rattle.std.specs.Option.{option_copied, option_map};
 ghost use Rattle.ob_dirs.specs.Dir.{entry_found, IsDir};
-ghost use Rattle.ob_dirs.specs.Index.{entry_at, entry_named, first_named};
 ghost use Rattle.ob_dirs.specs.Page.{entries_behind};
 ghost use Rattle.ob_dirs.specs.Dir.{DirFindsWhatTheStateFinds, NotFoundIsFree};
 ghost use Rattle.ob_dirs.specs.Dir.{
@@ -15,11 +14,11 @@ ghost use Rattle.ob_dirs.specs.Dir.{
   EntryGoesWithItsRow,
 };
 
-use crate::index::{NameIndex, name_hash};
-use crate::runs::{EntriesBehind, EntryRuns};
+use crate::named::NamedEntries;
+use crate::runs::EntriesBehind;
 use crate::{DirEntries, DirEntry};
 use ob_base::ObjId;
-use ob_names::{NameBuf, same};
+use ob_names::NameBuf;
 use std::alloc::{AllocError, Global};
 use std::marker::Model;
 
@@ -27,23 +26,24 @@ use std::marker::Model;
 /// strictly and whose spellings differ from one another; two names that only the case of letters
 /// tells apart may stand side by side.
 ///
+/// Most directories of a namespace have no name in them: what holds the entries lies behind a pointer, which
+/// is made with the first one.
+///
 /// Source: Windows Internals, Object Manager: object directories; the order is this profile.
 #[derive(Debug, Drop)]
 pub struct Dir {
-    entries: EntryRuns,
-    names: NameIndex,
+    held: Option<Box<NamedEntries>>,
+    alloc: Global,
 }
 
 impl Model for Dir {
-    ghost use Rattle.std.specs.Prelude.{List};
+    ghost use Rattle.std.specs.Prelude.{[], List};
+    ghost use Rattle.std.specs.Option.{option_map_or};
     ghost use Rattle.ob_dirs.specs.declared.entry.DirEntry.{DirEntry};
-    ghost use Rattle.ob_dirs.specs.Index.{IsHeld};
 
     ghost Value = { List DirEntry };
 
-    ghost view = { λ dir. dir.entries };
-
-    ghost invariant = { λ dir. IsHeld dir.entries dir.names };
+    ghost view = { λ dir. option_map_or (λ held. held.value) dir.held [] };
 }
 
 impl Dir {
@@ -51,10 +51,7 @@ impl Dir {
     pub fn new(alloc: Global) -> Dir
         ensures { result ≡ [] }
     {
-        Dir {
-            entries: EntryRuns::new(alloc),
-            names: NameIndex::new(alloc),
-        }
+        Dir { held: None, alloc }
     }
 
     /// How many entries there are.
@@ -64,14 +61,20 @@ impl Dir {
         // What holds of every directory's entries.
         ensures entries { IsDir self.now }
     {
-        self.entries.len()
+        match &self.held {
+            Some(held) => held.len(),
+            None => 0,
+        }
     }
 
     /// Whether there is no entry.
     pub fn is_empty(&self) -> bool
         ensures { result ≡ (length self.now == 0) }
     {
-        self.entries.is_empty()
+        match &self.held {
+            Some(held) => held.is_empty(),
+            None => true,
+        }
     }
 
     /// The entries, by rising stamps. Takes no memory.
@@ -81,7 +84,10 @@ impl Dir {
         // What holds of every directory's entries.
         ensures entries { IsDir self.now }
     {
-        DirEntries::new(self.entries.iter(), self.entries.len())
+        match &self.held {
+            Some(held) => held.iter(),
+            None => DirEntries::new(EntriesBehind::none(), 0),
+        }
     }
 
     // The entries of a stamp above a context, by rising stamps.
@@ -89,7 +95,10 @@ impl Dir {
         ensures entries { result ≡ entries_behind self.now context }
         ensures counted { length result < 2 ^ 64 }
     {
-        self.entries.behind(context)
+        match &self.held {
+            Some(held) => held.behind(context),
+            None => EntriesBehind::none(),
+        }
     }
 
     /// What stands under a component, of any length and with any bytes: of the entries whose names
@@ -104,9 +113,10 @@ impl Dir {
             ≡ option_map (λ entry. (entry.stamp, entry.object))
             (entry_found self.now component.now fold) }
     {
-        let stamps = self.names.stamps_under(name_hash(component));
-        let named = first_named(&self.entries, stamps, component, fold);
-        named.map(|entry| (entry.stamp, entry.object))
+        match &self.held {
+            Some(held) => held.find(component, fold),
+            None => None,
+        }
     }
 
     /// Puts an entry behind all others. That spelling must be free: no entry has exactly these
@@ -123,17 +133,12 @@ impl Dir {
             ≡ self.old ++ record { stamp = stamp; name = name; object = object } ∷ []) }
         ensures unchanged { OnErr result (self.new ≡ self.old) }
     {
-        let hash = name_hash(name.as_slice());
-        self.names.add(hash, stamp)?;
-        let entry = DirEntry {
-            stamp,
-            name,
-            object,
-        };
-        if self.entries.push(entry).is_err() {
-            self.names.take(hash, stamp);
-            return Err(AllocError);
+        if let Some(held) = &mut self.held {
+            return held.insert(stamp, name, object);
         }
+        let mut held = Box::new(self.alloc, NamedEntries::new(self.alloc))?;
+        held.insert(stamp, name, object)?;
+        self.held = Some(held);
         Ok(())
     }
 
@@ -144,7 +149,10 @@ impl Dir {
     pub fn get(&self, stamp: u64) -> Option<&DirEntry>
         ensures { option_copied result ≡ find (λ entry. entry.stamp == stamp) self.now }
     {
-        self.entries.get(stamp)
+        match &self.held {
+            Some(held) => held.get(stamp),
+            None => None,
+        }
     }
 
     /// Takes away the entry of a stamp, which may be any number, and hands it back; where no entry
@@ -156,45 +164,10 @@ impl Dir {
         ensures there { result ≡ find (λ entry. entry.stamp == stamp) self.old }
         ensures others { self.new ≡ filter (λ entry. not (entry.stamp == stamp)) self.old }
     {
-        let entry = self.entries.remove(stamp)?;
-        self.names.take(name_hash(entry.name.as_slice()), stamp);
-        Some(entry)
-    }
-}
-
-// Of the entries that have these stamps, the first whose name is equal to a component; none where no name is.
-fn first_named<'a>(
-    entries: &'a EntryRuns,
-    stamps: &[u64],
-    component: &[u8],
-    fold: bool,
-) -> Option<&'a DirEntry>
-    ensures { option_copied result
-        ≡ first_named (entry_at entries.now) component.now fold stamps.now }
-{
-    for stamp in stamps {
-        if let Some(entry) = entry_named(entries, *stamp, component, fold) {
-            return Some(entry);
+        match &mut self.held {
+            Some(held) => held.remove(stamp),
+            None => None,
         }
-    }
-    None
-}
-
-// The entry of a stamp, where its name is equal to a component.
-fn entry_named<'a>(
-    entries: &'a EntryRuns,
-    stamp: u64,
-    component: &[u8],
-    fold: bool,
-) -> Option<&'a DirEntry>
-    ensures { option_copied result
-        ≡ entry_named component.now fold (entry_at entries.now stamp) }
-{
-    let entry = entries.get(stamp)?;
-    if same(entry.name.as_slice(), component, fold) {
-        Some(entry)
-    } else {
-        None
     }
 }
 

@@ -6,6 +6,7 @@ mod dir;
 mod entries;
 mod entry;
 mod index;
+mod named;
 mod page;
 mod runs;
 

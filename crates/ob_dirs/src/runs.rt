@@ -134,7 +134,7 @@ impl EntryRuns {
         ensures counted { length result < 2 ^ 64 }
     {
         let Some(place) = first_from(&self.runs, context) else {
-            return EntriesBehind::new(&[], &[]);
+            return EntriesBehind::none();
         };
         let run = &self.runs[place.run];
         let others = &self.runs[place.run + 1..];
@@ -167,6 +167,13 @@ impl<'a> Model for EntriesBehind<'a> {
 }
 
 impl<'a> EntriesBehind<'a> {
+    /// No entry.
+    pub(crate) fn none() -> EntriesBehind<'a>
+        ensures { result ≡ [] }
+    {
+        EntriesBehind::new(&[], &[])
+    }
+
     // These entries, and behind them those of the runs, of which none may be empty.
     fn new(here: &'a [DirEntry], runs: &'a [Vec<DirEntry>]) -> EntriesBehind<'a>
         requires filled { AreFilled runs.now }

@@ -10,13 +10,13 @@ pub returns-in_default-clause-entries : goal.returns-in_default-clause-entries
 returns-in_default-clause-entries c =
     let all = c.args.self.now in
     let below = below-found c.args.context c.self.inside.runs.items c.deref.result.now all c.self.view_is c.deref.ensures.value c.in_default.ensures in
-    c.new.ensures ∙ sym (none_behind c.args.context all below)
+    c.none.ensures ∙ sym (none_behind c.args.context all below)
 
 pub returns-then-index-context-clause-entries : goal.returns-then-index-context-clause-entries
 returns-then-index-context-clause-entries c =
     let runs = c.self.inside.runs.items in
     let place = subst (λ l. IsPlaceOf l c.args.context c.in-Some.place.run c.in-Some.place.at) c.deref.ensures.value c.in-Some.ensures in
-    c.new-then-index-context.ensures
+    c.new.ensures
     ∙ lent runs c.deref-2.result.now c.in-Some.place.run (c.in-Some.place.at + 1) c.index-run.result.now c.deref-then-index-context.result.now place.here.run_in c.index-run.ensures c.deref-then-index-context.ensures.value c.deref-2.ensures.value
     ∙ behind_it (cut-found c.index-run.result.now c.index.result.now c.args.self.now c.self.invariant c.self.view_is c.deref.ensures.value c.in-Some.ensures c.index-run.ensures c.index.ensures) c.if-index-context.true
 
@@ -40,7 +40,7 @@ returns-clause-entries c =
 
 pub returns-then-index-context-clause-counted : goal.returns-then-index-context-clause-counted
 returns-then-index-context-clause-counted c =
-    few-behind c.args.self.now c.new-then-index-context.result c.args.context c.self.invariant c.self.view_is (returns-then-index-context-clause-entries c)
+    few-behind c.args.self.now c.new.result c.args.context c.self.invariant c.self.view_is (returns-then-index-context-clause-entries c)
 
 pub returns-clause-counted : goal.returns-clause-counted
 returns-clause-counted c =

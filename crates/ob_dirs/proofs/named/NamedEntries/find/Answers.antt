@@ -6,7 +6,7 @@ use Rattle.ob_dirs.specs.Index.{entry_at, first_named, stamps_hashed, stamps_und
 use Rattle.ob_dirs.proofs.Earliest.{found_is_first}
 use Rattle.ob_dirs.proofs.Hashed.{first_named-hashed}
 use Rattle.ob_dirs.proofs.Held.{each_is_found}
-use Rattle.ob_dirs.proofs.dir.Dir.find.Goals as goal
+use Rattle.ob_dirs.proofs.named.NamedEntries.find.Goals as goal
 
 pub returns : goal.returns
 returns c =

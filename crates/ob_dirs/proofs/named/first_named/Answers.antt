@@ -3,7 +3,7 @@ use Rattle.std.proofs.Common.{◌∙◌, ap, drop, sym, ◌+◌}
 use Rattle.std.specs.Option.{option_copied, option_or}
 use Rattle.ob_dirs.specs.Index.{entry_at, first_named}
 use Rattle.ob_dirs.proofs.Lists.{named_at}
-use Rattle.ob_dirs.proofs.dir.first_named.Goals as goal
+use Rattle.ob_dirs.proofs.named.first_named.Goals as goal
 
 pub returns-in-Some : goal.returns-in-Some
 returns-in-Some c =

@@ -2,7 +2,7 @@
 use Rattle.std.proofs.Common.{◌∙◌, ap, sym}
 use Rattle.ob_dirs.specs.Hashes.{name_hash}
 use Rattle.ob_dirs.proofs.Kept.{held-none, held-removed}
-use Rattle.ob_dirs.proofs.dir.Dir.remove.Goals as goal
+use Rattle.ob_dirs.proofs.named.NamedEntries.remove.Goals as goal
 
 pub invariant_of-self : goal.invariant_of-self
 invariant_of-self c =

@@ -1,7 +1,7 @@
 -- Of the stamps that were passed none is of an entry that is named so.
 use Rattle.std.proofs.Common.{◌≡◌, drop}
 use Rattle.ob_dirs.specs.Index.{entry_at, first_named}
-use Rattle.ob_dirs.proofs.dir.first_named.Given as goal
+use Rattle.ob_dirs.proofs.named.first_named.Given as goal
 
 abbrev pub invariant-loop-stamp : goal.invariant-loop-stamp
 invariant-loop-stamp l =

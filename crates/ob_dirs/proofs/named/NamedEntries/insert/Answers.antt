@@ -3,7 +3,7 @@ use Rattle.std.proofs.Common.{◌≢◌, ◌<◌, ◌∙◌, All, List, ap, subs
 use Rattle.ob_dirs.specs.declared.entry.DirEntry.{DirEntry}
 use Rattle.ob_dirs.specs.Hashes.{name_hash}
 use Rattle.ob_dirs.proofs.Kept.{held-taken_back, where_err}
-use Rattle.ob_dirs.proofs.dir.Dir.insert.Goals as goal
+use Rattle.ob_dirs.proofs.named.NamedEntries.insert.Goals as goal
 
 pub invariant_of-self-then-is_err : goal.invariant_of-self-then-is_err
 invariant_of-self-then-is_err c =
