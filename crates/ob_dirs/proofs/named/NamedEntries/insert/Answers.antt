@@ -1,7 +1,6 @@
 -- The entry comes last, and its stamp under its name's hash; where it can't, the index is as it was.
-use Rattle.std.proofs.Common.{◌≢◌, ◌<◌, ◌∙◌, All, List, ap, subst, sym}
+use Rattle.std.proofs.Common.{◌<◌, ◌∙◌, All, List, subst, sym}
 use Rattle.ob_dirs.specs.declared.entry.DirEntry.{DirEntry}
-use Rattle.ob_dirs.specs.Hashes.{name_hash}
 use Rattle.ob_dirs.proofs.Kept.{held-taken_back, where_err}
 use Rattle.ob_dirs.proofs.named.NamedEntries.insert.Goals as goal
 
