@@ -25,6 +25,9 @@ MEMORY, JOBS, OTHERS = 1, 2, 3
 # seconds of a crate that the table doesn't have: to begin with, and for a line
 BEGIN, A_LINE = 20, 0.06
 
+# the checks before a crate's must-fail edits and behind them, of which `rt` tells no lines
+CHECKS = "seed", "sound"
+
 
 def measured(text):
     """The processor seconds of the table, by crate and phase."""
@@ -34,7 +37,7 @@ def measured(text):
 
 def weight(key, lines, seconds):
     """How long a task takes one processor, in seconds; 0 where it has no work."""
-    return seconds.get(key, BEGIN + A_LINE * lines) if lines else 0
+    return seconds.get(key, BEGIN + A_LINE * lines) if lines or key[1] in CHECKS else 0
 
 
 def behind(tasks, weights):

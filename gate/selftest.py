@@ -448,6 +448,8 @@ def faults_of_lanes():
     text = "# a\nlow proof 2\nlow tests 3\ngone proof 9\n"
     told = times.kept(text, {"low": {"proof": 1.6, "tests": 0.0, "edits": 7.0}, "top": {"proof": 12.2, "tests": 0.0, "edits": 0.0}}, {"low", "top"})
     yield "times: what took long is kept, of the crates that are listed", told == "# a\ntop proof 12\nlow tests 3\nlow proof 2\n"
+    weights = [lanes.weight(("low", phase), lines, {}) for phase, lines in (("proof", 100), ("tests", 0), ("seed", 0), ("again", 0))]
+    yield "lanes: tests of a crate that has none take no processor, the check before edits does", weights == [26, 0, 20, 0]
     yield "lanes: a table of seconds", lanes.measured("# a\nlow proof 2\n\nlow tests 3.5\n") == {("low", "proof"): 2, ("low", "tests"): 3.5}
 
 
