@@ -1,11 +1,10 @@
 -- Entries by rising stamps, cut where the stamps aren't below one any more: what is found there, and what stays
 -- without it.
-use Rattle.std.proofs.Common.{◌≡◌, ◌≢◌, ◌⊎◌, ◌∙◌, ℕ, zero, suc, ◌+◌, ◌-◌, ◌^◌, ◌<◌, ◌≤◌, Bool, true, false, cond, not, ◌==◌, nat_lt, List, [], ◌∷◌, ◌++◌, length, take, drop, get_or, filter, find, map, slice_get, All, None, Some, refl, ap, sym, subst, arith, inl, inr, eq-eqb, lt-ltb, le-ltb, add-one}
+use Rattle.std.proofs.Common.{◌≡◌, ◌≢◌, ◌⊎◌, ◌∙◌, ℕ, zero, suc, ◌+◌, ◌-◌, ◌^◌, ◌<◌, ◌≤◌, true, false, cond, not, nat_lt, List, [], ◌∷◌, ◌++◌, length, take, drop, get_or, filter, find, slice_get, All, None, Some, refl, ap, sym, subst, arith, inl, inr, eq-eqb, lt-ltb, le-ltb, add-one}
 use Rattle.std.proofs.Math.Seq.{drop-cons}
-use Rattle.std.specs.List.{AllPairs, AllWithin}
-use Rattle.std.specs.List.Sorted.{IsNonDecreasingBy, IsPartitionedBy}
+use Rattle.std.specs.List.Sorted.{IsPartitionedBy}
 use Rattle.std.proofs.lemmas.Bool.{cases_lt, ltb-true, ne_eqb}
-use Rattle.std.proofs.lemmas.List.{append-nil, length-append, length-drop, take-append-drop, take_all, get_or_default}
+use Rattle.std.proofs.lemmas.List.{length-append, length-drop, take-append-drop, take_all, get_or_default}
 use Rattle.std.proofs.lemmas.List.Concat.{flat_map-append}
 use Rattle.std.proofs.lemmas.List.Elements.{All-nil, All-append, All-cons, All-head, All-same, All-tail, All-weaker, filter-append}
 use Rattle.std.proofs.lemmas.List.Filters.{length-filter_both}
@@ -13,7 +12,7 @@ use Rattle.std.proofs.lemmas.List.Kept.{AllPairs-filter}
 use Rattle.ob_model.proofs.Finds.{filter_all}
 use Rattle.ob_dirs.specs.declared.entry.DirEntry.{DirEntry}
 use Rattle.ob_dirs.specs.Page.{entries_behind}
-use Rattle.ob_dirs.specs.Runs.{AreBelow, AreFilled, AreFrom, AreRuns, IsInRuns, IsPlaceOf, Rises, before, entries_of, from_on, joined, last_is_below, run_at}
+use Rattle.ob_dirs.specs.Runs.{AreBelow, AreFilled, AreFrom, AreRuns, IsPlaceOf, Rises, before, entries_of, from_on, joined, last_is_below, run_at}
 use Rattle.ob_dirs.proofs.Joined.{All-left, All-right, Run, joined-cut, joined-split, pairs-across, pairs-head, pairs-left, pairs-right, pairs-tail, run_at-read}
 use Rattle.ob_dirs.proofs.Removed.{has_stamp, has_other}
 
@@ -87,8 +86,8 @@ module _ (stamp : ℕ) where
       let run = get_or runs j d in
       let each : AreBelow stamp run.items = all-from_last run.items (rises_at runs j d inside (pairs-right Before r.items (joined runs) rises)) is in
       let across : All (λ x. All (Before x) run.items) r.items =
-          All-weaker (λ x. All (Before x) (joined runs)) (λ x. All (Before x) run.items) (λ x. holds_at (Before x) runs j d inside) r.items
-          (pairs-across Before r.items (joined runs) rises) in
+      All-weaker (λ x. All (Before x) (joined runs)) (λ x. All (Before x) run.items) (λ x. holds_at (Before x) runs j d inside) r.items
+      (pairs-across Before r.items (joined runs) rises) in
       last-from_all r.items (across_below r.items run.items across (All-tail (λ x. 0 < length x.items) r runs filled j d inside) each)
   runs-parted (r ∷ runs) rises filled (suc i) zero d low below is = absurd (omega (arith, low))
   runs-parted (r ∷ runs) rises filled (suc i) (suc j) d low below is =
@@ -104,7 +103,7 @@ module _ (stamp : ℕ) where
   pub first_runs-below : (runs : List Run) (i : ℕ) → Rises (joined runs) → All (λ run. last_is_below stamp run.items ≡ true) (take i runs) → AreBelow stamp (joined (take i runs))
   first_runs-below runs i rises each =
       let cut : joined runs ≡ joined (take i runs) ++ joined (drop i runs) =
-          ap joined (sym (take-append-drop i runs)) ∙ flat_map-append entries_of (take i runs) (drop i runs) in
+      ap joined (sym (take-append-drop i runs)) ∙ flat_map-append entries_of (take i runs) (drop i runs) in
       all_joined (take i runs) (pairs-left Before (joined (take i runs)) (joined (drop i runs)) (subst Rises cut rises)) each
 
   -- ---- the search in a run

@@ -1,5 +1,5 @@
 -- The entries of a directory, as they are looked up.
-use Rattle.std.proofs.Common.{◌≡◌, ◌∙◌, ℕ, ◌<◌, cond, ◌==◌, List, [], ◌∷◌, find, All, Some, refl, ap, eq-eqb, arith}
+use Rattle.std.proofs.Common.{◌≡◌, ◌∙◌, ◌<◌, cond, List, [], ◌∷◌, find, All, Some, refl, ap, eq-eqb, arith}
 use Rattle.std.proofs.lemmas.Bool.{ne_eqb}
 use Rattle.std.proofs.lemmas.List.Elements.{All-cons}
 use Rattle.ob_dirs.specs.declared.entry.DirEntry.{DirEntry}

@@ -1,12 +1,12 @@
 -- Lists one behind another, runs of entries, and what is kept of them.
-use Rattle.std.proofs.Common.{◌≡◌, ◌∙◌, ℕ, zero, suc, ◌+◌, ◌-◌, ◌<◌, ◌≤◌, List, [], ◌∷◌, ◌++◌, length, take, drop, get_or, slice_set, map, All, Some, refl, ap, sym, subst, arith, Vec, add-one, append_assoc}
+use Rattle.std.proofs.Common.{◌≡◌, ◌∙◌, ℕ, zero, suc, ◌+◌, ◌<◌, ◌≤◌, List, [], ◌∷◌, ◌++◌, length, take, drop, get_or, slice_set, All, refl, ap, sym, arith, Vec, add-one, append_assoc}
 use Rattle.std.specs.List.{AllPairs, AllWithin}
 use Rattle.std.specs.declared.alloc.Global.{Global}
 use Rattle.std.proofs.lemmas.List.{append-nil, take-append-drop}
 use Rattle.std.proofs.lemmas.List.Elements.{All-nil, All-cons, All-head, All-tail}
 use Rattle.std.proofs.lemmas.List.Kept.{AllPairs-cons}
 use Rattle.ob_dirs.specs.declared.entry.DirEntry.{DirEntry}
-use Rattle.ob_dirs.specs.Runs.{Rises, before, entries_of, from_on, joined, run_at}
+use Rattle.ob_dirs.specs.Runs.{before, entries_of, from_on, joined, run_at}
 
 -- ---- two lists, one behind the other
 

@@ -57,13 +57,8 @@ impl Dir {
             (entries_behind self.now context) page) }
         ensures no_memory { IsOk result }
     {
-        let fit = fitting(
-            self.behind(context),
-            context,
-            room as usize,
-            single,
-            len_of,
-        );
+        let left = self.behind(context);
+        let fit = fitting(left, context, room as usize, single, len_of);
         Ok(DirPage {
             status: page_status(&fit, single),
             entries: DirEntries::new(self.behind(context), fit.count),

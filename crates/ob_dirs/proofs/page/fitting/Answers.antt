@@ -1,5 +1,5 @@
 -- What is told of the next entry is the length of its type's name, and what follows is told of the others.
-use Rattle.std.proofs.Common.{◌∙◌, ◌+◌, ℕ, List, ap, map, sym, rules, of_calls, arith, length}
+use Rattle.std.proofs.Common.{◌∙◌, ◌+◌, List, ap, map, sym, rules, of_calls, arith, length}
 use Rattle.ob_dirs.specs.Page.{fit_of, shown_entry}
 use Rattle.ob_dirs.specs.declared.entry.DirEntry.{DirEntry}
 use Rattle.ob_dirs.proofs.Pages.{fits_alone, goes_on, stops_here, told_first, told_next}

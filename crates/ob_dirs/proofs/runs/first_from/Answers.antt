@@ -1,6 +1,6 @@
 -- The place is in the first run that has a stamp which isn't below, at the first such entry.
-use Rattle.std.proofs.Common.{◌≡◌, ◌<◌, ◌≤◌, ◌∙◌, length, subst, sym, arith}
-use Rattle.ob_dirs.specs.Runs.{Rises, run_at}
+use Rattle.std.proofs.Common.{◌<◌, ◌∙◌, length, subst, sym, arith}
+use Rattle.ob_dirs.specs.Runs.{Rises}
 use Rattle.ob_dirs.proofs.Found.{place-found, run-rises}
 use Rattle.ob_dirs.proofs.Joined.{run_at-read}
 use Rattle.ob_dirs.proofs.runs.first_from.Goals as goal

@@ -1,5 +1,5 @@
 -- The last entry is the one that was read.
-use Rattle.std.proofs.Common.{◌∙◌, ap, sym, rules}
+use Rattle.std.proofs.Common.{◌∙◌, ap, sym}
 use Rattle.std.specs.Option.{option_copied}
 use Rattle.ob_dirs.proofs.Found.{last-read}
 use Rattle.ob_dirs.proofs.runs.last_is_below.Goals as goal

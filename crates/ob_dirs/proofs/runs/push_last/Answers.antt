@@ -1,5 +1,5 @@
 -- The last run has one entry more, or is as it was.
-use Rattle.std.proofs.Common.{◌≡◌, ◌<◌, ◌-◌, Result, Ok, Err, suc, length, arith, OnErr}
+use Rattle.std.proofs.Common.{◌-◌, Result, Ok, Err, arith, OnErr}
 use Rattle.ob_dirs.proofs.Joined.{joined-kept, joined-pushed}
 use Rattle.ob_dirs.proofs.runs.push_last.Goals as goal
 

@@ -1,5 +1,5 @@
 -- Stamps rise from run to run, so the runs with only stamps below one stand before the others.
-use Rattle.std.proofs.Common.{◌≡◌, true, false, length, take, rules, arith}
+use Rattle.std.proofs.Common.{◌≡◌, true, false, rules, arith}
 use Rattle.std.proofs.lemmas.List.Sorted.{IsPartitionPoint-from_clause}
 use Rattle.ob_dirs.specs.Runs.{last_is_below}
 use Rattle.ob_dirs.proofs.Found.{first_runs-below, runs-parted}

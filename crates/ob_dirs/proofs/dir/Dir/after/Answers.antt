@@ -8,6 +8,6 @@ use Rattle.ob_dirs.proofs.dir.Dir.after.Goals as goal
 pub returns-clause-page : goal.returns-clause-page
 returns-clause-page g c type_name tells =
     let fit = c.fitting-fit.ensures.fit type_name tells
-    ∙ ap (λ (es : List DirEntry). fit_of (map (shown_entry type_name) es) 0 c.args.context c.args.room c.args.single) (c.behind.ensures.entries ∙ sym c.behind-2.ensures.entries) in
-    is_page type_name c.args.self.now c.behind-2.result c.args.context c.args.room c.args.single c.fitting-fit.result _
-    c.behind-2.ensures.entries fit c.page_status.ensures c.new.ensures refl
+    ∙ ap (λ (es : List DirEntry). fit_of (map (shown_entry type_name) es) 0 c.args.context c.args.room c.args.single) (c.behind-left.ensures.entries ∙ sym c.behind.ensures.entries) in
+    is_page type_name c.args.self.now c.behind.result c.args.context c.args.room c.args.single c.fitting-fit.result _
+    c.behind.ensures.entries fit c.page_status.ensures c.new.ensures refl

@@ -1,8 +1,8 @@
 -- What is found under the component's hash is the first entry that is named so, which is the one of least stamp.
-use Rattle.std.proofs.Common.{◌∙◌, ap, rules, subst, All, Some, ◌≡◌}
+use Rattle.std.proofs.Common.{◌∙◌, ap, rules, subst}
 use Rattle.ob_dirs.specs.Dir.{IsDir}
 use Rattle.ob_dirs.specs.Hashes.{name_hash}
-use Rattle.ob_dirs.specs.Index.{entry_at, first_named, stamps_hashed, stamps_under}
+use Rattle.ob_dirs.specs.Index.{entry_at, first_named, stamps_under}
 use Rattle.ob_dirs.proofs.Earliest.{found_is_first}
 use Rattle.ob_dirs.proofs.Hashed.{first_named-hashed}
 use Rattle.ob_dirs.proofs.Held.{each_is_found}

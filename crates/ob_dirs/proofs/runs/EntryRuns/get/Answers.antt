@@ -1,5 +1,5 @@
 -- The entry of the stamp is at the place of the first one that isn't below it, or nowhere.
-use Rattle.std.proofs.Common.{◌∙◌, ap, sym, rules, refl}
+use Rattle.std.proofs.Common.{◌∙◌, ap, sym}
 use Rattle.std.specs.Option.{option_copied}
 use Rattle.ob_dirs.proofs.Found.{below-found, cut-found, find-none, found_here, none-below, not_found}
 use Rattle.ob_dirs.proofs.runs.EntryRuns.get.Goals as goal

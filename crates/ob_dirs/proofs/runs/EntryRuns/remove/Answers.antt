@@ -3,7 +3,6 @@ use Rattle.std.proofs.Common.{◌≡◌, ◌∙◌, ap, sym, subst, refl, Some, 
 use Rattle.ob_dirs.specs.Runs.{IsPlaceOf, joined}
 use Rattle.ob_dirs.proofs.Found.{all_stay, below-found, cut-found, find-none, found_here, none-below, not_found, others-stay, read_twice, runs-left, some-there, without_it}
 use Rattle.ob_dirs.proofs.Joined.{run_at-read}
-use Rattle.ob_dirs.proofs.Removed.{has_other}
 use Rattle.ob_dirs.proofs.runs.EntryRuns.remove.Goals as goal
 
 pub returns-in_err-place-clause-there : goal.returns-in_err-place-clause-there
