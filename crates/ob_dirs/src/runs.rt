@@ -29,8 +29,8 @@ use std::slice::Iter;
 const RUN: usize = 32;
 
 /// Entries by strictly rising stamps, in runs, one behind another. A run is full before the next one
-/// begins, so entries that come in order take no more room than they need. A contract sees them as the
-/// list of the entries. (this profile)
+/// begins, so entries that come in order take little more room than they need. A contract sees them as
+/// the list of the entries. (this profile)
 #[derive(Debug, Drop)]
 pub(crate) struct EntryRuns {
     runs: Vec<Vec<DirEntry>>,
@@ -62,10 +62,7 @@ impl EntryRuns {
 
     /// How many entries there are.
     pub(crate) fn len(&self) -> usize
-        ensures count { result ≡ length self.now }
-
-        // What holds of all entries.
-        ensures rises { Rises self.now }
+        ensures { result ≡ length self.now }
     {
         self.count
     }
