@@ -85,6 +85,11 @@ class Lanes:
         """How much memory is taken, or processors in all, or by others than the longest chain."""
         return sum(it[place] for it in self.running.values())
 
+    def kept_back(self, key):
+        """The memory that other proofs that are left may want beyond what the longest chain has, so that a task beside it doesn't hold it up."""
+        most = max((self.tasks[it][2] for it in self.left if self.weights[it] and it[1] == "proof" and it != key), default=0)
+        return max(0, most - sum(it[MEMORY] for it in self.running.values() if not it[OTHERS]))
+
     def begin_ready(self, pool):
         """Begins what is ready, as far as processors and memory go."""
         ready = [it for it in self.left if all(below in self.given for below in self.tasks[it][0])]
@@ -95,9 +100,9 @@ class Lanes:
             idle, room, needs = self.lanes - self.taken(JOBS), self.memory - self.taken(MEMORY), self.tasks[key][2]
             if idle <= 0:
                 return
-            if not self.is_fixed and self.running and needs > room:
-                continue
             is_longest = self.is_longest(key)
+            if not self.is_fixed and self.running and needs > room - (0 if is_longest else self.kept_back(key)):
+                continue
             jobs = 1 if self.is_fixed else jobs_of(len(working) - place, idle, self.lanes, is_longest, self.taken(OTHERS))
             if not jobs:
                 continue

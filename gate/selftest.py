@@ -443,6 +443,11 @@ def faults_of_lanes():
     lanes.Lanes(tasks, {}, 2, 100, True).run()
     yield "lanes: a number of runs that is asked for has one processor each", {jobs for _, jobs in begun} == {1}
     yield "lanes: what no memory is left for waits", lanes.Lanes({("a", "proof"): task(("a", "proof"), (), 5)}, {}, 4, 0, False).run() == {("a", "proof"): "a"}
+    begun.clear()
+    sizes = {("low", "proof"): 6, ("middle", "proof"): 8, ("wide", "proof"): 5}
+    tasks = {key: (*task(key, () if key[0] != "middle" else ("low",), 100)[:2], size, lambda given, jobs, key=key: begun.append(key[0])) for key, size in sizes.items()}
+    lanes.Lanes(tasks, {}, 2, 12, False).run()
+    yield "lanes: what stands beside the longest chain leaves memory for its next task", begun == ["low", "middle", "wide"]
     rows = (3, 4, 4, True, 0, 2), (3, 4, 4, False, 0, 1), (1, 4, 4, False, 0, 2), (1, 3, 4, False, 1, 1), (1, 2, 4, False, 2, 0), (1, 8, 8, True, 0, 4), (2, 1, 2, True, 1, 1), (1, 1, 1, False, 0, 1)
     yield "lanes: shares of processors", all(lanes.jobs_of(*row[:5]) == row[5] for row in rows)
     text = "# a\nlow proof 2\nlow tests 3\ngone proof 9\n"
