@@ -3,12 +3,9 @@
 
 use crate::asks::{Ask, Deed, EXCLUSIVE, INHERIT, Kind, PERMANENT, Turn};
 use crate::dice::Dice;
-use crate::game::{Played, agreed, rooms};
+use crate::game::{Game, agreed_by_tables};
 use crate::model::Model;
 use crate::names::{Name, Path};
-use ob_core::{OpenTable, SlabTable};
-use ob_device::{DeviceKind, DeviceSet};
-use ob_plain::Counting;
 use std::test::Fail;
 
 // The flags of opens, one of which is unlawful.
@@ -42,62 +39,45 @@ fn any_open(dice: &mut Dice) -> Ask {
     Ask::Open { want, name, attrs }
 }
 
-/// A game begins with a permanent device of one file. Then an open that waits ends or is given up, or a process, mostly
+/// What comes next, where so many turns are done. A game begins with a permanent device of one file. Then an open that waits ends or is given up, or a process, mostly
 /// one that lives, asks for something, mostly of a handle that there is.
-impl Played for Counting<DeviceSet> {
-    fn kind(of: Kind) -> DeviceKind {
-        match of {
-            Kind::File => DeviceKind::File,
-            _ => DeviceKind::Device,
-        }
+pub(crate) fn turn(dice: &mut Dice, model: &Model, done: u32) -> Turn {
+    if done == 0 {
+        let (of, name, attrs) = (Kind::Device, named(NAMES[0]), PERMANENT);
+        let (target, name) = (name.path, Some(name));
+        return Turn::Start(
+            1,
+            Ask::Make {
+                of,
+                target,
+                name,
+                attrs,
+            },
+        );
     }
-
-    fn turn(dice: &mut Dice, model: &Model, done: u32) -> Turn {
-        if done == 0 {
-            let (of, name, attrs) = (Kind::Device, named(NAMES[0]), PERMANENT);
-            let (target, name) = (name.path, Some(name));
-            return Turn::Start(
-                1,
-                Ask::Make {
-                    of,
-                    target,
-                    name,
-                    attrs,
-                },
-            );
-        }
-        let live = model.any_live(dice);
-        let process = live.unwrap_or(dice.below(12) as u32);
-        let (_, value) = model.any_handle(dice);
-        let open = any_open(dice);
-        let place = dice.below(model.waiting.len() as u64 + 1) as usize;
-        let (inherit, many) = (dice.below(2) == 0, model.processes.len());
-        let deed = Deed::Close;
-        let ask = match dice.below(20) {
-            0..=5 if place < model.waiting.len() => return Turn::End(place),
-            6..=7 if place < model.waiting.len() => return Turn::Drop(place),
-            8..=10 => Ask::Use { value, deed },
-            11 if many > 1 => Ask::Exit,
-            11..=12 if many < 10 => Ask::Begin { inherit },
-            _ => open,
-        };
-        Turn::Start(process, ask)
-    }
-
-    fn calls(&self) -> (u64, u64, u64) {
-        (self.opens(), self.closes(), self.deletes())
-    }
+    let live = model.any_live(dice);
+    let process = live.unwrap_or(dice.below(12) as u32);
+    let (_, value) = model.any_handle(dice);
+    let open = any_open(dice);
+    let place = dice.below(model.waiting.len() as u64 + 1) as usize;
+    let (inherit, many) = (dice.below(2) == 0, model.processes.len());
+    let deed = Deed::Close;
+    let ask = match dice.below(20) {
+        0..=5 if place < model.waiting.len() => return Turn::End(place),
+        6..=7 if place < model.waiting.len() => return Turn::Drop(place),
+        8..=10 => Ask::Use { value, deed },
+        11 if many > 1 => Ask::Exit,
+        11..=12 if many < 10 => Ask::Begin { inherit },
+        _ => open,
+    };
+    Turn::Start(process, ask)
 }
 
 #[test]
 fn random_opens_that_wait_end_as_a_plain_model_says(rt: HostRuntime) -> Result<(), Fail> {
     for state in 1..3 {
-        let (room, other_room) = rooms(state);
-        let set = Counting::new(DeviceSet);
-        let over_maps = agreed::<_, OpenTable>(rt.alloc(), set, room, state, 3_001)?;
-        let set = Counting::new(DeviceSet);
-        let over_a_slab = agreed::<_, SlabTable>(rt.alloc(), set, other_room, state, 3_001)?;
-        assert_eq!(rt; (over_maps, over_a_slab), (3_001, 3_001), "from {state:?}");
+        let agreed = agreed_by_tables(rt.alloc(), Game::Opens, state, 3_001)?;
+        assert_eq!(rt; agreed, (3_001, 3_001), "from {state:?}");
     }
     Ok(())
 }

@@ -7,9 +7,14 @@ use crate::asks::{Ask, Deed, Kind, Turn};
 use crate::dice::Dice;
 use crate::model::Model;
 use crate::names::{Name, text};
+use crate::{devices, random};
+use either::Either;
 use ob_base::{Fault, Handle, Proc};
-use ob_core::{Bytes, Cache, Command, Core, HandleTable, Place};
+use ob_core::{Bytes, Cache, Command, Core, HandleTable, OpenTable, Place, SlabTable};
+use ob_device::DeviceKind;
+use ob_plain::PlainKind;
 use ob_runner::{Begun, Waits, begin_open, drop_open, end_open, give_all_up};
+use ob_standard::{Standard, StandardKind};
 use ob_types::TypeSet;
 use std::alloc::{AllocError, Global};
 use std::num::NonZeroUsize;
@@ -19,11 +24,43 @@ pub(crate) trait Played: TypeSet {
     /// The set's kind of objects of a kind; any, where it hasn't that.
     fn kind(of: Kind) -> Self::Kind;
 
-    /// What comes next, where so many turns are done.
-    fn turn(dice: &mut Dice, model: &Model, done: u32) -> Turn;
-
     /// How often the set opened, closed and deleted an object.
     fn calls(&self) -> (u64, u64, u64);
+}
+
+impl Played for Standard {
+    fn kind(of: Kind) -> StandardKind {
+        match of {
+            Kind::Mutant => Either::Left(PlainKind::Mutant),
+            Kind::Section => Either::Left(PlainKind::Section),
+            Kind::Device => Either::Right(Either::Left(DeviceKind::Device)),
+            Kind::File => Either::Right(Either::Left(DeviceKind::File)),
+            _ => Either::Left(PlainKind::Event),
+        }
+    }
+
+    fn calls(&self) -> (u64, u64, u64) {
+        (self.opens(), self.closes(), self.deletes())
+    }
+}
+
+/// What is played.
+#[derive(Clone, Copy)]
+pub(crate) enum Game {
+    /// Commands of a dozen processes, some of which have device maps.
+    Commands,
+    /// Opens of ten processes that wait for the parses of a device.
+    Opens,
+}
+
+impl Game {
+    // What comes next, where so many turns are done.
+    fn turn(self, dice: &mut Dice, model: &Model, done: u32) -> Turn {
+        match self {
+            Game::Commands => random::turn(dice, model, done),
+            Game::Opens => devices::turn(dice, model, done),
+        }
+    }
 }
 
 // A create at a place. A device has one file.
@@ -262,6 +299,7 @@ fn play<S: Played, H: HandleTable>(
     waits: &mut Waits<S>,
     tickets: &mut Vec<u64>,
     model: &mut Model,
+    game: Game,
     dice: &mut Dice,
     count: u32,
 ) -> Result<u32, AllocError>
@@ -270,7 +308,7 @@ fn play<S: Played, H: HandleTable>(
     ensures awaited { AreAwaited core.new waits.new }
 {
     for done in 0..count {
-        let turn = S::turn(dice, model, done);
+        let turn = game.turn(dice, model, done);
         let is_agreed = is_agreed(core, waits, tickets, model, turn)?;
         if !is_agreed || !is_counted(core, model, done % 12) {
             return Ok(done);
@@ -284,15 +322,16 @@ fn play_from<S: Played, H: HandleTable>(
     core: &mut Core<S, H>,
     waits: &mut Waits<S>,
     model: &mut Model,
-    state: u64,
+    game: (Game, u64),
     count: u32,
 ) -> Result<u32, AllocError>
     requires awaited { AreAwaited core.old waits.old }
     requires none { tickets_of waits.old ≡ [] }
     ensures awaited { AreAwaited core.new waits.new }
 {
+    let (game, state) = game;
     let (mut tickets, mut dice) = (Vec::new(model.alloc), Dice { state });
-    play(core, waits, &mut tickets, model, &mut dice, count)
+    play(core, waits, &mut tickets, model, game, &mut dice, count)
 }
 
 // How many turns end as the model says in a new namespace; none where giving all up that waits then changes what is
@@ -300,11 +339,11 @@ fn play_from<S: Played, H: HandleTable>(
 fn agreed_in<S: Played, H: HandleTable>(
     core: &mut Core<S, H>,
     model: &mut Model,
-    state: u64,
+    game: (Game, u64),
     count: u32,
 ) -> Result<u32, AllocError> {
     let mut waits = Waits::new(model.alloc);
-    let done = play_from(core, &mut waits, model, state, count);
+    let done = play_from(core, &mut waits, model, game, count);
     give_all_up(core, waits);
     match is_counted(core, model, 1) {
         true => done,
@@ -312,22 +351,21 @@ fn agreed_in<S: Played, H: HandleTable>(
     }
 }
 
-/// For how many prefixes the caches of the two games from a state of the dice have room, the one over an `OpenTable` and the one
-/// over a `SlabTable`: as many as a cache has of itself, and two, by turns.
-pub(crate) fn rooms(state: u64) -> (usize, usize) {
+// For how many prefixes the caches of the two games from a state of the dice have room, the one over an `OpenTable` and the one
+// over a `SlabTable`: as many as a cache has of itself, and two, by turns.
+fn rooms(state: u64) -> (usize, usize) {
     match state % 2 {
         0 => (256, 2),
         _ => (2, 256),
     }
 }
 
-/// How many of so many turns from a state of the dice end as the model says, where names are looked up by a cache with room
-/// for so many prefixes, of which there is one at least.
-pub(crate) fn agreed<S: Played, H: HandleTable>(
+// How many of so many turns of a game from a state of the dice end as the model says, where names are looked up by a cache with
+// room for so many prefixes, of which there is one at least.
+fn agreed<H: HandleTable>(
     alloc: Global,
-    set: S,
+    game: (Game, u64),
     room: usize,
-    state: u64,
     count: u32,
 ) -> Result<u32, Fault> {
     let Some(room) = NonZeroUsize::new(room) else {
@@ -335,18 +373,30 @@ pub(crate) fn agreed<S: Played, H: HandleTable>(
     };
     let mut model = Model::new(alloc)?;
     let cache = Cache::with_room(alloc, room)?;
-    agreed_beside::<S, H>(&mut model, set, cache, state, count)
+    agreed_beside::<H>(&mut model, cache, game, count)
 }
 
 // The same beside a model of the opening state.
-fn agreed_beside<S: Played, H: HandleTable>(
+fn agreed_beside<H: HandleTable>(
     model: &mut Model,
-    set: S,
     cache: Cache,
-    state: u64,
+    game: (Game, u64),
     count: u32,
 ) -> Result<u32, Fault> {
-    let mut core: Core<S, H> = Core::with_cache(model.alloc, set, cache)?;
-    let done = agreed_in(&mut core, model, state, count);
+    let mut core: Core<Standard, H> = Core::with_cache(model.alloc, Standard::new(), cache)?;
+    let done = agreed_in(&mut core, model, game, count);
     Ok(done?)
+}
+
+/// How many turns of a game end so over each handle table, an `OpenTable` and a `SlabTable`.
+pub(crate) fn agreed_by_tables(
+    alloc: Global,
+    game: Game,
+    state: u64,
+    count: u32,
+) -> Result<(u32, u32), Fault> {
+    let (room, other_room) = rooms(state);
+    let over_maps = agreed::<OpenTable>(alloc, (game, state), room, count)?;
+    let over_a_slab = agreed::<SlabTable>(alloc, (game, state), other_room, count)?;
+    Ok((over_maps, over_a_slab))
 }

@@ -3,52 +3,36 @@
 use crate::asks::{Ask, INHERIT, Kind, PERMANENT, Turn};
 use crate::dice::Dice;
 use crate::draw::{any_process, next};
-use crate::game::{Played, agreed, rooms};
+use crate::game::{Game, agreed_by_tables};
 use crate::model::Model;
 use crate::names::{Name, Path};
-use ob_core::{OpenTable, SlabTable};
-use ob_plain::{Counting, Plain, PlainKind};
 use std::env;
 use std::test::Fail;
 
 // How many commands are played from one state of the dice, behind the first three.
 const GAME: u32 = 2_500;
 
-/// A game begins with what the first process makes: the directories `\2` and `\3`, and the link `\3\3` to the directory
+/// What comes next, where so many turns are done. A game begins with what the first process makes: the directories `\2` and `\3`, and the link `\3\3` to the directory
 /// in which it stands.
-impl Played for Counting<Plain> {
-    fn kind(of: Kind) -> PlainKind {
-        match of {
-            Kind::Mutant => PlainKind::Mutant,
-            Kind::Section => PlainKind::Section,
-            _ => PlainKind::Event,
+pub(crate) fn turn(dice: &mut Dice, model: &Model, done: u32) -> Turn {
+    let (of, way, letter): (Kind, &'static [u8], u8) = match done {
+        0 => (Kind::Directory, b"", b'2'),
+        1 => (Kind::Directory, b"", b'3'),
+        2 => (Kind::Link, b"3", b'3'),
+        _ => {
+            let process = any_process(dice, model);
+            return Turn::Start(process, next(dice, model, process));
         }
-    }
-
-    fn turn(dice: &mut Dice, model: &Model, done: u32) -> Turn {
-        let (of, way, letter): (Kind, &'static [u8], u8) = match done {
-            0 => (Kind::Directory, b"", b'2'),
-            1 => (Kind::Directory, b"", b'3'),
-            2 => (Kind::Link, b"3", b'3'),
-            _ => {
-                let process = any_process(dice, model);
-                return Turn::Start(process, next(dice, model, process));
-            }
-        };
-        let (root, last) = (None, Some(letter));
-        let path = Path { way, last };
-        let make = Ask::Make {
-            of,
-            target: Path { way, last: None },
-            name: Some(Name { root, path }),
-            attrs: PERMANENT | INHERIT,
-        };
-        Turn::Start(1, make)
-    }
-
-    fn calls(&self) -> (u64, u64, u64) {
-        (self.opens(), self.closes(), self.deletes())
-    }
+    };
+    let (root, last) = (None, Some(letter));
+    let path = Path { way, last };
+    let make = Ask::Make {
+        of,
+        target: Path { way, last: None },
+        name: Some(Name { root, path }),
+        attrs: PERMANENT | INHERIT,
+    };
+    Turn::Start(1, make)
 }
 
 // How many games are played: five, or as many as have the commands that the environment asks for.
@@ -63,16 +47,8 @@ fn games(rt: &HostRuntime) -> Result<u64, Fail> {
 #[test]
 fn random_commands_get_what_a_plain_model_says(rt: HostRuntime) -> Result<(), Fail> {
     for state in 0..games(&rt)? {
-        let (room, other_room) = rooms(state);
-        let set = Counting::new(Plain);
-        let over_maps = agreed::<_, OpenTable>(rt.alloc(), set, room, state, GAME + 3)?;
-        let set = Counting::new(Plain);
-        let over_a_slab = agreed::<_, SlabTable>(rt.alloc(), set, other_room, state, GAME + 3)?;
-        assert_eq!(rt;
-            (over_maps, over_a_slab),
-            (GAME + 3, GAME + 3),
-            "from {state:?}"
-        );
+        let agreed = agreed_by_tables(rt.alloc(), Game::Commands, state, GAME + 3)?;
+        assert_eq!(rt; agreed, (GAME + 3, GAME + 3), "from {state:?}");
     }
     Ok(())
 }
