@@ -5,10 +5,12 @@ use crate::lines::{number_of, sides_of, word_of};
 use crate::scenes::{SCENES, Scenes, Set};
 use crate::stage::{End, Listing, Stage};
 use crate::told::{are_calls, counts_of, is_reply};
+use either::Either;
 use ob_base::{Fault, Proc};
 use ob_core::{HandleTable, OpenTable, SlabTable};
-use ob_device::{DeviceKind, DeviceSet};
-use ob_plain::{Plain, PlainKind, Recorder, Refusing};
+use ob_device::DeviceKind;
+use ob_plain::{PlainKind, Recorder, Refusing};
+use ob_standard::{Standard, StandardKind};
 use ob_types::TypeSet;
 use std::alloc::Global;
 
@@ -156,19 +158,33 @@ fn other_over<'a, T: TypeSet, H: HandleTable>(
     line
 }
 
+/// The same over the standard set, where the first and the other kind of lines are these.
+fn other_over_standard<'a, H: HandleTable>(
+    alloc: Global,
+    scenes: &Scenes,
+    kinds: (StandardKind, StandardKind),
+    scene: &'a str,
+) -> &'a str {
+    let sets = (Standard::new(), Standard::new());
+    other_over::<Standard, H>(alloc, scenes, sets, kinds, scene)
+}
+
 /// The same over the set that the scenes name.
 fn other_in<'a, H: HandleTable>(alloc: Global, scenes: &Scenes, scene: &'a str) -> &'a str {
-    match scenes.set {
-        Set::Plain => {
-            let kinds = (PlainKind::Event, PlainKind::Mutant);
-            other_over::<Plain, H>(alloc, scenes, (Plain, Plain), kinds, scene)
+    let kinds = match scenes.set {
+        Set::Doors => {
+            return other_over::<Doors, H>(alloc, scenes, (Doors, Doors), (true, false), scene);
         }
-        Set::Doors => other_over::<Doors, H>(alloc, scenes, (Doors, Doors), (true, false), scene),
-        Set::Devices => {
-            let kinds = (DeviceKind::Device, DeviceKind::File);
-            other_over::<DeviceSet, H>(alloc, scenes, (DeviceSet, DeviceSet), kinds, scene)
-        }
-    }
+        Set::Plain => (
+            Either::Left(PlainKind::Event),
+            Either::Left(PlainKind::Mutant),
+        ),
+        Set::Devices => (
+            Either::Right(Either::Left(DeviceKind::Device)),
+            Either::Right(Either::Left(DeviceKind::File)),
+        ),
+    };
+    other_over_standard::<H>(alloc, scenes, kinds, scene)
 }
 
 #[test]

@@ -28,11 +28,14 @@ mod recorded;
 mod refusals;
 mod waiting;
 
-/// A set of types over which scenes are played.
+/// Over which types scenes are played.
 #[derive(Clone, Copy)]
 pub(crate) enum Set {
+    /// Events and mutants of the standard set.
     Plain,
+    /// A set of doors and walls.
     Doors,
+    /// Devices and files of the standard set.
     Devices,
 }
 
