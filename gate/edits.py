@@ -178,8 +178,9 @@ def without_bodies(text, with_private=False):
     return without_comments(bodies_cut(text, with_private))
 
 
-def bodies_cut(text, with_private=False):
-    """A source file's text without bodies, and without private functions."""
+def bodies_cut(text, with_private=False, with_inner=True):
+    """A source file's text without bodies, and without private functions, or those that no other crate can name either."""
+    seen = re.compile(r"\bpub\b" if with_inner else r"\bpub\b(?!\s*\()")
     plain = blanked(text)
     traits = [(match.end(), closing(plain, match.end() - 1)) for match in re.finditer(r"\b(?:trait\s|impl\b[^{;]*\bfor\s)[^{;]*\{", plain)]
     gone, last = [], 0
@@ -188,7 +189,7 @@ def bodies_cut(text, with_private=False):
         if open_at is not None:
             last = closing(plain, open_at)
             begin = max(plain.rfind(mark, 0, match.start()) for mark in "{};") + 1
-            shown = re.search(r"\bpub\b", plain[begin : match.start()]) or any(start < match.start() < end for start, end in traits)
+            shown = seen.search(plain[begin : match.start()]) or any(start < match.start() < end for start, end in traits)
             gone.append((open_at + 1, last) if shown or with_private else (begin, last + 1))
     for start, end in reversed(gone):
         text = text[:start] + text[end:]

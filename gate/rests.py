@@ -2,8 +2,8 @@
 
 From a source file lead the items that it names and what its contracts import, in other crates without the bodies; from a file of specs or proofs its imports. Of the
 files in which the function stands, and of its proof, the whole text counts; of all others what can be rested on, which
-leaves bodies and private functions out, and in other crates also the private fields of a type that contracts see by a value, how
-it is seen, and what it keeps. What comes with the kit counts by the prover's logic.
+leaves bodies and private functions out, and in other crates also functions that only their own crate can name, the private fields of a
+type that contracts see by a value, how it is seen, and what it keeps. What comes with the kit counts by the prover's logic.
 """
 
 import hashlib
@@ -55,7 +55,7 @@ def told_of(crate, file, is_own):
     text = seen_of(crate, file, is_own)
     if not file.endswith(".rt"):
         return text
-    cut = bodies_cut(text, file in ("src/lib.rt", "src/main.rt"))
+    cut = bodies_cut(text, file in ("src/lib.rt", "src/main.rt"), is_own)
     return without_comments(cut if is_own else without_idle_imports(cut))
 
 

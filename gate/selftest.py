@@ -121,6 +121,9 @@ def faults_of_shown():
     yield "edits: private fields aren't seen, nor what they alone need", "IndexMap" not in seen and "rows" not in seen and "by_id" not in seen
     yield "edits: public ones are, and the value", "pub count: u64" in seen and "ghost use Rattle.ob_low.specs.Rows.{Rows}; ghost Value = { Rows T };" in seen and "Model" in seen
     yield "edits: without a value all fields are seen", "rows: IndexMap" in edits.seen_by_others(HELD.replace("Model for", "Debug for"))
+    inner = "pub fn told() -> u64 {\n    1\n}\n\npub(crate) fn kept() -> u64 {\n    2\n}\n"
+    yield "edits: functions for the own crate are seen there", "kept" in edits.bodies_cut(inner) and "told" in edits.bodies_cut(inner)
+    yield "edits: and in no other", "kept" not in edits.bodies_cut(inner, False, False) and "told" in edits.bodies_cut(inner, False, False)
     hashed = "impl Hash for Key {\n    ghost hash_input = { λ key. key.bytes };\n\n    fn hash(&self) {\n    }\n}\n"
     yield "edits: how a type is hashed is seen where it can be named", "hash_input" in edits.seen_by_others(hashed)
     yield "edits: and nowhere else", "hash_input" not in edits.seen_by_others(hashed, {"Key"})
