@@ -1,13 +1,9 @@
 //! Cutting bytes apart.
 
 ghost use Rattle.std.specs.Prelude.{◌≡◌, ◌≢◌, List, ℕ, ◌∷◌, ◌++◌, IfSome, IfNone};
-ghost use Rattle.memchr.specs.Find.{IsFirstByte, is_byte};
 ghost use Rattle.ob_parts.specs.Text.{Lacks};
 
 use memchr::memchr;
-
-// How many bytes are looked at one by one, before a search that is made for long texts: most words are shorter.
-const NEAR: usize = 8;
 
 /// What stands before the first byte of this value, and what stands behind it: none where the bytes have no such
 /// byte. Takes no memory. Source: this profile.
@@ -16,20 +12,8 @@ pub fn split_at(bytes: &[u8], mark: u8) -> Option<(&[u8], &[u8])>
         × Lacks mark parts.0.now) }
     ensures none { IfNone result (Lacks mark bytes.now) }
 {
-    let place = place_of(bytes, mark)?;
+    let place = memchr(mark, bytes)?;
     Some((&bytes[..place], &bytes[place + 1..]))
-}
-
-// Where the first byte of this value stands; none where the bytes have no such byte.
-fn place_of(bytes: &[u8], mark: u8) -> Option<usize>
-    ensures { IsFirstByte (is_byte mark) bytes.now result }
-{
-    for place in 0..bytes.len().min(NEAR) {
-        if bytes[place] == mark {
-            return Some(place);
-        }
-    }
-    memchr(mark, bytes)
 }
 
 /// What stands behind a front: none where the bytes begin otherwise. Takes no memory. Source: this profile.
