@@ -78,7 +78,7 @@ fn is_so<T: Listing, H: HandleTable>(stage: &Stage<T, H>, line: &str, told: &str
         "waits" => stage.left(first) == number_of(said),
         "calls" => {
             let (calls, _) = stage.calls();
-            are_calls(calls, [number_of(first), number_of(word_of(line, 3))], told)
+            are_calls(calls, (number_of(first), number_of(word_of(line, 3))), told)
         }
         "recorded" => {
             let (calls, lost) = stage.calls();

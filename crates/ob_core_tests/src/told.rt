@@ -71,7 +71,7 @@ fn call_of(serial: u32, told: &str) -> Call {
 }
 
 /// Whether a line tells so many of these calls, from a place on, of objects whose serials rise or fall.
-pub(crate) fn are_calls(calls: &[Call], [from, count]: [u32; 2], told: &str) -> bool {
+pub(crate) fn are_calls(calls: &[Call], (from, count): (u32, u32), told: &str) -> bool {
     let first = number_of(word_of(told, 1));
     let rises = word_of(told, 2) == "up";
     for step in 0..count {

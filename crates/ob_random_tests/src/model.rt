@@ -111,7 +111,8 @@ impl Model {
     // The first objects and the first process.
     fn fill(&mut self) -> Result<(), AllocError> {
         self.add(ROOT, Kind::Directory, VIEW_PATH, None, PERMANENT)?;
-        for letter in [b'G', b'L', b'D', b'N', b'S'] {
+        for letter in b"GLDNS".as_slice() {
+            let letter = *letter;
             let of = match letter {
                 b'L' => Kind::Link,
                 _ => Kind::Directory,
