@@ -44,6 +44,7 @@ build:
 bench: build lib
 	@gate/program_of.py callers cores
 	bench/lines.py crates/ntns/out/ntns
+	bench/instructions.py crates/ntns/out/ntns
 	bench/journal.py crates/ntns/out/ntns
 	bench/threads.py crates/callers/out/callers
 	bench/calls.py crates/cores/out/cores 100000
