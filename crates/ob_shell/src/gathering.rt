@@ -24,7 +24,8 @@ pub fn make_room<W: Write>(
     // Nothing is written while there is room.
     ensures waits { vec_len block.old + wanted ≤ vec_capacity block.old → writer.new ≡ writer.old }
 {
-    if block.capacity() - block.len() < wanted {
+    let room = block.capacity() - block.len();
+    if room < wanted {
         write_out(writer, block.as_slice())?;
         block.clear();
     }
