@@ -1,17 +1,17 @@
--- What stands under ids in any order, seen by rising ids: what is found there, and that a change of the one is that of the other.
-use Rattle.std.proofs.Common.{◌≡◌, ◌∙◌, ℕ, suc, ◌+◌, ◌==◌, Bool, true, false, cond, nat_eq, List, [], ◌∷◌, length, Option, None, Some, IsSome, refl, ap, sym, subst, arith, eqb-true}
+-- What stands under ids in any order, seen by rising ids, and a part of it: what is found there, and that a change of the one is that of the other.
+use Rattle.std.proofs.Common.{◌≡◌, ◌∙◌, ℕ, Bool, true, false, cond, nat_eq, List, [], ◌∷◌, Option, None, Some, IsSome, refl, ap, sym, subst, arith, eqb-true}
 use Rattle.std.proofs.lemmas.Bool.{false≢true}
 use Rattle.std.proofs.lemmas.Bool.Decides.{nat_tests}
-use Rattle.std.proofs.lemmas.Map.Keys.{sorted_head, sorted_tail, IsDistinct-head, IsDistinct-tail}
+use Rattle.std.proofs.lemmas.Map.Keys.{sorted_head, sorted_tail}
 use Rattle.std.specs.BTreeMap.{is_at, insert_entry}
 use Rattle.std.specs.declared.cmp.Ordering.{Ordering}
 use Rattle.std.specs.declared.cmp.Ordering.TheVariants.{Less, Equal, Greater}
-use Rattle.std.specs.List.{AllByRecursion, IsDistinct}
+use Rattle.std.specs.List.{AllByRecursion}
 use Rattle.std.specs.List.Sorted.{IsStrictlySortedBy}
 use Rattle.std.specs.Map.{keys_of, lookup, remove_entry, set_value}
 use Rattle.std.specs.Ordering.{nat_cmp, match_ordering}
-use Rattle.indexmap.specs.IndexMap.{IndexMap, WritesThrough}
-use Rattle.ob_objects.specs.ById.{by_id}
+use Rattle.std.specs.Option.{option_and_then, option_map_or}
+use Rattle.ob_objects.specs.ById.{by_id, parts}
 
 -- ---- numbers
 
@@ -240,71 +240,121 @@ module _ {X : Type 0} where
       go true more = rises.1
       go false more = (above_removed e.0 id es rises.0, more)
 
-  -- ---- what a map in any order makes of its entries, a map in order makes of what is seen
+  -- ---- entries that rise are told by what is found in them
 
-  module _ (old new : List (ℕ × X)) (id : ℕ) where
-    -- what is found afterwards, told by equality and by order
-    found_then : (w : Option X) → ((q : ℕ) → lookup (nat_eq q) new ≡ cond (nat_eq id q) w (lookup (nat_eq q) old)) → (q : ℕ) → at q (by_id new) ≡ cond (is_at (nat_cmp id) q) w (at q (by_id old))
-    found_then w then q =
-        by_id_finds q new ∙ then q ∙ ap (λ t. cond t w (lookup (nat_eq q) old)) (equal_at id q) ∙ ap (λ o. cond (is_at (nat_cmp id) q) w o) (sym (by_id_finds q old))
+  module _ (old new : List (ℕ × X)) (id : ℕ) (old_rises : Rises old) (new_rises : Rises new) where
+    then_inserted : (x : X) → ((q : ℕ) → at q new ≡ cond (is_at (nat_cmp id) q) (Some x) (at q old)) → new ≡ insert_entry nat_cmp old id x
+    then_inserted x found =
+        same_where_found new (insert_entry nat_cmp old id x) new_rises (insert_rises id x old old_rises)
+        (λ q. found q ∙ ap (λ t. cond t (Some x) (at q old)) (turned id q) ∙ sym (inserted_at q id x old))
 
-    pub by_id_found_then : (w : Option X) → ((q : ℕ) → lookup (nat_eq q) new ≡ cond (nat_eq id q) w (lookup (nat_eq q) old))
-        → (q : ℕ) → lookup (is_at (nat_cmp q)) (by_id new) ≡ cond (is_at (nat_cmp id) q) w (lookup (is_at (nat_cmp q)) (by_id old))
-    by_id_found_then = found_then
+    then_removed : ((q : ℕ) → at q new ≡ cond (is_at (nat_cmp id) q) None (at q old)) → new ≡ remove_entry (is_at (nat_cmp id)) old
+    then_removed found =
+        same_where_found new (remove_entry (is_at (nat_cmp id)) old) new_rises (remove_rises id old old_rises) (λ q. found q ∙ sym (removed_at q id old old_rises))
 
-    pub by_id_inserted : (x : X) → ((q : ℕ) → lookup (nat_eq q) new ≡ cond (nat_eq id q) (Some x) (lookup (nat_eq q) old)) → by_id new ≡ insert_entry nat_cmp (by_id old) id x
-    by_id_inserted x then =
-        same_where_found (by_id new) (insert_entry nat_cmp (by_id old) id x) (by_id_rises new) (insert_rises id x (by_id old) (by_id_rises old))
-        (λ q. found_then (Some x) then q ∙ ap (λ t. cond t (Some x) (at q (by_id old))) (turned id q) ∙ sym (inserted_at q id x (by_id old)))
+    then_written : (w : X) → IsSome (at id old) → ((q : ℕ) → at q new ≡ cond (is_at (nat_cmp id) q) (Some w) (at q old)) → new ≡ set_value (is_at (nat_cmp id)) old w
+    then_written w there found =
+        same_where_found new (set_value (is_at (nat_cmp id)) old w) new_rises
+        (subst (IsStrictlySortedBy nat_cmp) (sym (keys_set id w old)) old_rises) (λ q. found q ∙ sym (set_at q id w old there))
 
-    pub by_id_removed : ((q : ℕ) → lookup (nat_eq q) new ≡ cond (nat_eq id q) None (lookup (nat_eq q) old)) → by_id new ≡ remove_entry (is_at (nat_cmp id)) (by_id old)
-    by_id_removed then =
-        same_where_found (by_id new) (remove_entry (is_at (nat_cmp id)) (by_id old)) (by_id_rises new) (remove_rises id (by_id old) (by_id_rises old))
-        (λ q. found_then None then q ∙ sym (removed_at q id (by_id old) (by_id_rises old)))
-
-    pub by_id_written : (x w : X) → lookup (nat_eq id) old ≡ Some x → ((q : ℕ) → lookup (nat_eq q) new ≡ cond (nat_eq id q) (Some w) (lookup (nat_eq q) old))
-        → by_id new ≡ set_value (is_at (nat_cmp id)) (by_id old) w
-    by_id_written x w found then =
-        same_where_found (by_id new) (set_value (is_at (nat_cmp id)) (by_id old) w) (by_id_rises new)
-        (subst (IsStrictlySortedBy nat_cmp) (sym (keys_set id w (by_id old))) (by_id_rises old))
-        (λ q. found_then (Some w) then q ∙ sym (set_at q id w (by_id old) (subst IsSome (sym (by_id_finds id old ∙ found)) refl)))
-
-  pub by_id_found : (id : ℕ) (es : List (ℕ × X)) (found : Option X) → lookup (nat_eq id) es ≡ found → lookup (is_at (nat_cmp id)) (by_id es) ≡ found
-  by_id_found id es found is = by_id_finds id es ∙ is
-
-  -- a value is written through what the map lends
-  pub by_id_written_through : {S : Type 0} (old new : IndexMap ℕ X S) (id : ℕ) (x w : X) → lookup (nat_eq id) old.entries ≡ Some x → WritesThrough nat_eq (nat_eq id) old w new
-      → by_id new.entries ≡ set_value (is_at (nat_cmp id)) (by_id old.entries) w
-  by_id_written_through old new id x w found writes = by_id_written old.entries new.entries id x w found (λ q. ((writes.3 (subst IsSome (sym found) refl)).0) q)
-
-  -- ---- as many entries are seen as there are, where no id is there twice
-
-  length_inserted : (id : ℕ) (x : X) (es : List (ℕ × X)) → at id es ≡ None → length (insert_entry nat_cmp es id x) ≡ suc (length es)
-  length_inserted id x [] free = refl
-  length_inserted id x (e ∷ es) free = go (nat_cmp id e.0) refl (length_inserted id x es)
+  -- where nothing is, nothing is taken
+  pub absent_removed : (id : ℕ) (es : List (ℕ × X)) → IsStrictlySortedBy nat_cmp (keys_of es) → lookup (is_at (nat_cmp id)) es ≡ None → remove_entry (is_at (nat_cmp id)) es ≡ es
+  absent_removed id es rises none = sym (then_removed es es id rises rises (λ q. go q (is_at (nat_cmp id) q) refl))
     where
-      not_here : (t : Bool) → is_at (nat_cmp id) e.0 ≡ t → cond t (Some e.1) (at id es) ≡ None → (t ≡ false) × (at id es ≡ None)
-      not_here true is none = absurd (none_some (sym none))
-      not_here false is none = (refl, none)
+      go : (q : ℕ) (t : Bool) → is_at (nat_cmp id) q ≡ t → at q es ≡ cond t None (at q es)
+      go q true same = ap (λ k. at k es) (sym (at_same id q same)) ∙ none
+      go q false other = refl
 
-      free_here : (is_at (nat_cmp id) e.0 ≡ false) × (at id es ≡ None)
-      free_here = not_here (is_at (nat_cmp id) e.0) refl free
+  -- what is found where one came, and where one went
+  pub inserted_finds : (old new : List (ℕ × X)) (id : ℕ) (x : X) → new ≡ insert_entry nat_cmp old id x
+      → (q : ℕ) → lookup (is_at (nat_cmp q)) new ≡ cond (is_at (nat_cmp id) q) (Some x) (lookup (is_at (nat_cmp q)) old)
+  inserted_finds old new id x is q = ap (at q) is ∙ inserted_at q id x old ∙ ap (λ t. cond t (Some x) (at q old)) (turned q id)
 
-      same_at : nat_cmp id e.0 ≡ Equal → true ≡ false
-      same_at is = sym (at_itself id) ∙ ap (is_at (nat_cmp id)) (same_is id e.0 is) ∙ free_here.0
+  pub removed_finds : (old new : List (ℕ × X)) (id : ℕ) → IsStrictlySortedBy nat_cmp (keys_of old) → new ≡ remove_entry (is_at (nat_cmp id)) old
+      → (q : ℕ) → lookup (is_at (nat_cmp q)) new ≡ cond (is_at (nat_cmp id) q) None (lookup (is_at (nat_cmp q)) old)
+  removed_finds old new id rises is q = ap (at q) is ∙ removed_at q id old rises
 
-      go : (r : Ordering) → nat_cmp id e.0 ≡ r → (at id es ≡ None → length (insert_entry nat_cmp es id x) ≡ suc (length es))
-          → length (match_ordering r ((id, x) ∷ e ∷ es) ((e.0, x) ∷ es) (e ∷ insert_entry nat_cmp es id x)) ≡ suc (suc (length es))
-      go Less is more = refl
-      go Equal is more = cc
-      go Greater is more = ap suc (more free_here.1)
+-- ---- a part of what stands under each id
 
-  none_among : (k : ℕ) (es : List (ℕ × X)) → AllByRecursion (λ y. nat_eq k y ≡ false) (keys_of es) → lookup (nat_eq k) es ≡ None
-  none_among k [] none = refl
-  none_among k (e ∷ es) none = ap (λ t. cond t (Some e.1) (lookup (nat_eq k) es)) none.0 ∙ none_among k es none.1
+module _ {X Y : Type 0} (part : X → Option Y) where
+  above_parts : (k : ℕ) (es : List (ℕ × X)) → Above k es → Above k (parts part es)
+  above_parts k [] above = above
+  above_parts k (e ∷ es) above = go (part e.1) (above_parts k es above.1)
+    where
+      go : (o : Option Y) → Above k (parts part es) → Above k (option_map_or (λ y. (e.0, y) ∷ parts part es) o (parts part es))
+      go None more = more
+      go (Some y) more = (above.0, more)
 
-  pub by_id_length : (es : List (ℕ × X)) → IsDistinct nat_eq (keys_of es) → length (by_id es) ≡ length es
-  by_id_length [] apart = refl
-  by_id_length (e ∷ es) apart =
-      length_inserted e.0 e.1 (by_id es) (by_id_finds e.0 es ∙ none_among e.0 es (IsDistinct-head nat_eq e.0 (keys_of es) apart))
-      ∙ ap suc (by_id_length es (IsDistinct-tail nat_eq e.0 (keys_of es) apart))
+  parts_rise : (es : List (ℕ × X)) → Rises es → Rises (parts part es)
+  unfolding IsStrictlySortedBy
+  parts_rise [] rises = tt
+  parts_rise (e ∷ es) rises = go (part e.1) (above_parts e.0 es rises.0) (parts_rise es rises.1)
+    where
+      go : (o : Option Y) → Above e.0 (parts part es) → Rises (parts part es) → Rises (option_map_or (λ y. (e.0, y) ∷ parts part es) o (parts part es))
+      go None above more = more
+      go (Some y) above more = (above, more)
+
+  part_at : (q : ℕ) (es : List (ℕ × X)) → Rises es → at q (parts part es) ≡ option_and_then part (at q es)
+  part_at q [] rises = refl
+  part_at q (e ∷ es) rises = go (part e.1) refl (is_at (nat_cmp q) e.0) refl (part_at q es (sorted_tail nat_cmp e.0 (keys_of es) rises))
+    where
+      go : (o : Option Y) → part e.1 ≡ o → (t : Bool) → is_at (nat_cmp q) e.0 ≡ t → at q (parts part es) ≡ option_and_then part (at q es)
+          → at q (option_map_or (λ y. (e.0, y) ∷ parts part es) o (parts part es)) ≡ option_and_then part (cond t (Some e.1) (at q es))
+      go None has true here more =
+          more ∙ ap (option_and_then part) (none_above q e.0 es (sorted_head nat_cmp e.0 (keys_of es) rises) here) ∙ sym has
+      go None has false here more = more
+      go (Some y) has true here more = ap (λ t. cond t (Some y) (at q (parts part es))) here ∙ sym has
+      go (Some y) has false here more = ap (λ t. cond t (Some y) (at q (parts part es))) here ∙ more
+
+  -- seen by rising ids, from entries in any order
+  abbrev seen : List (ℕ × X) → List (ℕ × Y)
+  seen es = parts part (by_id es)
+
+  seen_rises : (es : List (ℕ × X)) → Rises (seen es)
+  seen_rises es = parts_rise (by_id es) (by_id_rises es)
+
+  pub seen_finds : (q : ℕ) (es : List (ℕ × X)) → lookup (is_at (nat_cmp q)) (parts part (by_id es)) ≡ option_and_then part (lookup (nat_eq q) es)
+  seen_finds q es = part_at q (by_id es) (by_id_rises es) ∙ ap (option_and_then part) (by_id_finds q es)
+
+  pub seen_rising : (es : List (ℕ × X)) → IsStrictlySortedBy nat_cmp (keys_of (parts part (by_id es)))
+  seen_rising = seen_rises
+
+  -- ---- what becomes of the parts where one entry changes
+
+  module _ (old new : List (ℕ × X)) (id : ℕ) (w : Option X) (changed : (q : ℕ) → lookup (nat_eq q) new ≡ cond (nat_eq id q) w (lookup (nat_eq q) old)) where
+    pub part_then : (o : Option Y) → option_and_then part w ≡ o
+        → (q : ℕ) → option_and_then part (lookup (nat_eq q) new) ≡ cond (nat_eq id q) o (option_and_then part (lookup (nat_eq q) old))
+    part_then o has q = ap (option_and_then part) (changed q) ∙ go (nat_eq id q)
+      where
+        go : (t : Bool) → option_and_then part (cond t w (lookup (nat_eq q) old)) ≡ cond t o (option_and_then part (lookup (nat_eq q) old))
+        go true = has
+        go false = refl
+
+    seen_then : (o : Option Y) → option_and_then part w ≡ o → (q : ℕ) → at q (seen new) ≡ cond (is_at (nat_cmp id) q) o (at q (seen old))
+    seen_then o has q =
+        seen_finds q new ∙ part_then o has q ∙ ap (λ t. cond t o (option_and_then part (lookup (nat_eq q) old))) (equal_at id q)
+        ∙ ap (λ x. cond (is_at (nat_cmp id) q) o x) (sym (seen_finds q old))
+
+    pub seen_inserted : (y : Y) → option_and_then part w ≡ Some y → parts part (by_id new) ≡ insert_entry nat_cmp (parts part (by_id old)) id y
+    seen_inserted y has = then_inserted (seen old) (seen new) id (seen_rises old) (seen_rises new) y (seen_then (Some y) has)
+
+    pub seen_removed : option_and_then part w ≡ None → parts part (by_id new) ≡ remove_entry (is_at (nat_cmp id)) (parts part (by_id old))
+    seen_removed has = then_removed (seen old) (seen new) id (seen_rises old) (seen_rises new) (seen_then None has)
+
+    pub seen_written : (x y : Y) → option_and_then part (lookup (nat_eq id) old) ≡ Some x → option_and_then part w ≡ Some y
+        → parts part (by_id new) ≡ set_value (is_at (nat_cmp id)) (parts part (by_id old)) y
+    seen_written x y there has =
+        then_written (seen old) (seen new) id (seen_rises old) (seen_rises new) y (subst IsSome (sym (seen_finds id old ∙ there)) refl) (seen_then (Some y) has)
+
+    pub part_stays : option_and_then part w ≡ option_and_then part (lookup (nat_eq id) old)
+        → (q : ℕ) → option_and_then part (lookup (nat_eq q) new) ≡ option_and_then part (lookup (nat_eq q) old)
+    part_stays same q = part_then (option_and_then part (lookup (nat_eq id) old)) same q ∙ go (nat_eq id q) refl
+      where
+        go : (t : Bool) → nat_eq id q ≡ t
+            → cond t (option_and_then part (lookup (nat_eq id) old)) (option_and_then part (lookup (nat_eq q) old)) ≡ option_and_then part (lookup (nat_eq q) old)
+        go true is = ap (λ k. option_and_then part (lookup (nat_eq k) old)) (eqb-true id q is)
+        go false is = refl
+
+    pub seen_stays : option_and_then part w ≡ option_and_then part (lookup (nat_eq id) old) → parts part (by_id new) ≡ parts part (by_id old)
+    seen_stays same =
+        same_where_found (seen new) (seen old) (seen_rises new) (seen_rises old) (λ q. seen_finds q new ∙ part_stays same q ∙ sym (seen_finds q old))

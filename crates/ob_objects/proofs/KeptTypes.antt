@@ -1,9 +1,10 @@
 -- What changes of a store leave of the types that are kept beside it.
-use Rattle.std.proofs.Common.{◌≡◌, ◌∙◌, ℕ, Bool, true, false, cond, [], ◌∷◌, length, get_or, ◌<◌, Option, None, Some, option_map, refl, ap, sym, subst}
+use Rattle.std.proofs.Common.{◌≡◌, ◌∙◌, ℕ, Bool, true, false, cond, suc, [], ◌∷◌, length, map, get_or, ◌<◌, Option, None, Some, option_map, refl, ap, sym, subst}
 use Rattle.std.proofs.lemmas.List.Elements.{All-head, All-tail}
 use Rattle.std.proofs.lemmas.Option.{same_Some}
 use Rattle.std.specs.BTreeMap.{is_at}
-use Rattle.std.specs.Map.{lookup, set_value}
+use Rattle.std.specs.List.Sorted.{IsStrictlySortedBy}
+use Rattle.std.specs.Map.{keys_of, lookup, set_value}
 use Rattle.std.specs.Option.{option_map_or}
 use Rattle.std.specs.Ordering.{nat_cmp}
 use Rattle.ob_model.specs.Enumeration.{body_type_name}
@@ -19,6 +20,7 @@ use Rattle.ob_objects.specs.Listing.{type_name_at}
 use Rattle.ob_objects.specs.Store.{Entries, stored_at, body_of_stored}
 use Rattle.ob_objects.specs.Types.{Types, IsAhead, KeepsTypes, type_of_body, name_of_type, type_name_among}
 use Rattle.ob_model.proofs.Ids.{lookup-id}
+use Rattle.ob_objects.proofs.ById.{same_where_found}
 
 -- ---- what is ahead in a walk stands among the types
 
@@ -133,3 +135,32 @@ module _ {K T F I : Type 0} (g : Procedures K T F I) where
 
       same : (id : ℕ) → type_name_among g types id ≡ type_name_at g store id
       same id = ap (λ o. option_map_or (name_of_type g) o []) (keeps id) ∙ go (stored_at store id)
+
+  -- ---- as many types are kept as there are objects
+
+  abbrev typed : Entries F I → Types K
+  typed store = map (λ e. (e.0, type_of e.1)) store
+
+  typed_keys : (store : Entries F I) → keys_of (typed store) ≡ keys_of store
+  typed_keys [] = refl
+  typed_keys (e ∷ store) = ap (λ ks. e.0 ∷ ks) (typed_keys store)
+
+  typed_finds : (q : ℕ) (store : Entries F I) → lookup (is_at (nat_cmp q)) (typed store) ≡ option_map type_of (lookup (is_at (nat_cmp q)) store)
+  typed_finds q [] = refl
+  typed_finds q (e ∷ store) = go (is_at (nat_cmp q) e.0) (typed_finds q store)
+    where
+      go : (t : Bool) → lookup (is_at (nat_cmp q)) (typed store) ≡ option_map type_of (lookup (is_at (nat_cmp q)) store)
+          → cond t (Some (type_of e.1)) (lookup (is_at (nat_cmp q)) (typed store)) ≡ option_map type_of (cond t (Some e.1) (lookup (is_at (nat_cmp q)) store))
+      go true more = refl
+      go false more = more
+
+  typed_length : (store : Entries F I) → length (typed store) ≡ length store
+  typed_length [] = refl
+  typed_length (e ∷ store) = ap suc (typed_length store)
+
+  pub as_many_types : (store : Entries F I) (types : Types K) → KeepsTypes g store types → IsStrictlySortedBy nat_cmp (keys_of store) → IsStrictlySortedBy nat_cmp (keys_of types)
+      → length types ≡ length store
+  as_many_types store types keeps rising types_rise =
+      ap length (same_where_found types (typed store) types_rise (subst (IsStrictlySortedBy nat_cmp) (sym (typed_keys store)) rising)
+      (λ q. keeps q ∙ ap (option_map type_of) (sym (lookup-id q store)) ∙ sym (typed_finds q store)))
+      ∙ typed_length store

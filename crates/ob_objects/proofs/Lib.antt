@@ -1,4 +1,5 @@
 pub mod ById
+pub mod SlotChanges
 pub mod ByStamp
 pub mod Entries
 pub mod Written
@@ -11,4 +12,5 @@ pub mod Follow
 pub mod Free
 pub mod Pages
 pub mod KeptTypes
+pub mod KeptSlots
 mod Asked

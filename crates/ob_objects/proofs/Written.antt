@@ -2,7 +2,6 @@
 -- it is seen, and the key that is the id.
 use Rattle.std.proofs.Common.{◌≡◌, ◌≢◌, ◌∙◌, ℕ, ◌==◌, ◌&&◌, Bool, true, false, cond, not, List, [], ◌∷◌, find, Option, None, Some, option_map, Result, Ok, Err, OnErr, All, IsSome, refl, ap, sym, subst, arith, eqb-true}
 use Rattle.std.proofs.lemmas.Bool.{ne_eqb}
-use Rattle.std.proofs.lemmas.Bool.Decides.{nat_tests}
 use Rattle.std.proofs.lemmas.List.Elements.{All-head, All-tail, All-cons, All-filter, All-weaker}
 use Rattle.std.proofs.lemmas.List.Kept.{AllPairs-filter}
 use Rattle.std.proofs.lemmas.Map.{keys-set_value}
@@ -12,7 +11,7 @@ use Rattle.std.specs.BTreeMap.{is_at, insert_entry}
 use Rattle.std.specs.List.{AllPairs, list_any}
 use Rattle.std.specs.List.Sorted.{IsStrictlySortedBy}
 use Rattle.std.specs.Map.{keys_of, lookup, remove_entry, set_value}
-use Rattle.std.specs.Option.{IfSome, option_and_then, option_map_or, unwrap_or}
+use Rattle.std.specs.Option.{IfSome, OnSome, option_and_then, option_map_or, unwrap_or}
 use Rattle.std.specs.Ordering.{nat_cmp}
 use Rattle.ob_model.specs.declared.terms.Reason.{Reason}
 use Rattle.ob_model.specs.Procedures.{Procedures}
@@ -42,9 +41,9 @@ pub on_any_error : {X E : Type 0} (P : Type 0) (r : Result X E) → P → OnErr 
 on_any_error P (Ok x) h = tt
 on_any_error P (Err e) h = h
 
--- a key is at its own place alone
-at_is : (a b : ℕ) → is_at (nat_cmp a) b ≡ (a == b)
-at_is a b = grind (arith, nat_tests)
+-- what a reference is lent for, where there is one
+pub on_some : {X P : Type 0} (r : Option X) (x : X) → r ≡ Some x → OnSome r P → P
+on_some {X} {P} r x is = subst (λ (o : Option X). OnSome o P → P) (sym is) (λ h. h)
 
 none_is_dir : IsDir []
 none_is_dir i j d before within = absurd (omega (arith, within))
@@ -72,6 +71,10 @@ module _ {F I : Type 0} where
   entries_found inside now key id found is_found same is_id =
       ap (λ (o : Option (List DirEntry)). unwrap_or o []) (directory_found inside now key id found is_found same is_id)
 
+  -- the same places are kept
+  pub places_stay : (store : Entries F I) (places left : ℕ → Option EntryPlace) → KeepsPlaces store places → ((id : ℕ) → left id ≡ places id) → KeepsPlaces store left
+  places_stay store places left keeps same = record { is_store = keeps.is_store; places = λ id. same id ∙ keeps.places id }
+
   -- ---- an object comes, or goes
 
   pub inserted_put : (new inside now : Entries F I) (key id : ℕ) (x : StoredObject F I)
@@ -80,7 +83,7 @@ module _ {F I : Type 0} where
       e ∙ ap (λ es. insert_entry nat_cmp es key x) same ∙ ap (λ k. insert_entry nat_cmp now k x) is_id ∙ insert_entry-in_order id x now (stored_free now id free)
 
   -- what holds beside the places still does where the rows are as they were
-  pub same_rows_keep : (new inside : Entries F I) (places : List (ℕ × EntryPlace)) → KeepsPlaces inside places → rows_of new ≡ rows_of inside
+  pub same_rows_keep : (new inside : Entries F I) (places : ℕ → Option EntryPlace) → KeepsPlaces inside places → rows_of new ≡ rows_of inside
       → IsStrictlySortedBy nat_cmp (keys_of new) → All (λ e. IsDir (entries_in e.1.body)) new → KeepsPlaces new places
   same_rows_keep new inside places keeps rows rising directories = record {
     is_store = record {
@@ -91,7 +94,7 @@ module _ {F I : Type 0} where
     places = λ id. keeps.places id ∙ ap (λ rs. option_map place_of (find (λ r. r.object == id) rs)) (sym rows);
   }
 
-  pub inserted_keeps : (new inside now : Entries F I) (places : List (ℕ × EntryPlace)) (id : ℕ) (x : StoredObject F I)
+  pub inserted_keeps : (new inside now : Entries F I) (places : ℕ → Option EntryPlace) (id : ℕ) (x : StoredObject F I)
       → KeepsPlaces inside places → inside ≡ now → new ≡ with_entry now id x → IsStrictlySortedBy nat_cmp (keys_of new) → entries_in x.body ≡ [] → KeepsPlaces new places
   inserted_keeps new inside now places id x keeps same put rising none =
       same_rows_keep new inside places keeps
@@ -105,9 +108,9 @@ module _ {F I : Type 0} where
       e ∙ remove_entry-id key inside (Differ-from_rising inside is.rising) ∙ ap (λ es. without_object es key) same ∙ ap (without_object now) is_id
 
   -- the places of the names that lay in it go with it
-  pub removed_keeps : (new inside : Entries F I) (places left : List (ℕ × EntryPlace)) (key : ℕ) (entries : List DirEntry)
+  pub removed_keeps : (new inside : Entries F I) (places left : ℕ → Option EntryPlace) (key : ℕ) (entries : List DirEntry)
       → KeepsPlaces inside places → new ≡ remove_entry (is_at (nat_cmp key)) inside → IsStrictlySortedBy nat_cmp (keys_of new) → entries ≡ entries_at inside key
-      → ((id : ℕ) → lookup (is_at (nat_cmp id)) left ≡ cond (list_any (λ e. e.object == id) entries) None (lookup (is_at (nat_cmp id)) places))
+      → ((id : ℕ) → left id ≡ cond (list_any (λ e. e.object == id) entries) None (places id))
       → KeepsPlaces new left
   removed_keeps new inside places left key entries keeps e rising are forgotten =
       let is : new ≡ without_object inside key = e ∙ remove_entry-id key inside (Differ-from_rising inside keeps.is_store.rising) in
@@ -121,7 +124,7 @@ module _ {F I : Type 0} where
               (AllPairs-filter (λ a b. a.object ≢ b.object) (λ r. not (r.directory == key)) (rows_of inside) keeps.is_store.named_once);
         };
         places = λ id.
-            forgotten id ∙ ap (λ es. cond (list_any (λ e. e.object == id) es) None (lookup (is_at (nat_cmp id)) places)) are
+            forgotten id ∙ ap (λ es. cond (list_any (λ e. e.object == id) es) None (places id)) are
             ∙ ap (λ o. cond (list_any (λ e. e.object == id) (entries_at inside key)) None o) (keeps.places id)
             ∙ sym (places_go inside keeps.is_store key id) ∙ ap (λ s. place_at s id) (sym is);
       }
@@ -170,7 +173,7 @@ module _ {F I : Type 0} where
       subst (All (λ x. IsDir (entries_in x.1.body))) (sym e) (set_value-All (λ x. IsDir (entries_in x.body)) key w inside is.directories dir)
 
   -- a change that leaves the entries of the object
-  pub changed_keeps : (new inside : Entries F I) (places : List (ℕ × EntryPlace)) (key : ℕ) (change : StoredObject F I → StoredObject F I) (x w : StoredObject F I)
+  pub changed_keeps : (new inside : Entries F I) (places : ℕ → Option EntryPlace) (key : ℕ) (change : StoredObject F I → StoredObject F I) (x w : StoredObject F I)
       → KeepsPlaces inside places → lookup (is_at (nat_cmp key)) inside ≡ Some x → new ≡ set_value (is_at (nat_cmp key)) inside w → w ≡ change x
       → ((y : StoredObject F I) → entries_in (change y).body ≡ entries_in y.body) → KeepsPlaces new places
   changed_keeps new inside places key change x w keeps found e is_change same =
@@ -181,10 +184,10 @@ module _ {F I : Type 0} where
       (subst (λ y. IsDir (entries_in y.body)) (sym is_change) (subst IsDir (sym (same x)) (found_is_dir inside key x keeps.is_store found))))
 
   -- an entry more
-  pub named_keeps : (new inside : Entries F I) (places more : List (ℕ × EntryPlace)) (key : ℕ) (entry : DirEntry) (x w : StoredObject F I)
+  pub named_keeps : (new inside : Entries F I) (places more : ℕ → Option EntryPlace) (key : ℕ) (entry : DirEntry) (x w : StoredObject F I)
       → KeepsPlaces inside places → lookup (is_at (nat_cmp key)) inside ≡ Some x → new ≡ set_value (is_at (nat_cmp key)) inside w
       → w ≡ record x { body = body_with_name entry x.body } → IsDir (entries_in w.body) → IsSome (directory_at inside key) → All (λ r. r.object ≢ entry.object) (rows_of inside)
-      → ((id : ℕ) → lookup (is_at (nat_cmp id)) more ≡ cond (is_at (nat_cmp entry.object) id) (Some (place_of (row_of key entry))) (lookup (is_at (nat_cmp id)) places))
+      → ((id : ℕ) → more id ≡ cond (entry.object == id) (Some (place_of (row_of key entry))) (places id))
       → KeepsPlaces new more
   named_keeps new inside places more key entry x w keeps found e is_change dir there unnamed put =
       let is : new ≡ with_name inside key entry = written_changed new inside inside key key (λ y. record y { body = body_with_name entry y.body }) x w keeps.is_store found e is_change refl refl in
@@ -195,27 +198,26 @@ module _ {F I : Type 0} where
           named_once = subst (λ s. AllPairs (λ a b. a.object ≢ b.object) (rows_of s)) (sym is) (named_once_more inside keeps.is_store key entry there unnamed);
         };
         places = λ id.
-            put id ∙ ap (λ t. cond t (Some (place_of (row_of key entry))) (lookup (is_at (nat_cmp id)) places)) (at_is entry.object id)
-            ∙ ap (λ o. cond (entry.object == id) (Some (place_of (row_of key entry))) o) (keeps.places id)
+            put id ∙ ap (λ o. cond (entry.object == id) (Some (place_of (row_of key entry))) o) (keeps.places id)
             ∙ sym (place_comes inside keeps.is_store key entry there unnamed id) ∙ ap (λ s. place_at s id) (sym is);
       }
 
   -- a place that came and went again, of an object without a name
-  pub back_keeps : (new inside : Entries F I) (places more left : List (ℕ × EntryPlace)) (key object : ℕ) (p : EntryPlace) (x w : StoredObject F I)
+  pub back_keeps : (new inside : Entries F I) (places more left : ℕ → Option EntryPlace) (key object : ℕ) (p : EntryPlace) (x w : StoredObject F I)
       → KeepsPlaces inside places → lookup (is_at (nat_cmp key)) inside ≡ Some x → new ≡ set_value (is_at (nat_cmp key)) inside w → w ≡ x
       → All (λ r. r.object ≢ object) (rows_of inside)
-      → ((id : ℕ) → lookup (is_at (nat_cmp id)) more ≡ cond (is_at (nat_cmp object) id) (Some p) (lookup (is_at (nat_cmp id)) places))
-      → ((id : ℕ) → lookup (is_at (nat_cmp id)) left ≡ cond (is_at (nat_cmp object) id) None (lookup (is_at (nat_cmp id)) more))
+      → ((id : ℕ) → more id ≡ cond (object == id) (Some p) (places id))
+      → ((id : ℕ) → left id ≡ cond (object == id) None (more id))
       → KeepsPlaces new left
   back_keeps new inside places more left key object p x w keeps found e unchanged unnamed put taken =
       let kept = changed_keeps new inside places key (λ y. y) x w keeps found e unchanged (λ y. refl) in
       record {
         is_store = kept.is_store;
-        places = λ id. taken id ∙ ap (λ o. cond (is_at (nat_cmp object) id) None o) (put id) ∙ go (is_at (nat_cmp object) id) id (sym (at_is object id)) (keeps.places id) ∙ kept.places id;
+        places = λ id. taken id ∙ ap (λ o. cond (object == id) None o) (put id) ∙ go (object == id) id refl (keeps.places id) ∙ kept.places id;
       }
     where
-      go : (t : Bool) (id : ℕ) → (object == id) ≡ t → lookup (is_at (nat_cmp id)) places ≡ place_at inside id
-          → cond t None (cond t (Some p) (lookup (is_at (nat_cmp id)) places)) ≡ lookup (is_at (nat_cmp id)) places
+      go : (t : Bool) (id : ℕ) → (object == id) ≡ t → places id ≡ place_at inside id
+          → cond t None (cond t (Some p) (places id)) ≡ places id
       go true id same at = sym (at ∙ ap (option_map place_of) (find_none (λ r. r.object == id) (rows_of inside)
           (All-weaker (λ r. r.object ≢ object) (λ r. (r.object == id) ≡ false) (λ r other. ne_eqb r.object id (λ equal. other (equal ∙ sym (eqb-true object id same)))) (rows_of inside) unnamed)))
       go false id apart at = refl
@@ -229,10 +231,10 @@ module _ {F I : Type 0} where
       subst (AllPairs (λ a b. a.object ≢ b.object)) (sym (row_goes_with_name inside key stamp))
       (AllPairs-filter (λ a b. a.object ≢ b.object) (λ r. not ((r.directory == key) && (r.stamp == stamp))) (rows_of inside) is.named_once)
 
-  pub unnamed_keeps : (new inside : Entries F I) (places left : List (ℕ × EntryPlace)) (key stamp : ℕ) (entry : DirEntry) (x w : StoredObject F I)
+  pub unnamed_keeps : (new inside : Entries F I) (places left : ℕ → Option EntryPlace) (key stamp : ℕ) (entry : DirEntry) (x w : StoredObject F I)
       → KeepsPlaces inside places → lookup (is_at (nat_cmp key)) inside ≡ Some x → new ≡ set_value (is_at (nat_cmp key)) inside w
       → w ≡ record x { body = body_without_name stamp x.body } → Some entry ≡ find (λ e. e.stamp == stamp) (entries_in x.body)
-      → ((id : ℕ) → lookup (is_at (nat_cmp id)) left ≡ cond (is_at (nat_cmp entry.object) id) None (lookup (is_at (nat_cmp id)) places))
+      → ((id : ℕ) → left id ≡ cond (entry.object == id) None (places id))
       → KeepsPlaces new left
   unnamed_keeps new inside places left key stamp entry x w keeps found e is_change at taken =
       let is : new ≡ without_name inside key stamp = written_changed new inside inside key key (λ y. record y { body = body_without_name stamp y.body }) x w keeps.is_store found e is_change refl refl in
@@ -244,13 +246,12 @@ module _ {F I : Type 0} where
           named_once = subst (λ s. AllPairs (λ a b. a.object ≢ b.object) (rows_of s)) (sym is) (unnamed_once inside key stamp keeps.is_store);
         };
         places = λ id.
-            taken id ∙ ap (λ t. cond t None (lookup (is_at (nat_cmp id)) places)) (at_is entry.object id)
-            ∙ ap (λ o. cond (entry.object == id) None o) (keeps.places id)
+            taken id ∙ ap (λ o. cond (entry.object == id) None o) (keeps.places id)
             ∙ sym (place_goes inside keeps.is_store key stamp entry there id) ∙ ap (λ s. place_at s id) (sym is);
       }
 
   -- where no entry has the stamp
-  pub unnamed_none : (new inside : Entries F I) (places : List (ℕ × EntryPlace)) (key stamp : ℕ) (x w : StoredObject F I)
+  pub unnamed_none : (new inside : Entries F I) (places : ℕ → Option EntryPlace) (key stamp : ℕ) (x w : StoredObject F I)
       → KeepsPlaces inside places → lookup (is_at (nat_cmp key)) inside ≡ Some x → new ≡ set_value (is_at (nat_cmp key)) inside w
       → w ≡ record x { body = body_without_name stamp x.body } → None ≡ find (λ e. e.stamp == stamp) (entries_in x.body) → KeepsPlaces new places
   unnamed_none new inside places key stamp x w keeps found e is_change none =

@@ -5,10 +5,9 @@
 -- are this profile.
 use Rattle.std.specs.Prelude.{◌≡◌, ◌≢◌, ℕ, ◌==◌, List, [], ◌∷◌, ◌++◌, Option, None, Some, All, map}
 use Rattle.std.specs.Arc.{arc_value}
-use Rattle.std.specs.BTreeMap.{is_at}
 use Rattle.std.specs.List.{AllPairs, find}
 use Rattle.std.specs.List.Sorted.{IsStrictlySortedBy}
-use Rattle.std.specs.Map.{keys_of, lookup}
+use Rattle.std.specs.Map.{keys_of}
 use Rattle.std.specs.Option.{option_map, option_and_then, unwrap_or}
 use Rattle.std.specs.Ordering.{nat_cmp}
 use Rattle.ob_model.specs.declared.state.Body.{Body}
@@ -92,9 +91,9 @@ module _ {F I : Type 0} where
     pub named_once : AllPairs (λ a b. a.object ≢ b.object) (rows_of store)
 
   -- what holds of a store beside the places that it keeps: for each object that where its name stands
-  pub record KeepsPlaces (store : Entries F I) (kept : List (ℕ × EntryPlace)) : Type 0 where
+  pub record KeepsPlaces (store : Entries F I) (kept : ℕ → Option EntryPlace) : Type 0 where
     pub is_store : IsStore store
-    pub places : (id : ℕ) → lookup (is_at (nat_cmp id)) kept ≡ place_at store id
+    pub places : (id : ℕ) → kept id ≡ place_at store id
 
   -- the objects and the rows of the state are those of the store
   pub record Shows {K T : Type 0} (s : State K T F I) (store : Entries F I) : Type 0 where

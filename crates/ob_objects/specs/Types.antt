@@ -8,11 +8,12 @@ use Rattle.std.specs.Map.{lookup}
 use Rattle.std.specs.Option.{option_map, option_map_or}
 use Rattle.std.specs.Ordering.{nat_cmp}
 use Rattle.ob_model.specs.Procedures.{Procedures}
-use Rattle.ob_objects.specs.declared.named.EntryPlace.{EntryPlace}
 use Rattle.ob_objects.specs.declared.object.StoredBody.{StoredBody}
 use Rattle.ob_objects.specs.declared.object.StoredBody.TheVariants as body
+use Rattle.ob_objects.specs.declared.slots.Slots.{Slots}
 use Rattle.ob_objects.specs.declared.types.StoredType.{StoredType}
 use Rattle.ob_objects.specs.declared.types.StoredType.TheVariants.{Directory, Link, Other}
+use Rattle.ob_objects.specs.Slots.{objects_in, place_in, AreFilled}
 use Rattle.ob_objects.specs.Store.{Entries, KeepsPlaces, stored_at}
 
 -- types of objects, each with its object's id
@@ -44,7 +45,8 @@ module _ {K T F I : Type 0} (g : Procedures K T F I) where
   abbrev pub KeepsTypes : Entries F I → Types K → Type 0
   KeepsTypes store types = (id : ℕ) → lookup (is_at (nat_cmp id)) types ≡ option_map (λ x. type_of_body x.body) (stored_at store id)
 
-  -- what holds of a store beside the types and the places that it keeps
-  pub record Keeps (store : Entries F I) (kept : Types K) (named : List (ℕ × EntryPlace)) : Type 0 where
-    pub places : KeepsPlaces store named
-    pub types : KeepsTypes store kept
+  -- what holds of the slots of a store and of the types that it keeps beside them
+  pub record Keeps (slots : Slots F I) (kept : Types K) : Type 0 where
+    pub places : KeepsPlaces (objects_in slots) (place_in slots)
+    pub types : KeepsTypes (objects_in slots) kept
+    pub filled : AreFilled slots

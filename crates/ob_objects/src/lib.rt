@@ -7,7 +7,7 @@ mod laws;
 mod listing;
 mod named;
 mod object;
-mod places;
+mod slots;
 mod store;
 mod types;
 mod walk;

@@ -19,10 +19,10 @@ ghost use Rattle.ob_objects.specs.Changes.{
   set_after_close,
 };
 
+use crate::slots::Slots;
 use crate::types::StoredType;
 use crate::walk::Walk;
-use crate::{EntryPlace, Named, StoredObject, changes, named, places, types};
-use indexmap::IndexMap;
+use crate::{EntryPlace, Named, StoredObject, changes, named, types};
 use ob_base::ObjId;
 use ob_names::NameBuf;
 use ob_types::{Reason, TypeSet};
@@ -36,30 +36,28 @@ use std::marker::Model;
 /// A store says nothing of which object is the root, nor that a name's object is there: that is for
 /// the code that fills it.
 ///
-/// With each name a store keeps its place, under the object that it names, so that the name of an
-/// object is not searched for. No object has two names. An object is found by its id in a time that doesn't grow
+/// With each name a store keeps its place, in the slot of the object that it names, so that the name of an
+/// object is not searched for. No object has two names. A slot is found by its id in a time that doesn't grow
 /// with the store. The types of objects stand in a map of their own by rising ids, in which they lie close together,
 /// so that a listing of a directory doesn't touch the objects.
 ///
 /// Source: Windows Internals, Object Manager: object headers and bodies; the ids are this profile.
 #[derive(Drop)]
 pub struct Store<T: TypeSet> {
-    objects: IndexMap<u64, StoredObject<T::Face, T::Inner>>,
+    slots: Slots<T::Face, T::Inner>,
     types: BTreeMap<u64, StoredType<T::Kind>>,
-    places: BTreeMap<u64, EntryPlace>,
 }
 
 impl<T: TypeSet> Model for Store<T> {
-    ghost use Rattle.ob_objects.specs.ById.{by_id};
+    ghost use Rattle.ob_objects.specs.Slots.{objects_in};
     ghost use Rattle.ob_objects.specs.Store.{Entries};
     ghost use Rattle.ob_objects.specs.Types.{Keeps};
 
     ghost Value = { Entries T.Face T.Inner };
 
-    ghost view = { λ store. by_id store.objects.entries };
+    ghost view = { λ store. objects_in store.slots };
 
-    ghost invariant = { λ store. Keeps T.procedures (by_id store.objects.entries)
-        store.types.entries store.places.entries };
+    ghost invariant = { λ store. Keeps T.procedures store.slots store.types.entries };
 }
 
 impl<T: TypeSet> Store<T> {
@@ -68,9 +66,8 @@ impl<T: TypeSet> Store<T> {
         ensures { result ≡ [] }
     {
         Store {
-            objects: IndexMap::new(alloc),
+            slots: Slots::new(alloc),
             types: BTreeMap::new(alloc),
-            places: BTreeMap::new(alloc),
         }
     }
 
@@ -81,7 +78,7 @@ impl<T: TypeSet> Store<T> {
         // What holds of every store.
         ensures store { IsStore self.now }
     {
-        self.objects.len()
+        self.types.len()
     }
 
     /// Whether there is no object. Takes no memory.
@@ -98,7 +95,7 @@ impl<T: TypeSet> Store<T> {
         // What holds of every store.
         ensures store { IsStore self.now }
     {
-        self.objects.get(&id.0)
+        self.slots.object(id)
     }
 
     /// Whether an object is there and is a directory. Takes no memory.
@@ -153,7 +150,7 @@ impl<T: TypeSet> Store<T> {
     pub fn place_of(&self, id: ObjId) -> Option<EntryPlace>
         ensures { result ≡ place_at self.now id }
     {
-        self.places.get(&id.0).copied()
+        self.slots.place(id)
     }
 
     /// The name of an object: of all its names the one of least stamp, and of two with one stamp that
@@ -235,11 +232,10 @@ impl<T: TypeSet> Store<T> {
         let Ok(_) = self.types.insert(id.0, of) else {
             return Err(object);
         };
-        let Err(want) = self.objects.insert(id.0, object) else {
+        let Err(back) = self.slots.put_object(id, object) else {
             return Ok(());
         };
         self.types.remove(&id.0);
-        let (_, back) = want.value;
         Err(back)
     }
 
@@ -249,9 +245,9 @@ impl<T: TypeSet> Store<T> {
         ensures there { result ≡ stored_at self.old id }
         ensures others { self.new ≡ without_object self.old id }
     {
-        let stored = self.objects.swap_remove(&id.0)?;
+        let stored = self.slots.take_object(id)?;
         self.types.remove(&id.0);
-        places::forget(&mut self.places, &stored);
+        self.slots.forget_names(&stored);
         Some(stored)
     }
 
@@ -278,13 +274,13 @@ impl<T: TypeSet> Store<T> {
             (record { stamp = stamp; name = name; object = object })) }
         ensures unchanged { OnErr result (self.new ≡ self.old) }
     {
-        self.places
-            .insert(object.0, EntryPlace { directory, stamp })?;
-        let Some(stored) = self.objects.get_mut(&directory.0) else {
+        self.slots
+            .keep_place(object, EntryPlace { directory, stamp })?;
+        let Some(stored) = self.slots.object_mut(directory) else {
             unreachable!();
         };
         if let Err(fault) = changes::insert_name(stored, stamp, name, object) {
-            self.places.remove(&object.0);
+            self.slots.forget_place(object);
             return Err(fault);
         }
         Ok(())
@@ -299,14 +295,13 @@ impl<T: TypeSet> Store<T> {
             ≡ list_any (λ entry. entry.stamp == stamp) (entries_at self.old directory) }
         ensures others { self.new ≡ without_name self.old directory stamp }
     {
-        let Some(stored) = self.objects.get_mut(&directory.0) else {
+        let Some(stored) = self.slots.object_mut(directory) else {
             return false;
         };
         let Some(entry) = changes::remove_name(stored, stamp) else {
             return false;
         };
-        let object = entry.object;
-        self.places.remove(&object.0);
+        self.slots.forget_place(entry.object);
         true
     }
 
@@ -316,7 +311,7 @@ impl<T: TypeSet> Store<T> {
     pub fn set_permanent(&mut self, id: ObjId, permanent: bool)
         ensures { self.new ≡ with_permanence self.old id permanent }
     {
-        let Some(stored) = self.objects.get_mut(&id.0) else {
+        let Some(stored) = self.slots.object_mut(id) else {
             return;
         };
         stored.permanent = permanent;
@@ -337,7 +332,7 @@ impl<T: TypeSet> Store<T> {
         ensures unchanged { OnErr result (self.new ≡ self.old) }
         ensures set_unchanged { OnErr result (set.new ≡ set.old) }
     {
-        let Some(stored) = self.objects.get_mut(&id.0) else {
+        let Some(stored) = self.slots.object_mut(id) else {
             return Ok(());
         };
         changes::open(stored, set, reason)
@@ -354,7 +349,7 @@ impl<T: TypeSet> Store<T> {
         ensures set { set.new
             ≡ set_after_close T.procedures self.old set.old id process_left system_left }
     {
-        let Some(stored) = self.objects.get_mut(&id.0) else {
+        let Some(stored) = self.slots.object_mut(id) else {
             return;
         };
         changes::close(stored, set, process_left, system_left);

@@ -1,0 +1,180 @@
+//! What is kept under ids: objects, and where the names for them stand.
+
+ghost use Rattle.std.specs.Prelude.{◌≡◌, ◌==◌, ℕ, None, Some, IfErr, OnOk, OnErr, nat_eq, if◌then◌else◌};
+ghost use Rattle.std.specs.Prelude.{[]};
+ghost use Rattle.std.specs.BTreeMap.{is_at, insert_entry};
+ghost use Rattle.std.specs.Borrow.{sem};
+ghost use Rattle.std.specs.List.{list_any};
+ghost use Rattle.std.specs.Map.{remove_entry};
+ghost use Rattle.std.specs.Option.{option_copied, option_copied_mut};
+ghost use Rattle.std.specs.Ordering.{nat_cmp};
+ghost use Rattle.indexmap.specs.IndexMap.{get};
+ghost use Rattle.ob_objects.specs.Slots.{objects_in, object_in, place_in, KeepPlaces};
+ghost use Rattle.ob_objects.specs.Slots.{AreFilled, StayFilled, LendsObject};
+ghost use Rattle.ob_objects.specs.Store.{entries_in};
+
+use crate::{EntryPlace, StoredBody, StoredObject};
+use indexmap::IndexMap;
+use ob_base::ObjId;
+use std::alloc::{AllocError, Global};
+
+/// What is kept under an id: the object, where one is there, and where the name for it stands, where there is one.
+#[derive(Drop)]
+pub(crate) struct Slot<F, I> {
+    object: Option<StoredObject<F, I>>,
+    place: Option<EntryPlace>,
+}
+
+/// Slots by their ids. Each is found in a time that doesn't grow with their number; one that would be empty is taken
+/// out.
+#[derive(Drop)]
+pub(crate) struct Slots<F, I> {
+    map: IndexMap<u64, Slot<F, I>>,
+}
+
+impl<F: Drop, I: Drop> Slots<F, I> {
+    /// No slots. Takes no memory.
+    pub(crate) fn new(alloc: Global) -> Self
+        ensures objects { objects_in result ≡ [] }
+        ensures places { (id : ℕ) → place_in result id ≡ None }
+        ensures filled { AreFilled result }
+    {
+        Slots {
+            map: IndexMap::new(alloc),
+        }
+    }
+
+    /// The object of an id.
+    pub(crate) fn object(&self, id: ObjId) -> Option<&StoredObject<F, I>>
+        ensures { option_copied result ≡ object_in self.now id }
+    {
+        self.map.get(&id.0)?.object.as_ref()
+    }
+
+    /// The object of an id, to be changed.
+    pub(crate) fn object_mut(&mut self, id: ObjId) -> Option<&mut StoredObject<F, I>>
+        ensures* writes_back { sem 𝓛 (LendsObject F.row I.row self.entry id result) }
+        ensures value { option_copied_mut result ≡ object_in self.old id }
+    {
+        let slot = self.map.get_mut(&id.0)?;
+        slot.object.as_mut()
+    }
+
+    /// Where the name for an id stands.
+    pub(crate) fn place(&self, id: ObjId) -> Option<EntryPlace>
+        ensures { result ≡ place_in self.now id }
+    {
+        self.map.get(&id.0)?.place
+    }
+
+    /// Puts an object under an id that no object has, and hands it back where memory is wanted.
+    pub(crate) fn put_object(
+        &mut self,
+        id: ObjId,
+        object: StoredObject<F, I>,
+    ) -> Result<(), StoredObject<F, I>>
+        requires free { object_in self.old id ≡ None }
+        ensures put { OnOk result (objects_in self.new ≡ insert_entry nat_cmp (objects_in self.old) id object) }
+        ensures returned { IfErr result (λ back. back ≡ object) }
+        ensures unchanged { OnErr result (objects_in self.new ≡ objects_in self.old) }
+        ensures places { KeepPlaces self.old self.new }
+        ensures filled { StayFilled self.old self.new }
+    {
+        let slot = Slot {
+            object: Some(object),
+            place: None,
+        };
+        match self.map.insert(id.0, slot) {
+            Ok(None) => Ok(()),
+            Ok(Some(was)) => {
+                if let Some(slot) = self.map.get_mut(&id.0) {
+                    slot.place = was.place;
+                }
+                Ok(())
+            }
+            Err(want) => {
+                let (_, slot) = want.value;
+                let Some(back) = slot.object else {
+                    unreachable!();
+                };
+                Err(back)
+            }
+        }
+    }
+
+    /// Takes the object of an id out; the place of its name stays.
+    pub(crate) fn take_object(&mut self, id: ObjId) -> Option<StoredObject<F, I>>
+        ensures taken { result ≡ object_in self.old id }
+        ensures gone { objects_in self.new ≡ remove_entry (is_at (nat_cmp id)) (objects_in self.old) }
+        ensures places { KeepPlaces self.old self.new }
+        ensures filled { StayFilled self.old self.new }
+    {
+        let slot = self.map.get_mut(&id.0)?;
+        let object = slot.object.take()?;
+        if slot.place.is_some() {
+            return Some(object);
+        }
+        self.clear(id);
+        Some(object)
+    }
+
+    /// Keeps where the name for an id stands, also for an id that no object has.
+    pub(crate) fn keep_place(&mut self, id: ObjId, place: EntryPlace) -> Result<(), AllocError>
+        ensures kept { OnOk result ((other : ℕ) → place_in self.new other
+            ≡ (if id == other then Some place else place_in self.old other)) }
+        ensures unchanged { OnErr result (KeepPlaces self.old self.new) }
+        ensures objects { objects_in self.new ≡ objects_in self.old }
+        ensures filled { StayFilled self.old self.new }
+    {
+        if let Some(slot) = self.map.get_mut(&id.0) {
+            slot.place = Some(place);
+            return Ok(());
+        }
+        let slot = Slot {
+            object: None,
+            place: Some(place),
+        };
+        self.map.insert(id.0, slot)?;
+        Ok(())
+    }
+
+    /// Forgets where the name for an id stands.
+    pub(crate) fn forget_place(&mut self, id: ObjId)
+        ensures forgotten { (other : ℕ) → place_in self.new other
+            ≡ (if id == other then None else place_in self.old other) }
+        ensures objects { objects_in self.new ≡ objects_in self.old }
+        ensures filled { StayFilled self.old self.new }
+    {
+        let Some(slot) = self.map.get_mut(&id.0) else {
+            return;
+        };
+        slot.place = None;
+        if slot.object.is_none() {
+            self.clear(id);
+        }
+    }
+
+    // Takes the slot of an id out.
+    fn clear(&mut self, id: ObjId)
+        ensures { (other : ℕ) → get nat_eq self.new.map other
+            ≡ (if id == other then None else get nat_eq self.old.map other) }
+    {
+        self.map.swap_remove(&id.0);
+    }
+
+    /// Forgets the places of the names that lie in an object.
+    pub(crate) fn forget_names(&mut self, stored: &StoredObject<F, I>)
+        ensures forgotten { (id : ℕ) → place_in self.new id
+            ≡ (if list_any (λ entry. entry.object == id) (entries_in stored.now.body) then None
+            else place_in self.old id) }
+        ensures objects { objects_in self.new ≡ objects_in self.old }
+        ensures filled { StayFilled self.old self.new }
+    {
+        let StoredBody::Directory(dir) = &stored.body else {
+            return;
+        };
+        for entry in dir.iter() {
+            self.forget_place(entry.object);
+        }
+    }
+}
