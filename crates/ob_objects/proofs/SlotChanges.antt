@@ -1,15 +1,21 @@
 -- What a change of one slot makes of the objects and of the places.
-use Rattle.std.proofs.Common.{◌≡◌, ◌∙◌, ℕ, Bool, true, false, cond, nat_eq, List, Option, None, Some, IsSome, refl, ap, sym, subst, eqb-true}
+use Rattle.std.proofs.Common.{◌≡◌, ◌∙◌, ℕ, zero, suc, Bool, true, false, cond, nat_eq, nat_cmp, List, [], ◌∷◌, slice_get, Option, None, Some, IsSome, IfSome, refl, ap, sym, subst, eqb-true}
 use Rattle.std.proofs.lemmas.Bool.{false≢true}
-use Rattle.std.specs.Map.{lookup}
+use Rattle.std.proofs.lemmas.Bool.Decides.{Decides-eqb}
+use Rattle.std.proofs.lemmas.Map.Made.{lookup_key_same}
+use Rattle.std.specs.BTreeMap.{is_at}
 use Rattle.std.specs.Borrow.{MutBor}
+use Rattle.std.specs.Cmp.{nat_eq_equiv}
+use Rattle.std.specs.Map.{lookup, lookup_key, remove_entry, values_of}
 use Rattle.std.specs.Option.{is_some, option_copied_mut, option_and_then, OnSome}
-use Rattle.indexmap.specs.IndexMap.{IndexMap, WritesThrough}
+use Rattle.indexmap.specs.IndexMap.{IndexMap, IsUnique, Updates, WritesThrough, set_value_at, with_value_at}
+use Rattle.indexmap.proofs.CallerLemmas.{updates-with_value_at}
 use Rattle.ob_objects.specs.declared.named.EntryPlace.{EntryPlace}
 use Rattle.ob_objects.specs.declared.object.StoredObject.{StoredObject}
 use Rattle.ob_objects.specs.declared.slots.Slot.{Slot}
 use Rattle.ob_objects.specs.declared.slots.Slots.{Slots}
-use Rattle.ob_objects.specs.Slots.{AreFilled, StayFilled}
+use Rattle.ob_objects.specs.Slots.{objects_in, KeepPlaces, AreFilled, StayFilled}
+use Rattle.ob_objects.proofs.ById.{seen_removed, part_stays}
 
 module _ {X : Type 0} where
   -- of two entries one under an id has changed, or gone
@@ -40,13 +46,34 @@ module _ {X : Type 0} where
       go true is = ap (λ k. lookup (nat_eq k) es) (sym (eqb-true id q is)) ∙ none
       go false is = refl
 
-  -- what was lent and written as it was
-  pub nothing_written : (id : ℕ) (x : X) (es : List (ℕ × X)) → lookup (nat_eq id) es ≡ Some x → ChangesAt id (Some x) es es
-  nothing_written id x es found q = go (nat_eq id q) refl
-    where
-      go : (t : Bool) → nat_eq id q ≡ t → lookup (nat_eq q) es ≡ cond t (Some x) (lookup (nat_eq q) es)
-      go true is = ap (λ k. lookup (nat_eq k) es) (sym (eqb-true id q is)) ∙ found
-      go false is = refl
+  -- ---- a value is found, written and taken out by its index
+
+  found_at_index : (es : List (ℕ × X)) (i k : ℕ) (v : X) → slice_get es i ≡ Some (k, v) → slice_get (values_of es) i ≡ Some v
+  found_at_index [] i k v at = cc
+  found_at_index (e ∷ es) zero k v at = cc
+  found_at_index (e ∷ es) (suc i) k v at = found_at_index es i k v at
+
+  written_at_index : (es : List (ℕ × X)) (i k : ℕ) (v w : X) → slice_get es i ≡ Some (k, v) → slice_get (set_value_at es i w) i ≡ Some (k, w)
+  written_at_index [] i k v w at = cc
+  written_at_index (e ∷ es) zero k v w at = cc
+  written_at_index (e ∷ es) (suc i) k v w at = written_at_index es i k v w at
+
+  module _ {S : Type 0} (m : IndexMap ℕ X S) (id i k : ℕ) (v : X) (found : Some k ≡ lookup_key (nat_eq id) m.entries) (at : slice_get m.entries i ≡ Some (k, v)) where
+    pub lent_at : (x : X) → Some v ≡ lookup (nat_eq id) m.entries → Some x ≡ slice_get (values_of m.entries) i → lookup (nat_eq id) m.entries ≡ Some x
+    lent_at x value lent = sym value ∙ sym (found_at_index m.entries i k v at) ∙ sym lent
+
+    key_is : id ≡ k
+    key_is = lookup_key_same Decides-eqb id m.entries k (sym found)
+
+    pub written_at : (w : X) → IsUnique nat_eq m → ChangesAt id (Some w) m.entries (with_value_at m i w).entries
+    written_at w unique =
+        changed_key k id (Some w) m.entries (with_value_at m i w).entries (sym key_is) (λ q. (updates-with_value_at m i w nat_eq_equiv unique k v at).0 q)
+
+    pub removed_at : (w : X) (n : IndexMap ℕ X S) (r : Option (ℕ × X)) → r ≡ slice_get (with_value_at m i w).entries i → IfSome r (λ p. Updates nat_eq (with_value_at m i w) n p.0 None)
+        → ChangesAt id None (with_value_at m i w).entries n.entries
+    removed_at w n r gone updates =
+        changed_key k id None (with_value_at m i w).entries n.entries (sym key_is)
+        (λ q. (subst (λ (o : Option (ℕ × X)). IfSome o (λ p. Updates nat_eq (with_value_at m i w) n p.0 None)) (gone ∙ written_at_index m.entries i k v w at) updates).0 q)
 
   -- what is said where a reference is lent, of a value that is there
   pub on_lent : {P : Type 0} (r : Option (MutBor X)) (o : Option X) → option_copied_mut r ≡ o → ((x : X) → o ≡ Some x → P) → OnSome r P
@@ -56,6 +83,9 @@ module _ {X : Type 0} where
   pub not_some_none : (o : Option X) → is_some o ≡ false → o ≡ None
   not_some_none None is = refl
   not_some_none (Some x) is = absurd (false≢true (sym is))
+
+pub has_place : (p : Option EntryPlace) → is_some p ≡ true → p ≡ None → ⊥
+has_place p some none = false≢true (sym (ap is_some none) ∙ some)
 
 module _ {F I : Type 0} where
   -- no slot is empty where the one that changed isn't
@@ -72,13 +102,24 @@ module _ {F I : Type 0} where
 
   -- the one that changed was there, and was filled
   pub was_filled : (old : Slots F I) (id : ℕ) (slot : Slot F I) → lookup (nat_eq id) old.map.entries ≡ Some slot
-      → AreFilled old → slot.object ≡ None → slot.place ≡ None → Some slot ≡ None
+      → AreFilled old → slot.object ≡ None → slot.place ≡ None → ⊥
   was_filled old id slot raw filled free unnamed =
-      sym raw ∙ filled id (ap (option_and_then (λ x. x.object)) raw ∙ free) (ap (option_and_then (λ x. x.place)) raw ∙ unnamed)
+      nothing (sym raw ∙ filled id (ap (option_and_then (λ x. x.object)) raw ∙ free) (ap (option_and_then (λ x. x.place)) raw ∙ unnamed))
+    where
+      nothing : Some slot ≡ None → ⊥
+      nothing none = cc
 
-  -- a slot with an object isn't empty, nor is one with a place
+  -- a slot with an object isn't empty
   pub has_object : (x : StoredObject F I) (place : Option EntryPlace) → Some x ≡ None → ◌≡◌ {A = Option (Slot F I)} (Some (record { object = Some x; place = place })) None
   has_object x place e = cc
 
-  pub has_place : (object : Option (StoredObject F I)) (p : EntryPlace) → Some p ≡ None → ◌≡◌ {A = Option (Slot F I)} (Some (record { object = object; place = Some p })) None
-  has_place object p e = cc
+  -- the object is taken, and the place stays
+  pub taken_then : (old new : Slots F I) (id key : ℕ) (slot : Slot F I) (w : Option (Slot F I)) → id ≡ key → lookup (nat_eq id) old.map.entries ≡ Some slot
+      → ChangesAt id w old.map.entries new.map.entries → option_and_then (λ x. x.object) w ≡ None → option_and_then (λ x. x.place) w ≡ slot.place
+      → (AreFilled old → option_and_then (λ x. x.object) w ≡ None → option_and_then (λ x. x.place) w ≡ None → w ≡ None)
+      → (objects_in new ≡ remove_entry (is_at (nat_cmp key)) (objects_in old)) × KeepPlaces old new × StayFilled old new
+  taken_then old new id key slot w is_id raw changed free stays fills = (
+    seen_removed (λ (x : Slot F I). x.object) old.map.entries new.map.entries id w changed free ∙ ap (λ k. remove_entry (is_at (nat_cmp k)) (objects_in old)) is_id,
+    part_stays (λ (x : Slot F I). x.place) old.map.entries new.map.entries id w changed (stays ∙ ap (option_and_then (λ (x : Slot F I). x.place)) (sym raw)),
+    filled_then old new id w changed fills,
+  )

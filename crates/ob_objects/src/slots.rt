@@ -1,7 +1,7 @@
 //! What is kept under ids: objects, and where the names for them stand.
 
-ghost use Rattle.std.specs.Prelude.{◌≡◌, ◌==◌, ℕ, None, Some, IfErr, OnOk, OnErr, nat_eq, if◌then◌else◌};
-ghost use Rattle.std.specs.Prelude.{[]};
+ghost use Rattle.std.specs.Prelude.{◌≡◌, ◌==◌, ℕ, [], None, Some, IfErr, OnOk, OnErr};
+ghost use Rattle.std.specs.Prelude.{nat_eq, if◌then◌else◌};
 ghost use Rattle.std.specs.BTreeMap.{is_at, insert_entry};
 ghost use Rattle.std.specs.Borrow.{sem};
 ghost use Rattle.std.specs.List.{list_any};
@@ -74,7 +74,8 @@ impl<F: Drop, I: Drop> Slots<F, I> {
         object: StoredObject<F, I>,
     ) -> Result<(), StoredObject<F, I>>
         requires free { object_in self.old id ≡ None }
-        ensures put { OnOk result (objects_in self.new ≡ insert_entry nat_cmp (objects_in self.old) id object) }
+        ensures put { OnOk result (objects_in self.new
+            ≡ insert_entry nat_cmp (objects_in self.old) id object) }
         ensures returned { IfErr result (λ back. back ≡ object) }
         ensures unchanged { OnErr result (objects_in self.new ≡ objects_in self.old) }
         ensures places { KeepPlaces self.old self.new }
@@ -109,12 +110,13 @@ impl<F: Drop, I: Drop> Slots<F, I> {
         ensures places { KeepPlaces self.old self.new }
         ensures filled { StayFilled self.old self.new }
     {
-        let slot = self.map.get_mut(&id.0)?;
+        let (index, _, _) = self.map.get_full(&id.0)?;
+        let slot = self.map.get_index_mut(index)?;
         let object = slot.object.take()?;
         if slot.place.is_some() {
             return Some(object);
         }
-        self.clear(id);
+        self.map.swap_remove_index(index);
         Some(object)
     }
 

@@ -27,7 +27,7 @@ returns g c =
         record {
           objects = seen_stays (λ (slot : Slot _ _). slot.object) c.args.self.now.map.entries _ c.id.inside.0 (Some _) (then _) (ap (option_and_then (λ (slot : Slot _ _). slot.object)) (sym raw));
           places = part_stays (λ (slot : Slot _ _). slot.place) c.args.self.now.map.entries _ c.id.inside.0 (Some _) (then _) (ap (option_and_then (λ (slot : Slot _ _). slot.place)) (sym raw));
-          filled = filled_then c.args.self.now (record { map = c.get_mut.follows.lender c.in_ok-slot.slot.now }) c.id.inside.0 (Some _) (then _) (was_filled c.args.self.now c.id.inside.0 c.in_ok-slot.slot.now raw);
+          filled = filled_then c.args.self.now (record { map = c.get_mut.follows.lender c.in_ok-slot.slot.now }) c.id.inside.0 (Some _) (then _) (λ filled free unnamed. absurd (was_filled c.args.self.now c.id.inside.0 c.in_ok-slot.slot.now raw filled free unnamed));
         },
       ),
       record {
