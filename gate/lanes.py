@@ -2,22 +2,27 @@
 
 A task begins once all that it waits for has ended, and first those with the longest chain of others behind them, by the processor seconds that
 `gate/seconds.txt` has for a crate, or by its lines. Half of the processors are kept for the longest chain, which gets more where no other is ready; a task
-without work, as the tests of a crate that has none, takes none. What a task does, and what it gives, is `rt`'s alone.
+without work, as the tests of a crate that has none, takes none. A check begins and ends by one processor, however many it was given, so that a quarter more
+is begun than there are processors; what isn't of the longest chain gives way to that. What a task does, and what it gives, is `rt`'s alone.
 """
 
 import contextlib
 import os
+import threading
 from concurrent.futures import FIRST_COMPLETED, ThreadPoolExecutor, wait
 from pathlib import Path
 
 SECONDS = Path(__file__).resolve().parent / "seconds.txt"
 
-# how many processors a proof can use, and what each beyond the first takes of its memory
+# how many processors a proof can use, and what each beyond the first takes of its memory: a check that is divided holds less in each part
 MOST_JOBS = 4
-MORE_MEMORY = 0.6
+MORE_MEMORY = 0.1
 
 # what part of the longest chain is as good as the longest
 NEARLY = 0.9
+
+# how far what isn't of the longest chain gives way to it, as `nice` has it
+GIVES_WAY = 10
 
 # places in what is told of a running task
 MEMORY, JOBS, OTHERS = 1, 2, 3
@@ -60,6 +65,17 @@ def jobs_of(waiting, idle, lanes, is_longest, others):
     return max(0, min(MOST_JOBS, max(1, share), idle, lanes - lanes // 2 - others))
 
 
+def at_once(processors):
+    """How many processors are given out at once, where there are so many."""
+    return processors + processors // 4
+
+
+def give_way():
+    """Has what a thread starts give way to the longest chain: a process begins with the priority of the thread that starts it."""
+    with contextlib.suppress(OSError):
+        os.setpriority(os.PRIO_PROCESS, threading.get_native_id(), GIVES_WAY)
+
+
 class Lanes:
     """Tasks that are left and that run, on so many processors and in so much memory."""
 
@@ -76,10 +92,10 @@ class Lanes:
         running = [it for it, *_ in self.running.values()]
         return self.behind[key] >= NEARLY * max(self.behind[it] for it in [*self.left, *running])
 
-    def begin(self, pool, key, memory, jobs, others):
-        """Begins a task."""
+    def begin(self, pools, key, memory, jobs, others):
+        """Begins a task, of the longest chain or beside it."""
         self.left.remove(key)
-        self.running[pool.submit(self.tasks[key][3], self.given, max(1, jobs))] = key, memory, jobs, others
+        self.running[pools[others > 0].submit(self.tasks[key][3], self.given, max(1, jobs))] = key, memory, jobs, others
 
     def taken(self, place):
         """How much memory is taken, or processors in all, or by others than the longest chain."""
@@ -90,12 +106,12 @@ class Lanes:
         most = max((self.tasks[it][2] for it in self.left if self.weights[it] and it[1] == "proof" and it != key), default=0)
         return max(0, most - sum(it[MEMORY] for it in self.running.values() if not it[OTHERS]))
 
-    def begin_ready(self, pool):
+    def begin_ready(self, pools):
         """Begins what is ready, as far as processors and memory go."""
         ready = [it for it in self.left if all(below in self.given for below in self.tasks[it][0])]
         working = [it for it in ready if self.weights[it]]
         for key in (it for it in ready if not self.weights[it]):
-            self.begin(pool, key, 0, 0, 0)
+            self.begin(pools, key, 0, 0, 0)
         for place, key in enumerate(working):
             idle, room, needs = self.lanes - self.taken(JOBS), self.memory - self.taken(MEMORY), self.tasks[key][2]
             if idle <= 0:
@@ -108,13 +124,14 @@ class Lanes:
                 continue
             fitting = 1 + int(max(0, room / needs - 1) / MORE_MEMORY)
             jobs = 1 if key[1] == "edits" else min(jobs, fitting)
-            self.begin(pool, key, needs * (1 + MORE_MEMORY * (jobs - 1)), jobs, 0 if is_longest else jobs)
+            self.begin(pools, key, needs * (1 + MORE_MEMORY * (jobs - 1)), jobs, 0 if is_longest else jobs)
 
     def run(self):
         """Runs all; what each gave."""
-        with ThreadPoolExecutor(self.lanes + len(self.tasks)) as pool:
+        most = self.lanes + len(self.tasks)
+        with ThreadPoolExecutor(most) as chain, ThreadPoolExecutor(most, initializer=give_way) as beside:
             while self.left or self.running:
-                self.begin_ready(pool)
+                self.begin_ready((chain, beside))
                 for it in wait(self.running, return_when=FIRST_COMPLETED).done:
                     self.given[self.running.pop(it)[0]] = it.result()
         return self.given
@@ -128,6 +145,6 @@ def divide(rt):
         seconds = measured(SECONDS.read_text()) if SECONDS.is_file() else {}
         # (later kits remove there what they keep for edits)
         with getattr(rt, "ending", contextlib.nullcontext)():
-            return Lanes(tasks, seconds, fixed or rt.processors(), 0.85 * rt.free(), bool(fixed)).run()
+            return Lanes(tasks, seconds, fixed or at_once(rt.processors()), 0.85 * rt.free(), bool(fixed)).run()
 
     rt.in_lanes = in_lanes

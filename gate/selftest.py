@@ -9,10 +9,12 @@ The last line is 'N passed, M failed'. The exit status is 0 where none failed, e
 
 import contextlib
 import io
+import os
 import re
 import shutil
 import sys
 import tempfile
+import threading
 from pathlib import Path
 from types import SimpleNamespace
 
@@ -426,12 +428,12 @@ def faults_of_keeping(folder):
 
 def faults_of_lanes():
     """What is begun otherwise than it should be of a chain of three crates, two that stand alone, and tests of which one crate has none."""
-    begun = []
+    begun, own = [], os.getpriority(os.PRIO_PROCESS, 0)
 
     def task(key, waits, lines):
         def call(given, jobs):
             assert all(it in given for it in waits), key
-            begun.append((key[0], jobs))
+            begun.append((key[0], jobs, os.getpriority(os.PRIO_PROCESS, threading.get_native_id()) - own))
             return key[0]
 
         return [(it, "proof") for it in waits], lines, 1, lambda given, jobs: call({name for name, _ in given}, jobs)
@@ -441,10 +443,12 @@ def faults_of_lanes():
     tasks["low", "tests"] = task(("low", "tests"), ("low",), 0)
     given = lanes.Lanes(tasks, {("low", "proof"): 1.0}, 4, 100, False).run()
     yield "lanes: each task gives what its call gave", given == {key: key[0] for key in tasks}
-    yield "lanes: the longest chain is first, and gets half of the processors", begun[:3] == [("low", 2), ("alone", 1), ("other", 1)]
+    jobs, ways = {name: jobs for name, jobs, _ in reversed(begun)}, {name: way for name, _, way in begun}
+    yield "lanes: the longest chain gets half of the processors", (jobs["low"], jobs["alone"], jobs["other"]) == (2, 1, 1)
+    yield "lanes: what stands beside the longest chain gives way to it", ways["low"] == 0 < ways["alone"] == ways["other"]
     begun.clear()
     lanes.Lanes(tasks, {}, 2, 100, True).run()
-    yield "lanes: a number of runs that is asked for has one processor each", {jobs for _, jobs in begun} == {1}
+    yield "lanes: a number of runs that is asked for has one processor each", {jobs for _, jobs, _ in begun} == {1}
     yield "lanes: what no memory is left for waits", lanes.Lanes({("a", "proof"): task(("a", "proof"), (), 5)}, {}, 4, 0, False).run() == {("a", "proof"): "a"}
     begun.clear()
     sizes = {("low", "proof"): 6, ("middle", "proof"): 8, ("wide", "proof"): 5}
@@ -458,6 +462,7 @@ def faults_of_lanes():
     yield "times: what took long is kept, of the crates that are listed", told == "# a\ntop proof 12\nlow tests 3\nlow proof 2\n"
     weights = [lanes.weight(("low", phase), lines, {}) for phase, lines in (("proof", 100), ("tests", 0), ("seed", 0), ("again", 0))]
     yield "lanes: tests of a crate that has none take no processor, the check before edits does", weights == [26, 0, 20, 0]
+    yield "lanes: a quarter more is given out than there is", [lanes.at_once(it) for it in (1, 2, 3, 4, 8)] == [1, 2, 3, 5, 10]
     yield "lanes: a table of seconds", lanes.measured("# a\nlow proof 2\n\nlow tests 3.5\n") == {("low", "proof"): 2, ("low", "tests"): 3.5}
 
 

@@ -136,7 +136,28 @@ fn stage_of<T: TypeSet, H: HandleTable>(
     )
 }
 
-/// The first line of a scene that isn't as it says, in new namespaces over two sets.
+/// The first line of a scene that isn't as it says, in a namespace beside another one, both of which are let go; all of it, where
+/// one found no memory.
+fn other_beside<'a, T: Listing, H: HandleTable>(
+    stage: Result<Stage<T, H>, Fault>,
+    other: Result<Stage<T, H>, Fault>,
+    scene: &'a str,
+) -> &'a str {
+    match (stage, other) {
+        (Ok(stage), Ok(other)) => {
+            let (mut stage, mut other) = (stage, other);
+            let line = first_other(&mut stage, &mut other, scene);
+            stage.close();
+            other.close();
+            return line;
+        }
+        (Ok(stage), Err(_)) | (Err(_), Ok(stage)) => stage.close(),
+        (Err(_), Err(_)) => {}
+    }
+    scene
+}
+
+/// The same in new namespaces over two sets.
 fn other_over<'a, T: TypeSet, H: HandleTable>(
     alloc: Global,
     scenes: &Scenes,
@@ -145,17 +166,9 @@ fn other_over<'a, T: TypeSet, H: HandleTable>(
     scene: &'a str,
 ) -> &'a str {
     let (set, other_set) = sets;
-    let Ok(mut stage) = stage_of::<T, H>(alloc, scenes, set, kinds) else {
-        return scene;
-    };
-    let Ok(mut other) = stage_of::<T, H>(alloc, scenes, other_set, kinds) else {
-        stage.close();
-        return scene;
-    };
-    let line = first_other(&mut stage, &mut other, scene);
-    stage.close();
-    other.close();
-    line
+    let stage = stage_of::<T, H>(alloc, scenes, set, kinds);
+    let other = stage_of::<T, H>(alloc, scenes, other_set, kinds);
+    other_beside(stage, other, scene)
 }
 
 /// The same over the standard set, where the first and the other kind of lines are these.
@@ -187,14 +200,23 @@ fn other_in<'a, H: HandleTable>(alloc: Global, scenes: &Scenes, scene: &'a str) 
     other_over_standard::<H>(alloc, scenes, kinds, scene)
 }
 
-#[test]
-fn scenes_are_played_as_they_say(rt: HostRuntime) {
+/// The first line of all scenes that isn't as it says.
+fn first_other_of<H: HandleTable>(alloc: Global) -> &'static str {
     for scenes in SCENES {
         for scene in scenes.texts {
-            let over_maps = other_in::<OpenTable>(rt.alloc(), scenes, scene);
-            assert_eq!(rt; over_maps, "", "over an OpenTable, of {scene}");
-            let over_a_slab = other_in::<SlabTable>(rt.alloc(), scenes, scene);
-            assert_eq!(rt; over_a_slab, "", "over a SlabTable, of {scene}");
+            let line = other_in::<H>(alloc, scenes, scene);
+            if !line.is_empty() {
+                return line;
+            }
         }
     }
+    ""
+}
+
+#[test]
+fn scenes_are_played_as_they_say(rt: HostRuntime) {
+    let over_maps = first_other_of::<OpenTable>(rt.alloc());
+    assert_eq!(rt; over_maps, "", "over an OpenTable");
+    let over_a_slab = first_other_of::<SlabTable>(rt.alloc());
+    assert_eq!(rt; over_a_slab, "", "over a SlabTable");
 }

@@ -38,17 +38,34 @@ pub(crate) enum End {
     Unmade,
 }
 
-/// A namespace, the parse at hand, and what steps came to.
-pub(crate) struct Stage<T: Listing, H: HandleTable> {
+/// A namespace, and what steps came to.
+#[derive(Drop)]
+struct Space<T: Listing, H: HandleTable> {
     alloc: Global,
     core: Core<T, H>,
     /// The first and the other kind of lines.
     kinds: (T::Kind, T::Kind),
-    parse: Option<Brought<T>>,
     /// What the last step came to.
     end: End,
     /// The handle that each line's step was given at last, or 0.
     given: Vec<Handle>,
+}
+
+/// A namespace, and the parse at hand.
+pub(crate) struct Stage<T: Listing, H: HandleTable> {
+    space: Space<T, H>,
+    parse: Option<Brought<T>>,
+}
+
+/// Gives a parse up, where there is one; whether its open did wait.
+fn give_up<T: Listing, H: HandleTable>(
+    core: &mut Core<T, H>,
+    parse: Option<Brought<T>>,
+) -> Option<bool> {
+    match parse {
+        Some(parse) => Some(core.abandon(parse)),
+        None => None,
+    }
 }
 
 impl<T: Listing, H: HandleTable> Stage<T, H> {
@@ -58,36 +75,29 @@ impl<T: Listing, H: HandleTable> Stage<T, H> {
         set: T,
         kinds: (T::Kind, T::Kind),
     ) -> Result<Stage<T, H>, Fault> {
-        Ok(Stage {
+        let space = Space {
             alloc,
             core: Core::new(alloc, set)?,
             kinds,
-            parse: None,
             end: End::Unmade,
             given: Vec::new(alloc),
-        })
+        };
+        Ok(Stage { space, parse: None })
     }
 
     /// Gives the parse at hand up, and lets the namespace go.
     pub(crate) fn close(self) {
-        let Stage {
-            alloc: _alloc,
-            mut core,
-            kinds: _kinds,
-            parse,
-            end: _end,
-            given: _given,
-        } = self;
-        if let Some(parse) = parse {
-            core.abandon(parse);
-        }
+        let Stage { mut space, parse } = self;
+        give_up(&mut space.core, parse);
+        // (by a call, since the drop of a namespace is long, and would be proved here anew)
+        mem::drop(space);
     }
 
     /// Makes the step of a line so often.
     pub(crate) fn make(&mut self, process: Proc, times: u32, line: &str) {
         let handle = self.given_to(word_of(line, 2));
-        self.end = End::Unmade;
-        if let Some(command) = command_of(self.alloc, self.kinds, handle, line) {
+        self.space.end = End::Unmade;
+        if let Some(command) = command_of(self.space.alloc, self.space.kinds, handle, line) {
             self.start(process, times, &command);
         }
     }
@@ -95,9 +105,9 @@ impl<T: Listing, H: HandleTable> Stage<T, H> {
     /// Starts a command of a process so often.
     fn start(&mut self, process: Proc, times: u32, command: &Command<T::Kind>) {
         for _ in 0..times {
-            match self.core.start(process, command) {
+            match self.space.core.start(process, command) {
                 Ok(started) => self.came(started),
-                Err(_) => self.end = End::Unmade,
+                Err(_) => self.space.end = End::Unmade,
             }
         }
     }
@@ -105,9 +115,9 @@ impl<T: Listing, H: HandleTable> Stage<T, H> {
     /// Keeps what a step came to.
     fn came(&mut self, started: Started<T>) {
         match started {
-            Started::Done(reply) => self.end = End::Done(reply),
+            Started::Done(reply) => self.space.end = End::Done(reply),
             Started::Parsing(parsing) => {
-                self.end = End::Waits;
+                self.space.end = End::Waits;
                 self.hold(Brought::Unrun(parsing));
             }
         }
@@ -115,15 +125,14 @@ impl<T: Listing, H: HandleTable> Stage<T, H> {
 
     /// Has a parse at hand. Another is given up.
     fn hold(&mut self, parse: Brought<T>) {
-        if let Some(other) = self.parse.replace(parse) {
-            self.core.abandon(other);
-        }
+        let other = self.parse.replace(parse);
+        give_up(&mut self.space.core, other);
     }
 
     /// Runs the parse at hand.
     pub(crate) fn run(&mut self) {
         match self.parse.take() {
-            Some(Brought::Unrun(parsing)) => self.hold(Brought::Run(parsing.run(self.alloc))),
+            Some(Brought::Unrun(parsing)) => self.hold(Brought::Run(parsing.run(self.space.alloc))),
             Some(parse) => self.hold(parse),
             None => {}
         }
@@ -132,10 +141,10 @@ impl<T: Listing, H: HandleTable> Stage<T, H> {
     /// Brings the parse at hand to its open.
     pub(crate) fn resume(&mut self) {
         if let Some(parse) = self.parse.take() {
-            match self.core.resume(parse.into_parsed()) {
+            match self.space.core.resume(parse.into_parsed()) {
                 Ok(started) => self.came(started),
                 Err((fault, parsed)) => {
-                    self.end = End::Back(fault == Fault::Refused(Status::InvalidParameter));
+                    self.space.end = End::Back(fault == Fault::Refused(Status::InvalidParameter));
                     self.hold(Brought::Run(parsed));
                 }
             }
@@ -144,8 +153,8 @@ impl<T: Listing, H: HandleTable> Stage<T, H> {
 
     /// Gives the parse at hand up.
     pub(crate) fn give_up(&mut self) {
-        if let Some(parse) = self.parse.take() {
-            self.end = End::GivenUp(self.core.abandon(parse));
+        if let Some(did_wait) = give_up(&mut self.space.core, self.parse.take()) {
+            self.space.end = End::GivenUp(did_wait);
         }
     }
 
@@ -156,22 +165,22 @@ impl<T: Listing, H: HandleTable> Stage<T, H> {
 
     /// Ends a line: the handle that its step was given is kept.
     pub(crate) fn note(&mut self) {
-        let handle = match &self.end {
+        let handle = match &self.space.end {
             End::Done(reply) => handle_in(&reply.given),
             _ => Handle(0),
         };
-        let _ = self.given.push(handle);
+        let _ = self.space.given.push(handle);
     }
 
     /// What the last step came to.
     pub(crate) fn end(&self) -> &End {
-        &self.end
+        &self.space.end
     }
 
     /// The handle that was given to the line of a number, from 0; 0 where none was.
     fn given_to(&self, word: &str) -> Handle {
         let place = number_of(word) as usize;
-        match self.given.get(place) {
+        match self.space.given.get(place) {
             Some(handle) => *handle,
             None => Handle(0),
         }
@@ -190,32 +199,32 @@ impl<T: Listing, H: HandleTable> Stage<T, H> {
     /// How many reparses are left to the open that waits under a ticket; `u32::MAX` where none does.
     pub(crate) fn left(&self, ticket: &str) -> u32 {
         let ticket = u64::from(number_of(ticket));
-        self.core.left(ticket).unwrap_or(u32::MAX)
+        self.space.core.left(ticket).unwrap_or(u32::MAX)
     }
 
     /// How many objects and handles there are.
     pub(crate) fn counts(&self) -> (usize, usize) {
-        (self.core.objects(), self.core.handles())
+        (self.space.core.objects(), self.space.core.handles())
     }
 
     /// The calls of the set that there was room for, and how many are behind them.
     pub(crate) fn calls(&self) -> (&[Call], u64) {
-        self.core.set().calls()
+        self.space.core.set().calls()
     }
 
     /// How many handles a process has.
     pub(crate) fn handles_of(&self, process: Proc) -> usize {
-        self.core.handles_of(process)
+        self.space.core.handles_of(process)
     }
 
     /// Whether a process has a handle of exactly this value.
     pub(crate) fn holds(&self, process: Proc, value: &str) -> bool {
-        self.core.holds(process, Handle(number_of(value)))
+        self.space.core.holds(process, Handle(number_of(value)))
     }
 
     /// What the handle that was given to a line leads to, a word and an id.
     pub(crate) fn led_to(&self, process: Proc, line: &str) -> (&'static str, u64) {
-        match self.core.referent(process, self.given_to(line)) {
+        match self.space.core.referent(process, self.given_to(line)) {
             Some((id, Referent::Directory)) => ("directory", id.0),
             Some((id, Referent::Link(_))) => ("link", id.0),
             Some((id, Referent::Other { .. })) => ("object", id.0),

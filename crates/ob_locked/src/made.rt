@@ -1,24 +1,26 @@
 //! Steps of the core, with copies of what was asked and answered.
 
-ghost use Rattle.std.specs.Prelude.{◌≡◌, ◌↔◌, true, IfOk, IfErr, OnErr, IfSome, OnSome, IsSome, IfNone};
+ghost use Rattle.std.specs.Prelude.{◌≡◌, ◌↔◌, ◌≤◌, [], true, length, vec_capacity, IfOk, IfErr, OnErr, IfSome, OnSome, IsSome, IfNone};
 ghost use Rattle.ob_base.specs.declared.status.Status.TheVariants.{Success};
 ghost use Rattle.ob_model.specs.Refusals.{answers};
 ghost use Rattle.ob_base.specs.declared.fault.Fault.TheVariants.{Memory};
 ghost use Rattle.ob_model.specs.declared.reply.Event.TheVariants.{Start, Resume, Abandon};
+ghost use Rattle.ob_model.specs.declared.reply.Answer.TheVariants.{Done, Ticket};
+ghost use Rattle.ob_model.specs.State.{table_size};
 ghost use Rattle.ob_model.specs.Step.{Step};
 ghost use Rattle.ob_types.specs.Brought.{run_of_end, brought as end_of, run_of as brought_run};
 ghost use Rattle.ob_types.specs.Parse.{asked_of};
 ghost use Rattle.ob_opens.specs.Waiting.{answer_of, IfParsing, IsAwaited, IsNotTaken, IsParseOf};
 ghost use Rattle.ob_locked.specs.Entered.{entered, EndedAfter, HasFew, PendingAfter};
-ghost use Rattle.ob_locked.specs.Rooms.{is_plain};
+ghost use Rattle.ob_locked.specs.Rooms.{is_plain, wants_memory, values_given, values_wanted};
 
 use crate::rooms::{copy_in, values_of};
-use ob_base::{Fault, Proc, Status};
+use ob_base::{Fault, Handle, Proc, Status};
 use ob_core::{Brought, Core, HandleTable, Parsed, Started};
 use ob_journal::{Entry, copy_command};
 use ob_model::{Answer, Command, Event, Given, ParseRun, Reply};
 use ob_types::TypeSet;
-use std::alloc::Global;
+use std::alloc::{AllocError, Global};
 
 /// Who makes a step, and the number of its entry.
 #[derive(Clone, Copy)]
@@ -65,18 +67,11 @@ pub(crate) fn start_core<T: TypeSet, H: HandleTable>(
     ensures err { OnErr result (core.new ≡ core.old) }
     ensures memory { IfErr result (λ fault. fault ≡ Memory) }
 {
-    let asked = copy_command(alloc, command)?;
-    let again = copy_command(alloc, command)?;
-    let values = values_of(core, process, command);
-    let room = Vec::with_capacity(alloc, values)?;
-    let other_room = Vec::with_capacity(alloc, values)?;
+    let asked = asked_twice(core, alloc, process, command)?;
     core.state_is_sound();
     match core.start(process, command)? {
         Started::Done(reply) => {
-            let told = copy_in(alloc, &reply, room)?;
-            let told_again = copy_in(alloc, &reply, other_room)?;
-            let entry = entry_of(writer, started_by(process, asked), Answer::Done(told));
-            let receipt = entry_of(writer, started_by(process, again), Answer::Done(told_again));
+            let Twice { entry, receipt } = told_twice(alloc, writer, process, asked, &reply)?;
             Ok(Made {
                 started: Started::Done(reply),
                 entry,
@@ -84,16 +79,117 @@ pub(crate) fn start_core<T: TypeSet, H: HandleTable>(
             })
         }
         Started::Parsing(parsing) => {
+            let (asked, again) = asked;
             let ticket = parsing.ticket();
-            let entry = entry_of(writer, started_by(process, asked), Answer::Ticket(ticket));
-            let receipt = entry_of(writer, started_by(process, again), Answer::Ticket(ticket));
             Ok(Made {
                 started: Started::Parsing(parsing),
-                entry,
-                receipt,
+                entry: entry_waiting(writer, process, asked, ticket),
+                receipt: entry_waiting(writer, process, again, ticket),
             })
         }
     }
+}
+
+/// A copy of a command, and room for the handle values that its reply may give.
+#[derive(Drop)]
+struct Asked<K> {
+    command: Command<K>,
+    room: Vec<Handle>,
+}
+
+/// A copy of a command of a process, with that room.
+fn asked_of<T: TypeSet, H: HandleTable>(
+    core: &Core<T, H>,
+    alloc: Global,
+    process: Proc,
+    command: &Command<T::Kind>,
+) -> Result<Asked<T::Kind>, AllocError>
+    ensures command { IfOk result (λ asked. asked.command ≡ command.now) }
+    ensures empty { IfOk result (λ asked. asked.room.items ≡ []) }
+    ensures fits { IfOk result (λ asked.
+        values_wanted (table_size core.now process) command.now ≤ vec_capacity asked.room) }
+{
+    let command_copy = copy_command(alloc, command)?;
+    let room = Vec::with_capacity(alloc, values_of(core, process, command))?;
+    Ok(Asked {
+        command: command_copy,
+        room,
+    })
+}
+
+/// The same twice.
+fn asked_twice<T: TypeSet, H: HandleTable>(
+    core: &Core<T, H>,
+    alloc: Global,
+    process: Proc,
+    command: &Command<T::Kind>,
+) -> Result<(Asked<T::Kind>, Asked<T::Kind>), AllocError>
+    ensures command { IfOk result (λ asked. asked.0.command ≡ command.now) }
+    ensures again { IfOk result (λ asked. asked.1.command ≡ command.now) }
+    ensures empty { IfOk result (λ asked. asked.0.room.items ≡ []) }
+    ensures empty_again { IfOk result (λ asked. asked.1.room.items ≡ []) }
+    ensures fits { IfOk result (λ asked.
+        values_wanted (table_size core.now process) command.now ≤ vec_capacity asked.0.room) }
+    ensures fits_again { IfOk result (λ asked.
+        values_wanted (table_size core.now process) command.now ≤ vec_capacity asked.1.room) }
+{
+    let asked = asked_of(core, alloc, process, command)?;
+    let again = asked_of(core, alloc, process, command)?;
+    Ok((asked, again))
+}
+
+/// The entry of a start that was replied to. Memory is taken for a text or a page alone.
+fn entry_told<K: Drop>(
+    alloc: Global,
+    writer: Writer,
+    process: Proc,
+    asked: Asked<K>,
+    reply: &Reply,
+) -> Result<Entry<K>, AllocError>
+    requires empty { asked.room.items ≡ [] }
+    requires fits { length (values_given reply.now.given) ≤ vec_capacity asked.room }
+    ensures entry { IfOk result (λ entry. entry
+        ≡ entered writer.number writer.seat (Start process asked.command) (Done reply.now)) }
+    ensures without_memory { OnErr result (wants_memory reply.now.given ≡ true) }
+{
+    let Asked { command, room } = asked;
+    let told = copy_in(alloc, reply, room)?;
+    Ok(entry_of(writer, started_by(process, command), Answer::Done(told)))
+}
+
+/// The same twice.
+fn told_twice<K: Drop>(
+    alloc: Global,
+    writer: Writer,
+    process: Proc,
+    asked: (Asked<K>, Asked<K>),
+    reply: &Reply,
+) -> Result<Twice<K>, AllocError>
+    requires empty { asked.0.room.items ≡ [] }
+    requires empty_again { asked.1.room.items ≡ [] }
+    requires fits { length (values_given reply.now.given) ≤ vec_capacity asked.0.room }
+    requires fits_again { length (values_given reply.now.given) ≤ vec_capacity asked.1.room }
+    ensures entry { IfOk result (λ twice. twice.entry
+        ≡ entered writer.number writer.seat (Start process asked.0.command) (Done reply.now)) }
+    ensures receipt { IfOk result (λ twice. twice.receipt
+        ≡ entered writer.number writer.seat (Start process asked.1.command) (Done reply.now)) }
+    ensures without_memory { OnErr result (wants_memory reply.now.given ≡ true) }
+{
+    let (asked, again) = asked;
+    let entry = entry_told(alloc, writer, process, asked, reply)?;
+    let receipt = entry_told(alloc, writer, process, again, reply)?;
+    Ok(Twice { entry, receipt })
+}
+
+/// The entry of a start whose open waits under a ticket.
+fn entry_waiting<K>(writer: Writer, process: Proc, asked: Asked<K>, ticket: u64) -> Entry<K>
+    ensures { result ≡ entered writer.number writer.seat (Start process asked.command) (Ticket ticket) }
+{
+    entry_of(
+        writer,
+        started_by(process, asked.command),
+        Answer::Ticket(ticket),
+    )
 }
 
 /// The event of a start.

@@ -11,6 +11,7 @@ use ob_base::{Fault, Status};
 use ob_core::HandleTable;
 use ob_types::TypeSet;
 use std::alloc::{AllocError, Global};
+use std::mem;
 use std::sync::ledger::{Blank, Ledger, Share};
 
 /// The most seats: each has a part of the ledger of its own.
@@ -41,8 +42,14 @@ pub fn open_locked<T: TypeSet, H: HandleTable, L: Ledger>(
         return Err(Fault::Refused(Status::InvalidParameter));
     }
     let (locked, all) = Locked::open(alloc, blank, types)?;
-    let passes = cut_passes(alloc, all, seats)?;
-    Ok((locked, passes))
+    match cut_passes(alloc, all, seats) {
+        Ok(passes) => Ok((locked, passes)),
+        Err(_) => {
+            // (by a call, since the drop of a namespace is long, and would be proved here anew)
+            mem::drop(locked);
+            Err(Fault::Memory)
+        }
+    }
 }
 
 /// Passes of so many seats. Each has a part of this share, which has them all and counts nothing, and that of seat 0 the

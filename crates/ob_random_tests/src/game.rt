@@ -17,6 +17,7 @@ use ob_runner::{Begun, Waits, begin_open, drop_open, end_open, give_all_up};
 use ob_standard::{Standard, StandardKind};
 use ob_types::TypeSet;
 use std::alloc::{AllocError, Global};
+use std::mem;
 use std::num::NonZeroUsize;
 
 /// A set of types over which games are played, and whose calls are counted.
@@ -373,18 +374,21 @@ fn agreed<H: HandleTable>(
     };
     let mut model = Model::new(alloc)?;
     let cache = Cache::with_room(alloc, room)?;
-    agreed_beside::<H>(&mut model, cache, game, count)
+    agreed_over::<Standard, H>(&mut model, Standard::new(), cache, game, count)
 }
 
-// The same beside a model of the opening state.
-fn agreed_beside<H: HandleTable>(
+// The same over a set of types, beside a model of the opening state.
+fn agreed_over<S: Played, H: HandleTable>(
     model: &mut Model,
+    set: S,
     cache: Cache,
     game: (Game, u64),
     count: u32,
 ) -> Result<u32, Fault> {
-    let mut core: Core<Standard, H> = Core::with_cache(model.alloc, Standard::new(), cache)?;
+    let mut core: Core<S, H> = Core::with_cache(model.alloc, set, cache)?;
     let done = agreed_in(&mut core, model, game, count);
+    // (let go by a call, since the drop of a namespace is long, and would be proved anew on each way out)
+    mem::drop(core);
     Ok(done?)
 }
 
