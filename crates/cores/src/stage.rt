@@ -12,6 +12,7 @@ use ob_plain::PlainKind;
 use ob_standard::{Standard, StandardFace, StandardInner, StandardKind};
 use ob_types::{Outcome, TypeSet};
 use std::alloc::{AllocError, Global};
+use std::mem;
 use std::num::NonZeroUsize;
 
 /// The prefixes for which the cache of a namespace has room of itself.
@@ -87,6 +88,8 @@ impl Stage {
         if let Some(brought) = brought {
             core.abandon(brought);
         }
+        // (by a call, since the drop of a namespace is long, and would be proved here anew)
+        mem::drop(core);
     }
 
     /// Makes a step; where it finds no memory, or is none that can be made now, nothing has changed.

@@ -96,10 +96,17 @@ impl<T: Listing, H: HandleTable> Stage<T, H> {
     /// Makes the step of a line so often.
     pub(crate) fn make(&mut self, process: Proc, times: u32, line: &str) {
         let handle = self.given_to(word_of(line, 2));
-        self.space.end = End::Unmade;
+        self.ends(End::Unmade);
         if let Some(command) = command_of(self.space.alloc, self.space.kinds, handle, line) {
             self.start(process, times, &command);
+            mem::drop(command);
         }
+    }
+
+    /// Keeps how a step ended.
+    fn ends(&mut self, end: End) {
+        // (by a call, since the drop of what was is long, and would be proved anew wherever a step ends)
+        mem::drop(mem::replace(&mut self.space.end, end));
     }
 
     /// Starts a command of a process so often.
@@ -107,7 +114,7 @@ impl<T: Listing, H: HandleTable> Stage<T, H> {
         for _ in 0..times {
             match self.space.core.start(process, command) {
                 Ok(started) => self.came(started),
-                Err(_) => self.space.end = End::Unmade,
+                Err(_) => self.ends(End::Unmade),
             }
         }
     }
@@ -115,9 +122,9 @@ impl<T: Listing, H: HandleTable> Stage<T, H> {
     /// Keeps what a step came to.
     fn came(&mut self, started: Started<T>) {
         match started {
-            Started::Done(reply) => self.space.end = End::Done(reply),
+            Started::Done(reply) => self.ends(End::Done(reply)),
             Started::Parsing(parsing) => {
-                self.space.end = End::Waits;
+                self.ends(End::Waits);
                 self.hold(Brought::Unrun(parsing));
             }
         }
@@ -144,7 +151,7 @@ impl<T: Listing, H: HandleTable> Stage<T, H> {
             match self.space.core.resume(parse.into_parsed()) {
                 Ok(started) => self.came(started),
                 Err((fault, parsed)) => {
-                    self.space.end = End::Back(fault == Fault::Refused(Status::InvalidParameter));
+                    self.ends(End::Back(fault == Fault::Refused(Status::InvalidParameter)));
                     self.hold(Brought::Run(parsed));
                 }
             }
@@ -154,7 +161,7 @@ impl<T: Listing, H: HandleTable> Stage<T, H> {
     /// Gives the parse at hand up.
     pub(crate) fn give_up(&mut self) {
         if let Some(did_wait) = give_up(&mut self.space.core, self.parse.take()) {
-            self.space.end = End::GivenUp(did_wait);
+            self.ends(End::GivenUp(did_wait));
         }
     }
 
