@@ -13,6 +13,7 @@ use ob_types::TypeSet;
 use std::alloc::Global;
 use std::io::Write;
 use std::marker::Brand;
+use std::mem;
 use std::sync::ledger::{Blank, Ledger};
 
 /// Starts what process 1 asks for.
@@ -156,6 +157,22 @@ struct Seen {
     journal: Vec<u8>,
 }
 
+/// Plays the opens under a lock by two passes, where both are there; what is seen of them.
+fn seen_under<T: TypeSet<Kind = DeviceKind>, H: HandleTable, L: Ledger>(
+    alloc: Global,
+    locked: &mut Locked<T, H, L>,
+    one: Option<Pass<DeviceKind, L>>,
+    other: Option<Pass<DeviceKind, L>>,
+) -> Option<Seen> {
+    let (mut one, mut other) = (one?, other?);
+    let reserved = played(alloc, locked, &mut one, &mut other)?;
+    let journal = journal_of::<T>(alloc, 2, locked.journal())?;
+    Some(Seen {
+        numbers: numbers(locked, &one, &other, reserved),
+        journal,
+    })
+}
+
 /// Opens a namespace with two passes, and plays the opens in it; what is seen of them.
 fn look<T: TypeSet<Kind = DeviceKind>, H: HandleTable, L: Ledger>(
     alloc: Global,
@@ -169,15 +186,11 @@ fn look<T: TypeSet<Kind = DeviceKind>, H: HandleTable, L: Ledger>(
     let Ok((mut locked, mut passes)) = open_locked::<T, H, L>(alloc, blank, types, 2) else {
         return None;
     };
-    let (Some(mut other), Some(mut one)) = (passes.pop(), passes.pop()) else {
-        return None;
-    };
-    let reserved = played(alloc, &mut locked, &mut one, &mut other)?;
-    let journal = journal_of::<T>(alloc, 2, locked.journal())?;
-    Some(Seen {
-        numbers: numbers(&locked, &one, &other, reserved),
-        journal,
-    })
+    let (other, one) = (passes.pop(), passes.pop());
+    let seen = seen_under(alloc, &mut locked, one, other);
+    // (by a call, since the drop of a namespace is long, and would be proved here on each way out)
+    mem::drop(locked);
+    seen
 }
 
 /// Tells a number; whether memory is found.
