@@ -3,11 +3,12 @@
 use crate::lines::{Row, row_of, step_of};
 use crate::picture::{picture_of, sum_of};
 use crate::rows::ROWS;
-use crate::stage::{End, ROOM, Stage};
+use crate::stage::{End, ROOM, Stage, Step};
 use crate::staging::staged;
 use ob_base::Fault;
 use std::alloc::Global;
 use std::io::Write;
+use std::mem;
 
 /// What is written of a step that was refused, where nothing has changed, and where something has.
 const UNCHANGED: &'static str = "nothing changed, then ";
@@ -57,16 +58,31 @@ fn is_made<W: Write>(
     picture: &str,
 ) -> Result<bool, Fault> {
     let step = step_of(alloc, row.step)?;
+    let is_unchanged = is_stepped(writer, alloc, stage, row, picture, &step);
+    // (by a call, since the drop of a step is long, and would be proved anew on each way out)
+    mem::drop(step);
+    is_unchanged
+}
+
+/// The same of a step that was read.
+fn is_stepped<W: Write>(
+    writer: &mut W,
+    alloc: Global,
+    stage: &mut Stage,
+    row: Row<'_>,
+    picture: &str,
+    step: &Step,
+) -> Result<bool, Fault> {
     staged(alloc, stage, row.before)?;
     let parse = stage.parse(alloc)?;
     let mut is_unchanged = true;
     mark(writer, row.name);
-    if stage.make(alloc, &step).is_ok() {
+    if stage.make(alloc, step).is_ok() {
         mark(writer, " .. ");
     } else {
         mark(writer, " .. refused, ");
         is_unchanged = is_same(alloc, stage, picture, parse.as_str())?;
-        stage.make(alloc, &step)?;
+        stage.make(alloc, step)?;
         mark(writer, if is_unchanged { UNCHANGED } else { CHANGED });
     }
     let told = told(alloc, stage)?;
