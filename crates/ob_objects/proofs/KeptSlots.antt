@@ -16,8 +16,9 @@ use Rattle.ob_objects.specs.declared.slots.Slots.{Slots}
 use Rattle.ob_objects.specs.Changes.{changed_at, body_with_name, body_without_name}
 use Rattle.ob_objects.specs.Named.{place_of}
 use Rattle.ob_objects.specs.Slots.{objects_in, object_in, place_in, KeepPlaces, AreFilled, StayFilled, IsWritten, IsSame}
-use Rattle.ob_objects.specs.Store.{Entries, IsStore, KeepsPlaces, entries_in, stored_at, directory_at, rows_of, place_at}
-use Rattle.ob_objects.specs.Types.{Types, Keeps, KeepsTypes, type_of_body}
+use Rattle.ob_objects.specs.Store.{Entries, IsStore, entries_in, stored_at, directory_at, rows_of, place_at}
+use Rattle.ob_objects.specs.Types.{Types, KeepsTypes, type_of_body}
+use Rattle.ob_objects.specs.Kept.{KeepsPlaces, Keeps}
 use Rattle.ob_objects.proofs.Bodies.{with_name_is_dir}
 use Rattle.ob_objects.proofs.ById.{seen_finds, seen_rising, inserted_finds, removed_finds, absent_removed}
 use Rattle.ob_objects.proofs.KeptTypes.{types_come, types_go, types_stay, with_name_type, without_name_type}

@@ -23,8 +23,9 @@ use Rattle.ob_objects.specs.declared.named.EntryPlace.{EntryPlace}
 use Rattle.ob_objects.specs.declared.object.StoredObject.{StoredObject}
 use Rattle.ob_objects.specs.Rows.{by_stamp}
 use Rattle.ob_objects.specs.Named.{place_of}
-use Rattle.ob_objects.specs.Store.{Entries, IsStore, KeepsPlaces, stored_at, directory_of, directory_at, entries_in, entries_at, body_of_stored, rows_of, place_at}
+use Rattle.ob_objects.specs.Store.{Entries, IsStore, stored_at, directory_of, directory_at, entries_in, entries_at, body_of_stored, rows_of, place_at}
 use Rattle.ob_objects.specs.Changes.{with_entry, changed_at, without_object, body_with_name, body_without_name, with_name, without_name, refusal_to_open, set_after_open, set_after_close}
+use Rattle.ob_objects.specs.Kept.{KeepsPlaces}
 use Rattle.ob_objects.proofs.Entries.{insert_entry-in_order, stored_free, directories_with_entry}
 use Rattle.ob_objects.proofs.Bodies.{without_name_is_dir}
 use Rattle.ob_objects.proofs.Shown.{same_rows, new_object_has_no_row, rows_go_with_directory, row_goes_with_name}

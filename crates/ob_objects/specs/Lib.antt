@@ -4,6 +4,7 @@ pub mod Named
 pub mod Store
 pub mod Slots
 pub mod Types
+pub mod Kept
 pub mod Changes
 pub mod Laws
 pub mod Listing

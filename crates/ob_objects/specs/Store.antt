@@ -90,11 +90,6 @@ module _ {F I : Type 0} where
     pub directories : All (λ e. IsDir (entries_in e.1.body)) store
     pub named_once : AllPairs (λ a b. a.object ≢ b.object) (rows_of store)
 
-  -- what holds of a store beside the places that it keeps: for each object that where its name stands
-  pub record KeepsPlaces (store : Entries F I) (kept : ℕ → Option EntryPlace) : Type 0 where
-    pub is_store : IsStore store
-    pub places : (id : ℕ) → kept id ≡ place_at store id
-
   -- the objects and the rows of the state are those of the store
   pub record Shows {K T : Type 0} (s : State K T F I) (store : Entries F I) : Type 0 where
     pub objects : s.objects ≡ objects_of store

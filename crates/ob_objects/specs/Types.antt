@@ -10,11 +10,9 @@ use Rattle.std.specs.Ordering.{nat_cmp}
 use Rattle.ob_model.specs.Procedures.{Procedures}
 use Rattle.ob_objects.specs.declared.object.StoredBody.{StoredBody}
 use Rattle.ob_objects.specs.declared.object.StoredBody.TheVariants as body
-use Rattle.ob_objects.specs.declared.slots.Slots.{Slots}
 use Rattle.ob_objects.specs.declared.types.StoredType.{StoredType}
 use Rattle.ob_objects.specs.declared.types.StoredType.TheVariants.{Directory, Link, Other}
-use Rattle.ob_objects.specs.Slots.{objects_in, place_in, AreFilled}
-use Rattle.ob_objects.specs.Store.{Entries, KeepsPlaces, stored_at}
+use Rattle.ob_objects.specs.Store.{Entries, stored_at}
 
 -- types of objects, each with its object's id
 abbrev pub Types : Type 0 → Type 0
@@ -44,9 +42,3 @@ module _ {K T F I : Type 0} (g : Procedures K T F I) where
   -- these are the types of a store's objects
   abbrev pub KeepsTypes : Entries F I → Types K → Type 0
   KeepsTypes store types = (id : ℕ) → lookup (is_at (nat_cmp id)) types ≡ option_map (λ x. type_of_body x.body) (stored_at store id)
-
-  -- what holds of the slots of a store and of the types that it keeps beside them
-  pub record Keeps (slots : Slots F I) (kept : Types K) : Type 0 where
-    pub places : KeepsPlaces (objects_in slots) (place_in slots)
-    pub types : KeepsTypes (objects_in slots) kept
-    pub filled : AreFilled slots

@@ -51,7 +51,7 @@ pub struct Store<T: TypeSet> {
 impl<T: TypeSet> Model for Store<T> {
     ghost use Rattle.ob_objects.specs.Slots.{objects_in};
     ghost use Rattle.ob_objects.specs.Store.{Entries};
-    ghost use Rattle.ob_objects.specs.Types.{Keeps};
+    ghost use Rattle.ob_objects.specs.Kept.{Keeps};
 
     ghost Value = { Entries T.Face T.Inner };
 
