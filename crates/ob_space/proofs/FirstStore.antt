@@ -41,6 +41,18 @@ module _ {F I : Type 0} (a b c d : Entries F I) (first : a ≡ opening_objects) 
       (third ∙ ap (λ (s : Entries F I). with_name s root_id devices)
       (second ∙ ap (λ (s : Entries F I). with_name s root_id global) first))
 
+  -- the fourth name is not there before, and the stamps are lesser
+  pub fourth_free : All (λ x. x.name ≢ codes "BaseNamedObjects") (entries_at d root_id)
+  fourth_free =
+      subst (λ (s : Entries F I). All (λ x. x.name ≢ codes "BaseNamedObjects") (entries_at s root_id)) (sym three_named)
+      (All-from_recursion (λ (x : NameEntry). x.name ≢ codes "BaseNamedObjects") three
+      (heads_differ 71 66 _ _ refl, (heads_differ 68 66 _ _ refl, (heads_differ 68 66 _ _ refl, tt))))
+
+  pub fourth_newest : All (λ x. x.stamp < 4) (entries_at d root_id)
+  fourth_newest =
+      subst (λ (s : Entries F I). All (λ x. x.stamp < 4) (entries_at s root_id)) (sym three_named)
+      (All-from_recursion (λ (x : NameEntry). x.stamp < 4) three (omega arith, (omega arith, (omega arith, tt))))
+
   -- the object of the fourth name has none before
   pub fourth_unnamed : All (λ r. r.object ≢ 5) (rows_of d)
   fourth_unnamed =
