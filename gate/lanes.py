@@ -30,6 +30,9 @@ MEMORY, JOBS, OTHERS = 1, 2, 3
 # seconds of a crate that the table doesn't have: to begin with, and for a line
 BEGIN, A_LINE = 20, 0.06
 
+# what is done by one processor: edits one after another, and tests, of which each part would read all that they stand on
+UNDIVIDED = "edits", "tests"
+
 # the checks before a crate's must-fail edits and behind them, of which `rt` tells no lines
 CHECKS = "seed", "sound"
 
@@ -123,7 +126,7 @@ class Lanes:
             if not jobs:
                 continue
             fitting = 1 + int(max(0, room / needs - 1) / MORE_MEMORY)
-            jobs = 1 if key[1] == "edits" else min(jobs, fitting)
+            jobs = 1 if key[1] in UNDIVIDED else min(jobs, fitting)
             self.begin(pools, key, needs * (1 + MORE_MEMORY * (jobs - 1)), jobs, 0 if is_longest else jobs)
 
     def run(self):

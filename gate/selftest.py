@@ -449,6 +449,9 @@ def faults_of_lanes():
     begun.clear()
     lanes.Lanes(tasks, {}, 2, 100, True).run()
     yield "lanes: a number of runs that is asked for has one processor each", {jobs for _, jobs, _ in begun} == {1}
+    begun.clear()
+    lanes.Lanes({("a", "tests"): task(("a", "tests"), (), 5)}, {}, 4, 100, False).run()
+    yield "lanes: tests are not divided", [it[:2] for it in begun] == [("a", 1)]
     yield "lanes: what no memory is left for waits", lanes.Lanes({("a", "proof"): task(("a", "proof"), (), 5)}, {}, 4, 0, False).run() == {("a", "proof"): "a"}
     begun.clear()
     sizes = {("low", "proof"): 6, ("middle", "proof"): 8, ("wide", "proof"): 5}
