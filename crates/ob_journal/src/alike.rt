@@ -3,6 +3,7 @@
 ghost use Rattle.std.specs.Prelude.{◌≡◌, ◌↔◌, IsTrue};
 
 use crate::Entry;
+use ob_base::{Handle, Proc};
 use ob_model::{Answer, Bytes, Command, Entries, Event, Given, Handles, Listed, Place};
 use ob_types::{TypeSet, is_one_kind};
 
@@ -108,129 +109,208 @@ fn is_same_answer(a: &Answer, b: &Answer) -> bool
 fn is_same_command<T: TypeSet>(a: &Command<T::Kind>, b: &Command<T::Kind>) -> bool
     ensures { IsTrue result ↔ a.now ≡ b.now }
 {
-    match (a, b) {
-        (
-            Command::CreateDirectory { place, attrs },
-            Command::CreateDirectory {
-                place: spot,
-                attrs: bits,
-            },
-        ) => attrs == bits && is_same_place(place, spot),
-        (
-            Command::CreateLink {
-                place,
-                attrs,
-                target,
-            },
-            Command::CreateLink {
-                place: spot,
-                attrs: bits,
-                target: text,
-            },
-        ) => attrs == bits && is_same_place(place, spot) && is_same_text(target, text),
-        (
-            Command::CreateObject {
-                place,
-                attrs,
-                kind,
-                args,
-            },
-            Command::CreateObject {
-                place: spot,
-                attrs: bits,
-                kind: other,
-                args: text,
-            },
-        ) => {
-            attrs == bits
-                && is_one_kind::<T>(*kind, *other)
-                && is_same_place(place, spot)
-                && is_same_text(args, text)
+    match a {
+        Command::CreateDirectory { place, attrs } => is_directory(b, place, *attrs),
+        Command::CreateLink {
+            place,
+            attrs,
+            target,
+        } => is_link(b, place, *attrs, target),
+        Command::CreateObject {
+            place,
+            attrs,
+            kind,
+            args,
+        } => is_object::<T>(b, place, *attrs, *kind, args),
+        Command::OpenDirectory { root, name, attrs } => is_open_directory(b, *root, name, *attrs),
+        Command::OpenLink { root, name, attrs } => is_open_link(b, *root, name, *attrs),
+        Command::OpenObject {
+            root,
+            name,
+            attrs,
+            want,
+        } => is_open::<T>(b, *root, name, *attrs, *want),
+        Command::Close { handle } =>
+            matches!(b, Command::Close { handle: other } if other == handle),
+        Command::QueryLink { handle } =>
+            matches!(b, Command::QueryLink { handle: other } if other == handle),
+        Command::QueryName { handle } =>
+            matches!(b, Command::QueryName { handle: other } if other == handle),
+        Command::QueryDirectory {
+            handle,
+            context,
+            room,
+            single,
+            restart,
+        } => is_query(b, *handle, *context, *room, *single, *restart),
+        Command::Duplicate {
+            handle,
+            to,
+            inherit,
+        } => is_duplicate(b, *handle, *to, *inherit),
+        Command::MakeTemporary { handle } =>
+            matches!(b, Command::MakeTemporary { handle: other } if other == handle),
+        Command::MakePermanent { handle } =>
+            matches!(b, Command::MakePermanent { handle: other } if other == handle),
+        Command::SetDeviceMap { handle } =>
+            matches!(b, Command::SetDeviceMap { handle: other } if other == handle),
+        Command::NewProcess { inherit } =>
+            matches!(b, Command::NewProcess { inherit: other } if other == inherit),
+        Command::ExitProcess => matches!(b, Command::ExitProcess),
+    }
+}
+
+/// Whether a command is this create of a directory.
+fn is_directory<K>(command: &Command<K>, place: &Place, attrs: u32) -> bool
+    ensures { IsTrue result ↔ command.now ≡ Command.CreateDirectory place.now attrs }
+{
+    match command {
+        Command::CreateDirectory {
+            place: other,
+            attrs: bits,
+        } => { *bits == attrs && is_same_place(other, place) }
+        _ => false,
+    }
+}
+
+/// Whether a command is this create of a link.
+fn is_link<K>(command: &Command<K>, place: &Place, attrs: u32, target: &Bytes) -> bool
+    ensures { IsTrue result ↔ command.now ≡ Command.CreateLink place.now attrs target.now }
+{
+    match command {
+        Command::CreateLink {
+            place: other,
+            attrs: bits,
+            target: text,
+        } => { *bits == attrs && is_same_place(other, place) && is_same_text(text, target) }
+        _ => false,
+    }
+}
+
+/// Whether a command is this create of an object.
+fn is_object<T: TypeSet>(
+    command: &Command<T::Kind>,
+    place: &Place,
+    attrs: u32,
+    kind: T::Kind,
+    args: &Bytes,
+) -> bool
+    ensures { IsTrue result ↔ command.now ≡ Command.CreateObject place.now attrs kind args.now }
+{
+    match command {
+        Command::CreateObject {
+            place: other,
+            attrs: bits,
+            kind: own,
+            args: text,
+        } => {
+            *bits == attrs
+                && is_one_kind::<T>(*own, kind)
+                && is_same_place(other, place)
+                && is_same_text(text, args)
         }
-        (
-            Command::OpenDirectory { root, name, attrs },
-            Command::OpenDirectory {
-                root: handle,
-                name: text,
-                attrs: bits,
-            },
-        )
-        | (
-            Command::OpenLink { root, name, attrs },
-            Command::OpenLink {
-                root: handle,
-                name: text,
-                attrs: bits,
-            },
-        ) => attrs == bits && root == handle && is_same_text(name, text),
-        (
-            Command::OpenObject {
-                root,
-                name,
-                attrs,
-                want,
-            },
-            Command::OpenObject {
-                root: handle,
-                name: text,
-                attrs: bits,
-                want: kind,
-            },
-        ) => {
-            attrs == bits
-                && root == handle
-                && is_same_want::<T>(*want, *kind)
-                && is_same_text(name, text)
+        _ => false,
+    }
+}
+
+/// Whether a command is this open of a directory.
+fn is_open_directory<K>(
+    command: &Command<K>,
+    root: Option<Handle>,
+    name: &Bytes,
+    attrs: u32,
+) -> bool
+    ensures { IsTrue result ↔ command.now ≡ Command.OpenDirectory root name.now attrs }
+{
+    match command {
+        Command::OpenDirectory {
+            root: handle,
+            name: text,
+            attrs: bits,
+        } => { *bits == attrs && *handle == root && is_same_text(text, name) }
+        _ => false,
+    }
+}
+
+/// Whether a command is this open of a link.
+fn is_open_link<K>(command: &Command<K>, root: Option<Handle>, name: &Bytes, attrs: u32) -> bool
+    ensures { IsTrue result ↔ command.now ≡ Command.OpenLink root name.now attrs }
+{
+    match command {
+        Command::OpenLink {
+            root: handle,
+            name: text,
+            attrs: bits,
+        } => { *bits == attrs && *handle == root && is_same_text(text, name) }
+        _ => false,
+    }
+}
+
+/// Whether a command is this open of an object.
+fn is_open<T: TypeSet>(
+    command: &Command<T::Kind>,
+    root: Option<Handle>,
+    name: &Bytes,
+    attrs: u32,
+    want: Option<T::Kind>,
+) -> bool
+    ensures { IsTrue result ↔ command.now ≡ Command.OpenObject root name.now attrs want }
+{
+    match command {
+        Command::OpenObject {
+            root: handle,
+            name: text,
+            attrs: bits,
+            want: kind,
+        } => {
+            *bits == attrs
+                && *handle == root
+                && is_same_want::<T>(*kind, want)
+                && is_same_text(text, name)
         }
-        (Command::Close { handle }, Command::Close { handle: other })
-        | (Command::QueryLink { handle }, Command::QueryLink { handle: other })
-        | (Command::QueryName { handle }, Command::QueryName { handle: other })
-        | (Command::MakeTemporary { handle }, Command::MakeTemporary { handle: other })
-        | (Command::MakePermanent { handle }, Command::MakePermanent { handle: other })
-        | (Command::SetDeviceMap { handle }, Command::SetDeviceMap { handle: other }) => {
-            handle == other
+        _ => false,
+    }
+}
+
+/// Whether a command is this query of a directory.
+fn is_query<K>(
+    command: &Command<K>,
+    handle: Handle,
+    context: u64,
+    room: u32,
+    single: bool,
+    restart: bool,
+) -> bool
+    ensures { IsTrue result ↔ command.now ≡ Command.QueryDirectory handle context room single restart }
+{
+    match command {
+        Command::QueryDirectory {
+            handle: other,
+            context: stamp,
+            room: bytes,
+            single: is_single,
+            restart: is_restart,
+        } => {
+            *other == handle
+                && *stamp == context
+                && *bytes == room
+                && *is_single == single
+                && *is_restart == restart
         }
-        (
-            Command::QueryDirectory {
-                handle,
-                context,
-                room,
-                single,
-                restart,
-            },
-            Command::QueryDirectory {
-                handle: value,
-                context: stamp,
-                room: bytes,
-                single: is_single,
-                restart: is_restart,
-            },
-        ) => {
-            handle == value
-                && context == stamp
-                && room == bytes
-                && single == is_single
-                && restart == is_restart
-        }
-        (
-            Command::Duplicate {
-                handle,
-                to,
-                inherit,
-            },
-            Command::Duplicate {
-                handle: other,
-                to: process,
-                inherit: is_inherited,
-            },
-        ) => handle == other && to == process && inherit == is_inherited,
-        (
-            Command::NewProcess { inherit },
-            Command::NewProcess {
-                inherit: is_inherited,
-            },
-        ) => inherit == is_inherited,
-        (Command::ExitProcess, Command::ExitProcess) => true,
+        _ => false,
+    }
+}
+
+/// Whether a command is this duplicate of a handle.
+fn is_duplicate<K>(command: &Command<K>, handle: Handle, to: Proc, inherit: bool) -> bool
+    ensures { IsTrue result ↔ command.now ≡ Command.Duplicate handle to inherit }
+{
+    match command {
+        Command::Duplicate {
+            handle: other,
+            to: process,
+            inherit: is_inherited,
+        } => { *other == handle && *process == to && *is_inherited == inherit }
         _ => false,
     }
 }

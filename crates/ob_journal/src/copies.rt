@@ -25,76 +25,85 @@ fn copy_place(alloc: Global, place: &Place) -> Result<Place, AllocError>
     }
 }
 
+/// A copy of a create of a link.
+fn copy_link<K>(
+    alloc: Global,
+    place: &Place,
+    attrs: u32,
+    target: &Bytes,
+) -> Result<Command<K>, AllocError>
+    ensures { IfOk result (λ copy. copy ≡ Command.CreateLink place.now attrs target.now) }
+{
+    let place = copy_place(alloc, place)?;
+    let target = copy_bytes(alloc, target)?;
+    Ok(Command::CreateLink {
+        place,
+        attrs,
+        target,
+    })
+}
+
+/// A copy of a create of an object.
+fn copy_object<K: Copy>(
+    alloc: Global,
+    place: &Place,
+    attrs: u32,
+    kind: K,
+    args: &Bytes,
+) -> Result<Command<K>, AllocError>
+    ensures { IfOk result (λ copy. copy ≡ Command.CreateObject place.now attrs kind args.now) }
+{
+    let place = copy_place(alloc, place)?;
+    let args = copy_bytes(alloc, args)?;
+    Ok(Command::CreateObject {
+        place,
+        attrs,
+        kind,
+        args,
+    })
+}
+
 /// A copy of a command. The only error is out of memory. (this profile)
 pub fn copy_command<K: Copy>(alloc: Global, command: &Command<K>) -> Result<Command<K>, AllocError>
     ensures { IfOk result (λ copy. copy ≡ command.now) }
 {
     match command {
-        Command::CreateDirectory { place, attrs } => {
-            let place = copy_place(alloc, place)?;
-            Ok(Command::CreateDirectory {
-                place,
-                attrs: *attrs,
-            })
-        }
+        Command::CreateDirectory { place, attrs } => Ok(Command::CreateDirectory {
+            place: copy_place(alloc, place)?,
+            attrs: *attrs,
+        }),
         Command::CreateLink {
             place,
             attrs,
             target,
-        } => {
-            let place = copy_place(alloc, place)?;
-            let target = copy_bytes(alloc, target)?;
-            Ok(Command::CreateLink {
-                place,
-                attrs: *attrs,
-                target,
-            })
-        }
+        } => copy_link(alloc, place, *attrs, target),
         Command::CreateObject {
             place,
             attrs,
             kind,
             args,
-        } => {
-            let place = copy_place(alloc, place)?;
-            let args = copy_bytes(alloc, args)?;
-            Ok(Command::CreateObject {
-                place,
-                attrs: *attrs,
-                kind: *kind,
-                args,
-            })
-        }
-        Command::OpenDirectory { root, name, attrs } => {
-            let name = copy_bytes(alloc, name)?;
-            Ok(Command::OpenDirectory {
-                root: *root,
-                name,
-                attrs: *attrs,
-            })
-        }
-        Command::OpenLink { root, name, attrs } => {
-            let name = copy_bytes(alloc, name)?;
-            Ok(Command::OpenLink {
-                root: *root,
-                name,
-                attrs: *attrs,
-            })
-        }
+        } => copy_object(alloc, place, *attrs, *kind, args),
+        Command::OpenDirectory { root, name, attrs } => Ok(Command::OpenDirectory {
+            root: *root,
+            name: copy_bytes(alloc, name)?,
+            attrs: *attrs,
+        }),
+        Command::OpenLink { root, name, attrs } => Ok(Command::OpenLink {
+            root: *root,
+            name: copy_bytes(alloc, name)?,
+            attrs: *attrs,
+        }),
         Command::OpenObject {
             root,
             name,
             attrs,
             want,
-        } => {
-            let name = copy_bytes(alloc, name)?;
-            Ok(Command::OpenObject {
-                root: *root,
-                name,
-                attrs: *attrs,
-                want: *want,
-            })
-        }
+        } => Ok(Command::OpenObject {
+            root: *root,
+            name: copy_bytes(alloc, name)?,
+            attrs: *attrs,
+            want: *want,
+        }),
         Command::Close { handle } => Ok(Command::Close { handle: *handle }),
         Command::QueryLink { handle } => Ok(Command::QueryLink { handle: *handle }),
         Command::QueryName { handle } => Ok(Command::QueryName { handle: *handle }),

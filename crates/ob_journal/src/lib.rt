@@ -11,6 +11,7 @@ mod alike;
 mod copies;
 mod entry;
 mod lines;
+mod members;
 mod replies;
 mod steps;
 mod texts;

@@ -1,15 +1,18 @@
 //! The lines of a journal.
 
-ghost use Rattle.std.specs.Prelude.{◌≡◌, false, IfOk};
-ghost use Rattle.serde_json.specs.View.{view};
+ghost use Rattle.std.specs.Prelude.{◌≡◌, codes, false, IfOk};
+ghost use Rattle.serde_json.specs.Data.{put as with_member};
+ghost use Rattle.serde_json.specs.View.{view, members_view};
 ghost use Rattle.serde_json.specs.Written.{has_float};
-ghost use Rattle.ob_journal.specs.Lines.{header_value, header_line, entry_value, entry_line, line_of};
+ghost use Rattle.ob_journal.specs.Lines.{header_value, header_line, entry_value, entry_line, step_value, line_of};
 
 use crate::entry::Entry;
+use crate::members::with_value;
 use crate::replies::make_answer;
 use crate::steps::make_step;
+use ob_model::Event;
 use ob_types::TypeSet;
-use serde_json::{Value, json};
+use serde_json::{Map, Value};
 use std::alloc::{AllocError, Global};
 
 /// The first line of a journal of version 1: `{"journal":1,"seats":S}` and LF, where S is the number of seats. A journal has 1
@@ -34,7 +37,9 @@ pub fn write_line<T: TypeSet>(alloc: Global, entry: &Entry<T::Kind>) -> Result<V
 fn make_header(alloc: Global, seats: u32) -> Result<Value, AllocError>
     ensures { IfOk result (λ header. view header ≡ header_value seats) }
 {
-    json!(in alloc; {"journal": 1u32, "seats": seats})
+    let header = with_value(alloc, Map::new(alloc), "journal", Value::from(1u32))?;
+    let header = with_value(alloc, header, "seats", Value::from(seats))?;
+    Ok(Value::Object(header))
 }
 
 // The value of an entry.
@@ -42,8 +47,25 @@ fn make_entry<T: TypeSet>(alloc: Global, entry: &Entry<T::Kind>) -> Result<Value
     ensures { IfOk result (λ value. view value ≡ entry_value (T.procedures).type_name entry.now) }
 {
     let reply = make_answer(alloc, &entry.reply)?;
-    let step = make_step::<T>(alloc, &entry.step)?;
-    json!(in alloc; {"n": entry.number, "reply": reply, "seat": entry.seat, "step": step})
+    let line = with_value(alloc, Map::new(alloc), "reply", reply)?;
+    let line = with_value(alloc, line, "n", Value::from(entry.number))?;
+    let line = with_value(alloc, line, "seat", Value::from(entry.seat))?;
+    let line = with_step::<T>(alloc, line, &entry.step)?;
+    Ok(Value::Object(line))
+}
+
+// These members and the value of an event.
+fn with_step<T: TypeSet>(
+    alloc: Global,
+    members: Map<String, Value>,
+    event: &Event<T::Kind>,
+) -> Result<Map<String, Value>, AllocError>
+    ensures { IfOk result (λ more. members_view more.entries
+        ≡ with_member (codes "step") (step_value (T.procedures).type_name event.now)
+        (members_view members.entries)) }
+{
+    let step = make_step::<T>(alloc, event)?;
+    with_value(alloc, members, "step", step)
 }
 
 // The line of a value, which has no floats.

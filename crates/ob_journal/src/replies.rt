@@ -1,13 +1,14 @@
 //! The values of replies.
 
-ghost use Rattle.std.specs.Prelude.{◌≡◌, IfOk};
-ghost use Rattle.serde_json.specs.View.{view, items_view};
-ghost use Rattle.ob_journal.specs.Lines.{answer_value, reply_value, listed_value, number_value, items_of};
+ghost use Rattle.std.specs.Prelude.{◌≡◌, ◌∷◌, [], codes, IfOk};
+ghost use Rattle.serde_json.specs.View.{view, items_view, members_view};
+ghost use Rattle.ob_journal.specs.Lines.{answer_value, reply_value, listed_value, number_value, items_of, members_of};
 
+use crate::members::{with_text, with_value};
 use crate::texts::escape;
 use ob_base::{Handle, Proc};
 use ob_model::{Answer, Bytes, Given, Handles, Listed, Reply};
-use serde_json::{Value, json};
+use serde_json::{Map, Value, json};
 use std::alloc::{AllocError, Global};
 
 /// The value of how an event ended, under the key `reply`. The only error is out of memory. (this profile)
@@ -16,8 +17,16 @@ pub(crate) fn make_answer(alloc: Global, answer: &Answer) -> Result<Value, Alloc
 {
     match answer {
         Answer::Done(reply) => make_reply(alloc, reply.status.code(), &reply.given),
-        Answer::Ticket(ticket) => json!(in alloc; {"ticket": *ticket}),
+        Answer::Ticket(ticket) => make_ticket(alloc, *ticket),
     }
+}
+
+// The value of a ticket.
+fn make_ticket(alloc: Global, ticket: u64) -> Result<Value, AllocError>
+    ensures { IfOk result (λ reply. view reply ≡ answer_value (Answer.Ticket ticket)) }
+{
+    let reply = with_value(alloc, Map::new(alloc), "ticket", Value::from(ticket))?;
+    Ok(Value::Object(reply))
 }
 
 // The value of a status and of what is given with it.
@@ -25,8 +34,8 @@ fn make_reply(alloc: Global, status: u32, given: &Given) -> Result<Value, AllocE
     ensures { IfOk result (λ reply. view reply ≡ reply_value status given.now) }
 {
     match given {
-        Given::Nothing => json!(in alloc; {"status": status}),
-        Given::Handle(handle) => json!(in alloc; {"handle": handle.0, "status": status}),
+        Given::Nothing => Ok(Value::Object(begin_reply(alloc, status)?)),
+        Given::Handle(handle) => make_handle(alloc, status, *handle),
         Given::Text(text) => make_text(alloc, status, text),
         Given::Process(process, handles) => make_process(
             alloc,
@@ -38,12 +47,30 @@ fn make_reply(alloc: Global, status: u32, given: &Given) -> Result<Value, AllocE
     }
 }
 
+// The member of each reply.
+fn begin_reply(alloc: Global, status: u32) -> Result<Map<String, Value>, AllocError>
+    ensures { IfOk result (λ reply. members_view reply.entries
+        ≡ members_of ((codes "status", number_value status) ∷ [])) }
+{
+    with_value(alloc, Map::new(alloc), "status", Value::from(status))
+}
+
+// The value of a handle that is given.
+fn make_handle(alloc: Global, status: u32, handle: Handle) -> Result<Value, AllocError>
+    ensures { IfOk result (λ reply. view reply ≡ reply_value status (Given.Handle handle)) }
+{
+    let reply = begin_reply(alloc, status)?;
+    let reply = with_value(alloc, reply, "handle", Value::from(handle.0))?;
+    Ok(Value::Object(reply))
+}
+
 // The value of a text that is given.
 fn make_text(alloc: Global, status: u32, text: &Bytes) -> Result<Value, AllocError>
     ensures { IfOk result (λ reply. view reply ≡ reply_value status (Given.Text text.now)) }
 {
-    let text = escape(alloc, text.as_slice())?;
-    json!(in alloc; {"status": status, "text": text})
+    let reply = begin_reply(alloc, status)?;
+    let reply = with_text(alloc, reply, "text", text.as_slice())?;
+    Ok(Value::Object(reply))
 }
 
 // The value of a process that is given.
@@ -57,7 +84,10 @@ fn make_process(
         ≡ reply_value status (Given.Process process handles.now)) }
 {
     let handles = make_handles(alloc, handles)?;
-    json!(in alloc; {"handles": handles, "process": process.0, "status": status})
+    let reply = with_value(alloc, Map::new(alloc), "handles", Value::Array(handles))?;
+    let reply = with_value(alloc, reply, "process", Value::from(process.0))?;
+    let reply = with_value(alloc, reply, "status", Value::from(status))?;
+    Ok(Value::Object(reply))
 }
 
 // The value of a page that is given.
@@ -71,7 +101,10 @@ fn make_page(
         ≡ reply_value status (Given.Page entries.now context)) }
 {
     let entries = make_entries(alloc, entries)?;
-    json!(in alloc; {"context": context, "entries": entries, "status": status})
+    let reply = with_value(alloc, Map::new(alloc), "entries", Value::Array(entries))?;
+    let reply = with_value(alloc, reply, "context", Value::from(context))?;
+    let reply = with_value(alloc, reply, "status", Value::from(status))?;
+    Ok(Value::Object(reply))
 }
 
 // The values of handles.

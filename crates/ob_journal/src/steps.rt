@@ -1,17 +1,19 @@
 //! The values of steps.
 
-ghost use Rattle.std.specs.Prelude.{◌≡◌, IfOk};
-ghost use Rattle.serde_json.specs.View.{view};
+ghost use Rattle.std.specs.Prelude.{◌≡◌, ◌∷◌, [], codes, IfOk};
+ghost use Rattle.serde_json.specs.Data.{string, put as with_member};
+ghost use Rattle.serde_json.specs.View.{view, members_view};
 ghost use Rattle.ob_journal.specs.Words.{operation_word};
 ghost use Rattle.ob_journal.specs.Lines.{step_value, command_step, open_step, handle_step, brought_step};
-ghost use Rattle.ob_journal.specs.Lines.{value_or_null, number_value, text_value, kind_value, root_of, name_of};
+ghost use Rattle.ob_journal.specs.Lines.{members_of, value_or_null, number_value, text_value, kind_value};
+ghost use Rattle.ob_journal.specs.Lines.{root_of, name_of};
 
-use crate::texts::escape;
+use crate::members::{with_text, with_value, with_word};
 use crate::words::{Operation, word_of_parse};
 use ob_base::{Handle, Proc};
 use ob_model::{Bytes, Command, Event, ParseRun, Place};
 use ob_types::TypeSet;
-use serde_json::{Value, json};
+use serde_json::{Map, Value};
 use std::alloc::{AllocError, Global};
 
 /// The value of an event, under the key `step`. The only error is out of memory. (this profile)
@@ -114,14 +116,8 @@ fn make_directory<T: TypeSet>(
     ensures { IfOk result (λ step. view step
         ≡ command_step (T.procedures).type_name process (Command.CreateDirectory place.now attrs)) }
 {
-    let name = make_name(alloc, place)?;
-    json!(in alloc; {
-        "flags": attrs,
-        "name": name,
-        "op": Operation::Directory.word(),
-        "proc": process.0,
-        "root": make_root(place),
-    })
+    let step = begin_create(alloc, Operation::Directory, process, place, attrs)?;
+    Ok(Value::Object(step))
 }
 
 // The value of a create of a link.
@@ -136,16 +132,9 @@ fn make_link<T: TypeSet>(
         ≡ command_step (T.procedures).type_name process
         (Command.CreateLink place.now attrs target.now)) }
 {
-    let name = make_name(alloc, place)?;
-    let target = escape(alloc, target.as_slice())?;
-    json!(in alloc; {
-        "flags": attrs,
-        "name": name,
-        "op": Operation::Link.word(),
-        "proc": process.0,
-        "root": make_root(place),
-        "target": target,
-    })
+    let step = begin_create(alloc, Operation::Link, process, place, attrs)?;
+    let step = with_text(alloc, step, "target", target.as_slice())?;
+    Ok(Value::Object(step))
 }
 
 // The value of a create of an object.
@@ -161,17 +150,10 @@ fn make_object<T: TypeSet>(
         ≡ command_step (T.procedures).type_name process
         (Command.CreateObject place.now attrs kind args.now)) }
 {
-    let name = make_name(alloc, place)?;
-    let args = escape(alloc, args.as_slice())?;
-    json!(in alloc; {
-        "args": args,
-        "flags": attrs,
-        "kind": T::type_name(kind),
-        "name": name,
-        "op": Operation::Make.word(),
-        "proc": process.0,
-        "root": make_root(place),
-    })
+    let step = begin_create(alloc, Operation::Make, process, place, attrs)?;
+    let step = with_text(alloc, step, "args", args.as_slice())?;
+    let step = with_word(alloc, step, "kind", T::type_name(kind))?;
+    Ok(Value::Object(step))
 }
 
 // The value of an open of a directory or a link.
@@ -186,14 +168,8 @@ fn make_open(
     ensures { IfOk result (λ step. view step
         ≡ open_step (operation_word operation) process root name.now attrs) }
 {
-    let name = escape(alloc, name.as_slice())?;
-    json!(in alloc; {
-        "flags": attrs,
-        "name": name,
-        "op": operation.word(),
-        "proc": process.0,
-        "root": make_handle_or_null(root),
-    })
+    let step = begin_open(alloc, operation, process, root, name, attrs)?;
+    Ok(Value::Object(step))
 }
 
 // The value of an open of an object.
@@ -209,16 +185,9 @@ fn make_open_object<T: TypeSet>(
         ≡ command_step (T.procedures).type_name process
         (Command.OpenObject root name.now attrs want)) }
 {
-    let name = escape(alloc, name.as_slice())?;
-    let want = make_want::<T>(alloc, want)?;
-    json!(in alloc; {
-        "flags": attrs,
-        "name": name,
-        "op": Operation::Open.word(),
-        "proc": process.0,
-        "root": make_handle_or_null(root),
-        "want": want,
-    })
+    let step = begin_open(alloc, Operation::Open, process, root, name, attrs)?;
+    let step = with_want::<T>(alloc, step, want)?;
+    Ok(Value::Object(step))
 }
 
 // The value of a step that takes a handle and nothing else.
@@ -231,7 +200,9 @@ fn make_handle(
     ensures { IfOk result (λ step. view step
         ≡ handle_step (operation_word operation) process handle) }
 {
-    json!(in alloc; {"handle": handle.0, "op": operation.word(), "proc": process.0})
+    let step = begin_step(alloc, operation, process)?;
+    let step = with_value(alloc, step, "handle", Value::from(handle.0))?;
+    Ok(Value::Object(step))
 }
 
 // The value of a query of a directory.
@@ -248,15 +219,13 @@ fn make_query<T: TypeSet>(
         ≡ command_step (T.procedures).type_name process
         (Command.QueryDirectory handle context room single restart)) }
 {
-    json!(in alloc; {
-        "context": context,
-        "handle": handle.0,
-        "op": Operation::Page.word(),
-        "proc": process.0,
-        "restart": restart,
-        "room": room,
-        "single": single,
-    })
+    let step = begin_step(alloc, Operation::Page, process)?;
+    let step = with_value(alloc, step, "context", Value::from(context))?;
+    let step = with_value(alloc, step, "handle", Value::from(handle.0))?;
+    let step = with_value(alloc, step, "restart", Value::Bool(restart))?;
+    let step = with_value(alloc, step, "room", Value::from(room))?;
+    let step = with_value(alloc, step, "single", Value::Bool(single))?;
+    Ok(Value::Object(step))
 }
 
 // The value of a duplicate of a handle.
@@ -270,13 +239,11 @@ fn make_duplicate<T: TypeSet>(
     ensures { IfOk result (λ step. view step
         ≡ command_step (T.procedures).type_name process (Command.Duplicate handle to inherit)) }
 {
-    json!(in alloc; {
-        "handle": handle.0,
-        "inherit": inherit,
-        "op": Operation::Duplicate.word(),
-        "proc": process.0,
-        "to": to.0,
-    })
+    let step = begin_step(alloc, Operation::Duplicate, process)?;
+    let step = with_value(alloc, step, "handle", Value::from(handle.0))?;
+    let step = with_value(alloc, step, "inherit", Value::Bool(inherit))?;
+    let step = with_value(alloc, step, "to", Value::from(to.0))?;
+    Ok(Value::Object(step))
 }
 
 // The value of the making of a child.
@@ -284,7 +251,9 @@ fn make_child<T: TypeSet>(alloc: Global, process: Proc, inherit: bool) -> Result
     ensures { IfOk result (λ step. view step
         ≡ command_step (T.procedures).type_name process (Command.NewProcess inherit)) }
 {
-    json!(in alloc; {"inherit": inherit, "op": Operation::NewProcess.word(), "proc": process.0})
+    let step = begin_step(alloc, Operation::NewProcess, process)?;
+    let step = with_value(alloc, step, "inherit", Value::Bool(inherit))?;
+    Ok(Value::Object(step))
 }
 
 // The value of the end of a process.
@@ -292,7 +261,7 @@ fn make_exit<T: TypeSet>(alloc: Global, process: Proc) -> Result<Value, AllocErr
     ensures { IfOk result (λ step. view step
         ≡ command_step (T.procedures).type_name process Command.ExitProcess) }
 {
-    json!(in alloc; {"op": Operation::Exit.word(), "proc": process.0})
+    Ok(Value::Object(begin_step(alloc, Operation::Exit, process)?))
 }
 
 // The value of what is brought to a pending open.
@@ -305,16 +274,82 @@ fn make_brought(
     ensures { IfOk result (λ step. view step
         ≡ brought_step (operation_word operation) ticket parse) }
 {
-    json!(in alloc; {"op": operation.word(), "parse": word_of_parse(parse), "ticket": ticket})
+    let step = with_word(alloc, Map::new(alloc), "op", operation.word())?;
+    let step = with_word(alloc, step, "parse", word_of_parse(parse))?;
+    let step = with_value(alloc, step, "ticket", Value::from(ticket))?;
+    Ok(Value::Object(step))
 }
 
-// The name of a place, or null.
-fn make_name(alloc: Global, place: &Place) -> Result<Value, AllocError>
-    ensures { IfOk result (λ name. view name ≡ value_or_null text_value (name_of place.now)) }
+// The members of each step of a process.
+fn begin_step(
+    alloc: Global,
+    operation: Operation,
+    process: Proc,
+) -> Result<Map<String, Value>, AllocError>
+    ensures { IfOk result (λ step. members_view step.entries
+        ≡ members_of ((codes "op", string (operation_word operation))
+        ∷ (codes "proc", number_value process) ∷ [])) }
+{
+    let step = with_word(alloc, Map::new(alloc), "op", operation.word())?;
+    with_value(alloc, step, "proc", Value::from(process.0))
+}
+
+// The members of each create.
+fn begin_create(
+    alloc: Global,
+    operation: Operation,
+    process: Proc,
+    place: &Place,
+    attrs: u32,
+) -> Result<Map<String, Value>, AllocError>
+    ensures { IfOk result (λ step. members_view step.entries
+        ≡ members_of ((codes "flags", number_value attrs)
+        ∷ (codes "name", value_or_null text_value (name_of place.now))
+        ∷ (codes "op", string (operation_word operation))
+        ∷ (codes "proc", number_value process)
+        ∷ (codes "root", value_or_null number_value (root_of place.now)) ∷ [])) }
+{
+    let step = begin_step(alloc, operation, process)?;
+    let step = with_value(alloc, step, "flags", Value::from(attrs))?;
+    let step = with_name(alloc, step, place)?;
+    with_value(alloc, step, "root", make_root(place))
+}
+
+// The members of each open.
+fn begin_open(
+    alloc: Global,
+    operation: Operation,
+    process: Proc,
+    root: Option<Handle>,
+    name: &Bytes,
+    attrs: u32,
+) -> Result<Map<String, Value>, AllocError>
+    ensures { IfOk result (λ step. members_view step.entries
+        ≡ members_of ((codes "flags", number_value attrs)
+        ∷ (codes "name", text_value name.now)
+        ∷ (codes "op", string (operation_word operation))
+        ∷ (codes "proc", number_value process)
+        ∷ (codes "root", value_or_null number_value root) ∷ [])) }
+{
+    let step = begin_step(alloc, operation, process)?;
+    let step = with_value(alloc, step, "flags", Value::from(attrs))?;
+    let step = with_text(alloc, step, "name", name.as_slice())?;
+    with_value(alloc, step, "root", make_handle_or_null(root))
+}
+
+// These members and the name of a place, or null.
+fn with_name(
+    alloc: Global,
+    members: Map<String, Value>,
+    place: &Place,
+) -> Result<Map<String, Value>, AllocError>
+    ensures { IfOk result (λ more. members_view more.entries
+        ≡ with_member (codes "name") (value_or_null text_value (name_of place.now))
+        (members_view members.entries)) }
 {
     match place {
-        Place::At { name, .. } => Ok(Value::String(escape(alloc, name.as_slice())?)),
-        Place::Unnamed => Ok(Value::Null),
+        Place::At { name, .. } => with_text(alloc, members, "name", name.as_slice()),
+        Place::Unnamed => with_value(alloc, members, "name", Value::Null),
     }
 }
 
@@ -338,13 +373,18 @@ fn make_handle_or_null(handle: Option<Handle>) -> Value
     }
 }
 
-// The type that an open asks for, or null.
-fn make_want<T: TypeSet>(alloc: Global, want: Option<T::Kind>) -> Result<Value, AllocError>
-    ensures { IfOk result (λ value. view value
-        ≡ value_or_null (kind_value (T.procedures).type_name) want) }
+// These members and the type that an open asks for, or null.
+fn with_want<T: TypeSet>(
+    alloc: Global,
+    members: Map<String, Value>,
+    want: Option<T::Kind>,
+) -> Result<Map<String, Value>, AllocError>
+    ensures { IfOk result (λ more. members_view more.entries
+        ≡ with_member (codes "want") (value_or_null (kind_value (T.procedures).type_name) want)
+        (members_view members.entries)) }
 {
     match want {
-        Some(kind) => Value::try_from_str(alloc, T::type_name(kind)),
-        None => Ok(Value::Null),
+        Some(kind) => with_word(alloc, members, "want", T::type_name(kind)),
+        None => with_value(alloc, members, "want", Value::Null),
     }
 }

@@ -79,61 +79,27 @@ impl Operation {
     pub fn from_word(word: &str) -> Option<Operation>
         ensures { result ≡ operation_for word.now }
     {
-        if word == "dir" {
-            return Some(Operation::Directory);
+        match word {
+            "dir" => Some(Operation::Directory),
+            "link" => Some(Operation::Link),
+            "make" => Some(Operation::Make),
+            "opendir" => Some(Operation::OpenDirectory),
+            "openlink" => Some(Operation::OpenLink),
+            "open" => Some(Operation::Open),
+            "close" => Some(Operation::Close),
+            "temp" => Some(Operation::Temporary),
+            "perm" => Some(Operation::Permanent),
+            "target" => Some(Operation::Target),
+            "name" => Some(Operation::Name),
+            "map" => Some(Operation::DeviceMap),
+            "dup" => Some(Operation::Duplicate),
+            "list" => Some(Operation::Page),
+            "new" => Some(Operation::NewProcess),
+            "exit" => Some(Operation::Exit),
+            "resume" => Some(Operation::Resume),
+            "abandon" => Some(Operation::Abandon),
+            _ => None,
         }
-        if word == "link" {
-            return Some(Operation::Link);
-        }
-        if word == "make" {
-            return Some(Operation::Make);
-        }
-        if word == "opendir" {
-            return Some(Operation::OpenDirectory);
-        }
-        if word == "openlink" {
-            return Some(Operation::OpenLink);
-        }
-        if word == "open" {
-            return Some(Operation::Open);
-        }
-        if word == "close" {
-            return Some(Operation::Close);
-        }
-        if word == "temp" {
-            return Some(Operation::Temporary);
-        }
-        if word == "perm" {
-            return Some(Operation::Permanent);
-        }
-        if word == "target" {
-            return Some(Operation::Target);
-        }
-        if word == "name" {
-            return Some(Operation::Name);
-        }
-        if word == "map" {
-            return Some(Operation::DeviceMap);
-        }
-        if word == "dup" {
-            return Some(Operation::Duplicate);
-        }
-        if word == "list" {
-            return Some(Operation::Page);
-        }
-        if word == "new" {
-            return Some(Operation::NewProcess);
-        }
-        if word == "exit" {
-            return Some(Operation::Exit);
-        }
-        if word == "resume" {
-            return Some(Operation::Resume);
-        }
-        if word == "abandon" {
-            return Some(Operation::Abandon);
-        }
-        None
     }
 }
 
@@ -153,14 +119,10 @@ pub fn word_of_parse(parse: ParseRun) -> &'static str
 pub fn parse_of_word(word: &str) -> Option<ParseRun>
     ensures { result ≡ parse_for word.now }
 {
-    if word == "none" {
-        return Some(ParseRun::Unrun);
+    match word {
+        "none" => Some(ParseRun::Unrun),
+        "ran" => Some(ParseRun::Ran),
+        "nomem" => Some(ParseRun::NoMemory),
+        _ => None,
     }
-    if word == "ran" {
-        return Some(ParseRun::Ran);
-    }
-    if word == "nomem" {
-        return Some(ParseRun::NoMemory);
-    }
-    None
 }
