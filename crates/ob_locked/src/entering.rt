@@ -12,7 +12,8 @@ use crate::place::ReceiptPlace;
 use ob_base::{Fault, Status};
 use ob_journal::Entry;
 use ob_types::TypeSet;
-use std::alloc::Global;
+use std::alloc::{AllocError, Global};
+use std::mem;
 use std::sync::ledger::{Book, Ledger};
 
 /// The most entries of a journal.
@@ -58,18 +59,29 @@ pub(crate) fn admit<T: TypeSet, L: Ledger>(
     if MOST_ENTRIES - journal.len() - reserved < PLACES_OF_START {
         return Err(Fault::Refused(Status::JournalFull));
     }
-    let place = ReceiptPlace::new(alloc)?;
-    let later = ReceiptPlace::new(alloc)?;
     journal.reserve(reserved + PLACES_OF_START)?;
     let writer = Writer {
         number: journal.len() as u64 + 1,
         seat: pass.seat(),
     };
+    let (place, later) = two_places(alloc)?;
     Ok(StartRoom {
         writer,
         place,
         later,
     })
+}
+
+/// Two places. The only error is out of memory.
+fn two_places<K: Copy>(alloc: Global) -> Result<(ReceiptPlace<K>, ReceiptPlace<K>), AllocError> {
+    let place = ReceiptPlace::new(alloc)?;
+    match ReceiptPlace::new(alloc) {
+        Ok(later) => Ok((place, later)),
+        Err(refused) => {
+            mem::drop(place);
+            Err(refused)
+        }
+    }
 }
 
 /// Adds an entry to the journal, which has room for it, and its receipt to the pass. Takes no memory.
@@ -94,5 +106,5 @@ pub(crate) fn enter<K: Copy, L: Ledger>(
     ensures counted { book.new.total ≡ book.old.total + 1 }
 {
     pass.receive(book, place, receipt);
-    let _ = journal.push(entry);
+    mem::drop(journal.push(entry));
 }

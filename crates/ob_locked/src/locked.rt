@@ -27,6 +27,7 @@ use ob_model::Command;
 use ob_types::TypeSet;
 use std::alloc::Global;
 use std::marker::Model;
+use std::mem;
 use std::snapshot::Snapshot;
 use std::sync::ledger::{Blank, Book, Ledger, Share};
 
@@ -164,7 +165,13 @@ impl<T: TypeSet, H: HandleTable, L: Ledger> Locked<T, H, L> {
             (places_for self.old.state.pending) pass.old.receipts fault) }
     {
         let room = admit::<T, L>(&mut self.journal, self.reserved, pass, alloc)?;
-        let made = start_core(&mut self.core, alloc, room.writer, process, command)?;
+        let made = match start_core(&mut self.core, alloc, room.writer, process, command) {
+            Ok(made) => made,
+            Err(fault) => {
+                mem::drop(room);
+                return Err(fault);
+            }
+        };
         let StartRoom {
             writer: _,
             place,
@@ -184,7 +191,10 @@ impl<T: TypeSet, H: HandleTable, L: Ledger> Locked<T, H, L> {
             receipt,
         );
         match started {
-            CoreStarted::Done(reply) => Ok(Started::Done(reply)),
+            CoreStarted::Done(reply) => {
+                mem::drop(later);
+                Ok(Started::Done(reply))
+            }
             CoreStarted::Parsing(parsing) => {
                 self.reserved += places_at(&self.core, parsing.ticket());
                 Ok(Started::Parsing(Parsing::new(parsing, later)))
@@ -226,7 +236,10 @@ impl<T: TypeSet, H: HandleTable, L: Ledger> Locked<T, H, L> {
         let writer = next_writer(self.journal.as_slice(), pass.seat());
         let made = match resume_core(&mut self.core, writer, parsed) {
             Ok(made) => made,
-            Err((fault, back)) => return Err((fault, Parsed::new(back, place))),
+            Err((fault, back)) => {
+                mem::drop(later);
+                return Err((fault, Parsed::new(back, place)));
+            }
         };
         let Made {
             started,
@@ -243,7 +256,10 @@ impl<T: TypeSet, H: HandleTable, L: Ledger> Locked<T, H, L> {
         );
         self.reserved = left;
         match started {
-            CoreStarted::Done(reply) => Ok(Started::Done(reply)),
+            CoreStarted::Done(reply) => {
+                mem::drop(later);
+                Ok(Started::Done(reply))
+            }
             CoreStarted::Parsing(parsing) => {
                 self.reserved += places_at(&self.core, parsing.ticket());
                 Ok(Started::Parsing(Parsing::new(parsing, later)))
@@ -267,7 +283,10 @@ impl<T: TypeSet, H: HandleTable, L: Ledger> Locked<T, H, L> {
         let writer = next_writer(self.journal.as_slice(), pass.seat());
         let twice = match abandon_core(&mut self.core, writer, brought) {
             Some(twice) => twice,
-            None => return false,
+            None => {
+                mem::drop(place);
+                return false;
+            }
         };
         let Twice { entry, receipt } = twice;
         enter(

@@ -21,6 +21,7 @@ use ob_journal::{Entry, copy_command};
 use ob_model::{Answer, Command, Event, Given, ParseRun, Reply};
 use ob_types::TypeSet;
 use std::alloc::{AllocError, Global};
+use std::mem;
 
 /// Who makes a step, and the number of its entry.
 #[derive(Clone, Copy)]
@@ -69,7 +70,14 @@ pub(crate) fn start_core<T: TypeSet, H: HandleTable>(
 {
     let asked = asked_twice(core, alloc, process, command)?;
     core.state_is_sound();
-    match core.start(process, command)? {
+    let started = match core.start(process, command) {
+        Ok(started) => started,
+        Err(fault) => {
+            mem::drop(asked);
+            return Err(fault);
+        }
+    };
+    match started {
         Started::Done(reply) => {
             let Twice { entry, receipt } = told_twice(alloc, writer, process, asked, &reply)?;
             Ok(Made {
@@ -109,12 +117,9 @@ fn asked_of<T: TypeSet, H: HandleTable>(
     ensures fits { IfOk result (λ asked.
         values_wanted (table_size core.now process) command.now ≤ vec_capacity asked.room) }
 {
-    let command_copy = copy_command(alloc, command)?;
     let room = Vec::with_capacity(alloc, values_of(core, process, command))?;
-    Ok(Asked {
-        command: command_copy,
-        room,
-    })
+    let command = copy_command(alloc, command)?;
+    Ok(Asked { command, room })
 }
 
 /// The same twice.
@@ -134,8 +139,13 @@ fn asked_twice<T: TypeSet, H: HandleTable>(
         values_wanted (table_size core.now process) command.now ≤ vec_capacity asked.1.room) }
 {
     let asked = asked_of(core, alloc, process, command)?;
-    let again = asked_of(core, alloc, process, command)?;
-    Ok((asked, again))
+    match asked_of(core, alloc, process, command) {
+        Ok(again) => Ok((asked, again)),
+        Err(refused) => {
+            mem::drop(asked);
+            Err(refused)
+        }
+    }
 }
 
 /// The entry of a start that was replied to. Memory is taken for a text or a page alone.
@@ -153,8 +163,13 @@ fn entry_told<K: Drop>(
     ensures without_memory { OnErr result (wants_memory reply.now.given ≡ true) }
 {
     let Asked { command, room } = asked;
-    let told = copy_in(alloc, reply, room)?;
-    Ok(entry_of(writer, started_by(process, command), Answer::Done(told)))
+    match copy_in(alloc, reply, room) {
+        Ok(told) => Ok(entry_of(writer, started_by(process, command), Answer::Done(told))),
+        Err(refused) => {
+            mem::drop(command);
+            Err(refused)
+        }
+    }
 }
 
 /// The same twice.
@@ -176,9 +191,20 @@ fn told_twice<K: Drop>(
     ensures without_memory { OnErr result (wants_memory reply.now.given ≡ true) }
 {
     let (asked, again) = asked;
-    let entry = entry_told(alloc, writer, process, asked, reply)?;
-    let receipt = entry_told(alloc, writer, process, again, reply)?;
-    Ok(Twice { entry, receipt })
+    let entry = match entry_told(alloc, writer, process, asked, reply) {
+        Ok(entry) => entry,
+        Err(refused) => {
+            mem::drop(again);
+            return Err(refused);
+        }
+    };
+    match entry_told(alloc, writer, process, again, reply) {
+        Ok(receipt) => Ok(Twice { entry, receipt }),
+        Err(refused) => {
+            mem::drop(entry);
+            Err(refused)
+        }
+    }
 }
 
 /// The entry of a start whose open waits under a ticket.

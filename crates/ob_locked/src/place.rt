@@ -7,6 +7,7 @@ use ob_model::{Answer, Event, ParseRun};
 use std::alloc::{AllocError, Global};
 use std::collections::LinkedList;
 use std::marker::Model;
+use std::mem;
 
 /// The place of one receipt, which is made before the step that fills it, so that no memory is wanted then. It may be let go.
 #[derive(Drop)]
@@ -37,8 +38,13 @@ impl<K: Copy> ReceiptPlace<K> {
             },
             reply: Answer::Ticket(0),
         };
-        cell.push_back(blank)?;
-        Ok(ReceiptPlace { cell })
+        match cell.push_back(blank) {
+            Ok(()) => Ok(ReceiptPlace { cell }),
+            Err(refused) => {
+                mem::drop(cell);
+                Err(refused.into())
+            }
+        }
     }
 
     /// Puts a receipt behind these. Takes no memory.
@@ -47,9 +53,11 @@ impl<K: Copy> ReceiptPlace<K> {
         ensures { receipts.new ≡ receipts.old ++ receipt ∷ [] }
     {
         let ReceiptPlace { mut cell } = self;
-        if let Some(place) = cell.front_mut() {
-            *place = receipt;
+        match cell.front_mut() {
+            Some(place) => mem::drop(mem::replace(place, receipt)),
+            None => mem::drop(receipt),
         }
         let _ = receipts.append(&mut cell);
+        mem::drop(cell);
     }
 }

@@ -4,7 +4,7 @@ use Rattle.ob_model.specs.declared.reply.Answer.TheVariants.{Done, Ticket}
 use Rattle.ob_model.specs.declared.reply.Event.TheVariants.{Resume}
 use Rattle.ob_types.specs.Brought.{run_of_end}
 use Rattle.ob_types.specs.Parse.{asked_of}
-use Rattle.ob_opens.specs.Waiting.{answer_of}
+use Rattle.ob_opens.specs.Waiting.{answer_of, IfParsing, IsAwaited, IsParseOf}
 use Rattle.ob_locked.specs.Locked.{IsKept}
 use Rattle.ob_locked.specs.Passed.{IsKnown}
 use Rattle.ob_locked.specs.Places.{places_of}
@@ -36,8 +36,8 @@ enter-requires-clause-room g c =
     (c.self.inside.journal.items ++ entry ∷ []) made.step made.entry (omega (arith, c.next_writer-writer.ensures.number, c.as_slice-2.ensures.len, c.self.inside.journal.ok)) refl q.ticket made.pending in
     omega (arith, one, c.self.inside.journal.ok)
 
-pub invariant_of-self-in-Done-1 : goal.invariant_of-self-in-Done-1
-invariant_of-self-in-Done-1 g c =
+pub invariant_of-self-in-Done : goal.invariant_of-self-in-Done
+invariant_of-self-in-Done g c =
     let made = c.in-Ok-resume_core.ensures in
     let q = c.into_parts-parsed.result.0 in
     let entry = c.in-Ok-resume_core.made.entry in
@@ -85,3 +85,28 @@ returns-in-Parsing-clause-made g c =
     c.next_writer-writer.result.number c.next_writer-writer.result.seat c.in-Ok-resume_core.made.entry c.in-Ok-resume_core.made.receipt
     (ap (λ x. Resume x.ticket (run_of_end x.outcome)) c.into_parts-parsed.ensures) (ap answer_of c.in-Parsing.is ∙ ap (λ x. Ticket x.ticket) (sym c.new-in-Parsing.ensures)) made.step refl c.enter.ensures.journal c.enter.ensures.pass made.entry made.receipt
     (omega (arith, c.next_writer-writer.ensures.number, c.as_slice-2.ensures.len, c.self.inside.journal.ok)) (c.next_writer-writer.ensures.seat ∙ c.seat.ensures))
+
+pub returns-in-Done-clause-known : goal.returns-in-Done-clause-known
+returns-in-Done-clause-known g c =
+    subst (λ h. IsKnown h.journal c.args.pass.now.receipts) c.self.view_is
+    (subst (λ xs. IsKnown xs c.args.pass.now.receipts) c.as_slice.ensures.value (c.is_known.ensures.0 c.if-not-is_known.false))
+
+pub returns-in-Parsing-clause-known : goal.returns-in-Parsing-clause-known
+returns-in-Parsing-clause-known g c =
+    subst (λ h. IsKnown h.journal c.args.pass.now.receipts) c.self.view_is
+    (subst (λ xs. IsKnown xs c.args.pass.now.receipts) c.as_slice.ensures.value (c.is_known.ensures.0 c.if-not-is_known.false))
+
+pub returns-in-Done-clause-awaited : goal.returns-in-Done-clause-awaited
+returns-in-Done-clause-awaited g c =
+    subst (λ h. IsAwaited g.T.TypeSet.procedures h.state (asked_of c.args.parsed)) c.self.view_is
+    (subst (λ p. IsAwaited g.T.TypeSet.procedures c.self.inside.core (asked_of p)) c.into_parts-parsed.ensures c.in-Ok-resume_core.ensures.awaited)
+
+pub returns-in-Parsing-clause-awaited : goal.returns-in-Parsing-clause-awaited
+returns-in-Parsing-clause-awaited g c =
+    subst (λ h. IsAwaited g.T.TypeSet.procedures h.state (asked_of c.args.parsed)) c.self.view_is
+    (subst (λ p. IsAwaited g.T.TypeSet.procedures c.self.inside.core (asked_of p)) c.into_parts-parsed.ensures c.in-Ok-resume_core.ensures.awaited)
+
+pub returns-in-Parsing-clause-waits : goal.returns-in-Parsing-clause-waits
+returns-in-Parsing-clause-waits g c =
+    subst (λ p. IsParseOf c.resume_core.new.core p) (sym c.new-in-Parsing.ensures)
+    (subst (λ s. IfParsing s (IsParseOf c.resume_core.new.core)) c.in-Parsing.is c.in-Ok-resume_core.ensures.parse)
