@@ -49,24 +49,49 @@ pub(crate) fn begin<T: TypeSet, H: HandleTable>(
     ensures unchanged { OnErr result (space.new ≡ space.old) }
 {
     if is_store_full(space) {
+        drop(rest);
         return Ok(Started::Done(status_alone(Status::InsufficientResources)));
     }
+    let parts = parts_of_parse(space, object, &rest);
+    drop(rest);
+    let (face, asked, kept) = parts?;
+    match begin_parse(space, request, object, kept, left) {
+        Ok(ticket) => Ok(Started::Parsing(Parsing::new(ticket, face, asked))),
+        Err(fault) => {
+            drop(face);
+            drop(asked);
+            Err(fault)
+        }
+    }
+}
+
+/// What is taken for a parse that is waited for: the face of the object, and what follows the object in the name, once
+/// for the parse and once for the open that waits.
+pub(crate) fn parts_of_parse<T: TypeSet, H: HandleTable>(
+    space: &Space<T, H>,
+    object: ObjId,
+    rest: &Remainder<'_>,
+) -> Result<(Arc<T::Face, Global>, Bytes, Bytes), AllocError>
+    requires parses { IsParsing T.procedures space.now object }
+    ensures face { IfOk result (λ parts. face_of space.now object ≡ Some (arc_value parts.0)) }
+    ensures asked { IfOk result (λ parts. parts.1 ≡ rest.now) }
+    ensures kept { IfOk result (λ parts. parts.2 ≡ rest.now) }
+{
     let face = face_at(space, object)?;
-    let asked = text_of(space.alloc, &rest)?;
-    let kept = text_of(space.alloc, &rest)?;
-    let ticket = begin_parse(space, request, object, kept, left)?;
-    Ok(Started::Parsing(Parsing::new(ticket, face, asked)))
+    let asked = text_of(space.alloc, rest)?;
+    let kept = text_of(space.alloc, rest)?;
+    Ok((face, asked, kept))
 }
 
 /// A copy of what follows an object in a name.
-pub(crate) fn text_of(alloc: Global, rest: &Remainder<'_>) -> Result<Bytes, AllocError>
+fn text_of(alloc: Global, rest: &Remainder<'_>) -> Result<Bytes, AllocError>
     ensures { IfOk result (λ text. text ≡ rest.now) }
 {
     Bytes::from_slice(alloc, rest.as_slice())
 }
 
 /// The face of an object whose kind parses, shared with the store.
-pub(crate) fn face_at<T: TypeSet, H: HandleTable>(
+fn face_at<T: TypeSet, H: HandleTable>(
     space: &Space<T, H>,
     object: ObjId,
 ) -> Result<Arc<T::Face, Global>, AllocError>

@@ -12,7 +12,7 @@ ghost use Rattle.ob_space.specs.Orderly.{IsBetweenSteps, IsOrderly};
 ghost use Rattle.ob_opens.specs.Refusing.{IsBroughtRefused};
 ghost use Rattle.ob_opens.specs.Waiting.{answer_of, IfParsing, IsParseOf};
 
-use crate::begin::{face_at, text_of};
+use crate::begin::parts_of_parse;
 use crate::reparse::{begin_again, mode_of_open, open_found, refuse_open};
 use crate::started::Started;
 use crate::unpin::end_parse;
@@ -85,12 +85,19 @@ fn begin_anew<T: TypeSet, H: HandleTable>(
     ensures unchanged { OnErr result (space.new ≡ space.old) }
 {
     if is_full_without(space, ticket) {
+        drop(rest);
         let status = Status::InsufficientResources;
         return Ok(Started::Done(refuse_open(space, ticket, status)));
     }
-    let face = face_at(space, object)?;
-    let asked = text_of(space.alloc, &rest)?;
-    let kept = text_of(space.alloc, &rest)?;
-    let next = begin_again(space, ticket, object, kept, left)?;
-    Ok(Started::Parsing(Parsing::new(next, face, asked)))
+    let parts = parts_of_parse(space, object, &rest);
+    drop(rest);
+    let (face, asked, kept) = parts?;
+    match begin_again(space, ticket, object, kept, left) {
+        Ok(next) => Ok(Started::Parsing(Parsing::new(next, face, asked))),
+        Err(fault) => {
+            drop(face);
+            drop(asked);
+            Err(fault)
+        }
+    }
 }

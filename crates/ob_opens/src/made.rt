@@ -96,9 +96,11 @@ pub(crate) fn open_made<T: TypeSet, H: HandleTable>(
     };
     let (process, wanted, options) = (pending.process, pending.wanted, options_by(pending.attrs));
     if !is_live(space, process) {
+        drop(face);
         return Ok(refuse_made(space, ticket, inner, Status::ProcessGone));
     }
     if !is_made_wanted::<T>(&face, wanted) {
+        drop(face);
         return Ok(refuse_made(space, ticket, inner, Status::ObjectTypeMismatch));
     }
     match grant_made(space, process, ticket, options, face, inner) {
@@ -175,6 +177,7 @@ fn grant_made<T: TypeSet, H: HandleTable>(
     ensures inner { IfErr result (λ left. left.inner ≡ inner) }
 {
     if let Some(status) = early_refusal(space, process, options) {
+        drop(face);
         return Ok(Err(Refused { status, inner }));
     }
     put_instance(&mut space.store, ObjId(ticket), face, inner)?;

@@ -15,20 +15,20 @@ returns-then-is_full_without-clause-begun g c =
     full_there g.T.TypeSet.procedures c.args.space.now c.args.ticket c.args.object c.args.left c.args.rest (Done c.refuse_open.result) c.refuse_open.new.space
     c.requires.pending (sym c.is_full_without.ensures ∙ c.if-is_full_without.true) c.refuse_open.ensures.answer c.refuse_open.ensures.ended
 
-pub returns-clause-begun : goal.returns-clause-begun
-returns-clause-begun g c =
+pub returns-in-Ok-clause-begun : goal.returns-in-Ok-clause-begun
+returns-in-Ok-clause-begun g c =
     let s = c.args.space.now in
     let t = c.begin_again.new.space in
     subst (λ (parse : ToRun _). OpensAgain g.T.TypeSet.procedures s c.args.ticket (Parse c.args.object c.args.rest c.args.left) (Ticket parse.ticket) t) (sym c.new.ensures)
-    (subst (λ (rest : List ℕ). OpensAgain g.T.TypeSet.procedures s c.args.ticket (Parse c.args.object rest c.args.left) (Ticket c.in_ok-next.next) t) c.in_ok-kept.ensures
-    c.in_ok-next.ensures.opened)
+    (subst (λ (rest : List ℕ). OpensAgain g.T.TypeSet.procedures s c.args.ticket (Parse c.args.object rest c.args.left) (Ticket c.in-Ok.next) t) c.in_ok-face.ensures.kept
+    c.in-Ok.ensures.opened)
 
-pub returns-clause-parse : goal.returns-clause-parse
-returns-clause-parse g c =
+pub returns-in-Ok-clause-parse : goal.returns-in-Ok-clause-parse
+returns-in-Ok-clause-parse g c =
     let s = c.args.space.now in
     let t = c.begin_again.new.space in
-    let same = c.in_ok-asked.ensures ∙ sym c.in_ok-kept.ensures in
-    let pins = c.in_ok-next.ensures.pins in
+    let same = c.in_ok-face.ensures.asked ∙ sym c.in_ok-face.ensures.kept in
+    let pins = c.in-Ok.ensures.pins in
     subst (λ parse. IsParseOf t parse) (sym c.new.ensures)
-    (subst (λ (rest : List ℕ). IsParseOf t (record { ticket = c.in_ok-next.next; face = arc_value c.in_ok-face.face; rest = rest })) (sym same)
-    (handed g.T.TypeSet.procedures s t c.in_ok-next.next c.args.object c.in_ok-kept.kept (arc_value c.in_ok-face.face) pins.0 (pins.1 ∙ c.in_ok-face.ensures.face)))
+    (subst (λ (rest : List ℕ). IsParseOf t (record { ticket = c.in-Ok.next; face = arc_value c.in_ok-face.face; rest = rest })) (sym same)
+    (handed g.T.TypeSet.procedures s t c.in-Ok.next c.args.object c.in_ok-face.kept (arc_value c.in_ok-face.face) pins.0 (pins.1 ∙ c.in_ok-face.ensures.face)))
