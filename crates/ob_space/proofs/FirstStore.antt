@@ -7,7 +7,7 @@ use Rattle.ob_model.specs.declared.state.Row.{Row}
 use Rattle.ob_model.specs.State.{root_id}
 use Rattle.ob_objects.specs.Store.{Entries, NameEntry, directory_at, entries_at, rows_of}
 use Rattle.ob_objects.specs.Changes.{with_name}
-use Rattle.ob_space.specs.FirstStore.{opening_with, opening_objects}
+use Rattle.ob_space.specs.FirstStore.{opening_with, opening_objects, opening_entries}
 
 -- texts of other first bytes differ
 heads_differ : (a b : ℕ) (xs ys : List ℕ) → (a == b) ≡ false → a ∷ xs ≢ b ∷ ys
@@ -29,6 +29,10 @@ device = record { stamp = 3; name = codes "Device"; object = 4 }
 
 abbrev pub based : NameEntry
 based = record { stamp = 4; name = codes "BaseNamedObjects"; object = 5 }
+
+-- and the last one
+abbrev pub sessions : NameEntry
+sessions = record { stamp = 5; name = codes "Sessions"; object = 6 }
 
 module _ {F I : Type 0} (a b c d : Entries F I) (first : a ≡ opening_objects) (second : b ≡ with_name a root_id global) (third : c ≡ with_name b root_id devices)
     (fourth : d ≡ with_name c root_id device) where
@@ -92,3 +96,7 @@ module _ {F I : Type 0} (a b c d e : Entries F I) (first : a ≡ opening_objects
       subst (λ (s : Entries F I). All (λ r. r.object ≢ 6) (rows_of s)) (sym four_named)
       (All-from_recursion (λ (r : Row). r.object ≢ 6) (map root_row four)
       ((λ same. omega (arith, same)), ((λ same. omega (arith, same)), ((λ same. omega (arith, same)), ((λ same. omega (arith, same)), tt)))))
+
+  -- with the last name the store is that of the opening state
+  pub all_named : (f : Entries F I) → f ≡ with_name e root_id sessions → f ≡ opening_entries
+  all_named f sixth = sixth ∙ ap (λ (s : Entries F I). with_name s root_id sessions) four_named

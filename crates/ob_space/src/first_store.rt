@@ -1,6 +1,6 @@
 //! The opening state's objects and names.
 
-ghost use Rattle.std.specs.Prelude.{◌≡◌, ◌≢◌, ◌<◌, All, IsSome, IsTrue, IfOk, IfErr};
+ghost use Rattle.std.specs.Prelude.{◌≡◌, ◌≢◌, ◌<◌, [], All, IsSome, IsTrue, IfOk, IfErr};
 ghost use Rattle.ob_model.specs.Names.{is_name};
 ghost use Rattle.ob_model.specs.State.{root_id};
 ghost use Rattle.ob_objects.specs.Store.{directory_at, entries_at, rows_of};
@@ -24,28 +24,41 @@ use std::alloc::{AllocError, Global};
 pub fn opening_store<T: TypeSet>(alloc: Global) -> Result<Store<T>, AllocError>
     ensures store { IfOk result (λ store. store ≡ opening_entries) }
 {
-    let mut store = opening_objects(alloc)?;
-    name_in_root(alloc, &mut store, 1, b"GLOBAL??", 2)?;
-    name_in_root(alloc, &mut store, 2, b"DosDevices", 3)?;
-    name_in_root(alloc, &mut store, 3, b"Device", 4)?;
-    name_in_root(alloc, &mut store, 4, b"BaseNamedObjects", 5)?;
-    name_in_root(alloc, &mut store, 5, b"Sessions", 6)?;
-    Ok(store)
+    let mut store = Store::new(alloc);
+    match put_opening(alloc, &mut store) {
+        Ok(()) => Ok(store),
+        Err(fault) => {
+            drop(store);
+            Err(fault)
+        }
+    }
 }
 
-/// The store of the opening state's objects, without their names.
-fn opening_objects<T: TypeSet>(alloc: Global) -> Result<Store<T>, AllocError>
-    ensures store { IfOk result (λ store. store ≡ opening_objects) }
+/// Puts the objects and names of the opening state into a store that has none.
+fn put_opening<T: TypeSet>(alloc: Global, store: &mut Store<T>) -> Result<(), AllocError>
+    requires { store.old ≡ [] }
+    ensures { IfOk result (λ _. store.new ≡ opening_entries) }
 {
-    let view = NameBuf::from_name(alloc, Name::new(b"\\??"))?;
-    let mut store = Store::new(alloc);
+    put_objects(alloc, store)?;
+    name_in_root(alloc, store, 1, b"GLOBAL??", 2)?;
+    name_in_root(alloc, store, 2, b"DosDevices", 3)?;
+    name_in_root(alloc, store, 3, b"Device", 4)?;
+    name_in_root(alloc, store, 4, b"BaseNamedObjects", 5)?;
+    name_in_root(alloc, store, 5, b"Sessions", 6)
+}
+
+/// Puts the objects of the opening state, without their names, into a store that has none.
+fn put_objects<T: TypeSet>(alloc: Global, store: &mut Store<T>) -> Result<(), AllocError>
+    requires { store.old ≡ [] }
+    ensures { IfOk result (λ _. store.new ≡ opening_objects) }
+{
     store.insert(ObjId(1), standing(StoredBody::directory(alloc)))?;
     store.insert(ObjId(2), standing(StoredBody::directory(alloc)))?;
+    let view = NameBuf::from_name(alloc, Name::new(b"\\??"))?;
     store.insert(ObjId(3), standing(StoredBody::Link(view)))?;
     store.insert(ObjId(4), standing(StoredBody::directory(alloc)))?;
     store.insert(ObjId(5), standing(StoredBody::directory(alloc)))?;
-    store.insert(ObjId(6), standing(StoredBody::directory(alloc)))?;
-    Ok(store)
+    store.insert(ObjId(6), standing(StoredBody::directory(alloc)))
 }
 
 /// An object of the opening state: permanent, and not exclusive.

@@ -77,6 +77,8 @@ pub fn place_new<T: TypeSet, H: HandleTable>(
     let _ = space.store.len();
     // There is room, so that memory alone can lack.
     let Ok(value) = space.processes.grant(process, id, inherit, order) else {
+        drop(spot);
+        drop(object);
         return Err(AllocError);
     };
     match put_and_open(&mut space.store, &mut space.set, id, stamp, spot, object) {
@@ -163,7 +165,7 @@ pub(crate) fn put_in<T: TypeSet>(
         return Ok(());
     };
     if let Err(fault) = store.insert_name(spot.directory, stamp, spot.name, id) {
-        store.remove(id);
+        drop(store.remove(id));
         return Err(fault);
     }
     Ok(())

@@ -43,6 +43,7 @@ pub fn try_room<T: TypeSet, H: HandleTable>(
     let _ = space.store.len();
     // There is room, so that memory alone can lack.
     let Ok(value) = space.processes.grant(process, id, false, order) else {
+        drop(spot);
         return Err(AllocError);
     };
     let told = try_place(&mut space.store, space.alloc, id, stamp, spot);
@@ -73,6 +74,6 @@ fn try_place<T: TypeSet>(
         body: StoredBody::directory(alloc),
     };
     put_in(store, id, stamp, spot, object)?;
-    take_back(store, id, stamp, directory);
+    drop(take_back(store, id, stamp, directory));
     Ok(())
 }
