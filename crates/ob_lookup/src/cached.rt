@@ -64,14 +64,25 @@ pub fn look_cached<'a, T: TypeSet>(
     };
     let mut left = budget;
     let mut next = look_from_cached(alloc, cache, store, &view, start, mode, left)?;
-    while let Next::Again(text) = next {
-        left -= 1;
-        next = look_again_cached(alloc, cache, store, &view, text.as_name(), mode, left)?;
+    loop {
+        match next {
+            Next::Over(look) => return Ok(look),
+            Next::Again(text) => {
+                left -= 1;
+                let again = look_again_cached(
+                    alloc,
+                    cache,
+                    store,
+                    &view,
+                    text.as_name(),
+                    mode,
+                    left,
+                );
+                drop(text);
+                next = again?;
+            }
+        }
     }
-    let Next::Over(look) = next else {
-        unreachable!();
-    };
-    Ok(look)
 }
 
 /// Walks once, by the cache, and does what is to be done where the walk stops.

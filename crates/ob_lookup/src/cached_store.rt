@@ -209,10 +209,7 @@ impl<T: TypeSet> CachedStore<T> {
         ensures put { IfOk result (λ _. self.new ≡ with_entry self.old id object) }
         ensures unchanged { OnErr result (self.new ≡ self.old) }
     {
-        match self.try_insert(id, object) {
-            Ok(()) => Ok(()),
-            Err(_) => Err(AllocError),
-        }
+        self.store.insert(id, object)
     }
 
     /// Stores an object under an id that no object has, and hands it back where memory is wanted: then nothing has

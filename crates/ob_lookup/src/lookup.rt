@@ -80,14 +80,17 @@ pub fn look<'a, T: TypeSet>(
     };
     let mut left = budget;
     let mut next = look_from(alloc, store, &view, start, mode, left)?;
-    while let Next::Again(text) = next {
-        left -= 1;
-        next = look_again(alloc, store, &view, text.as_name(), mode, left)?;
+    loop {
+        match next {
+            Next::Over(look) => return Ok(look),
+            Next::Again(text) => {
+                left -= 1;
+                let again = look_again(alloc, store, &view, text.as_name(), mode, left);
+                drop(text);
+                next = again?;
+            }
+        }
     }
-    let Next::Over(look) = next else {
-        unreachable!();
-    };
-    Ok(look)
 }
 
 /// Walks once, and does what is to be done where the walk stops.

@@ -27,9 +27,9 @@ loop-next-init g c =
       paths = c.in_ok-next.ensures.paths;
     }
 
-pub returns-in_err-next-2-clause-wants : goal.returns-in_err-next-2-clause-wants
-returns-in_err-next-2-clause-wants g c =
-    on_any_err _ c.from_residual-in_err-next-2.result
+pub returns-in_err-next-in-Again-clause-wants : goal.returns-in_err-next-in-Again-clause-wants
+returns-in_err-next-in-Again-clause-wants g c =
+    on_any_err _ c.from_residual-in_err-next-in-Again.result
     (λ s p end shows of looks.
     let found = from_again c.loop-next.next c.in-Again.text _ c.in-Again.is c.loop-next.invariant.wants s p shows of in
     only_wants g.T.TypeSet.procedures s p c.args.mode c.args.root c.args.name end found.0 looks found.2 found.1)
