@@ -14,23 +14,32 @@ use ob_standard::{Standard, StandardKind};
 use ob_types::TypeSet;
 use std::alloc::Global;
 
+/// Has a process ask for what a line says, so often as its first word does.
+fn ask<T: Listing, H: HandleTable>(stage: &mut Stage<T, H>, asker: &str, line: &str) {
+    let (process, times) = sides_of(asker, "*");
+    let times = match times {
+        "" => 1,
+        _ => number_of(times),
+    };
+    stage.make(Proc(number_of(process)), times, line);
+}
+
+/// Does with the parse at hand what a word says.
+fn parse<T: Listing, H: HandleTable>(stage: &mut Stage<T, H>, other: &mut Stage<T, H>, word: &str) {
+    match word {
+        "run" => stage.run(),
+        "resume" => stage.resume(),
+        "drop" => stage.give_up(),
+        _ => stage.swap(other),
+    }
+}
+
 /// Makes the step of a line, where it has one.
 fn make<T: Listing, H: HandleTable>(stage: &mut Stage<T, H>, other: &mut Stage<T, H>, line: &str) {
-    match (word_of(line, 0), word_of(line, 1)) {
-        ("all", _) => {}
-        ("parse", "run") => stage.run(),
-        ("parse", "resume") => stage.resume(),
-        ("parse", "drop") => stage.give_up(),
-        ("parse", "swap") => stage.swap(other),
-        (asker, _) => {
-            let (process, times) = sides_of(asker, "*");
-            let times = if times.is_empty() {
-                1
-            } else {
-                number_of(times)
-            };
-            stage.make(Proc(number_of(process)), times, line);
-        }
+    match word_of(line, 0) {
+        "all" => {}
+        "parse" => parse(stage, other, word_of(line, 1)),
+        asker => ask(stage, asker, line),
     }
 }
 
@@ -63,28 +72,40 @@ fn is_called<T: Listing, H: HandleTable>(stage: &Stage<T, H>, told: &str) -> boo
         && lost == 0
 }
 
-/// Whether the step of a line, or what a line looks at, is as it says.
-fn is_so<T: Listing, H: HandleTable>(stage: &Stage<T, H>, line: &str, told: &str) -> bool {
-    let (asker, first) = (word_of(line, 0), word_of(line, 2));
-    let (process, said) = (Proc(number_of(asker)), word_of(told, 0));
+/// Whether what a line looks at of a process is as it says.
+fn is_so_of<T: Listing, H: HandleTable>(stage: &Stage<T, H>, line: &str, told: &str) -> bool {
+    let (process, word) = (Proc(number_of(word_of(line, 0))), word_of(line, 2));
+    let said = word_of(told, 0);
     match word_of(line, 1) {
         "has" => stage.handles_of(process) == number_of(said) as usize,
-        "holds" => stage.holds(process, first) == (said == "true"),
-        "leads" => {
-            stage.led_to(process, first) == (said, u64::from(number_of(word_of(told, 1))))
-        }
-        "counts" => is_counted(stage, told),
-        "left" => is_counted(stage, told) && is_called(stage, told),
-        "waits" => stage.left(first) == number_of(said),
+        "holds" => stage.holds(process, word) == (said == "true"),
+        _ => stage.led_to(process, word) == (said, u64::from(number_of(word_of(told, 1)))),
+    }
+}
+
+/// Whether the calls of the set that a line looks at are as it says.
+fn is_recorded<T: Listing, H: HandleTable>(stage: &Stage<T, H>, line: &str, told: &str) -> bool {
+    let (calls, lost) = stage.calls();
+    match word_of(line, 1) {
         "calls" => {
-            let (calls, _) = stage.calls();
-            are_calls(calls, (number_of(first), number_of(word_of(line, 3))), told)
+            let part = (number_of(word_of(line, 2)), number_of(word_of(line, 3)));
+            are_calls(calls, part, told)
         }
-        "recorded" => {
-            let (calls, lost) = stage.calls();
-            calls.len() == number_of(said) as usize
+        _ => {
+            calls.len() == number_of(word_of(told, 0)) as usize
                 && lost == u64::from(number_of(word_of(told, 1)))
         }
+    }
+}
+
+/// Whether the step of a line, or what a line looks at, is as it says.
+fn is_so<T: Listing, H: HandleTable>(stage: &Stage<T, H>, line: &str, told: &str) -> bool {
+    match word_of(line, 1) {
+        "has" | "holds" | "leads" => is_so_of(stage, line, told),
+        "counts" => is_counted(stage, told),
+        "left" => is_counted(stage, told) && is_called(stage, told),
+        "waits" => stage.left(word_of(line, 2)) == number_of(word_of(told, 0)),
+        "calls" | "recorded" => is_recorded(stage, line, told),
         "swap" => true,
         _ => is_told(stage, told),
     }
@@ -203,7 +224,7 @@ fn other_in<'a, H: HandleTable>(alloc: Global, scenes: &Scenes, scene: &'a str) 
 /// The first line of all scenes that isn't as it says.
 fn first_other_of<H: HandleTable>(alloc: Global) -> &'static str {
     for scenes in SCENES {
-        for scene in scenes.texts {
+        for scene in scenes.text.split("\n\n") {
             let line = other_in::<H>(alloc, scenes, scene);
             if !line.is_empty() {
                 return line;
@@ -216,7 +237,10 @@ fn first_other_of<H: HandleTable>(alloc: Global) -> &'static str {
 #[test]
 fn scenes_are_played_as_they_say(rt: HostRuntime) {
     let over_maps = first_other_of::<OpenTable>(rt.alloc());
-    assert_eq!(rt; over_maps, "", "over an OpenTable");
     let over_a_slab = first_other_of::<SlabTable>(rt.alloc());
-    assert_eq!(rt; over_a_slab, "", "over a SlabTable");
+    assert_eq!(rt;
+        (over_maps, over_a_slab),
+        ("", ""),
+        "over an OpenTable, and over a SlabTable"
+    );
 }

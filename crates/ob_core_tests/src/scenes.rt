@@ -1,4 +1,5 @@
-//! Scenes: what processes ask of a namespace, line by line, and what each is told. Each is played in a new namespace, beside another one.
+//! Scenes: what processes ask of a namespace, line by line, and what each is told. Each is played in a new namespace, beside another one;
+//! an empty line stands between two.
 //!
 //! A step is a line: a process and what it asks for, a bar, and what it is told. `1*9` says that process 1 asks for the same nine times. Behind a second
 //! bar stands what the step shows. A line that begins with `there` is one of the other namespace, and one with `#` says what the scene shows.
@@ -44,7 +45,7 @@ pub(crate) struct Scenes {
     pub(crate) set: Set,
     pub(crate) accepts: u32,
     pub(crate) room: u32,
-    pub(crate) texts: &'static [&'static str],
+    pub(crate) text: &'static str,
 }
 
 /// How many opens a set accepts, and how many calls are recorded, where no scene has as many.
@@ -56,72 +57,72 @@ pub(crate) const SCENES: &[Scenes] = &[
         set: Set::Plain,
         accepts: MANY,
         room: MANY,
-        texts: processes::SHARED,
+        text: processes::SHARED,
     },
     Scenes {
         set: Set::Plain,
         accepts: MANY,
         room: MANY,
-        texts: processes::FULL,
+        text: processes::FULL,
     },
     Scenes {
         set: Set::Plain,
         accepts: MANY,
         room: MANY,
-        texts: permanence::PERMANENCE,
+        text: permanence::PERMANENCE,
     },
     Scenes {
         set: Set::Plain,
         accepts: MANY,
         room: MANY,
-        texts: pages::PAGES,
+        text: pages::PAGES,
     },
     Scenes {
         set: Set::Plain,
         accepts: 2,
         room: MANY,
-        texts: refusals::TWO,
+        text: refusals::TWO,
     },
     Scenes {
         set: Set::Devices,
         accepts: 1,
         room: MANY,
-        texts: refusals::ONE,
+        text: refusals::ONE,
     },
     Scenes {
         set: Set::Devices,
         accepts: MANY,
         room: MANY,
-        texts: waiting::WAITING,
+        text: waiting::WAITING,
     },
     Scenes {
         set: Set::Doors,
         accepts: MANY,
         room: MANY,
-        texts: doors::DOORS,
+        text: doors::DOORS,
     },
     Scenes {
         set: Set::Plain,
         accepts: MANY,
         room: MANY,
-        texts: recorded::ALL,
+        text: recorded::ALL,
     },
     Scenes {
         set: Set::Plain,
         accepts: MANY,
         room: 4,
-        texts: recorded::FOUR,
+        text: recorded::FOUR,
     },
     Scenes {
         set: Set::Plain,
         accepts: MANY,
         room: 1,
-        texts: recorded::ONE,
+        text: recorded::ONE,
     },
     Scenes {
         set: Set::Plain,
         accepts: MANY,
         room: 0,
-        texts: recorded::NONE,
+        text: recorded::NONE,
     },
 ];

@@ -6,7 +6,7 @@ ghost use Rattle.ob_runner.specs.Begun.{AreAwaited, tickets_of, with_begun, with
 use crate::asks::{Ask, Deed, Kind, Turn};
 use crate::dice::Dice;
 use crate::model::Model;
-use crate::names::{Name, text};
+use crate::names::{Name, Path, text};
 use crate::{devices, random};
 use either::Either;
 use ob_base::{Fault, Handle, Proc};
@@ -64,32 +64,50 @@ impl Game {
     }
 }
 
-// A create at a place. A device has one file.
-fn make<S: Played>(
+// The place of what is made.
+fn place_of(alloc: Global, name: Option<Name>) -> Result<Place, AllocError> {
+    match name {
+        Some(name) => Ok(Place::At {
+            root: handle_of(name),
+            name: Bytes::new(text(alloc, name)?),
+        }),
+        None => Ok(Place::Unnamed),
+    }
+}
+
+// The create of a link.
+fn make_link<K>(
+    alloc: Global,
+    path: Path,
+    name: Option<Name>,
+    attrs: u32,
+) -> Result<Command<K>, AllocError> {
+    let root = None;
+    let target = Bytes::new(text(alloc, Name { root, path })?);
+    Ok(Command::CreateLink {
+        place: place_of(alloc, name)?,
+        attrs,
+        target,
+    })
+}
+
+// The create of an object of a set. A device has one file.
+fn make_object<S: Played>(
     alloc: Global,
     of: Kind,
-    target: Vec<u8>,
-    place: Place,
+    name: Option<Name>,
     attrs: u32,
 ) -> Result<Command<S::Kind>, AllocError> {
-    let args = match of {
-        Kind::Directory => return Ok(Command::CreateDirectory { place, attrs }),
-        Kind::Link => {
-            let target = Bytes::new(target);
-            return Ok(Command::CreateLink {
-                place,
-                attrs,
-                target,
-            });
-        }
-        Kind::Device => b"com1".as_slice(),
+    let args: &'static [u8] = match of {
+        Kind::Device => b"com1",
         _ => b"",
     };
+    let args = Bytes::from_slice(alloc, args)?;
     Ok(Command::CreateObject {
-        place,
+        place: place_of(alloc, name)?,
         attrs,
         kind: S::kind(of),
-        args: Bytes::from_slice(alloc, args)?,
+        args,
     })
 }
 
@@ -153,18 +171,14 @@ fn command<S: Played>(
             target,
             name,
             attrs,
-        } => {
-            let place = match name {
-                Some(name) => Place::At {
-                    root: handle_of(name),
-                    name: Bytes::new(text(alloc, name)?),
-                },
-                None => Place::Unnamed,
-            };
-            let (root, path) = (None, target);
-            let target = text(alloc, Name { root, path })?;
-            make::<S>(alloc, of, target, place, attrs)
-        }
+        } => match of {
+            Kind::Directory => Ok(Command::CreateDirectory {
+                place: place_of(alloc, name)?,
+                attrs,
+            }),
+            Kind::Link => make_link(alloc, target, name, attrs),
+            _ => make_object::<S>(alloc, of, name, attrs),
+        },
         Ask::Open { want, name, attrs } => {
             let text = Bytes::new(text(alloc, name)?);
             Ok(open::<S>(want, handle_of(name), text, attrs))
@@ -209,8 +223,11 @@ fn starts<S: TypeSet, H: HandleTable>(
     ensures tickets { OnOk result (tickets.new.items ≡ tickets_of waits.new) }
 {
     let begun = begin_open(core, waits, Proc(process), command)?;
-    note(tickets, &begun)?;
-    model.starts(process, ask, &begun)
+    let noted = note(tickets, &begun);
+    let starts = model.starts(process, ask, &begun);
+    mem::drop(begun);
+    noted?;
+    starts
 }
 
 // Whether the open that waits at a place ends as it is to.
@@ -235,8 +252,11 @@ fn ends<S: TypeSet, H: HandleTable>(
     }
     let begun = end_open(core, waits, model.alloc, ticket)?;
     forget(tickets, ticket);
-    note(tickets, &begun)?;
-    model.ends(waiting, &begun)
+    let noted = note(tickets, &begun);
+    let ends = model.ends(waiting, &begun);
+    mem::drop(begun);
+    noted?;
+    ends
 }
 
 // Gives up the open that waits at a place: whether one waits under its ticket.
@@ -280,7 +300,10 @@ fn is_agreed<S: Played, H: HandleTable>(
     match turn {
         Turn::Start(process, ask) => {
             let command = command::<S>(model.alloc, ask, model.context(process))?;
-            starts(core, waits, tickets, model, &command, process, ask)
+            let starts = starts(core, waits, tickets, model, &command, process, ask);
+            // (by a call, since the drop of a command is long)
+            mem::drop(command);
+            starts
         }
         Turn::End(place) => ends(core, waits, tickets, model, place),
         Turn::Drop(place) => Ok(give_up(core, waits, tickets, model, place)),

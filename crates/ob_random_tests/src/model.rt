@@ -56,6 +56,13 @@ struct Open {
     inherit: bool,
 }
 
+impl Open {
+    // Whether it goes where a process closes a value, or all, where the value is 0.
+    fn is_closed(&self, process: u32, value: u32) -> bool {
+        self.process == process && (value == 0 || self.value == value)
+    }
+}
+
 /// A live process, the directory of its map, which is GLOBAL where it has no map, and the context that its last page
 /// gave, 0 before the first.
 #[derive(Clone, Copy)]
@@ -316,7 +323,7 @@ impl Model {
                 return self.do_with(process, value, object, deed, given);
             }
             (Ask::Begin { inherit }, Answer::Done) => return self.begin(process, inherit, given),
-            (Ask::Exit, Answer::Done) => self.exit(process)?,
+            (Ask::Exit, Answer::Done) => self.exit(process),
             _ => {}
         }
         Ok(matches!(given, Given::Nothing))
@@ -331,25 +338,28 @@ impl Model {
         deed: Deed,
         given: &Given,
     ) -> Result<bool, AllocError> {
-        let (root, path) = (None, object.target);
-        let text = match deed {
+        match deed {
             Deed::List(part) => return Ok(self.turn_to(process, object.number, part, given)),
             Deed::Duplicate { to, inherit } => return self.hold(to, object, inherit, given),
-            Deed::Target => text(self.alloc, Name { root, path })?,
-            Deed::Name => self.path(object)?,
-            Deed::Close | Deed::Turn { .. } | Deed::Map => {
-                match deed {
-                    Deed::Turn { permanent } => self.turn(object.number, permanent),
-                    Deed::Map => self.set(process, Some(object.number), None),
-                    _ => self.close(process, value & !3)?,
-                }
-                return Ok(matches!(given, Given::Nothing));
-            }
-        };
-        match given {
-            Given::Text(bytes) => Ok(bytes.as_slice() == text.as_slice()),
-            _ => Ok(false),
+            Deed::Target | Deed::Name => return self.tells(object, deed, given),
+            Deed::Turn { permanent } => self.turn(object.number, permanent),
+            Deed::Map => self.set(process, Some(object.number), None),
+            Deed::Close => self.close(process, value & !3),
         }
+        Ok(matches!(given, Given::Nothing))
+    }
+
+    // Whether the target or the path of an object is given.
+    fn tells(&self, object: Object, deed: Deed, given: &Given) -> Result<bool, AllocError> {
+        let Given::Text(bytes) = given else {
+            return Ok(false);
+        };
+        let (root, path) = (None, object.target);
+        let text = match deed {
+            Deed::Target => text(self.alloc, Name { root, path })?,
+            _ => self.path(object)?,
+        };
+        Ok(bytes.as_slice() == text.as_slice())
     }
 
     // A new object of a number, named at a spot where there is one.
@@ -409,31 +419,19 @@ impl Model {
     }
 
     // The handle of a process of a value goes, or each of its handles, where the value is 0.
-    fn close(&mut self, process: u32, value: u32) -> Result<(), AllocError> {
-        let (mut kept, mut closes) = (Vec::new(self.alloc), self.calls.1);
+    fn close(&mut self, process: u32, value: u32) {
         for open in &self.handles {
-            if open.process == process && (value == 0 || open.value == value) {
-                closes = closes.wrapping_add(u64::from(open.is_of_set));
-            } else {
-                kept.push(*open)?;
+            if open.is_closed(process, value) {
+                self.calls.1 = self.calls.1.wrapping_add(u64::from(open.is_of_set));
             }
         }
-        self.calls.1 = closes;
-        self.handles = kept;
-        Ok(())
+        self.handles.retain(|open| !open.is_closed(process, value));
     }
 
     // A process ends.
-    fn exit(&mut self, process: u32) -> Result<(), AllocError> {
-        self.close(process, 0)?;
-        let mut kept = Vec::new(self.alloc);
-        for live in &self.processes {
-            if live.number != process {
-                kept.push(*live)?;
-            }
-        }
-        self.processes = kept;
-        Ok(())
+    fn exit(&mut self, process: u32) {
+        self.close(process, 0);
+        self.processes.retain(|live| live.number != process);
     }
 
     // A child of a process begins, with what it inherits: the handles that are marked, in their order.

@@ -1,8 +1,7 @@
 //! Pages of a directory, at their edges: the room, one entry alone, the context, and the order of refusals.
 
 /// The events of the directory have rising stamps from 7 on. An entry has 4 bytes, those of the name, and the 5 of the type's name.
-pub(super) const PAGES: &[&str] = &[
-    r"# pages end where the room does
+pub(super) const PAGES: &str = r"# pages end where the room does
 1 make directory \D 10 | SUCCESS
 1 make first \D\E 0    | SUCCESS
 1 make first \D\F 0    | SUCCESS
@@ -19,8 +18,9 @@ pub(super) const PAGES: &[&str] = &[
 1 list 0 0 1048576 all next | SUCCESS EFH 9           | the greatest room
 1 list 9 0 1048577 all next | INVALID_PARAMETER ... 0 | the room is judged before the handle
 1 list 1 0 31 all next      | OBJECT_TYPE_MISMATCH ... 0 | an event has no pages
-all left | 10 4 3 0 0",
-    r"# a page goes on behind an entry that went, and shows another that came under its name
+all left | 10 4 3 0 0
+
+# a page goes on behind an entry that went, and shows another that came under its name
 1 make directory \D 10 | SUCCESS
 1 make first \D\E 0    | SUCCESS
 1 make first \D\F 0    | SUCCESS
@@ -29,5 +29,4 @@ all left | 10 4 3 0 0",
 1 close 2              | SUCCESS
 1 make first \D\F 0    | SUCCESS
 1 list 0 8 31 all next | SUCCESS HF. 10
-all left | 10 4 4 1 1",
-];
+all left | 10 4 4 1 1";

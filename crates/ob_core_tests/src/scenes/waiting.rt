@@ -2,8 +2,7 @@
 
 /// In each there is a device of the files `com1` and `a\b`, to which process 1 gets the handle 4, and a child without handles. The ticket of the
 /// first open that waits is 8, behind the six objects of a new namespace and the device.
-pub(super) const WAITING: &[&str] = &[
-    r"# a file that the device has
+pub(super) const WAITING: &str = r"# a file that the device has
 1 make first \Device\Serial0 0 com1;a\b | SUCCESS
 1 begin not | SUCCESS
 1 open any \Device\Serial0\com1 0 | waits 8 \com1
@@ -12,8 +11,9 @@ all waits 8 | 32
 all counts | 7 1
 parse resume | SUCCESS
 1 holds 8 | true
-all counts | 8 2",
-    r"# a file two components deep
+all counts | 8 2
+
+# a file two components deep
 1 make first \Device\Serial0 0 com1;a\b | SUCCESS
 1 begin not | SUCCESS
 1 open any \Device\Serial0\a\b 0 | waits 8 \a\b
@@ -22,8 +22,9 @@ all waits 8 | 32
 all counts | 7 1
 parse resume | SUCCESS
 1 holds 8 | true
-all counts | 8 2",
-    r"# the device itself
+all counts | 8 2
+
+# the device itself
 1 make first \Device\Serial0 0 com1;a\b | SUCCESS
 1 begin not | SUCCESS
 1 open any \Device\Serial0 0 | waits 8
@@ -32,8 +33,9 @@ all waits 8 | 32
 all counts | 7 1
 parse resume | SUCCESS
 1 holds 8 | true
-all counts | 8 2",
-    r"# a file that it hasn't
+all counts | 8 2
+
+# a file that it hasn't
 1 make first \Device\Serial0 0 com1;a\b | SUCCESS
 1 begin not | SUCCESS
 1 open any \Device\Serial0\com2 0 | waits 8 \com2
@@ -41,8 +43,9 @@ parse run | waits 8 \com2
 all waits 8 | 32
 all counts | 7 1
 parse resume | TYPE_REFUSED 3
-all counts | 7 1",
-    r"# an empty component
+all counts | 7 1
+
+# an empty component
 1 make first \Device\Serial0 0 com1;a\b | SUCCESS
 1 begin not | SUCCESS
 1 open any \Device\Serial0\ 0 | waits 8 \
@@ -50,8 +53,9 @@ parse run | waits 8 \
 all waits 8 | 32
 all counts | 7 1
 parse resume | TYPE_REFUSED 3
-all counts | 7 1",
-    r"# an open of another process
+all counts | 7 1
+
+# an open of another process
 1 make first \Device\Serial0 0 com1;a\b | SUCCESS
 1 begin not | SUCCESS
 2 open any \Device\Serial0\com1 0 | waits 8 \com1
@@ -60,8 +64,9 @@ all waits 8 | 32
 all counts | 7 1
 parse resume | SUCCESS
 2 holds 4 | true
-all counts | 8 2",
-    r"# the device is pinned, though its last handle is closed and its name goes
+all counts | 8 2
+
+# the device is pinned, though its last handle is closed and its name goes
 1 make first \Device\Serial0 0 com1;a\b | SUCCESS
 1 begin not | SUCCESS
 2 open any \Device\Serial0\com1 0 | waits 8 \com1
@@ -71,8 +76,9 @@ all waits 8 | 32
 all counts | 7 0
 parse resume | SUCCESS
 2 holds 4 | true
-all counts | 7 1",
-    r"# the process that asked ends, and is judged when the parse is brought
+all counts | 7 1
+
+# the process that asked ends, and is judged when the parse is brought
 1 make first \Device\Serial0 0 com1;a\b | SUCCESS
 1 begin not | SUCCESS
 2 open any \Device\Serial0\com1 0 | waits 8 \com1
@@ -81,8 +87,9 @@ parse run | waits 8 \com1
 all waits 8 | 32
 all counts | 7 1
 parse resume | PROCESS_GONE
-all counts | 7 1",
-    r"# a stranger's parse is handed back
+all counts | 7 1
+
+# a stranger's parse is handed back
 1 make first \Device\Serial0 0 com1;a\b | SUCCESS
 1 begin not | SUCCESS
 1 open any \Device\Serial0\com1 0 | waits 8 \com1
@@ -99,8 +106,9 @@ all counts | 7 1
 parse swap |
 parse resume | SUCCESS
 1 holds 8 | true
-all counts | 8 2",
-    r"# the parse of an open that was given up by another like it is a stranger's
+all counts | 8 2
+
+# the parse of an open that was given up by another like it is a stranger's
 1 make first \Device\Serial0 0 com1;a\b | SUCCESS
 1 begin not | SUCCESS
 1 open any \Device\Serial0\com1 0 | waits 8 \com1
@@ -116,8 +124,9 @@ all counts | 7 1
 parse swap |
 parse resume | stranger
 parse drop | kept
-all counts | 7 1",
-    r"# what an open pins stays until it is given up
+all counts | 7 1
+
+# what an open pins stays until it is given up
 1 make first \Device\Serial0 0 com1;a\b | SUCCESS
 1 begin not | SUCCESS
 1 open any \Device\Serial0\a\b 0 | waits 8 \a\b
@@ -125,5 +134,4 @@ all counts | 7 1",
 all waits 8 | 32
 all counts | 7 0
 parse drop | given
-all counts | 6 0",
-];
+all counts | 6 0";
