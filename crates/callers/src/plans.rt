@@ -14,6 +14,7 @@ use ob_types::TypeSet;
 use std::alloc::Global;
 use std::io::Write;
 use std::marker::Brand;
+use std::mem;
 use std::sync::Wait;
 use std::sync::ledger::{Blank, Ledger};
 use std::thread::Threads;
@@ -248,33 +249,53 @@ fn with_passes<R: Threads + Wait + Clock + Sync, W: Write, L: Ledger + Send + Sy
     (passes_of(alloc, callers, handed), came)
 }
 
-/// What is seen of a namespace that was closed with its passes, or where they differ from the journal.
+/// What is seen of a namespace that was closed with its passes.
 fn seen_of<T: TypeSet<Kind = DeviceKind>, H: HandleTable>(
+    alloc: Global,
+    ended: &Ended<T, H>,
+    came: Came,
+    plan: Plan,
+) -> Seen {
+    let journal = ended.journal.as_slice();
+    Seen {
+        came,
+        mismatch: None,
+        counts: (ended.core.objects(), ended.core.handles()),
+        entries: journal.len(),
+        refused_opens: refused_opens(journal),
+        journal: match plan.is_written() {
+            true => journal_of::<T>(alloc, plan.seats(), journal),
+            false => None,
+        },
+    }
+}
+
+/// What is seen where the passes differ from the journal.
+fn seen_apart(mismatch: Mismatch, came: Came) -> Seen {
+    Seen {
+        came,
+        mismatch: Some(mismatch),
+        counts: (0, 0),
+        entries: 0,
+        refused_opens: 0,
+        journal: None,
+    }
+}
+
+/// What is seen at the close of a namespace, which is let go.
+fn seen_at_close<T: TypeSet<Kind = DeviceKind>, H: HandleTable>(
     alloc: Global,
     ended: Result<Ended<T, H>, Mismatch>,
     came: Came,
     plan: Plan,
 ) -> Seen {
     match ended {
-        Ok(ended) => Seen {
-            came,
-            mismatch: None,
-            counts: (ended.core.objects(), ended.core.handles()),
-            entries: ended.journal.len(),
-            refused_opens: refused_opens(ended.journal.as_slice()),
-            journal: match plan.is_written() {
-                true => journal_of::<T>(alloc, plan.seats(), ended.journal.as_slice()),
-                false => None,
-            },
-        },
-        Err(mismatch) => Seen {
-            came,
-            mismatch: Some(mismatch),
-            counts: (0, 0),
-            entries: 0,
-            refused_opens: 0,
-            journal: None,
-        },
+        Ok(ended) => {
+            let seen = seen_of(alloc, &ended, came, plan);
+            mem::drop(ended);
+            seen
+        }
+        Err(mismatch) => seen_apart(mismatch, came),
     }
 }
 
@@ -295,7 +316,7 @@ fn see_in<R: Threads + Wait + Clock + Sync, W: Write, L: Ledger + Send + Sync>(
         return None;
     };
     let (passes, came) = with_passes(rt, writer, alloc, &space, passes, plan);
-    Some(seen_of(alloc, space.close(passes), came, plan))
+    Some(seen_at_close(alloc, space.close(passes), came, plan))
 }
 
 /// The same, by a ledger of its own.

@@ -3,12 +3,13 @@
 use crate::caller::{Answer, Asked, Caller, NoGate, command_of, own_name};
 use crate::rows::Row;
 use ob_base::{Fault, Status};
-use ob_core::{HandleTable, Reply};
+use ob_core::{Command, HandleTable, Reply};
 use ob_device::DeviceKind;
 use ob_shared::Shared;
 use ob_types::TypeSet;
 use std::alloc::Global;
 use std::io::Write;
+use std::mem;
 use std::sync::Wait;
 use std::sync::ledger::Ledger;
 
@@ -76,6 +77,20 @@ fn told_of(alloc: Global, answered: &Result<Reply, Fault>) -> Option<String> {
     }
 }
 
+/// What a call is answered that is made again; none where it is refused memory.
+fn told_again<R: Wait, T: TypeSet<Kind = DeviceKind>, H: HandleTable, L: Ledger>(
+    rt: &R,
+    alloc: Global,
+    space: &Shared<T, H, L>,
+    caller: &mut Caller<L>,
+    command: &Command<DeviceKind>,
+) -> Option<String> {
+    let answered = caller.run(rt, space, command, &NoGate);
+    let told = told_of(alloc, &answered);
+    mem::drop(answered);
+    told
+}
+
 /// Makes a row's step by a caller, and again where it is refused.
 fn make<R: Wait, T: TypeSet<Kind = DeviceKind>, H: HandleTable, L: Ledger, W: Write>(
     rt: &R,
@@ -90,19 +105,19 @@ fn make<R: Wait, T: TypeSet<Kind = DeviceKind>, H: HandleTable, L: Ledger, W: Wr
     };
     let before = caller.receipts();
     mark(writer, row.name);
-    let first = caller.run(rt, space, &command, &NoGate);
-    let is_refused = is_refused(&first);
+    let answered = caller.run(rt, space, &command, &NoGate);
+    let is_refused = is_refused(&answered);
     mark_end(writer, is_refused);
-    let given_up = if is_refused {
-        caller.receipts().saturating_sub(before)
-    } else {
-        0
+    let given_up = match is_refused {
+        true => caller.receipts().saturating_sub(before),
+        false => 0,
     };
-    let told = if is_refused {
-        told_of(alloc, &caller.run(rt, space, &command, &NoGate))
-    } else {
-        told_of(alloc, &first)
+    let told = match is_refused {
+        true => told_again(rt, alloc, space, caller, &command),
+        false => told_of(alloc, &answered),
     };
+    mem::drop(answered);
+    mem::drop(command);
     Some(Came {
         answer: None,
         is_refused,
