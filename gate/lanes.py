@@ -24,6 +24,9 @@ NEARLY = 0.9
 # how far what isn't of the longest chain gives way to it, as `nice` has it
 GIVES_WAY = 10
 
+# after how many seconds it is looked for free memory again where no task has ended
+LOOK_AGAIN = 30
+
 # places in what is told of a running task
 MEMORY, JOBS, OTHERS = 1, 2, 3
 
@@ -80,10 +83,12 @@ def give_way():
 
 
 class Lanes:
-    """Tasks that are left and that run, on so many processors and in so much memory."""
+    """Tasks that are left and that run, on so many processors and in the memory that is free."""
 
-    def __init__(self, tasks, seconds, lanes, memory, is_fixed):
-        self.tasks, self.lanes, self.memory, self.is_fixed = tasks, lanes, memory, is_fixed
+    def __init__(self, tasks, seconds, lanes, free, is_fixed):
+        self.tasks, self.lanes, self.free, self.is_fixed = tasks, lanes, free, is_fixed
+        # the most that was free so far: other programs may end while tasks run
+        self.memory = 0
         self.weights = {key: weight(key, task[1], seconds) for key, task in tasks.items()}
         self.behind = behind(tasks, self.weights)
         self.left = sorted(tasks, key=lambda it: -self.behind[it])
@@ -111,6 +116,7 @@ class Lanes:
 
     def begin_ready(self, pools):
         """Begins what is ready, as far as processors and memory go."""
+        self.memory = max(self.memory, self.free())
         ready = [it for it in self.left if all(below in self.given for below in self.tasks[it][0])]
         working = [it for it in ready if self.weights[it]]
         for key in (it for it in ready if not self.weights[it]):
@@ -135,7 +141,7 @@ class Lanes:
         with ThreadPoolExecutor(most) as chain, ThreadPoolExecutor(most, initializer=give_way) as beside:
             while self.left or self.running:
                 self.begin_ready((chain, beside))
-                for it in wait(self.running, return_when=FIRST_COMPLETED).done:
+                for it in wait(self.running, timeout=LOOK_AGAIN, return_when=FIRST_COMPLETED).done:
                     self.given[self.running.pop(it)[0]] = it.result()
         return self.given
 
@@ -148,6 +154,6 @@ def divide(rt):
         seconds = measured(SECONDS.read_text()) if SECONDS.is_file() else {}
         # (later kits remove there what they keep for edits)
         with getattr(rt, "ending", contextlib.nullcontext)():
-            return Lanes(tasks, seconds, fixed or at_once(rt.processors()), 0.85 * rt.free(), bool(fixed)).run()
+            return Lanes(tasks, seconds, fixed or at_once(rt.processors()), lambda: 0.85 * rt.free(), bool(fixed)).run()
 
     rt.in_lanes = in_lanes

@@ -441,23 +441,27 @@ def faults_of_lanes():
     order = (("low", (), 10), ("alone", (), 900), ("other", (), 800), ("middle", ("low",), 2_000), ("top", ("low", "middle"), 2_000))
     tasks = {(name, "proof"): task((name, "proof"), waits, lines) for name, waits, lines in order}
     tasks["low", "tests"] = task(("low", "tests"), ("low",), 0)
-    given = lanes.Lanes(tasks, {("low", "proof"): 1.0}, 4, 100, False).run()
+    given = lanes.Lanes(tasks, {("low", "proof"): 1.0}, 4, lambda: 100, False).run()
     yield "lanes: each task gives what its call gave", given == {key: key[0] for key in tasks}
     jobs, ways = {name: jobs for name, jobs, _ in reversed(begun)}, {name: way for name, _, way in begun}
     yield "lanes: the longest chain gets half of the processors", (jobs["low"], jobs["alone"], jobs["other"]) == (2, 1, 1)
     yield "lanes: what stands beside the longest chain gives way to it", ways["low"] == 0 < ways["alone"] == ways["other"]
     begun.clear()
-    lanes.Lanes(tasks, {}, 2, 100, True).run()
+    lanes.Lanes(tasks, {}, 2, lambda: 100, True).run()
     yield "lanes: a number of runs that is asked for has one processor each", {jobs for _, jobs, _ in begun} == {1}
     begun.clear()
-    lanes.Lanes({("a", "tests"): task(("a", "tests"), (), 5)}, {}, 4, 100, False).run()
+    lanes.Lanes({("a", "tests"): task(("a", "tests"), (), 5)}, {}, 4, lambda: 100, False).run()
     yield "lanes: tests are not divided", [it[:2] for it in begun] == [("a", 1)]
-    yield "lanes: what no memory is left for waits", lanes.Lanes({("a", "proof"): task(("a", "proof"), (), 5)}, {}, 4, 0, False).run() == {("a", "proof"): "a"}
+    yield "lanes: what no memory is left for waits", lanes.Lanes({("a", "proof"): task(("a", "proof"), (), 5)}, {}, 4, lambda: 0, False).run() == {("a", "proof"): "a"}
     begun.clear()
     sizes = {("low", "proof"): 6, ("middle", "proof"): 8, ("wide", "proof"): 5}
     tasks = {key: (*task(key, () if key[0] != "middle" else ("low",), 100)[:2], size, lambda given, jobs, key=key: begun.append(key[0])) for key, size in sizes.items()}
-    lanes.Lanes(tasks, {}, 2, 12, False).run()
+    lanes.Lanes(tasks, {}, 2, lambda: 12, False).run()
     yield "lanes: what stands beside the longest chain leaves memory for its next task", begun == ["low", "middle", "wide"]
+    free, both = iter((6, 100, 100, 100)), threading.Barrier(2, timeout=60)
+    calls = {"low": lambda given, jobs: True, "middle": lambda given, jobs: both.wait() >= 0, "wide": lambda given, jobs: both.wait() >= 0}
+    tasks = {(name, "proof"): ([("low", "proof")] if name != "low" else [], 100, 5, call) for name, call in calls.items()}
+    yield "lanes: memory that comes free while tasks run is given out", all(lanes.Lanes(tasks, {}, 2, lambda: next(free, 100), False).run().values())
     rows = (3, 4, 4, True, 0, 2), (3, 4, 4, False, 0, 1), (1, 4, 4, False, 0, 2), (1, 3, 4, False, 1, 1), (1, 2, 4, False, 2, 0), (1, 8, 8, True, 0, 4), (2, 1, 2, True, 1, 1), (1, 1, 1, False, 0, 1)
     yield "lanes: shares of processors", all(lanes.jobs_of(*row[:5]) == row[5] for row in rows)
     text = "# a\nlow proof 2\nlow tests 3\ngone proof 9\n"

@@ -1,15 +1,14 @@
 //! Scenes are played, over each set of types and each handle table.
 
 use crate::doors::Doors;
-use crate::lines::{number_of, sides_of, word_of};
 use crate::scenes::{SCENES, Scenes, Set};
-use crate::stage::{End, Listing, Stage};
 use crate::told::{are_calls, counts_of, is_reply};
 use either::Either;
 use ob_base::{Fault, Proc};
 use ob_core::{HandleTable, OpenTable, SlabTable};
 use ob_device::DeviceKind;
 use ob_plain::{PlainKind, Recorder, Refusing};
+use ob_stage::{End, Listing, Stage, number_of, sides_of, word_of};
 use ob_standard::{Standard, StandardKind};
 use ob_types::TypeSet;
 use std::alloc::Global;

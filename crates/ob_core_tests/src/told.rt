@@ -1,9 +1,9 @@
 //! What steps are told, beside what lines say.
 
-use crate::lines::{number_of, word_of};
 use ob_base::Status;
 use ob_core::{Entries, Given, Reply};
 use ob_plain::{Call, CallKind};
+use ob_stage::{number_of, word_of};
 use ob_types::Reason;
 
 /// Whether a line says this status, with the number by which a type refuses.

@@ -1,11 +1,11 @@
 //! Random opens of ten processes that wait for the parses of a device, ended and given up in any order, beside a
 //! plain model over flat lists.
 
-use crate::asks::{Ask, Deed, EXCLUSIVE, INHERIT, Kind, PERMANENT, Turn};
 use crate::dice::Dice;
+use crate::draw::{any_handle, any_live};
 use crate::game::{Game, agreed_by_tables};
-use crate::model::Model;
-use crate::names::{Name, Path};
+use crate::turn::Turn;
+use ob_flat_model::{Ask, Deed, EXCLUSIVE, INHERIT, Kind, Model, Name, PERMANENT, Path};
 use std::test::Fail;
 
 // The flags of opens, one of which is unlawful.
@@ -55,16 +55,16 @@ pub(crate) fn turn(dice: &mut Dice, model: &Model, done: u32) -> Turn {
             },
         );
     }
-    let live = model.any_live(dice);
+    let live = any_live(dice, model);
     let process = live.unwrap_or(dice.below(12) as u32);
-    let (_, value) = model.any_handle(dice);
+    let (_, value) = any_handle(dice, model);
     let open = any_open(dice);
-    let place = dice.below(model.waiting.len() as u64 + 1) as usize;
-    let (inherit, many) = (dice.below(2) == 0, model.processes.len());
+    let place = dice.below((model.waiting() as u64).saturating_add(1)) as usize;
+    let (inherit, many) = (dice.below(2) == 0, model.processes());
     let deed = Deed::Close;
     let ask = match dice.below(20) {
-        0..=5 if place < model.waiting.len() => return Turn::End(place),
-        6..=7 if place < model.waiting.len() => return Turn::Drop(place),
+        0..=5 if place < model.waiting() => return Turn::End(place),
+        6..=7 if place < model.waiting() => return Turn::Drop(place),
         8..=10 => Ask::Use { value, deed },
         11 if many > 1 => Ask::Exit,
         11..=12 if many < 10 => Ask::Begin { inherit },

@@ -1,12 +1,10 @@
 //! What comes next, at random.
 
-use crate::asks::{
-    Ask, CASE_INSENSITIVE, Deed, EXCLUSIVE, INHERIT, Kind, LARGEST_ROOM, OPENIF, OPENLINK,
-    PERMANENT, Part,
-};
 use crate::dice::Dice;
-use crate::model::Model;
-use crate::names::{Name, Path};
+use ob_flat_model::{
+    Ask, CASE_INSENSITIVE, Deed, EXCLUSIVE, INHERIT, Kind, LARGEST_ROOM, Model, Name, OPENIF,
+    OPENLINK, PERMANENT, Part, Path,
+};
 
 // The number of the last object of those that every game begins with.
 const LAST_BUILT: u32 = 9;
@@ -124,9 +122,22 @@ fn any_plain(dice: &mut Dice, last: Option<u8>) -> Kind {
     }
 }
 
+/// A place in the model's list of handles, or right behind them, and the value of the handle there, or 0.
+pub(crate) fn any_handle(dice: &mut Dice, model: &Model) -> (usize, u32) {
+    let many = model.handles() as u64;
+    let place = dice.below(many.saturating_add(1)) as usize;
+    (place, model.value_at(place).unwrap_or(0))
+}
+
+/// A live process, or now and then none.
+pub(crate) fn any_live(dice: &mut Dice, model: &Model) -> Option<u32> {
+    let many = model.processes() as u64;
+    model.process_at(dice.below(many.saturating_add(1)) as usize)
+}
+
 // The value of a handle, mostly one of a process's own to what is wanted. Its low two bits don't count.
 fn any_value(dice: &mut Dice, model: &Model, process: u32, want: Option<Kind>) -> u32 {
-    let (place, any) = model.any_handle(dice);
+    let (place, any) = any_handle(dice, model);
     let own = model.value_from(place, process, want).unwrap_or(any);
     match dice.below(24) {
         0 => any,
@@ -139,12 +150,11 @@ fn any_value(dice: &mut Dice, model: &Model, process: u32, want: Option<Kind>) -
 /// A process that lives, or now and then any number.
 pub(crate) fn any_process(dice: &mut Dice, model: &Model) -> u32 {
     let any = dice.below(14) as u32;
-    let live = model.any_live(dice);
-    match (dice.below(24), live, model.processes.first()) {
-        (0, _, _) => any,
-        (_, Some(live), _) => live,
-        (_, None, Some(oldest)) => oldest.number,
-        (_, None, None) => 1,
+    let live = any_live(dice, model);
+    match (dice.below(24), live) {
+        (0, _) => any,
+        (_, Some(live)) => live,
+        (_, None) => model.process_at(0).unwrap_or(1),
     }
 }
 
@@ -221,7 +231,7 @@ fn any_query(dice: &mut Dice) -> (Option<Kind>, Deed) {
 /// What a process asks for next.
 pub(crate) fn next(dice: &mut Dice, model: &Model, process: u32) -> Ask {
     let inherit = dice.below(4) != 0;
-    let many = model.processes.len();
+    let many = model.processes();
     let (want, deed) = match dice.below(64) {
         0..=14 => return any_make(dice, model, process),
         15..=30 => return any_open(dice, model, process),

@@ -3,15 +3,14 @@
 ghost use Rattle.std.specs.Prelude.{◌≡◌, [], OnOk};
 ghost use Rattle.ob_runner.specs.Begun.{AreAwaited, tickets_of, with_begun, without};
 
-use crate::asks::{Ask, Deed, Kind, Turn};
 use crate::dice::Dice;
-use crate::model::Model;
-use crate::names::{Name, Path, text};
+use crate::turn::Turn;
 use crate::{devices, random};
 use either::Either;
 use ob_base::{Fault, Handle, Proc};
 use ob_core::{Bytes, Cache, Command, Core, HandleTable, OpenTable, Place, SlabTable};
 use ob_device::DeviceKind;
+use ob_flat_model::{Ask, Deed, Kind, Model, Name, Path, text};
 use ob_plain::PlainKind;
 use ob_runner::{Begun, Waits, begin_open, drop_open, end_open, give_all_up};
 use ob_standard::{Standard, StandardKind};
@@ -250,7 +249,7 @@ fn ends<S: TypeSet, H: HandleTable>(
     if !tickets.contains(&ticket) {
         return Ok(false);
     }
-    let begun = end_open(core, waits, model.alloc, ticket)?;
+    let begun = end_open(core, waits, model.alloc(), ticket)?;
     forget(tickets, ticket);
     let noted = note(tickets, &begun);
     let ends = model.ends(waiting, &begun);
@@ -299,7 +298,7 @@ fn is_agreed<S: Played, H: HandleTable>(
 {
     match turn {
         Turn::Start(process, ask) => {
-            let command = command::<S>(model.alloc, ask, model.context(process))?;
+            let command = command::<S>(model.alloc(), ask, model.context(process))?;
             let starts = starts(core, waits, tickets, model, &command, process, ask);
             // (by a call, since the drop of a command is long)
             mem::drop(command);
@@ -314,7 +313,7 @@ fn is_agreed<S: Played, H: HandleTable>(
 fn is_counted<S: Played, H: HandleTable>(core: &Core<S, H>, model: &Model, process: u32) -> bool {
     let own = core.handles_of(Proc(process));
     let counts = (core.objects(), core.handles(), own);
-    counts == model.counts(process) && core.set().calls() == model.calls
+    counts == model.counts(process) && core.set().calls() == model.calls()
 }
 
 // How many of so many turns end as the model says, up to the first that doesn't.
@@ -354,7 +353,7 @@ fn play_from<S: Played, H: HandleTable>(
     ensures awaited { AreAwaited core.new waits.new }
 {
     let (game, state) = game;
-    let (mut tickets, mut dice) = (Vec::new(model.alloc), Dice { state });
+    let (mut tickets, mut dice) = (Vec::new(model.alloc()), Dice { state });
     play(core, waits, &mut tickets, model, game, &mut dice, count)
 }
 
@@ -366,7 +365,7 @@ fn agreed_in<S: Played, H: HandleTable>(
     game: (Game, u64),
     count: u32,
 ) -> Result<u32, AllocError> {
-    let mut waits = Waits::new(model.alloc);
+    let mut waits = Waits::new(model.alloc());
     let done = play_from(core, &mut waits, model, game, count);
     give_all_up(core, waits);
     match is_counted(core, model, 1) {
@@ -408,7 +407,7 @@ fn agreed_over<S: Played, H: HandleTable>(
     game: (Game, u64),
     count: u32,
 ) -> Result<u32, Fault> {
-    let mut core: Core<S, H> = Core::with_cache(model.alloc, set, cache)?;
+    let mut core: Core<S, H> = Core::with_cache(model.alloc(), set, cache)?;
     let done = agreed_in(&mut core, model, game, count);
     // (let go by a call, since the drop of a namespace is long, and would be proved anew on each way out)
     mem::drop(core);

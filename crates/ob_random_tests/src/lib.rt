@@ -1,9 +1,7 @@
-//! Random commands of many processes, beside a plain model of the namespace over flat lists (`model`). The crate holds tests alone, since a crate
-//! with tests is proved twice.
+//! Random commands of many processes, beside a plain model of the namespace over flat lists (`ob_flat_model`). The crate holds tests alone, since a
+//! crate with tests is proved twice.
 #![tactic(auto)]
 
-#[cfg(test)]
-mod asks;
 #[cfg(test)]
 mod devices;
 #[cfg(test)]
@@ -13,8 +11,6 @@ mod draw;
 #[cfg(test)]
 mod game;
 #[cfg(test)]
-mod model;
-#[cfg(test)]
-mod names;
-#[cfg(test)]
 mod random;
+#[cfg(test)]
+mod turn;

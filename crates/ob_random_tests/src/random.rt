@@ -1,11 +1,10 @@
 //! Random commands of a dozen processes, some of which have device maps, beside a plain model of the namespace.
 
-use crate::asks::{Ask, INHERIT, Kind, PERMANENT, Turn};
 use crate::dice::Dice;
 use crate::draw::{any_process, next};
 use crate::game::{Game, agreed_by_tables};
-use crate::model::Model;
-use crate::names::{Name, Path};
+use crate::turn::Turn;
+use ob_flat_model::{Ask, INHERIT, Kind, Model, Name, PERMANENT, Path};
 use std::env;
 use std::test::Fail;
 

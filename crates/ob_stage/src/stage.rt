@@ -9,8 +9,8 @@ use ob_types::TypeSet;
 use std::alloc::Global;
 use std::mem;
 
-/// A set whose calls are recorded.
-pub(crate) trait Listing: TypeSet {
+/// A set of types whose calls are recorded.
+pub trait Listing: TypeSet {
     /// The calls that there was room for, the first of them first, and how many are behind them.
     fn calls(&self) -> (&[Call], u64);
 }
@@ -25,7 +25,7 @@ impl<T: TypeSet> Listing for Refusing<Recorder<T>> {
 
 /// What a step came to.
 #[derive(Drop)]
-pub(crate) enum End {
+pub enum End {
     /// It was replied to.
     Done(Reply),
     /// Its open waits for the parse at hand.
@@ -52,7 +52,7 @@ struct Space<T: Listing, H: HandleTable> {
 }
 
 /// A namespace, and the parse at hand.
-pub(crate) struct Stage<T: Listing, H: HandleTable> {
+pub struct Stage<T: Listing, H: HandleTable> {
     space: Space<T, H>,
     parse: Option<Brought<T>>,
 }
@@ -69,12 +69,9 @@ fn give_up<T: Listing, H: HandleTable>(
 }
 
 impl<T: Listing, H: HandleTable> Stage<T, H> {
-    /// The opening state.
-    pub(crate) fn new(
-        alloc: Global,
-        set: T,
-        kinds: (T::Kind, T::Kind),
-    ) -> Result<Stage<T, H>, Fault> {
+    /// The opening state over a set, whose lines name these two kinds as the first and the other one. The only fault is out of memory, and then
+    /// the set is let go.
+    pub fn new(alloc: Global, set: T, kinds: (T::Kind, T::Kind)) -> Result<Stage<T, H>, Fault> {
         let space = Space {
             alloc,
             core: Core::new(alloc, set)?,
@@ -86,15 +83,15 @@ impl<T: Listing, H: HandleTable> Stage<T, H> {
     }
 
     /// Gives the parse at hand up, and lets the namespace go.
-    pub(crate) fn close(self) {
+    pub fn close(self) {
         let Stage { mut space, parse } = self;
         give_up(&mut space.core, parse);
         // (by a call, since the drop of a namespace is long, and would be proved here anew)
         mem::drop(space);
     }
 
-    /// Makes the step of a line so often.
-    pub(crate) fn make(&mut self, process: Proc, times: u32, line: &str) {
+    /// Makes the step that a line asks of a process so often; none where it asks for none.
+    pub fn make(&mut self, process: Proc, times: u32, line: &str) {
         let handle = self.given_to(word_of(line, 2));
         self.ends(End::Unmade);
         if let Some(command) = command_of(self.space.alloc, self.space.kinds, handle, line) {
@@ -136,8 +133,8 @@ impl<T: Listing, H: HandleTable> Stage<T, H> {
         give_up(&mut self.space.core, other);
     }
 
-    /// Runs the parse at hand.
-    pub(crate) fn run(&mut self) {
+    /// Runs the parse at hand, where it wasn't run.
+    pub fn run(&mut self) {
         match self.parse.take() {
             Some(Brought::Unrun(parsing)) => self.hold(Brought::Run(parsing.run(self.space.alloc))),
             Some(parse) => self.hold(parse),
@@ -145,8 +142,8 @@ impl<T: Listing, H: HandleTable> Stage<T, H> {
         }
     }
 
-    /// Brings the parse at hand to its open.
-    pub(crate) fn resume(&mut self) {
+    /// Brings the parse at hand to its open. A stranger's stays at hand.
+    pub fn resume(&mut self) {
         if let Some(parse) = self.parse.take() {
             match self.space.core.resume(parse.into_parsed()) {
                 Ok(started) => self.came(started),
@@ -158,20 +155,20 @@ impl<T: Listing, H: HandleTable> Stage<T, H> {
         }
     }
 
-    /// Gives the parse at hand up.
-    pub(crate) fn give_up(&mut self) {
+    /// Gives the parse at hand up, where there is one.
+    pub fn give_up(&mut self) {
         if let Some(did_wait) = give_up(&mut self.space.core, self.parse.take()) {
             self.ends(End::GivenUp(did_wait));
         }
     }
 
     /// Changes the parse at hand for that of another namespace.
-    pub(crate) fn swap(&mut self, other: &mut Stage<T, H>) {
+    pub fn swap(&mut self, other: &mut Stage<T, H>) {
         mem::swap(&mut self.parse, &mut other.parse);
     }
 
     /// Ends a line: the handle that its step was given is kept.
-    pub(crate) fn note(&mut self) {
+    pub fn note(&mut self) {
         let handle = match &self.space.end {
             End::Done(reply) => handle_in(&reply.given),
             _ => Handle(0),
@@ -180,7 +177,7 @@ impl<T: Listing, H: HandleTable> Stage<T, H> {
     }
 
     /// What the last step came to.
-    pub(crate) fn end(&self) -> &End {
+    pub fn end(&self) -> &End {
         &self.space.end
     }
 
@@ -194,7 +191,7 @@ impl<T: Listing, H: HandleTable> Stage<T, H> {
     }
 
     /// Whether the parse at hand has this ticket and this rest.
-    pub(crate) fn is_waited_for(&self, ticket: &str, rest: &str) -> bool {
+    pub fn is_waited_for(&self, ticket: &str, rest: &str) -> bool {
         let (own, text) = match &self.parse {
             Some(Brought::Unrun(parsing)) => (parsing.ticket(), parsing.rest()),
             Some(Brought::Run(parsed)) => (parsed.ticket(), parsed.rest()),
@@ -204,33 +201,33 @@ impl<T: Listing, H: HandleTable> Stage<T, H> {
     }
 
     /// How many reparses are left to the open that waits under a ticket; `u32::MAX` where none does.
-    pub(crate) fn left(&self, ticket: &str) -> u32 {
+    pub fn left(&self, ticket: &str) -> u32 {
         let ticket = u64::from(number_of(ticket));
         self.space.core.left(ticket).unwrap_or(u32::MAX)
     }
 
     /// How many objects and handles there are.
-    pub(crate) fn counts(&self) -> (usize, usize) {
+    pub fn counts(&self) -> (usize, usize) {
         (self.space.core.objects(), self.space.core.handles())
     }
 
     /// The calls of the set that there was room for, and how many are behind them.
-    pub(crate) fn calls(&self) -> (&[Call], u64) {
+    pub fn calls(&self) -> (&[Call], u64) {
         self.space.core.set().calls()
     }
 
     /// How many handles a process has.
-    pub(crate) fn handles_of(&self, process: Proc) -> usize {
+    pub fn handles_of(&self, process: Proc) -> usize {
         self.space.core.handles_of(process)
     }
 
     /// Whether a process has a handle of exactly this value.
-    pub(crate) fn holds(&self, process: Proc, value: &str) -> bool {
+    pub fn holds(&self, process: Proc, value: &str) -> bool {
         self.space.core.holds(process, Handle(number_of(value)))
     }
 
     /// What the handle that was given to a line leads to, a word and an id.
-    pub(crate) fn led_to(&self, process: Proc, line: &str) -> (&'static str, u64) {
+    pub fn led_to(&self, process: Proc, line: &str) -> (&'static str, u64) {
         match self.space.core.referent(process, self.given_to(line)) {
             Some((id, Referent::Directory)) => ("directory", id.0),
             Some((id, Referent::Link(_))) => ("link", id.0),

@@ -1,19 +1,23 @@
-//! The names of random commands. A component is told by one letter; those of the opening state and of devices are longer.
+//! Names. A component is told by one letter; those of the opening state and of devices are longer.
 
 use std::alloc::{AllocError, Global};
 
-/// A path: the letters of the components before the last, and that of the last, where there is one.
+/// A path. A letter that tells no component by itself is `??`.
 #[derive(Clone, Copy)]
-pub(crate) struct Path {
-    pub(crate) way: &'static [u8],
-    pub(crate) last: Option<u8>,
+pub struct Path {
+    /// The letters of the components before the last.
+    pub way: &'static [u8],
+    /// That of the last, where there is one.
+    pub last: Option<u8>,
 }
 
-/// A name that commands have: absolute, or relative to what the handle of a value leads to.
+/// A name that commands have.
 #[derive(Clone, Copy)]
-pub(crate) struct Name {
-    pub(crate) root: Option<u32>,
-    pub(crate) path: Path,
+pub struct Name {
+    /// The value of the handle to whose object it is relative; none where it is absolute.
+    pub root: Option<u32>,
+    /// Its path.
+    pub path: Path,
 }
 
 /// The letters of all components of a path.
@@ -61,8 +65,8 @@ pub(crate) fn joined(alloc: Global, letters: &[u8]) -> Result<Vec<u8>, AllocErro
     Ok(text)
 }
 
-/// The text of a name: no backslash stands before a relative one.
-pub(crate) fn text(alloc: Global, name: Name) -> Result<Vec<u8>, AllocError> {
+/// The text of a name: no backslash stands before a relative one. The only error is out of memory.
+pub fn text(alloc: Global, name: Name) -> Result<Vec<u8>, AllocError> {
     let letters = letters(alloc, name.path)?;
     let text = joined(alloc, letters.as_slice())?;
     match name.root {

@@ -6,7 +6,6 @@ mod lookup;
 mod pages;
 
 use crate::asks::{Ask, Deed, EXCLUSIVE, INHERIT, Kind, PERMANENT, Waiting, is_wanted};
-use crate::dice::Dice;
 use crate::names::{Name, Path, joined, text};
 use ob_base::{Handle, Status};
 use ob_model::{Given, Reply};
@@ -32,14 +31,16 @@ struct Spot {
     letter: u8,
 }
 
-/// An object. Numbers and stamps rise in the order of making; what never had a name has stamp 0. The target is that of a
-/// link.
+/// An object.
 #[derive(Clone, Copy)]
-pub(crate) struct Object {
-    pub(crate) number: u32,
+pub struct Object {
+    /// Its number, which rises in the order of making, from 1.
+    pub number: u32,
     of: Kind,
+    // That of a link.
     target: Path,
     spot: Option<Spot>,
+    // It rises in the order of making; what never had a name has 0.
     stamp: u64,
     is_permanent: bool,
     is_exclusive: bool,
@@ -63,11 +64,11 @@ impl Open {
     }
 }
 
-/// A live process, the directory of its map, which is GLOBAL where it has no map, and the context that its last page
-/// gave, 0 before the first.
+// A live process, the directory of its map, which is GLOBAL where it has no map, and the context that its last page
+// gave, 0 before the first.
 #[derive(Clone, Copy)]
-pub(crate) struct Live {
-    pub(crate) number: u32,
+struct Live {
+    number: u32,
     map: u32,
     context: u64,
 }
@@ -83,23 +84,23 @@ enum Answer {
     Waits(bool),
 }
 
-/// The model. Last are how often the set opened, closed and deleted an object.
+/// The model: what there is, in lists. Where it finds no memory it is left with a part of what it was to do, and no use any more.
 #[derive(Drop)]
-pub(crate) struct Model {
-    pub(crate) alloc: Global,
+pub struct Model {
+    alloc: Global,
     objects: Vec<Object>,
     handles: Vec<Open>,
-    pub(crate) processes: Vec<Live>,
-    pub(crate) waiting: Vec<Waiting>,
+    processes: Vec<Live>,
+    waiting: Vec<Waiting>,
     last_object: u32,
     last_stamp: u64,
     last_process: u32,
-    pub(crate) calls: (u64, u64, u64),
+    calls: (u64, u64, u64),
 }
 
 impl Model {
-    /// The opening state.
-    pub(crate) fn new(alloc: Global) -> Result<Model, AllocError> {
+    /// The opening state. The only error is out of memory.
+    pub fn new(alloc: Global) -> Result<Model, AllocError> {
         let mut model = Model {
             alloc,
             objects: Vec::new(alloc),
@@ -142,7 +143,7 @@ impl Model {
     }
 
     /// How many objects and handles there are, and how many handles a process has.
-    pub(crate) fn counts(&self, process: u32) -> (usize, usize, usize) {
+    pub fn counts(&self, process: u32) -> (usize, usize, usize) {
         let mut own: usize = 0;
         for open in &self.handles {
             if open.process == process {
@@ -162,7 +163,7 @@ impl Model {
     }
 
     /// The context that the last page of a process gave.
-    pub(crate) fn context(&self, process: u32) -> u64 {
+    pub fn context(&self, process: u32) -> u64 {
         match self.live(process) {
             Some(live) => live.context,
             None => 0,
@@ -179,7 +180,7 @@ impl Model {
     }
 
     /// What a handle of a process leads to. The low two bits of its value don't count.
-    pub(crate) fn behind(&self, process: u32, value: u32) -> Option<Object> {
+    pub fn behind(&self, process: u32, value: u32) -> Option<Object> {
         for open in &self.handles {
             if open.process == process && open.value == value & !3 {
                 return self.numbered(open.object);
@@ -199,7 +200,7 @@ impl Model {
     }
 
     /// The value of the first handle from a place on of a process to what is wanted.
-    pub(crate) fn value_from(&self, place: usize, process: u32, want: Option<Kind>) -> Option<u32> {
+    pub fn value_from(&self, place: usize, process: u32, want: Option<Kind>) -> Option<u32> {
         for open in self.handles.get(place..)? {
             if let Some(object) = self.numbered(open.object)
                 && open.process == process
@@ -211,38 +212,51 @@ impl Model {
         None
     }
 
-    /// A place in the list of handles, or right behind them, and the value of the handle there, or 0.
-    pub(crate) fn any_handle(&self, dice: &mut Dice) -> (usize, u32) {
-        let many = self.handles.len() as u64;
-        let place = dice.below(many.saturating_add(1)) as usize;
-        match self.handles.get(place) {
-            Some(open) => (place, open.value),
-            None => (place, 0),
-        }
+    /// The value of the handle at a place in the list of all; none behind them.
+    pub fn value_at(&self, place: usize) -> Option<u32> {
+        Some(self.handles.get(place)?.value)
     }
 
-    /// A live process, or now and then none.
-    pub(crate) fn any_live(&self, dice: &mut Dice) -> Option<u32> {
-        let many = self.processes.len() as u64;
-        let place = dice.below(many.saturating_add(1)) as usize;
+    /// The number of the process at a place among those that are live, the oldest of them first; none behind them.
+    pub fn process_at(&self, place: usize) -> Option<u32> {
         Some(self.processes.get(place)?.number)
     }
 
-    /// Takes the open out that waits at a place, so that nothing of it is left.
-    pub(crate) fn take(&mut self, place: usize) -> Option<Waiting> {
+    /// Where its lists lie.
+    pub fn alloc(&self) -> Global {
+        self.alloc
+    }
+
+    /// How many handles there are.
+    pub fn handles(&self) -> usize {
+        self.handles.len()
+    }
+
+    /// How many processes are live.
+    pub fn processes(&self) -> usize {
+        self.processes.len()
+    }
+
+    /// How many opens wait.
+    pub fn waiting(&self) -> usize {
+        self.waiting.len()
+    }
+
+    /// How often the set opened, closed and deleted an object.
+    pub fn calls(&self) -> (u64, u64, u64) {
+        self.calls
+    }
+
+    /// Takes the open out that waits at a place, so that nothing of it is left; none where none waits there.
+    pub fn take(&mut self, place: usize) -> Option<Waiting> {
         if place >= self.waiting.len() {
             return None;
         }
         Some(self.waiting.remove(place))
     }
 
-    /// Whether what a process asked for became of it what is to; then the model is what it leaves.
-    pub(crate) fn starts(
-        &mut self,
-        process: u32,
-        ask: Ask,
-        begun: &Begun,
-    ) -> Result<bool, AllocError> {
+    /// Whether what a process asked for became of it what is to; then the model is what it leaves. The only error is out of memory.
+    pub fn starts(&mut self, process: u32, ask: Ask, begun: &Begun) -> Result<bool, AllocError> {
         match (self.answer(process, ask)?, begun) {
             (Answer::Waits(is_there), Begun::Waits(ticket)) => {
                 self.last_object = self.last_object.wrapping_add(1);
@@ -261,8 +275,8 @@ impl Model {
     }
 
     /// Whether an open that waited ends as it is to; then the model is what it leaves. A file that its parse made is
-    /// there, and goes where no handle to it is granted.
-    pub(crate) fn ends(&mut self, waiting: Waiting, begun: &Begun) -> Result<bool, AllocError> {
+    /// there, and goes where no handle to it is granted. The only error is out of memory.
+    pub fn ends(&mut self, waiting: Waiting, begun: &Begun) -> Result<bool, AllocError> {
         let Begun::Replied(reply) = begun else {
             return Ok(false);
         };
