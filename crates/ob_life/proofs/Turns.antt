@@ -1,7 +1,7 @@
 -- After the end of a process each object that a handle of it led to is settled in its turn, from the greatest
 -- number down, and then the directory of its name; what is left when all had their turns is what settling
 -- leaves.
-use Rattle.std.proofs.Common.{◌≡◌, ℕ, ◌<◌, ◌≤◌, Bool, true, false, not, ◌||◌, ◌&&◌, ◌==◌, nat_le, cond, List, [], ◌∷◌, get_or, length, find, refl, ap, ◌∙◌, sym, subst, arith, filter, All, eq-eqb, eqb-true, leb-true, leb-false, le-leb}
+use Rattle.std.proofs.Common.{◌≡◌, ℕ, ◌<◌, ◌≤◌, Bool, true, false, not, ◌||◌, ◌&&◌, ◌==◌, nat_le, cond, List, [], ◌∷◌, get_or, length, find, refl, ap, ◌∙◌, sym, subst, arith, filter, All, eq-eqb, eqb-true, leb-true, leb-false, le-leb, inl, inr}
 use Rattle.std.specs.Prelude.{Option, None, Some, option_map, MatchOption}
 use Rattle.std.specs.List.{list_any}
 use Rattle.std.specs.Option.{option_map_or}
@@ -21,7 +21,7 @@ use Rattle.ob_model.proofs.Finds.{filter_all, All-kept, list_any_weaker}
 use Rattle.ob_model.proofs.Settled.{alive_from_held_name}
 use Rattle.ob_model.proofs.Soundness.{stands_drawn}
 use Rattle.ob_space.specs.Orderly.{IsOrderly}
-use Rattle.ob_life.specs.Settling.{is_held_up, without_names, without_object, settled_one, settled_unless, AreSettled, StaysBut}
+use Rattle.ob_life.specs.Settling.{is_held_up, without_names, without_object, settled_one, settled_unless, AreSettled, HadItsTurn, StaysBut}
 use Rattle.ob_space.proofs.Handles.{found_passes}
 use Rattle.ob_life.proofs.Judged.{Judged, none_judged, judged_alike, all_judged, one_judged, greatest_first, directory_first, stays_found, all_pass, all_found, any_agrees, some_done, left_stays}
 use Rattle.ob_space.proofs.Orders.{finds_itself, none_pass}
@@ -99,6 +99,24 @@ or_true false = refl
 and_true : (b : Bool) → (b && true) ≡ b
 and_true true = refl
 and_true false = refl
+
+-- what stays, stays whether it had its turn or not
+stays_alike : (k a b : Bool) → k ≡ true → (k || a) ≡ (k || b)
+stays_alike true a b h = refl
+stays_alike false a b h = cc
+
+held_stays : (root h pin map q holds : Bool) → h ≡ true → (root || h || pin || map || q || holds) ≡ true
+held_stays true h pin map q holds e = refl
+held_stays false true pin map q holds e = refl
+held_stays false false pin map q holds e = cc
+
+module _ {K T F I : Type 0} (s : State K T F I) where
+  -- what has a handle stays, and so do its names
+  held_alive : (o : ℕ) → has_handle s o ≡ true → is_alive s o ≡ true
+  held_alive o held = held_stays (o == root_id) (has_handle s o) (is_pinned s o) (is_mapped s o) (is_permanent s o && has_name s o) (holds_kept s o) held
+
+  held_kept : (o : ℕ) → has_handle s o ≡ true → (r : Row) → (r.object == o) ≡ true → is_kept s r ≡ true
+  held_kept o held r own = ap (λ n. is_permanent s n || has_handle s n) (eqb-true r.object o own) ∙ (λ i. is_permanent s o || held i) ∙ or_true (is_permanent s o)
 
 module _ {K T F I : Type 0} (s : State K T F I) where
   -- a name in a directory goes, and its object has its turn below a bound
@@ -530,7 +548,7 @@ module _ {K T F I : Type 0} (g : Procedures K T F I) (idle : I → Type 0) (s : 
               (directory_settled id d next (settled_one g t id) e (of_found (λ q. IsDirectory s q.directory) inside)
               (λ o apart. agree o (λ free. elsewhere o apart)) (grows e) (still_new e) first)
 
-    pub one_turn : (u : State K T F I) → AreSettled g t touched id u → Judged g s (done id) u
+    one_turn : (u : State K T F I) → AreSettled g t touched id u → Judged g s (done id) u
     one_turn u are = go (find (λ r. r.object == id) t.rows) refl are
       where
         go : (o : Option Row) → find (λ r. r.object == id) t.rows ≡ o
@@ -541,6 +559,52 @@ module _ {K T F I : Type 0} (g : Procedures K T F I) (idle : I → Type 0) (s : 
             alike u are.0 (λ o. agree o (λ free.
             unfiltered (λ q. (q.directory == o) ≡ false) (λ k x below own. absurd (false≢true (sym (are.1 k x below) ∙ own)))))
         go (Some r) e are = named_turn r e are.1 u are.0
+
+    -- a handle to the object is left, so that it stays, and its names do
+    module _ (held : has_handle s id ≡ true) where
+      apart_done : (o : ℕ) → (o == id) ≡ false → done b o ≡ done id o
+      apart_done o apart = go (touched o) refl
+        where
+          go : (c : Bool) → touched o ≡ c → done b o ≡ done id o
+          go true e = done_touched b o e ∙ sym (or_false (nat_le b o)) ∙ (λ i. nat_le b o || sym apart i) ∙ turn_next b id o less (last o e) ∙ sym (done_touched id o e)
+          go false e = done_other b o e ∙ ap not (any_agrees (is_open b o) (is_open id o) s.rows each) ∙ sym (done_other id o e)
+            where
+              each : All (λ r. is_open b o r ≡ is_open id o r) s.rows
+              each k x below = parts (r.directory == o) (is_kept s r) refl refl
+                where
+                  r : Row
+                  r = get_or s.rows k x
+
+                  parts : (here kept : Bool) → (r.directory == o) ≡ here → is_kept s r ≡ kept
+                      → (here && (not kept && not (nat_le b r.object))) ≡ (here && (not kept && not (nat_le id r.object)))
+                  parts false kept f h = refl
+                  parts true true f h = refl
+                  parts true false f h =
+                      let own : (r.object == id) ≡ false = is_false (r.object == id) (λ same. false≢true (sym h ∙ held_kept s id held r same)) in
+                      ap not (sym (or_false (nat_le b r.object)) ∙ (λ i. nat_le b r.object || sym own i) ∙ turn_next b id r.object less (last r.object (gone_touched k x below h)))
+
+      held_turn : Judged g s (done id) t
+      held_turn = judged_alike g s (done b) (done id) t (λ k x below. object (get_or s.objects k x).id) (λ k x below. name (get_or s.rows k x)) judged
+        where
+          object : (o : ℕ) → (is_alive s o || not (done b o)) ≡ (is_alive s o || not (done id o))
+          object o = go (o == id) refl
+            where
+              go : (c : Bool) → (o == id) ≡ c → (is_alive s o || not (done b o)) ≡ (is_alive s o || not (done id o))
+              go true own = stays_alike (is_alive s o) (not (done b o)) (not (done id o)) (ap (is_alive s) (eqb-true o id own) ∙ held_alive s id held)
+              go false apart = ap (λ c. is_alive s o || not c) (apart_done o apart)
+
+          name : (r : Row) → (is_kept s r || not (done b r.object)) ≡ (is_kept s r || not (done id r.object))
+          name r = go (r.object == id) refl
+            where
+              go : (c : Bool) → (r.object == id) ≡ c → (is_kept s r || not (done b r.object)) ≡ (is_kept s r || not (done id r.object))
+              go true own = stays_alike (is_kept s r) (not (done b r.object)) (not (done id r.object)) (held_kept s id held r own)
+              go false apart = ap (λ c. is_kept s r || not c) (apart_done r.object apart)
+
+    pub any_turn : (u : State K T F I) → HadItsTurn g t touched id u → Judged g s (done id) u
+    any_turn u (inl stays_held) =
+        subst (Judged g s (done id)) (sym stays_held.1)
+        (held_turn (sym (ap (list_any (λ (h : Held). h.object == id)) judged.handles) ∙ stays_held.0))
+    any_turn u (inr settled) = one_turn u settled
 
   -- ---- after the last turn
 

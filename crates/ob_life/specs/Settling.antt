@@ -1,6 +1,6 @@
 -- Which objects stay, told from the names that stay; what settling makes of one object; what was settled
 -- before one handle was closed; and what a process that ends leaves to be settled.
-use Rattle.std.specs.Prelude.{◌≡◌, ℕ, Bool, true, false, ◌&&◌, ◌||◌, ◌==◌, not, if◌then◌else◌, [], ◌∷◌, ◌++◌, filter, All, Option, Some, MatchOption}
+use Rattle.std.specs.Prelude.{◌≡◌, ◌⊎◌, ℕ, Bool, true, false, ◌&&◌, ◌||◌, ◌==◌, not, if◌then◌else◌, [], ◌∷◌, ◌++◌, filter, All, Option, Some, MatchOption}
 use Rattle.std.specs.List.{list_any, find}
 use Rattle.std.specs.Option.{option_map_or}
 use Rattle.ob_model.specs.Procedures.{Procedures}
@@ -64,3 +64,7 @@ module _ {K T F I : Type 0} (g : Procedures K T F I) where
   AreSettled s touched o t =
       MatchOption (find (λ r. r.object == o) s.rows) ((t ≡ settled_one s o) × All (λ q. (q.object == o) ≡ false) s.rows)
       (λ r. (t ≡ settled_unless touched (settled_one s o) r.directory) × All (λ q. (q.object == o) ≡ true → q.directory ≡ r.directory) s.rows)
+
+  -- an object had its turn: a handle to it is left, and nothing went, or it was settled so
+  abbrev pub HadItsTurn : State K T F I → (ℕ → Bool) → ℕ → State K T F I → Type 0
+  HadItsTurn s touched o t = ((has_handle s o ≡ true) × (t ≡ s)) ⊎ AreSettled s touched o t

@@ -8,7 +8,7 @@ ghost use Rattle.ob_space.specs.Namespace.{listed, with_opens, none_running, run
 ghost use Rattle.ob_space.specs.Orderly.{IsOrderly, IsIdleBody, IsIdleUnheld};
 ghost use Rattle.ob_handles.specs.Counts.{is_listed};
 ghost use Rattle.ob_model.specs.Sound.{IsSound};
-ghost use Rattle.ob_life.specs.Settling.{is_held_up, is_upheld, settled_one, settled_unless, AreSettled, StaysBut, with_handle_to, without_names, without_object};
+ghost use Rattle.ob_life.specs.Settling.{is_held_up, is_upheld, settled_one, settled_unless, AreSettled, HadItsTurn, StaysBut, with_handle_to, without_names, without_object};
 
 use ob_base::ObjId;
 use ob_handles::{HandleTable, Touched};
@@ -64,8 +64,8 @@ fn is_upheld<T: TypeSet, H: HandleTable>(space: &Space<T, H>, object: ObjId) -> 
 ///
 /// It asks that the state is orderly and sound, and that nothing else can go but a directory by the
 /// names that it holds: `StaysBut`. It leaves an orderly state. No memory is taken, and no other object
-/// is looked at, so that it takes a time that grows with the objects that the handles led to, times the
-/// logarithm of all.
+/// is looked at, nor is one settled to which a handle is left, so that it takes a time that grows with the objects
+/// that the handles led to, times the logarithm of all.
 ///
 /// Source: Windows Internals, Object Manager (object retention); that it is judged once, at the end of
 /// a step, and the order of the deletes are this profile.
@@ -85,8 +85,19 @@ pub fn settle_after_end<T: TypeSet, H: HandleTable>(
         settle_untouched(space, touched, directory);
     }
     while let Some(id) = touched.last_before(bound) {
-        settle_named(space, touched, id);
+        settle_in_turn(space, touched, id);
         bound = id;
+    }
+}
+
+/// Settles one object in its turn: where a handle to it is left nothing goes, neither of it nor of the directory of its
+/// name.
+fn settle_in_turn<T: TypeSet, H: HandleTable>(space: &mut Space<T, H>, touched: &Touched, id: ObjId)
+    requires { All (IsIdleUnheld T.idle space.old.handles) space.old.objects }
+    ensures { HadItsTurn T.procedures space.old (is_listed touched.now) id space.new }
+{
+    if !has_handle(&space.processes, id) {
+        settle_named(space, touched, id);
     }
 }
 

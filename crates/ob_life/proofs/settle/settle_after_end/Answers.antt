@@ -2,7 +2,7 @@
 use Rattle.std.proofs.Common.{◌∙◌, ap, sym, subst}
 use Rattle.ob_handles.specs.Counts.{is_listed}
 use Rattle.ob_life.proofs.Judged.{Judged, unheld_left}
-use Rattle.ob_life.proofs.Turns.{had_turn, no_map, map_settled, one_turn, all_turned}
+use Rattle.ob_life.proofs.Turns.{had_turn, no_map, map_settled, any_turn, all_turned}
 use Rattle.ob_life.proofs.Walked.{settled_is_orderly}
 use Rattle.ob_life.proofs.settle.settle_after_end.Goals as goal
 use Rattle.ob_life.proofs.settle.settle_after_end.Goals.{in-Some, in_default}
@@ -18,16 +18,16 @@ loop-id-init g c =
           (sym w.space-is) (no_map g.T.TypeSet.procedures g.T.TypeSet.idle c.args.space.now c.requires.orderly c.requires.sound.rows.inside (is_listed c.args.touched.now) c.args.map c.requires.kept w.in_default.is)
     ])
 
-pub settle_named-requires-after_bounds : goal.settle_named-requires-after_bounds
-settle_named-requires-after_bounds g c κs within =
+pub settle_in_turn-requires-after_bounds : goal.settle_in_turn-requires-after_bounds
+settle_in_turn-requires-after_bounds g c κs within =
     unheld_left g.T.TypeSet.procedures c.args.space.now (had_turn c.args.space.now (is_listed c.args.touched.now) c.loop-id.bound)
     c.loop-id.space c.loop-id.invariant g.T.TypeSet.idle c.requires.orderly.unheld
 
 pub loop-id-preserved : goal.loop-id-preserved
 loop-id-preserved g c =
     let last = c.in-Some-last_before.ensures in
-    one_turn g.T.TypeSet.procedures g.T.TypeSet.idle c.args.space.now c.requires.orderly c.requires.sound.rows.inside (is_listed c.args.touched.now) c.args.map c.requires.kept
-    c.loop-id.bound c.in-Some-last_before.id last.0 last.1 last.2 c.loop-id.space c.loop-id.invariant c.settle_named.new.space c.settle_named.ensures
+    any_turn g.T.TypeSet.procedures g.T.TypeSet.idle c.args.space.now c.requires.orderly c.requires.sound.rows.inside (is_listed c.args.touched.now) c.args.map c.requires.kept
+    c.loop-id.bound c.in-Some-last_before.id last.0 last.1 last.2 c.loop-id.space c.loop-id.invariant c.settle_in_turn.new.space c.settle_in_turn.ensures
 
 pub returns-clause-orderly : goal.returns-clause-orderly
 returns-clause-orderly g c =
