@@ -1,5 +1,5 @@
 # make try    runs examples/first.ntns, or the script that SCRIPT names, without proofs: in a minute or two
-# make run    the same by the proved program; the first build proves every crate, which takes half an hour to an hour
+# make run    the same by the proved program; the first build proves every crate, which takes 25 minutes to an hour
 # make test   the gate: every proof, every test, the records of what was refused, and runs of the program
 # make wrong  tries the wrong bodies that no record covers; those of one crate with CRATE=name, all anew with ALL=1
 # make definitions  the same for the turned definitions, which the laws and examples must refuse

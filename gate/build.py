@@ -134,7 +134,7 @@ class Build:
         for crate in (it for it in listed() if it in self.crates):
             waits = [(it, "proof") for it in with_dependencies(crate) & set(self.crates) - {crate}]
             tasks[crate, "proof"] = waits, lines_of(crate), 1, lambda _, jobs, it=crate: self.step(it, jobs)
-        return all(lanes.Lanes(tasks, lanes.measured(lanes.SECONDS.read_text()), self.processors, ENOUGH, False).run().values())
+        return all(lanes.Lanes(tasks, lanes.measured(lanes.SECONDS.read_text()), self.processors, lambda: ENOUGH, False).run().values())
 
 
 def in_words(seconds):
