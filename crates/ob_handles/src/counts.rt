@@ -51,6 +51,15 @@ impl Counts {
         }
     }
 
+    /// Makes room at once for so many objects more of which a count is kept. The only error is want of
+    /// memory. The counts stay, whatever the result. (this profile)
+    pub fn reserve(&mut self, more: usize) -> Result<(), AllocError>
+        ensures { self.new ≡ self.old }
+    {
+        self.room.reserve(self.numbers.len().saturating_add(more))?;
+        self.numbers.reserve(more)
+    }
+
     /// The count of an object. Takes no memory.
     pub fn get(&self, object: ObjId) -> usize
         ensures { result ≡ count_of self.now object }

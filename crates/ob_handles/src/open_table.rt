@@ -56,6 +56,11 @@ impl HandleTable for OpenTable {
         }
     }
 
+    // An ordered map can't make room.
+    fn reserve(&mut self, _more: usize) -> Result<(), AllocError> {
+        Ok(())
+    }
+
     fn grant(
         &mut self,
         process: Proc,

@@ -30,6 +30,11 @@ pub trait HandleTable: Sized + Drop + Send {
     fn new(alloc: Global) -> Self
         ensures { handles result ≡ [] };
 
+    /// Makes room for so many handles more at once, as far as the table can; a table that can't make room
+    /// does nothing. The only error is want of memory. The handles stay, whatever the result. (this profile)
+    fn reserve(&mut self, more: usize) -> Result<(), AllocError>
+        ensures { handles self.new ≡ handles self.old };
+
     /// Opens a handle of a process to an object, under an unused value of the table's choice, which it
     /// gives. The order must be above those of the table.
     ///

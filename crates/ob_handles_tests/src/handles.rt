@@ -67,6 +67,11 @@ impl<H: HandleTable> Played<H> {
         self.table.put(held).is_ok()
     }
 
+    // Whether room is made for so many handles more.
+    fn reserve(&mut self, more: usize) -> bool {
+        self.table.reserve(more).is_ok()
+    }
+
     // The order of the handle of a value, which goes.
     fn take(&mut self, value: u32) -> Option<u64> {
         match self.table.take(Handle(value)) {
@@ -151,7 +156,7 @@ fn last_in_turn<H: HandleTable>(all: &mut Played<H>) -> Option<u32> {
 }
 
 // The lives of a table.
-const LIVES: [&'static str; 5] = ["come and go", "full", "thinned", "put", "turned"];
+const LIVES: [&'static str; 6] = ["come and go", "full", "thinned", "put", "room", "turned"];
 
 // What a table does in its own way.
 #[derive(Clone, Copy)]
@@ -160,14 +165,21 @@ struct Own {
     next: u32,
     // The value of the last of many handles that come one for another.
     last: u32,
+    // Whether it says that it has room for more handles than memory can hold, since it makes none.
+    greatest: bool,
 }
 
 const OPEN: Own = Own {
     next: 4,
     last: 67_960,
+    greatest: true,
 };
 
-const SLAB: Own = Own { next: 8, last: 8 };
+const SLAB: Own = Own {
+    next: 8,
+    last: 8,
+    greatest: false,
+};
 
 // Whether handles come and go: they go from the oldest on.
 fn come_and_go<H: HandleTable>(all: &mut Played<H>) -> bool {
@@ -194,6 +206,17 @@ fn is_put<H: HandleTable>(all: &mut Played<H>, next: u32) -> bool {
     all.put(65_535) && all.grant() == Some(next) && all.order_of(262_140) == Some(1)
 }
 
+// Whether the handles stay where room is made for some more, and for more than memory can hold, and others come behind.
+fn has_room<H: HandleTable>(all: &mut Played<H>, greatest: bool) -> bool {
+    all.fills(2)
+        && all.reserve(1_000)
+        && all.reserve(usize::MAX) == greatest
+        && all.oldest() == Some(4)
+        && all.order_of(8) == Some(2)
+        && all.grant() == Some(12)
+        && all.table.len() == 3
+}
+
 // Whether the first handle stays where a million others come one for another.
 fn is_turned<H: HandleTable>(all: &mut Played<H>, last: u32) -> bool {
     all.fills(2)
@@ -211,6 +234,7 @@ fn plays<H: HandleTable>(alloc: Global, life: &str, own: Own) -> bool {
         "full" => is_filled(&mut all),
         "thinned" => all.fills(THINNED) && is_thinned(alloc, &mut all),
         "put" => is_put(&mut all, own.next),
+        "room" => has_room(&mut all, own.greatest),
         _ => is_turned(&mut all, own.last),
     }
 }

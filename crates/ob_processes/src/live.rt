@@ -49,6 +49,15 @@ impl<H: HandleTable> Live<H> {
         }
     }
 
+    /// Makes room at once for so many handles more, as far as its table can, and for their counts. The handles
+    /// stay, whatever the result.
+    pub(crate) fn reserve(&mut self, more: usize) -> Result<(), AllocError>
+        ensures { self.new ≡ self.old }
+    {
+        self.table.reserve(more)?;
+        self.counts.reserve(more)
+    }
+
     /// How many handles it has.
     pub(crate) fn len(&self) -> usize
         ensures { result ≡ length self.now }

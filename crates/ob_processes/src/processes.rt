@@ -369,6 +369,18 @@ impl<H: HandleTable> Processes<H> {
         Ok(())
     }
 
+    /// Makes room at once for so many handles more of a process, as far as its table can, and for their
+    /// counts; none where it isn't live. Nothing that is seen changes, whatever the result.
+    fn reserve(&mut self, process: Proc, more: usize) -> Result<(), AllocError>
+        ensures { self.new ≡ self.old }
+    {
+        let Some(live) = self.live.get_mut(&process.0) else {
+            return Ok(());
+        };
+        live.reserve(more)?;
+        self.counts.reserve(more)
+    }
+
     /// Gives a live process that has no handle these ones. Where memory is wanted it has some of them.
     fn put_all(&mut self, process: Proc, inherited: &[Held], order: u64) -> Result<(), AllocError>
         requires live { is_some (find (λ x. x.number == process) self.old.processes) ≡ true }
@@ -383,6 +395,7 @@ impl<H: HandleTable> Processes<H> {
             ≡ self.old.handles }
         ensures processes { self.new.processes ≡ self.old.processes }
     {
+        self.reserve(process, inherited.len())?;
         let mut next = order;
         for held in inherited {
             self.put(Held {

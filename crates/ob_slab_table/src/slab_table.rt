@@ -84,6 +84,11 @@ impl HandleTable for SlabTable {
         }
     }
 
+    fn reserve(&mut self, more: usize) -> Result<(), AllocError> {
+        self.rows.reserve(more)?;
+        self.opened.reserve(more)
+    }
+
     fn grant(
         &mut self,
         process: Proc,

@@ -1,13 +1,19 @@
 -- One handle more under a value and an order of its own; without those of the process all is as it was.
 use Rattle.std.proofs.Common.{◌∙◌, ◌<◌, ◌==◌, ◌++◌, ◌∷◌, [], List, true, ◌+◌, not, take, All, ap, sym, subst, arith}
 use Rattle.std.specs.List.{find, filter}
-use Rattle.std.proofs.lemmas.List.{append_assoc}
+use Rattle.std.proofs.lemmas.List.{append_assoc, append-nil}
 use Rattle.ob_model.specs.declared.state.Held.{Held}
 use Rattle.ob_model.specs.Closing.{is_handle}
 use Rattle.ob_model.specs.Grants.{IsHandleValue}
 use Rattle.ob_processes.specs.Handed.{handed_on}
 use Rattle.ob_processes.proofs.Handing.{one_more, unused, newest, others_left, passed, so_far, others_before}
 use Rattle.ob_processes.proofs.processes.Processes.put_all.Goals as goal
+
+pub returns-in_err-reserve-clause-others : goal.returns-in_err-reserve-clause-others
+returns-in_err-reserve-clause-others g c =
+    ap (λ r. filter (λ h. not (h.process == c.args.process)) r.handles) c.reserve.ensures
+    ∙ ap (filter (λ h. not (h.process == c.args.process))) (sym (append-nil c.args.self.now.handles))
+    ∙ others_left c.args.process c.args.order c.args.self.now.handles [] c.requires.alone
 
 pub put-requires-clause-value : goal.put-requires-clause-value
 put-requires-clause-value g c κs within =
