@@ -147,7 +147,7 @@ def lacking(folder):
 @cache
 def pieces(text):
     """The sums of the parts of a text, without imports, comments and layout: of a source file each clause that says what holds behind a function, with its
-    function, and what is left between those; of any other each part between empty lines."""
+    function, and what is left between those, function by function; of any other each part between empty lines."""
     if re.search(r"(?m)^\s*(?:pub )?(?:use Rattle|mod )|^--", text) and not re.search(r"\bfn\b", text):
         return frozenset(map(sum_of, filter(None, (" ".join(IMPORT.sub("", re.sub(r"(?m)^\s*--.*$", "", part)).split()) for part in re.split(r"\n\s*\n", text)))))
     words = without_comments(IMPORT.sub("", text).replace("pub(crate) fn", "pub fn")).replace("; }", " }")
@@ -156,10 +156,15 @@ def pieces(text):
         if clause[1]:
             owner = clause[1]
         elif clause.start() >= last:
-            found.add(sum_of("between", words[last : clause.start()].strip()))
+            found.update(between(words[last : clause.start()]))
             last = closing(words, clause.end() - 1) + 1
             found.add(sum_of("clause", owner, words[clause.end() : last]))
-    return frozenset(found | {sum_of("between", words[last:].strip())})
+    return frozenset(found | between(words[last:]))
+
+
+def between(words):
+    """The sums of what stands between two clauses, up to each body that is left out: so an impl may gain a function."""
+    return {sum_of("between", part.strip()) for part in re.split(r"(?<=\{\})", words)}
 
 
 def essence_of(crate, path):
