@@ -37,6 +37,9 @@ NAME = "RECORD"
 # any function's refusal; by the second only the function's own goals do, tried once more without such answers
 JUDGE = "2"
 
+# a constant of a source file
+CONSTANT = re.compile(r"(?:\bpub )?\bconst \w+: [^;{}]*;")
+
 # the folders of edits that have a record, and the command that makes it
 COMMANDS = {"wrong": "make wrong", "definitions": "make definitions"}
 
@@ -163,8 +166,9 @@ def pieces(text):
 
 
 def between(words):
-    """The sums of what stands between two clauses, up to each body that is left out: so an impl may gain a function."""
-    return {sum_of("between", part.strip()) for part in re.split(r"(?<=\{\})", words)}
+    """The sums of what stands between two clauses, up to each body that is left out, and of constants by themselves: so an impl may gain a function, and a
+    file a constant."""
+    return {sum_of("between", part.strip()) for part in [*CONSTANT.findall(words), *re.split(r"(?<=\{\})", CONSTANT.sub("", words))]}
 
 
 def essence_of(crate, path):

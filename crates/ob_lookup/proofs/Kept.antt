@@ -1,5 +1,5 @@
 -- What a cache keeps leads where it says: by a walk that it leads on, and by one that came there.
-use Rattle.std.proofs.Common.{◌≡◌, ◌∙◌, ℕ, suc, ◌==◌, Bool, true, false, List, [], ◌∷◌, ◌++◌, length, filter, Option, None, Some, IsSome, All, Result, Ok, Err, OnOk, OnErr, if◌then◌else◌, length-append, inl, inr, refl, ap, sym, subst, arith, eqb-true}
+use Rattle.std.proofs.Common.{◌≡◌, ◌∙◌, ℕ, suc, ◌==◌, Bool, true, false, List, [], ◌∷◌, ◌++◌, length, filter, not, ◌||◌, ◌&&◌, Option, None, Some, IsSome, All, Result, Ok, Err, OnOk, OnErr, if◌then◌else◌, length-append, inl, inr, refl, ap, sym, subst, arith, eqb-true}
 use Rattle.std.specs.Option.{option_map, option_or}
 use Rattle.lru.specs.LruCache.{lru_cache}
 use Rattle.lru.proofs.CallerLemmas.{Contains-lookup, Contains-promoted, Contains-put_entries}
@@ -22,7 +22,7 @@ use Rattle.ob_lookup.specs.declared.start.Start.{Start}
 use Rattle.ob_lookup.specs.Cache.{Kept, kept, after_find, after_put, ArePaths, PathsAreShown, NoneArePaths}
 use Rattle.ob_lookup.specs.Closed.{IsViewThere}
 use Rattle.ob_lookup.specs.Onward.{Led, Leads, reached_at, IsKeyOf}
-use Rattle.ob_lookup.specs.Prefix.{folded, is_view, IsPrefixOf, same_prefix, entry_from, LeadsFrom, LeadsTo}
+use Rattle.ob_lookup.specs.Prefix.{folded, is_view, is_local, IsPrefixOf, same_prefix, entry_from, LeadsFrom, LeadsTo}
 use Rattle.ob_lookup.specs.PrefixLaws.{AreSame, same_prefix-parts}
 use Rattle.ob_lookup.specs.Walk.{rest_of, directory_of, origin_at, text_of}
 use Rattle.ob_lookup.proofs.Seen.{local_seen, directory_is, entries_there, is_directory-from_body, directory_stored}
@@ -285,3 +285,17 @@ none_are_paths store room hits = record {
   there = λ e among. absurd (Contains-nil e among);
   paths = λ s shows e among. absurd (Contains-nil e among);
 }
+
+-- ---- prefixes of views
+
+pub left_false : (a b : Bool) → (a || b) ≡ false → a ≡ false
+left_false true b e = cc
+left_false false b e = refl
+
+pub right_false : (a b : Bool) → (a || b) ≡ false → b ≡ false
+right_false true b e = cc
+right_false false b e = e
+
+-- prefixes that are the same are of the same view
+pub local_same : (a b : Prefix) → AreSame a b → is_local b ≡ is_local a
+local_same a b same = λ i. (sym same.in_view) i && not ((sym same.place) i == global_id)

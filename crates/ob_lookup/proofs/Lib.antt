@@ -1,6 +1,6 @@
 pub mod Seen
 pub mod Steps
-pub mod Compose
+mod Compose
 pub mod Spelling
 pub mod Kept
 pub mod Separators
@@ -10,3 +10,4 @@ pub mod Onto
 pub mod Begins
 pub mod Stays
 pub mod Staying
+pub mod Changing

@@ -1,14 +1,14 @@
 -- A cache of prefixes: what it keeps, what its look-ups change, and that each of its prefixes leads where it says.
 --
 -- Source: this profile.
-use Rattle.std.specs.Prelude.{ℕ, ◌+◌, ◌-◌, ◌^◌, min, if◌then◌else◌, List, [], IsSome, Contains}
+use Rattle.std.specs.Prelude.{◌≡◌, ℕ, Bool, false, ◌+◌, ◌-◌, ◌^◌, min, if◌then◌else◌, List, [], IsSome, Contains}
 use Rattle.std.specs.Map.{lookup}
 use Rattle.std.specs.Option.{is_some}
 use Rattle.lru.specs.LruCache.{lru_cache, promoted, put_entries}
 use Rattle.ob_model.specs.State.{State}
 use Rattle.ob_objects.specs.Store.{Entries, Shows, directory_at}
 use Rattle.ob_lookup.specs.declared.prefix.Prefix.{Prefix}
-use Rattle.ob_lookup.specs.Prefix.{same_prefix, LeadsTo}
+use Rattle.ob_lookup.specs.Prefix.{same_prefix, is_local, LeadsTo}
 
 -- the most prefixes that are kept, where nothing else is said
 abbrev pub most : ℕ
@@ -36,6 +36,13 @@ after_find prefix cache =
 -- the cache once the prefix was put there
 abbrev pub after_put : Prefix → ℕ → Kept → Kept
 after_put prefix directory cache = kept cache.room (put_entries same_prefix (lru_cache cache.entries cache.room) prefix directory) cache.hits
+
+-- no prefix is of a view whose local directory is another than `\GLOBAL??`, and so it is where this is false
+abbrev pub NoneIsLocal : List (Prefix × ℕ) → Type 0
+NoneIsLocal entries = (e : Prefix × ℕ) → Contains entries e → is_local e.0 ≡ false
+
+abbrev pub TellsLocal : Bool → List (Prefix × ℕ) → Type 0
+TellsLocal local entries = local ≡ false → NoneIsLocal entries
 
 -- in the state each prefix of the cache leads to its directory
 abbrev pub HasPaths : {K T F I : Type 0} → State K T F I → Kept → Type 0

@@ -2,7 +2,7 @@
 --
 -- Sources: OBJECT_ATTRIBUTES structure (OBJ_CASE_INSENSITIVE); Windows Internals, Object Manager (session namespace: the local
 -- DOS device directory is searched before `\GLOBAL??`); what a prefix has is this profile.
-use Rattle.std.specs.Prelude.{◌≡◌, ℕ, Bool, true, false, nat_eq, if◌then◌else◌, List, [], ◌∷◌, map, Option, Some, All}
+use Rattle.std.specs.Prelude.{◌≡◌, ℕ, Bool, true, false, not, ◌&&◌, ◌==◌, nat_eq, if◌then◌else◌, List, [], ◌∷◌, map, Option, Some, All}
 use Rattle.std.specs.Bool.{beq}
 use Rattle.std.specs.Cmp.Lexicographic.{pointwise}
 use Rattle.std.specs.Option.{option_or}
@@ -31,6 +31,10 @@ pub record IsPrefixOf (view : View) (at : Standpoint) (folds : Bool) (text : Lis
   pub in_view : prefix.in_view ≡ is_view at
   pub fold : prefix.fold ≡ folds
   pub bytes : prefix.bytes.items ≡ folded folds text
+
+-- the prefix is of a view whose local directory is another than `\GLOBAL??`
+abbrev pub is_local : Prefix → Bool
+is_local prefix = prefix.in_view && not (prefix.place == global_id)
 
 -- two prefixes are the same: of one place and one fold, with the same bytes
 abbrev pub same_prefix : Prefix → Prefix → Bool

@@ -3,7 +3,8 @@
 ghost use Rattle.std.specs.Prelude.{◌≡◌, [], Some, IfOk, OnOk, OnErr};
 ghost use Rattle.std.specs.Map.{lookup};
 ghost use Rattle.ob_lookup.specs.Prefix.{same_prefix};
-ghost use Rattle.ob_lookup.specs.Cache.{kept, most, after_find, after_put};
+ghost use Rattle.std.specs.Prelude.{false};
+ghost use Rattle.ob_lookup.specs.Cache.{kept, most, after_find, after_put, NoneIsLocal};
 
 use crate::prefix::Prefix;
 use lru::LruCache;
@@ -22,15 +23,19 @@ const MOST: usize = 256;
 pub struct Cache {
     prefixes: LruCache<Prefix, ObjId>,
     hits: u64,
+    // Whether a prefix may be there of a view whose local directory is another than `\GLOBAL??`.
+    local: bool,
 }
 
 impl Model for Cache {
     ghost use Rattle.std.specs.Prelude.{◌≡◌};
-    ghost use Rattle.ob_lookup.specs.Cache.{Kept, kept};
+    ghost use Rattle.ob_lookup.specs.Cache.{Kept, kept, TellsLocal};
 
     ghost Value = { Kept };
 
     ghost view = { λ cache. kept cache.prefixes.cap cache.prefixes.entries cache.hits };
+
+    ghost invariant = { λ cache. TellsLocal cache.local cache.prefixes.entries };
 }
 
 impl Cache {
@@ -51,6 +56,7 @@ impl Cache {
         Ok(Cache {
             prefixes: LruCache::new(alloc, room)?,
             hits: 0,
+            local: false,
         })
     }
 
@@ -66,6 +72,15 @@ impl Cache {
         ensures { self.new ≡ kept self.old.room [] self.old.hits }
     {
         self.prefixes.clear();
+        self.local = false;
+    }
+
+    /// Whether a prefix may be there of a view whose local directory is another than `\GLOBAL??`: there a name that comes may
+    /// stand before one of `\GLOBAL??`. Where it is false, none is.
+    pub(crate) fn may_be_local(&self) -> bool
+        ensures { result ≡ false → NoneIsLocal self.now.entries }
+    {
+        self.local
     }
 
     /// The directory to which a prefix led, where it is there: then it becomes the most recently used, and is a hit.
@@ -88,7 +103,9 @@ impl Cache {
             (lookup (same_prefix prefix) self.new.entries ≡ Some directory) }
         ensures unchanged { OnErr result (self.new ≡ self.old) }
     {
+        let is_local = prefix.is_local();
         self.prefixes.put(prefix, directory)?;
+        self.local |= is_local;
         Ok(())
     }
 }

@@ -7,6 +7,7 @@ ghost use Rattle.std.specs.Option.{is_some, option_and_then, option_copied, opti
 ghost use Rattle.ob_model.specs.Enumeration.{enumerated};
 ghost use Rattle.ob_model.specs.State.{State, is_directory_body};
 ghost use Rattle.ob_objects.specs.Store.{IsStore, Shows, stored_at, directory_of, directory_at, entries_in, entries_at, place_at, objects_of, rows_of};
+ghost use Rattle.ob_dirs.specs.declared.entry.DirEntry.{DirEntry};
 ghost use Rattle.ob_objects.specs.Listing.{page_given};
 ghost use Rattle.ob_objects.specs.Named.{row_of_named};
 ghost use Rattle.ob_objects.specs.Changes.{with_entry, without_object, with_name, without_name, with_permanence};
@@ -25,6 +26,7 @@ use crate::cached::look_cached;
 use crate::terms::Look;
 use ob_base::ObjId;
 use ob_devmap::View;
+use ob_dirs::Dir;
 use ob_model::Mode;
 use ob_names::{Name, NameBuf};
 use ob_objects::{EntryPlace, Named, Page, Store, StoredBody, StoredObject};
@@ -35,9 +37,11 @@ use std::marker::Model;
 /// A store, with a cache of prefixes by which names are looked up in it: each leads to its directory in the store as it is.
 /// A contract sees it as the store alone, so that nothing that it answers tells whether the cache was of use.
 ///
-/// A name that comes or goes empties the cache, and so does a directory that goes. All else keeps it: a lookup, an object
-/// that comes without a name, one that goes and is no directory, an object that is opened, closed, or made permanent or
-/// temporary. Each method does what that of [`Store`] of the same name does, under its clauses.
+/// A directory that goes empties the cache, or loses its name; and so does a name that comes while a prefix of a view is there
+/// whose local directory is another than `\GLOBAL??`, since a name there stands before one of `\GLOBAL??`. All else keeps it: a
+/// lookup, an object that comes, with a name or without, one that goes and is no directory, with its name, an object that is
+/// opened, closed, or made permanent or temporary. Each method does what that of [`Store`] of the same name does, under its
+/// clauses.
 ///
 /// Source: as for [`Store`]; what the cache keeps is this profile.
 #[derive(Drop)]
@@ -264,8 +268,13 @@ impl<T: TypeSet> CachedStore<T> {
             (record { stamp = stamp; name = name; object = object })) }
         ensures unchanged { OnErr result (self.new ≡ self.old) }
     {
+        // The length tells what holds of every store.
+        let _ = self.store.len();
         self.store.insert_name(directory, stamp, name, object)?;
-        self.cache.clear();
+        let _ = self.store.len();
+        if self.cache.may_be_local() {
+            self.cache.clear();
+        }
         Ok(())
     }
 
@@ -278,8 +287,14 @@ impl<T: TypeSet> CachedStore<T> {
             ≡ list_any (λ entry. entry.stamp == stamp) (entries_at self.old directory) }
         ensures others { self.new ≡ without_name self.old directory stamp }
     {
+        // The length tells what holds of every store.
+        let _ = self.store.len();
+        let names_directory = names_directory(&self.store, directory, stamp);
         let gone = self.store.remove_name(directory, stamp);
-        self.cache.clear();
+        let _ = self.store.len();
+        if names_directory {
+            self.cache.clear();
+        }
         gone
     }
 
@@ -332,5 +347,30 @@ fn is_directory<F, I>(taken: &Option<StoredObject<F, I>>) -> bool
     match taken {
         Some(stored) => matches!(stored.body, StoredBody::Directory(_)),
         None => false,
+    }
+}
+
+/// Whether the entry of a stamp in a directory names a directory; false where there is no such entry.
+fn names_directory<T: TypeSet>(store: &Store<T>, directory: ObjId, stamp: u64) -> bool
+    ensures { result ≡ false → (entry : DirEntry)
+        → find (λ e. e.stamp == stamp) (entries_at store.now directory) ≡ Some entry
+        → is_some (directory_at store.now entry.object) ≡ false }
+{
+    match directory_in(store, directory) {
+        Some(dir) => match dir.get(stamp) {
+            Some(entry) => directory_in(store, entry.object).is_some(),
+            None => false,
+        },
+        None => false,
+    }
+}
+
+/// The directory of an id, where it is one.
+fn directory_in<T: TypeSet>(store: &Store<T>, id: ObjId) -> Option<&Dir>
+    ensures { option_copied result ≡ directory_at store.now id }
+{
+    match &store.get(id)?.body {
+        StoredBody::Directory(dir) => Some(dir),
+        _ => None,
     }
 }

@@ -3,7 +3,7 @@
 ghost use Rattle.std.specs.Prelude.{◌≡◌, ◌≤◌, [], ◌∷◌, ◌++◌, length, IsOk, IfOk};
 ghost use Rattle.std.specs.Cmp.{partial_equiv_from_equiv};
 ghost use Rattle.std.specs.Hash as fed;
-ghost use Rattle.ob_lookup.specs.Prefix.{same_prefix, folded, IsPrefixOf};
+ghost use Rattle.ob_lookup.specs.Prefix.{same_prefix, folded, is_local, IsPrefixOf};
 ghost use Rattle.ob_lookup.specs.PrefixLaws.{same_prefix-equiv};
 ghost use Rattle.ob_lookup.specs.PrefixHash.{same_prefix-alike};
 
@@ -13,6 +13,9 @@ use ob_devmap::View;
 use smallvec::SmallVec;
 use std::alloc::{AllocError, Global};
 use std::hash::{Hash, Hasher};
+
+/// The id of `\GLOBAL??`. (this profile)
+const GLOBAL: ObjId = ObjId(2);
 
 /// The components of a text that stand before its last one, with the place from which they are walked, and whether the
 /// case of their letters counts there. The view of the DOS device names is told by its local directory: its global one is
@@ -48,6 +51,13 @@ impl Prefix {
             fold,
             bytes: folded(alloc, bytes, fold)?,
         })
+    }
+
+    /// Whether it is walked from a view whose local directory is another than `\GLOBAL??`.
+    pub(crate) fn is_local(&self) -> bool
+        ensures { result ≡ is_local self.now }
+    {
+        self.in_view && self.place != GLOBAL
     }
 }
 
