@@ -449,6 +449,21 @@ module _ {K T F I : Type 0} (g : Procedures K T F I) (idle : I → Type 0) (s : 
                 let lower = last r.object (gone_touched k x below (not_true (is_kept s r) ends.0)) (below_bound b r.object ends.1) in
                 omega (arith, later, lower, eqb-true r.directory o parts.0, orderly.descending k x below))))
 
+    -- where no name of the object goes from a directory, the same names that go are open there
+    open_alike : (o : ℕ) → All (λ r. (r.directory == o) ≡ true → is_kept s r ≡ false → (r.object == id) ≡ false) s.rows → All (λ r. is_open b o r ≡ is_open id o r) s.rows
+    open_alike o others k x below = parts (r.directory == o) (is_kept s r) refl refl
+      where
+        r : Row
+        r = get_or s.rows k x
+
+        parts : (here kept : Bool) → (r.directory == o) ≡ here → is_kept s r ≡ kept
+            → (here && (not kept && not (nat_le b r.object))) ≡ (here && (not kept && not (nat_le id r.object)))
+        parts false kept f h = refl
+        parts true true f h = refl
+        parts true false f h =
+            let apart : (r.object == id) ≡ false = others k x below f h in
+            ap not (sym (or_false (nat_le b r.object)) ∙ (λ i. nat_le b r.object || sym apart i) ∙ turn_next b id r.object less (last r.object (gone_touched k x below h)))
+
     -- beside the directory of the object's name the bound alone is another
     agree : (o : ℕ) → (touched o ≡ false → All (λ r. (r.object == id) ≡ true → (r.directory == o) ≡ false) s.rows) → next o ≡ done id o
     agree o elsewhere = go (touched o) refl
@@ -457,21 +472,10 @@ module _ {K T F I : Type 0} (g : Procedures K T F I) (idle : I → Type 0) (s : 
         go true e = ap (λ c. c || (o == id)) (done_touched b o e) ∙ turn_next b id o less (last o e) ∙ sym (done_touched id o e)
         go false e =
             (λ i. done b o || ne_eqb o id (λ same. false≢true (sym e ∙ ap touched same ∙ is_touched)) i) ∙ or_false (done b o)
-            ∙ done_other b o e ∙ ap not (any_agrees (is_open b o) (is_open id o) s.rows each) ∙ sym (done_other id o e)
-          where
-            each : All (λ r. is_open b o r ≡ is_open id o r) s.rows
-            each k x below = parts (r.directory == o) (is_kept s r) refl refl
-              where
-                r : Row
-                r = get_or s.rows k x
-
-                parts : (here kept : Bool) → (r.directory == o) ≡ here → is_kept s r ≡ kept
-                    → (here && (not kept && not (nat_le b r.object))) ≡ (here && (not kept && not (nat_le id r.object)))
-                parts false kept f h = refl
-                parts true true f h = refl
-                parts true false f h =
-                    let apart : (r.object == id) ≡ false = is_false (r.object == id) (λ own. false≢true (sym (elsewhere e k x below own) ∙ f)) in
-                    ap not (sym (or_false (nat_le b r.object)) ∙ (λ i. nat_le b r.object || sym apart i) ∙ turn_next b id r.object less (last r.object (gone_touched k x below h)))
+            ∙ done_other b o e
+            ∙ ap not (any_agrees (is_open b o) (is_open id o) s.rows
+            (open_alike o (λ k x below here gone. is_false ((get_or s.rows k x).object == id) (λ own. false≢true (sym (elsewhere e k x below own) ∙ here)))))
+            ∙ sym (done_other id o e)
 
     -- the names of the object are left
     unfiltered : (P : Row → Type 0) → All (λ r. (r.object == id) ≡ true → P r) t.rows → All (λ r. (r.object == id) ≡ true → P r) s.rows
@@ -567,21 +571,11 @@ module _ {K T F I : Type 0} (g : Procedures K T F I) (idle : I → Type 0) (s : 
         where
           go : (c : Bool) → touched o ≡ c → done b o ≡ done id o
           go true e = done_touched b o e ∙ sym (or_false (nat_le b o)) ∙ (λ i. nat_le b o || sym apart i) ∙ turn_next b id o less (last o e) ∙ sym (done_touched id o e)
-          go false e = done_other b o e ∙ ap not (any_agrees (is_open b o) (is_open id o) s.rows each) ∙ sym (done_other id o e)
-            where
-              each : All (λ r. is_open b o r ≡ is_open id o r) s.rows
-              each k x below = parts (r.directory == o) (is_kept s r) refl refl
-                where
-                  r : Row
-                  r = get_or s.rows k x
-
-                  parts : (here kept : Bool) → (r.directory == o) ≡ here → is_kept s r ≡ kept
-                      → (here && (not kept && not (nat_le b r.object))) ≡ (here && (not kept && not (nat_le id r.object)))
-                  parts false kept f h = refl
-                  parts true true f h = refl
-                  parts true false f h =
-                      let own : (r.object == id) ≡ false = is_false (r.object == id) (λ same. false≢true (sym h ∙ held_kept s id held r same)) in
-                      ap not (sym (or_false (nat_le b r.object)) ∙ (λ i. nat_le b r.object || sym own i) ∙ turn_next b id r.object less (last r.object (gone_touched k x below h)))
+          go false e =
+              done_other b o e
+              ∙ ap not (any_agrees (is_open b o) (is_open id o) s.rows
+              (open_alike o (λ k x below here gone. is_false ((get_or s.rows k x).object == id) (λ own. false≢true (sym gone ∙ held_kept s id held (get_or s.rows k x) own)))))
+              ∙ sym (done_other id o e)
 
       held_turn : Judged g s (done id) t
       held_turn = judged_alike g s (done b) (done id) t (λ k x below. object (get_or s.objects k x).id) (λ k x below. name (get_or s.rows k x)) judged

@@ -370,15 +370,14 @@ impl<H: HandleTable> Processes<H> {
     }
 
     /// Makes room at once for so many handles more of a process, as far as its table can, and for their
-    /// counts; none where it isn't live. Nothing that is seen changes, whatever the result.
+    /// counts there; none where it isn't live. Nothing that is seen changes, whatever the result.
     fn reserve(&mut self, process: Proc, more: usize) -> Result<(), AllocError>
         ensures { self.new ≡ self.old }
     {
         let Some(live) = self.live.get_mut(&process.0) else {
             return Ok(());
         };
-        live.reserve(more)?;
-        self.counts.reserve(more)
+        live.reserve(more)
     }
 
     /// Gives a live process that has no handle these ones. Where memory is wanted it has some of them.
