@@ -1,15 +1,17 @@
 //! Counted bytes.
 
-ghost use Rattle.std.specs.Prelude.{◌≡◌, IfOk};
+ghost use Rattle.std.specs.Prelude.{◌≡◌, ◌≤◌, length, IfOk, IsOk};
 
+use smallvec::SmallVec;
 use std::alloc::{AllocError, Global};
 use std::marker::Model;
 
 /// Counted bytes: a name, a link's target or the arguments of an object, as handed in, of any
-/// length and with any byte. Contracts see a `Bytes` as the list of its bytes.
+/// length and with any byte. Up to 16 of them lie in the value itself, so that a copy of so few takes no memory.
+/// Contracts see a `Bytes` as the list of its bytes.
 #[derive(Debug, Drop)]
 pub struct Bytes {
-    items: Vec<u8>,
+    items: SmallVec<u8, 16>,
 }
 
 impl Model for Bytes {
@@ -25,15 +27,18 @@ impl Bytes {
     pub fn new(items: Vec<u8>) -> Self
         ensures { result ≡ items.items }
     {
-        Bytes { items }
+        Bytes {
+            items: SmallVec::from_vec(items),
+        }
     }
 
-    /// A copy of a slice's bytes. The only error is out of memory.
+    /// A copy of a slice's bytes. The only error is out of memory, and there is none for up to 16 bytes.
     pub fn from_slice(alloc: Global, items: &[u8]) -> Result<Self, AllocError>
-        ensures { IfOk result (λ bytes. bytes ≡ items.now) }
+        ensures copy { IfOk result (λ bytes. bytes ≡ items.now) }
+        ensures short { length items.now ≤ 16 → IsOk result }
     {
         Ok(Bytes {
-            items: items.to_vec(alloc)?,
+            items: SmallVec::from_slice(alloc, items)?,
         })
     }
 
@@ -42,13 +47,5 @@ impl Bytes {
         ensures { result.now ≡ self.now }
     {
         self.items.as_slice()
-    }
-
-    /// The bytes, as the vector that holds them: no memory is taken.
-    pub fn into_vec(self) -> Vec<u8>
-        ensures { result.items ≡ self }
-    {
-        let Bytes { items } = self;
-        items
     }
 }

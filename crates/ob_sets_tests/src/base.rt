@@ -15,7 +15,7 @@ fn bits_of(bits: u32) -> Option<u32> {
 // Whether a copy of bytes gives them back.
 fn keeps(alloc: Global, bytes: &[u8]) -> bool {
     match Bytes::from_slice(alloc, bytes) {
-        Ok(copy) => copy.into_vec().as_slice() == bytes,
+        Ok(copy) => copy.as_slice() == bytes,
         Err(_) => false,
     }
 }
@@ -24,4 +24,5 @@ fn keeps(alloc: Global, bytes: &[u8]) -> bool {
 fn flags_tell_their_bits_and_bytes_are_given_back(rt: HostRuntime) {
     assert!(rt; bits_of(0x1D2) == Some(0x1D2) && bits_of(0x200).is_none());
     assert!(rt; keeps(rt.alloc(), b"\\A\x00\xff"));
+    assert!(rt; keeps(rt.alloc(), b"\\seventeen bytes!"));
 }

@@ -44,7 +44,7 @@ returns-clause-step g c =
     (tells_target s c.in-Some.held.object answer (Some c.in-Link.target)
     (target_is s c.space.inside.store (shown c.space.inside.store (sym c.space.view_is) refl refl) c.in-Some.held.object (Some stored) (sym (ap option_copied c.in-Some-get.is) ∙ c.get.ensures.stored)
     ∙ ap (λ body. target_of (body_of_stored body)) c.in-Link.is)
-    (ap Done c.with_text.ensures ∙ ap (λ (text : List ℕ). gives Success (Text text)) (c.in_ok-target.ensures ∙ c.as_slice.ensures.bytes)))
+    (ap Done c.with_text.ensures ∙ ap (λ (text : List ℕ). gives Success (Text text)) (c.in_ok-target.ensures.copy ∙ c.as_slice.ensures.bytes)))
 
 pub returns-in_err-target-clause-found : goal.returns-in_err-target-clause-found
 returns-in_err-target-clause-found g c =

@@ -9,4 +9,4 @@ copied text (Ok bytes) spells e = rw e spells
 copied text (Err none) spells e = tt
 
 pub returns-in-None : goal.returns-in-None
-returns-in-None c = copied c.args.text.now c.from_slice.result (spells_itself c.args.text.now c.requires.0 c.in-None.ensures.none c.requires.1) c.from_slice.ensures
+returns-in-None c = copied c.args.text.now c.from_slice.result (spells_itself c.args.text.now c.requires.0 c.in-None.ensures.none c.requires.1) c.from_slice.ensures.copy

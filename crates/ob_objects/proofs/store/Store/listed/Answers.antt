@@ -9,7 +9,7 @@ use Rattle.ob_objects.proofs.store.Store.listed.Goals as goal
 pub loop-entry-preserved : goal.loop-entry-preserved
 loop-entry-preserved g c =
     let keeps = c.loop-entry.invariant.0 in
-    let name = c.in_ok-from_slice.ensures ∙ c.as_slice.ensures.bytes in
+    let name = c.in_ok-from_slice.ensures.copy ∙ c.as_slice.ensures.bytes in
     let type_name = c.new.ensures ∙ c.type_name_at.ensures.told ∙ ap (λ (f : ℕ → List ℕ). f c.in-Some.entry.now.object) (named_alike g.T.TypeSet.procedures c.args.self.now c.loop-entry.walk keeps) in (
       subst (KeepsTypes g.T.TypeSet.procedures c.args.self.now) (sym c.type_name_at.ensures.unchanged) keeps,
       listed_next (entry_listed g.T.TypeSet.procedures c.args.self.now) c.loop-entry.items.items c.push.new.self.items _ c.in-Some.entry.now c.loop-entry.entry-iterator c.next.new.self _
