@@ -21,12 +21,12 @@ pub(crate) fn ask(
     core: &mut StandardCore,
     words: &Words,
     process: Proc,
-    request: Request<&[u8]>,
+    request: &Request<&[u8]>,
 ) -> Result<Reply, AllocError>
-    requires { HasTexts (request_seen request) }
+    requires { HasTexts (request_seen request.now) }
     ensures asked { IfOk result (λ reply.
-        IsAsked (request_seen request.entry) process (words_in words.now) core.old reply core.new) }
-    ensures wanting { OnErr result (IsUnanswered (request_seen request.entry) process
+        IsAsked (request_seen request.now) process (words_in words.now) core.old reply core.new) }
+    ensures wanting { OnErr result (IsUnanswered (request_seen request.now) process
         (words_in words.now) core.old core.new) }
 {
     let command = command_of(&Asker { words, process }, request)?;
@@ -39,15 +39,15 @@ pub(crate) fn begin_child(
     core: &mut StandardCore,
     words: &mut Words,
     process: Proc,
-    request: Request<&[u8]>,
+    request: &Request<&[u8]>,
     word: &[u8],
     inherit: bool,
 ) -> Result<Reply, AllocError>
-    requires child { request_seen request ≡ NewProcess inherit word.now }
+    requires child { request_seen request.now ≡ NewProcess inherit word.now }
     requires room { has_word words.old.processes word.now ≡ true }
     ensures asked { IfOk result (λ reply.
-        IsAsked (request_seen request.entry) process (words_in words.old) core.old reply core.new) }
-    ensures wanting { OnErr result (IsUnanswered (request_seen request.entry) process
+        IsAsked (request_seen request.now) process (words_in words.old) core.old reply core.new) }
+    ensures wanting { OnErr result (IsUnanswered (request_seen request.now) process
         (words_in words.old) core.old core.new) }
     ensures kept { OnErr result (words_in words.new ≡ words_in words.old) }
     ensures begun { IfOk result (λ reply. words_in words.new

@@ -58,7 +58,7 @@ impl Session {
             Some(Form::Stat) => LineOutcome::Counted(self.core.counts()),
             Some(Form::Asks { process, request }) => {
                 let process = self.words.process_of(process);
-                self.answer(process, request)
+                self.answer(process, &request)
             }
             Some(Form::Waits { process, pending }) => {
                 let process = self.words.process_of(process);
@@ -82,13 +82,13 @@ impl Session {
     }
 
     // What became of the request of a process.
-    fn answer(&mut self, process: Proc, request: Request<&[u8]>) -> LineOutcome
+    fn answer(&mut self, process: Proc, request: &Request<&[u8]>) -> LineOutcome
         requires kept { IsSession self.old }
-        requires texts { HasTexts (request_seen request) }
+        requires texts { HasTexts (request_seen request.now) }
         ensures kept { IsSession self.new }
-        ensures done { IsRequestDone (request_seen request.entry) process (words_of self.old)
+        ensures done { IsRequestDone (request_seen request.now) process (words_of self.old)
             (space_of self.old) result (words_of self.new) (space_of self.new) }
-        ensures without_memory { TakesNone (request_seen request.entry) → FoundMemory result }
+        ensures without_memory { TakesNone (request_seen request.now) → FoundMemory result }
     {
         self.core.state_is_sound();
         match reply_to(&mut self.core, &mut self.words, process, request) {
@@ -104,13 +104,13 @@ fn reply_to(
     core: &mut StandardCore,
     words: &mut Words,
     process: Proc,
-    request: Request<&[u8]>,
+    request: &Request<&[u8]>,
 ) -> Result<Reply, AllocError>
-    requires { HasTexts (request_seen request) }
+    requires { HasTexts (request_seen request.now) }
     ensures answered { IfOk result (λ reply.
-        IsAnswered (request_seen request.entry) process (words_in words.old) core.old
+        IsAnswered (request_seen request.now) process (words_in words.old) core.old
         reply (words_in words.new) core.new) }
-    ensures wanting { OnErr result (IsUnanswered (request_seen request.entry) process
+    ensures wanting { OnErr result (IsUnanswered (request_seen request.now) process
         (words_in words.old) core.old core.new) }
     ensures kept { OnErr result (words_in words.new ≡ words_in words.old) }
 {

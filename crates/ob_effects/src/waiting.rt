@@ -158,7 +158,7 @@ fn begin_under(
         attrs,
         word,
     };
-    let command = command_of(&Asker { words, process }, request)?;
+    let command = command_of(&Asker { words, process }, &request)?;
     let begun = waits.begin(core, process, &command)?;
     keep(words, process, word, &begun);
     Ok(begun)

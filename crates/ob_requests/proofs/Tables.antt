@@ -4,8 +4,7 @@ use Rattle.std.specs.Prelude.{unwrap_or}
 use Rattle.std.specs.List.{AllByRecursion, AllZip, IsDistinct, position, position_or_len, slice_get}
 use Rattle.std.specs.Map.{lookup, keys_of, values_of}
 use Rattle.std.specs.Str.{bytes_eq}
-use Rattle.std.specs.declared.vec.Vec.{Vec}
-use Rattle.std.specs.declared.alloc.Global.{Global}
+use Rattle.smallvec.specs.SmallVec.{SmallVec}
 use Rattle.std.proofs.lemmas.Bool.{true≢false}
 use Rattle.std.proofs.lemmas.Map.Keys.{IsDistinct-head, IsDistinct-tail}
 use Rattle.std.proofs.lemmas.Slice.Eq.{bytes_eq-Decides}
@@ -15,12 +14,12 @@ use Rattle.ob_requests.specs.Words.{with_number}
 use Rattle.ob_requests.specs.Tables.{number_among, number_or, IsIn, IsSlotOf, IsKept}
 
 abbrev Entries : Type 0 → Type 0
-Entries N = List (Vec ℕ Global × N)
+Entries N = List (SmallVec ℕ × N)
 
-abbrev is_word : List ℕ → Vec ℕ Global → Bool
+abbrev is_word : List ℕ → SmallVec ℕ → Bool
 is_word word key = bytes_eq word key.items
 
-abbrev same_key : Vec ℕ Global → Vec ℕ Global → Bool
+abbrev same_key : SmallVec ℕ → SmallVec ℕ → Bool
 same_key x y = bytes_eq x.items y.items
 
 -- the word's first entry is the one of this slot
@@ -82,7 +81,7 @@ module _ {N : Type 0} where
       rw (lookup_set es slot word v w at) (picks_apart (bytes_eq word w) (bytes_eq w e.0.items) v e.1 (lookup (is_word w) es) (apart word w e.0.items differs))
 
   -- a word's value where an entry was added
-  lookup_added : (es : Entries N) (k : Vec ℕ Global) (v : N) (w : List ℕ)
+  lookup_added : (es : Entries N) (k : SmallVec ℕ) (v : N) (w : List ℕ)
       → lookup (is_word w) (insert_entry same_key es k v) ≡ cond (bytes_eq k.items w) (Some v) (lookup (is_word w) es)
   lookup_added [] k v w = ap (λ b. cond b (Some v) None) (flipped w k.items)
   lookup_added (e ∷ es) k v w = go (bytes_eq k.items e.0.items) refl (lookup_added es k v w)
@@ -94,17 +93,17 @@ module _ {N : Type 0} where
       go false q h = rw h (picks_apart (bytes_eq k.items w) (bytes_eq w e.0.items) v e.1 (lookup (is_word w) es) (apart k.items w e.0.items q))
 
   -- a key that stands behind another one is not the same
-  not_later : (key : Vec ℕ Global) (es : Entries N) (slot : ℕ) (e : Vec ℕ Global × N) → AllByRecursion (λ k. same_key key k ≡ false) (keys_of es) → slice_get es slot ≡ Some e
+  not_later : (key : SmallVec ℕ) (es : Entries N) (slot : ℕ) (e : SmallVec ℕ × N) → AllByRecursion (λ k. same_key key k ≡ false) (keys_of es) → slice_get es slot ≡ Some e
       → same_key key e.0 ≡ false
   not_later key [] slot e all at = absurd (true≢false (sym (ap is_some at)))
-  not_later key (x ∷ es) zero e all at = ap (λ (o : Option (Vec ℕ Global × N)). same_key key (unwrap_or o x).0) (sym at) ∙ all.0
+  not_later key (x ∷ es) zero e all at = ap (λ (o : Option (SmallVec ℕ × N)). same_key key (unwrap_or o x).0) (sym at) ∙ all.0
   not_later key (x ∷ es) (suc slot) e all at = not_later key es slot e all.1 at
 
   -- the entry of a word is its first, where no two keys are the same
-  first_in : (es : Entries N) (slot : ℕ) (word : List ℕ) (e : Vec ℕ Global × N) → IsDistinct same_key (keys_of es) → slice_get es slot ≡ Some e → bytes_eq word e.0.items ≡ true
+  first_in : (es : Entries N) (slot : ℕ) (word : List ℕ) (e : SmallVec ℕ × N) → IsDistinct same_key (keys_of es) → slice_get es slot ≡ Some e → bytes_eq word e.0.items ≡ true
       → IsAt es slot word
   first_in [] slot word e distinct at is = absurd (true≢false (sym (ap is_some at)))
-  first_in (x ∷ es) zero word e distinct at is = ap (λ (o : Option (Vec ℕ Global × N)). bytes_eq word (unwrap_or o x).0.items) at ∙ is
+  first_in (x ∷ es) zero word e distinct at is = ap (λ (o : Option (SmallVec ℕ × N)). bytes_eq word (unwrap_or o x).0.items) at ∙ is
   first_in (x ∷ es) (suc slot) word e distinct at is =
       (other (bytes_eq word x.0.items) refl, first_in es slot word e (IsDistinct-tail same_key x.0 (keys_of es) distinct) at is)
     where
@@ -122,10 +121,10 @@ module _ {N : Type 0} where
   value_there (x ∷ es) (suc slot) word at = value_there es slot word at
 
   -- and there is room for the word
-  pub found_in : (es : Entries N) (slot : ℕ) (word : List ℕ) (e : Vec ℕ Global × N) → slice_get es slot ≡ Some e → bytes_eq word e.0.items ≡ true
+  pub found_in : (es : Entries N) (slot : ℕ) (word : List ℕ) (e : SmallVec ℕ × N) → slice_get es slot ≡ Some e → bytes_eq word e.0.items ≡ true
       → is_some (lookup (is_word word) es) ≡ true
   found_in [] slot word e at is = absurd (true≢false (sym (ap is_some at)))
-  found_in (x ∷ es) zero word e at is = ap (λ b. is_some (cond b (Some x.1) (lookup (is_word word) es))) (ap (λ (o : Option (Vec ℕ Global × N)). bytes_eq word (unwrap_or o x).0.items) at ∙ is)
+  found_in (x ∷ es) zero word e at is = ap (λ b. is_some (cond b (Some x.1) (lookup (is_word word) es))) (ap (λ (o : Option (SmallVec ℕ × N)). bytes_eq word (unwrap_or o x).0.items) at ∙ is)
   found_in (x ∷ es) (suc slot) word e at is = go (bytes_eq word x.0.items) (found_in es slot word e at is)
     where
       go : (b : Bool) → is_some (lookup (is_word word) es) ≡ true → is_some (cond b (Some x.1) (lookup (is_word word) es)) ≡ true
@@ -145,7 +144,7 @@ module _ {N : Type 0} where
     none_found (Some x) e = cc
 
     -- a slot that is set sets its word
-    pub set_values : {S : Type 0} (m n : IndexMap (Vec ℕ Global) N S) (slot : ℕ) (word : List ℕ) (v : N) → n.entries ≡ set_value_at m.entries slot v
+    pub set_values : {S : Type 0} (m n : IndexMap (SmallVec ℕ) N S) (slot : ℕ) (word : List ℕ) (v : N) → n.entries ≡ set_value_at m.entries slot v
         → IsDistinct same_key (keys_of m.entries) → IsIn m.entries slot word → number_or none n ≡ with_number (number_or none m) word v
     set_values {S} m n slot word v e distinct is_in = same_values _ _ (λ w.
         ap (λ (es : Entries N). number_among none es w) e
@@ -153,7 +152,7 @@ module _ {N : Type 0} where
         ∙ chosen (bytes_eq word w) v (lookup (is_word w) m.entries)))
 
     -- the number of the entry that stands in a word's slot is the word's
-    pub number_found : (es : Entries N) (key : Vec ℕ Global) (word : List ℕ) (v : N) → key.items ≡ word → lookup (same_key key) es ≡ Some v → v ≡ number_among none es word
+    pub number_found : (es : Entries N) (key : SmallVec ℕ) (word : List ℕ) (v : N) → key.items ≡ word → lookup (same_key key) es ≡ Some v → v ≡ number_among none es word
     number_found es key word v same found = sym (ap (λ (o : Option N). unwrap_or o none) (ap (λ w. lookup (is_word w) es) (sym same) ∙ found))
 
     -- a word without room has no number
@@ -165,7 +164,7 @@ module _ {N : Type 0} where
         go w false q = refl
 
     -- a word that is added without a number leaves all numbers as they were
-    pub added_values : {S : Type 0} (m n : IndexMap (Vec ℕ Global) N S) (k : Vec ℕ Global) (word : List ℕ) → n.entries ≡ insert_entry same_key m.entries k none → k.items ≡ word
+    pub added_values : {S : Type 0} (m n : IndexMap (SmallVec ℕ) N S) (k : SmallVec ℕ) (word : List ℕ) → n.entries ≡ insert_entry same_key m.entries k none → k.items ≡ word
         → is_some (lookup (is_word word) m.entries) ≡ false → number_or none n ≡ number_or none m
     added_values {S} m n k word e same unknown = same_values _ _ (λ w.
         ap (λ (es : Entries N). number_among none es w) e
@@ -197,7 +196,7 @@ module _ {N : Type 0} where
 
 module _ {S N : Type 0} where
   -- what a search for a word gives is where it stands
-  pub slot_found : (m : IndexMap (Vec ℕ Global) N S) (word : List ℕ) (r : Option ℕ) → r ≡ position (is_word word) (keys_of m.entries)
+  pub slot_found : (m : IndexMap (SmallVec ℕ) N S) (word : List ℕ) (r : Option ℕ) → r ≡ position (is_word word) (keys_of m.entries)
       → is_some r ≡ is_some (lookup (is_word word) m.entries) → IsSlotOf m word r
   slot_found m word None at found = sym found
   slot_found m word (Some slot) at found = at_found m.entries slot word (sym at)
@@ -205,7 +204,7 @@ module _ {S N : Type 0} where
 -- ---- a copy
 
 -- a clone's words have the same numbers
-pub cloned_values : (C : Vec ℕ Global → Vec ℕ Global → Type 0) (D : ℕ → ℕ → Type 0) → ((x y : Vec ℕ Global) → C x y → x.items ≡ y.items) → ((x y : ℕ) → D x y → x ≡ y)
+pub cloned_values : (C : SmallVec ℕ → SmallVec ℕ → Type 0) (D : ℕ → ℕ → Type 0) → ((x y : SmallVec ℕ) → C x y → x.items ≡ y.items) → ((x y : ℕ) → D x y → x ≡ y)
     → (es fs : Entries ℕ) → AllZip (λ p q. C p.0 q.0 × D p.1 q.1) es fs → (w : List ℕ) → number_among 0 fs w ≡ number_among 0 es w
 cloned_values C D keys values [] [] a w = refl
 cloned_values C D keys values [] (f ∷ fs) a w = absurd a
@@ -218,8 +217,8 @@ cloned_values C D keys values (e ∷ es) (f ∷ fs) ((c, d), a) w =
     go true later = refl
     go false later = later
 
-pub cloned : {S : Type 0} (C : Vec ℕ Global → Vec ℕ Global → Type 0) (D : ℕ → ℕ → Type 0) → ((x y : Vec ℕ Global) → C x y → x.items ≡ y.items) → ((x y : ℕ) → D x y → x ≡ y)
-    → (m n : IndexMap (Vec ℕ Global) ℕ S) → AllZip (λ p q. C p.0 q.0 × D p.1 q.1) m.entries n.entries → number_or 0 n ≡ number_or 0 m
+pub cloned : {S : Type 0} (C : SmallVec ℕ → SmallVec ℕ → Type 0) (D : ℕ → ℕ → Type 0) → ((x y : SmallVec ℕ) → C x y → x.items ≡ y.items) → ((x y : ℕ) → D x y → x ≡ y)
+    → (m n : IndexMap (SmallVec ℕ) ℕ S) → AllZip (λ p q. C p.0 q.0 × D p.1 q.1) m.entries n.entries → number_or 0 n ≡ number_or 0 m
 cloned {S} C D keys values m n a = same_values _ _ (λ w. cloned_values C D keys values m.entries n.entries a w)
 
 pub where_ok : {A E : Type 0} (r : Result A E) (P Q : A → Type 0) (R : E → Type 0) → ((x : A) → P x → Q x) → MatchResult r P R → IfOk r Q
@@ -256,9 +255,9 @@ module _ (Says : ℕ → Bool → Type 0) where
   pub swept_stays : (slot : ℕ) (old new : Entries ℕ) (v : ℕ) → slice_get (values_of new) slot ≡ Some v → Says v true → IsSwept slot old new → IsSwept (slot + 1) old new
   swept_stays slot old new v at passes is = subst (λ n. IsSwept n old new) (more slot) (go slot old new at is)
     where
-      first : (e f : Vec ℕ Global × ℕ) → f ≡ e → f.1 ≡ v → IsKept Says e.1 f.1
+      first : (e f : SmallVec ℕ × ℕ) → f ≡ e → f.1 ≡ v → IsKept Says e.1 f.1
       first e f same is_it =
-          let value : e.1 ≡ f.1 = ap (λ (z : Vec ℕ Global × ℕ). z.1) (sym same) in
+          let value : e.1 ≡ f.1 = ap (λ (z : SmallVec ℕ × ℕ). z.1) (sym same) in
           inl (sym value, subst (λ x. Says x true) (sym (value ∙ is_it)) passes)
 
       go : (slot : ℕ) (old new : Entries ℕ) → slice_get (values_of new) slot ≡ Some v → IsSwept slot old new → IsSwept (suc slot) old new
@@ -268,7 +267,7 @@ module _ (Says : ℕ → Bool → Type 0) where
           let head : f ≡ e = cc in
           let tail : new ≡ old = cc in
           let here : f.1 ≡ v = cc in
-          (ap (λ (z : Vec ℕ Global × ℕ). z.0) head, first e f head here, tail)
+          (ap (λ (z : SmallVec ℕ × ℕ). z.0) head, first e f head here, tail)
       go (suc slot) [] new at is = is
       go (suc slot) (e ∷ old) [] at is = absurd is
       go (suc slot) (e ∷ old) (f ∷ new) at (key, kept, is) = (key, kept, go slot old new at is)
@@ -278,9 +277,9 @@ module _ (Says : ℕ → Bool → Type 0) where
       → IsSwept (slot + 1) old (set_value_at new slot 0)
   swept_goes slot old new v at fails is = subst (λ n. IsSwept n old (set_value_at new slot 0)) (more slot) (go slot old new at is)
     where
-      first : (e f : Vec ℕ Global × ℕ) → f ≡ e → f.1 ≡ v → IsKept Says e.1 0
+      first : (e f : SmallVec ℕ × ℕ) → f ≡ e → f.1 ≡ v → IsKept Says e.1 0
       first e f same is_it =
-          let value : e.1 ≡ v = ap (λ (z : Vec ℕ Global × ℕ). z.1) (sym same) ∙ is_it in
+          let value : e.1 ≡ v = ap (λ (z : SmallVec ℕ × ℕ). z.1) (sym same) ∙ is_it in
           inr (inl (refl, subst (λ x. Says x false) (sym value) fails))
 
       go : (slot : ℕ) (old new : Entries ℕ) → slice_get (values_of new) slot ≡ Some v → IsSwept slot old new → IsSwept (suc slot) old (set_value_at new slot 0)
@@ -291,7 +290,7 @@ module _ (Says : ℕ → Bool → Type 0) where
           let head : f ≡ e = cc in
           let tail : new ≡ old = cc in
           let here : f.1 ≡ v = cc in
-          (ap (λ (z : Vec ℕ Global × ℕ). z.0) head, first e f head here, tail)
+          (ap (λ (z : SmallVec ℕ × ℕ). z.0) head, first e f head here, tail)
       go (suc slot) [] [] at is = refl
       go (suc slot) [] (f ∷ new) at is = cc
       go (suc slot) (e ∷ old) [] at is = absurd is

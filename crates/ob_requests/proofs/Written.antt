@@ -4,8 +4,7 @@ use Rattle.std.specs.BTreeMap.{is_at}
 use Rattle.std.specs.Map.{lookup, set_value}
 use Rattle.std.specs.Option.{option_map_or}
 use Rattle.std.specs.Ordering.{nat_cmp}
-use Rattle.std.specs.declared.vec.Vec.{Vec}
-use Rattle.std.specs.declared.alloc.Global.{Global}
+use Rattle.smallvec.specs.SmallVec.{SmallVec}
 use Rattle.std.proofs.lemmas.Bool.{eq-eqb}
 use Rattle.indexmap.specs.IndexMap.{IndexMap}
 use Rattle.ob_model.proofs.Ids.{is_at-id}
@@ -41,14 +40,14 @@ found_written {X} p q (e ∷ es) x y found =
         let f' : lookup (is_at (nat_cmp p)) es ≡ Some x = ap (λ (b : Bool). cond b (Some e.1) (lookup (is_at (nat_cmp p)) es)) (sym (u ∙ h)) ∙ f in
         rw (u, h, v, k) (later f')
 
-module _ {S N : Type 0} (none : N) (tables : List (ℕ × IndexMap (Vec ℕ Global) N S)) (p : ℕ) (t t' : IndexMap (Vec ℕ Global) N S) (found : table_at tables p ≡ Some t) where
+module _ {S N : Type 0} (none : N) (tables : List (ℕ × IndexMap (SmallVec ℕ) N S)) (p : ℕ) (t t' : IndexMap (SmallVec ℕ) N S) (found : table_at tables p ≡ Some t) where
   -- the numbers where one table was written
   numbers_written : (numbers : List ℕ → N) → number_or none t' ≡ numbers
       → numbers_among none (set_value (is_at (nat_cmp p)) tables t') ≡ with_own (numbers_among none tables) p numbers
   numbers_written numbers same = λ i q w. one q w i
     where
       one : (q : ℕ) (w : List ℕ) → numbers_among none (set_value (is_at (nat_cmp p)) tables t') q w ≡ cond (p == q) numbers (numbers_among none tables q) w
-      one q w = ap (λ (o : Option (IndexMap (Vec ℕ Global) N S)). option_map_or (λ table. number_or none table w) o none) (found_written p q tables t t' found) ∙ go (p == q)
+      one q w = ap (λ (o : Option (IndexMap (SmallVec ℕ) N S)). option_map_or (λ table. number_or none table w) o none) (found_written p q tables t t' found) ∙ go (p == q)
         where
           go : (b : Bool) → option_map_or (λ table. number_or none table w) (cond b (Some t') (table_at tables q)) none ≡ cond b numbers (numbers_among none tables q) w
           go true = ap (λ (f : List ℕ → N). f w) same
@@ -56,17 +55,17 @@ module _ {S N : Type 0} (none : N) (tables : List (ℕ × IndexMap (Vec ℕ Glob
 
   -- the numbers of a table that was found
   numbers_at : number_or none t ≡ numbers_among none tables p
-  numbers_at = λ i w. ap (λ (o : Option (IndexMap (Vec ℕ Global) N S)). option_map_or (λ table. number_or none table w) o none) (sym found) i
+  numbers_at = λ i w. ap (λ (o : Option (IndexMap (SmallVec ℕ) N S)). option_map_or (λ table. number_or none table w) o none) (sym found) i
 
   -- one word was set in a table
-  pub word_written : (new : List (ℕ × IndexMap (Vec ℕ Global) N S)) (word : List ℕ) (number : N) → new ≡ set_value (is_at (nat_cmp p)) tables t'
+  pub word_written : (new : List (ℕ × IndexMap (SmallVec ℕ) N S)) (word : List ℕ) (number : N) → new ≡ set_value (is_at (nat_cmp p)) tables t'
       → number_or none t' ≡ with_number (number_or none t) word number → numbers_among none new ≡ with_number_of (numbers_among none tables) p word number
   word_written new word number wrote set =
       ap (λ es. numbers_among none es) wrote
       ∙ numbers_written (with_number (numbers_among none tables p) word number) (set ∙ ap (λ (f : List ℕ → N). with_number f word number) numbers_at)
 
   -- all words of a table kept their numbers
-  pub words_same : (new : List (ℕ × IndexMap (Vec ℕ Global) N S)) → new ≡ set_value (is_at (nat_cmp p)) tables t' → number_or none t' ≡ number_or none t
+  pub words_same : (new : List (ℕ × IndexMap (SmallVec ℕ) N S)) → new ≡ set_value (is_at (nat_cmp p)) tables t' → number_or none t' ≡ number_or none t
       → numbers_among none new ≡ numbers_among none tables
   words_same new wrote same =
       ap (λ es. numbers_among none es) wrote ∙ (numbers_written (numbers_among none tables p) (same ∙ numbers_at) ∙ back)

@@ -7,8 +7,7 @@ use Rattle.std.specs.Map.{lookup}
 use Rattle.std.specs.Option.{is_some, option_map_or}
 use Rattle.std.specs.Ordering.{nat_cmp}
 use Rattle.std.specs.Str.{bytes_eq}
-use Rattle.std.specs.declared.vec.Vec.{Vec}
-use Rattle.std.specs.declared.alloc.Global.{Global}
+use Rattle.smallvec.specs.SmallVec.{SmallVec}
 use Rattle.indexmap.specs.IndexMap.{IndexMap}
 use Rattle.ob_requests.specs.Words.{Words}
 use Rattle.ob_requests.specs.declared.word_tables.WordTables.{WordTables}
@@ -16,38 +15,38 @@ use Rattle.ob_requests.specs.declared.words.Words as declared
 
 module _ {N : Type 0} where
   -- the number that entries keep for a word: that of its first entry, and `none` where it has none
-  abbrev pub number_among : N → List (Vec ℕ Global × N) → List ℕ → N
+  abbrev pub number_among : N → List (SmallVec ℕ × N) → List ℕ → N
   number_among none entries word = unwrap_or (lookup (λ key. bytes_eq word key.items) entries) none
 
   -- the entry of a word stands in this slot
-  abbrev pub IsIn : List (Vec ℕ Global × N) → ℕ → List ℕ → Type 0
-  IsIn entries slot word = (entry : Vec ℕ Global × N) × (slice_get entries slot ≡ Some entry) × (bytes_eq word entry.0.items ≡ true)
+  abbrev pub IsIn : List (SmallVec ℕ × N) → ℕ → List ℕ → Type 0
+  IsIn entries slot word = (entry : SmallVec ℕ × N) × (slice_get entries slot ≡ Some entry) × (bytes_eq word entry.0.items ≡ true)
 
 module _ {S N : Type 0} where
   -- the numbers that words have in a table, and `none` where they have none
-  abbrev pub number_or : N → IndexMap (Vec ℕ Global) N S → List ℕ → N
+  abbrev pub number_or : N → IndexMap (SmallVec ℕ) N S → List ℕ → N
   number_or none table word = number_among none table.entries word
 
   -- there is room for a word
-  abbrev pub has_word : IndexMap (Vec ℕ Global) N S → List ℕ → Bool
+  abbrev pub has_word : IndexMap (SmallVec ℕ) N S → List ℕ → Bool
   has_word table word = is_some (lookup (λ key. bytes_eq word key.items) table.entries)
 
   -- where a word stands: its slot, or none where there is no room for it
-  abbrev pub IsSlotOf : IndexMap (Vec ℕ Global) N S → List ℕ → Option ℕ → Type 0
+  abbrev pub IsSlotOf : IndexMap (SmallVec ℕ) N S → List ℕ → Option ℕ → Type 0
   IsSlotOf table word None = has_word table word ≡ false
   IsSlotOf table word (Some slot) = IsIn table.entries slot word
 
   -- the table of a process
-  abbrev pub table_at : List (ℕ × IndexMap (Vec ℕ Global) N S) → ℕ → Option (IndexMap (Vec ℕ Global) N S)
+  abbrev pub table_at : List (ℕ × IndexMap (SmallVec ℕ) N S) → ℕ → Option (IndexMap (SmallVec ℕ) N S)
   table_at tables process = lookup (is_at (nat_cmp process)) tables
 
   -- the numbers that words of processes have in such tables, each kept for the process of its number, and `none` where
   -- they have none
-  abbrev pub numbers_among : N → List (ℕ × IndexMap (Vec ℕ Global) N S) → ℕ → List ℕ → N
+  abbrev pub numbers_among : N → List (ℕ × IndexMap (SmallVec ℕ) N S) → ℕ → List ℕ → N
   numbers_among none tables process word = option_map_or (λ table. number_or none table word) (table_at tables process) none
 
 -- the numbers that words have in a table: 0 where they have none
-abbrev pub number_in : {S : Type 0} → IndexMap (Vec ℕ Global) ℕ S → List ℕ → ℕ
+abbrev pub number_in : {S : Type 0} → IndexMap (SmallVec ℕ) ℕ S → List ℕ → ℕ
 number_in table = number_or 0 table
 
 module _ {N : Type 0} where

@@ -33,13 +33,13 @@ pub type Asked = Result<Command<StandardKind>, AllocError>;
 
 /// The command that a request of a process spells, with the words of the script. The only fault is out of memory, for
 /// the texts of a create or an open. Source: this profile.
-pub fn command_of(asker: &Asker<'_>, request: Request<&[u8]>) -> Asked
-    requires texts { HasTexts (request_seen request) }
-    ensures command { IfOk result (IsCommand (request_seen request.entry)
+pub fn command_of(asker: &Asker<'_>, request: &Request<&[u8]>) -> Asked
+    requires texts { HasTexts (request_seen request.now) }
+    ensures command { IfOk result (IsCommand (request_seen request.now)
         (words_in asker.now.words.now) asker.now.process) }
-    ensures grows { OnErr result (Grows (request_seen request.entry)) }
+    ensures grows { OnErr result (Grows (request_seen request.now)) }
 {
-    match request {
+    match *request {
         Request::CreateDirectory { place, attrs, .. } => create_directory(asker, place, attrs),
         Request::CreateLink {
             place,

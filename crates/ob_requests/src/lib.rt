@@ -5,11 +5,13 @@ mod changes;
 mod commands;
 pub mod laws;
 mod table;
+mod word;
 mod word_tables;
 mod words;
 
 pub use changes::given_handle;
 pub use commands::{Asked, Asker, command_of};
 pub use table::{Table, keep};
+pub use word::Word;
 pub use word_tables::WordTables;
 pub use words::Words;

@@ -4,11 +4,12 @@ ghost use Rattle.std.specs.Prelude.{◌≡◌, ℕ, true, List, OnOk, IfOk, IsTr
 ghost use Rattle.ob_requests.specs.Tables.{number_in, number_or, has_word, IsIn, IsSlotOf, IsKept};
 ghost use Rattle.ob_requests.specs.Words.{with_number};
 
+use crate::word::{Sought, Word};
 use indexmap::IndexMap;
 use std::alloc::{AllocError, Global};
 
 /// Words, and the number that each stands for. A word without a number stands for 0. (this profile)
-pub type Table<N> = IndexMap<Vec<u8>, N>;
+pub type Table<N> = IndexMap<Word, N>;
 
 // The number of a word: `none` where it was never set. It is looked for first in a slot where it may stand.
 pub(crate) fn number_of<N: Copy>(table: &Table<N>, guess: usize, word: &[u8], none: N) -> N
@@ -19,7 +20,7 @@ pub(crate) fn number_of<N: Copy>(table: &Table<N>, guess: usize, word: &[u8], no
     {
         return *number;
     }
-    table.get(word).copied().unwrap_or(none)
+    table.get(Sought { word }).copied().unwrap_or(none)
 }
 
 // The slot of a word, where there is room for it. It is looked for first in a slot where it may stand.
@@ -29,7 +30,7 @@ fn slot_of<N>(table: &Table<N>, guess: usize, word: &[u8]) -> Option<usize>
     if is_in(table, guess, word) {
         return Some(guess);
     }
-    table.get_index_of(word)
+    table.get_index_of(Sought { word })
 }
 
 // Whether a word stands in a slot.
@@ -56,7 +57,7 @@ pub(crate) fn room_for<N: Copy>(
     if let Some(slot) = slot_of(table, guess, word) {
         return Ok(slot);
     }
-    let (own, slot) = (word.to_vec(alloc)?, table.len());
+    let (own, slot) = (Word::from_slice(alloc, word)?, table.len());
     table.insert(own, none)?;
     Ok(slot)
 }

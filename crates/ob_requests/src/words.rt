@@ -5,6 +5,7 @@ ghost use Rattle.ob_requests.specs.Tables.{words_in, number_in, has_word, HasRoo
 ghost use Rattle.ob_requests.specs.Words.{first_words, with_process, with_word, without_words, with_words, with_context, with_ticket};
 
 use crate::table::{Table, copy_of, number_of, room_for, set};
+use crate::word::Word;
 use crate::word_tables::WordTables;
 use ob_base::{Handle, Proc};
 use std::alloc::{AllocError, Global};
@@ -41,7 +42,7 @@ impl Words {
         ensures { IfOk result (λ words. words_in words ≡ first_words) }
     {
         let mut processes = Table::new(alloc);
-        let first = b"p1".to_vec(alloc)?;
+        let first = Word::from_slice(alloc, b"p1")?;
         processes.insert(first, 1)?;
         Ok(Words {
             alloc,

@@ -5,13 +5,12 @@ use Rattle.std.specs.BTreeMap.{is_at}
 use Rattle.std.specs.Map.{lookup}
 use Rattle.std.specs.Option.{option_map_or}
 use Rattle.std.specs.Ordering.{nat_cmp}
-use Rattle.std.specs.declared.vec.Vec.{Vec}
-use Rattle.std.specs.declared.alloc.Global.{Global}
+use Rattle.smallvec.specs.SmallVec.{SmallVec}
 use Rattle.indexmap.specs.IndexMap.{IndexMap}
 use Rattle.ob_requests.specs.Tables.{number_or, numbers_among}
 
 abbrev Numbers : Type 0 → Type 0
-Numbers S = IndexMap (Vec ℕ Global) ℕ S
+Numbers S = IndexMap (SmallVec ℕ) ℕ S
 
 module _ {S : Type 0} where
   pub cloned_tables : (C : ℕ → ℕ → Type 0) (D : Numbers S → Numbers S → Type 0) → ((x y : ℕ) → C x y → x ≡ y) → ((x y : Numbers S) → D x y → number_or 0 y ≡ number_or 0 x)

@@ -40,7 +40,7 @@ pub(crate) fn answer<R: Wait, C: Callers>(
     ensures seat { C.seat_of (result.0) ≡ C.seat_of pass }
     ensures tickets { (words_in words.new).tickets ≡ (words_in words.old).tickets }
 {
-    let change = change_of(request);
+    let change = change_of(&request);
     match prepare(words, process, request, change) {
         Err(_) => (pass, Err(Stop::Memory)),
         Ok(command) => {
@@ -71,7 +71,7 @@ fn prepare(
 {
     words.make_room(process, change)?;
     let asker = Asker { words, process };
-    command_of(&asker, request)
+    command_of(&asker, &request)
 }
 
 /// Runs a command of a process to its reply.

@@ -206,7 +206,7 @@ fn prepare(
         attrs,
         word,
     };
-    command_of(&Asker { words, process }, request)
+    command_of(&Asker { words, process }, &request)
 }
 
 /// Makes room for a handle and a ticket of a word.

@@ -10,7 +10,7 @@ use Rattle.ob_effects.proofs.session.reply_to.Goals as goal
 
 pub returns-clause-answered : goal.returns-clause-answered
 returns-clause-answered c =
-    let asked = request_seen c.args.request in
+    let asked = request_seen c.args.request.now in
     let reply = c.in_ok-reply.reply in
     let change = c.change_of-change.result in
     answered asked c.args.process (words_in c.args.words.now) (words_in c.apply.new.self) c.args.core.now c.ask.new.core reply (change_seen change) c.change_of-change.ensures

@@ -19,7 +19,7 @@ returns-in-Ok-clause-kept c =
     let chain = answered.0 in
     record {
       waiting = subst (λ w. AreWaiting t w (tickets_of parses)) (sym answered.1)
-          (answered_waiting s t (words_in c.args.self.now.words) c.args.process (request_seen c.args.request) chain.0 chain.1 c.in-Ok.reply (tickets_of parses) c.state_is_sound.ensures chain.3
+          (answered_waiting s t (words_in c.args.self.now.words) c.args.process (request_seen c.args.request.now) chain.0 chain.1 c.in-Ok.reply (tickets_of parses) c.state_is_sound.ensures chain.3
           c.requires.kept.waiting);
       awaited = completes_all_await standard c.args.process chain.0 chain.1 s t c.in-Ok.reply parses c.state_is_sound.ensures chain.3 c.requires.kept.awaited;
     }
@@ -32,10 +32,10 @@ returns-in-Err-clause-kept c =
     let wanting = c.in-Err.ensures.wanting in
     record {
       waiting = subst (λ w. AreWaiting t w (tickets_of parses)) (sym c.in-Err.ensures.kept)
-          (unanswered_waiting s t (words_in c.args.self.now.words) c.args.process (request_seen c.args.request) wanting.0 (tickets_of parses) c.state_is_sound.ensures wanting.1 c.requires.kept.waiting);
-      awaited = unanswered_await s t (words_in c.args.self.now.words) c.args.process (request_seen c.args.request) wanting.0 parses c.state_is_sound.ensures wanting.1 c.requires.kept.awaited;
+          (unanswered_waiting s t (words_in c.args.self.now.words) c.args.process (request_seen c.args.request.now) wanting.0 (tickets_of parses) c.state_is_sound.ensures wanting.1 c.requires.kept.waiting);
+      awaited = unanswered_await s t (words_in c.args.self.now.words) c.args.process (request_seen c.args.request.now) wanting.0 parses c.state_is_sound.ensures wanting.1 c.requires.kept.awaited;
     }
 
 pub returns-in-Err-clause-without_memory : goal.returns-in-Err-clause-without_memory
 returns-in-Err-clause-without_memory c = λ takes.
-    never_unanswered (request_seen c.args.request) c.args.process (words_in c.args.self.now.words) c.args.self.now.core c.reply_to.new.core takes c.in-Err.ensures.wanting
+    never_unanswered (request_seen c.args.request.now) c.args.process (words_in c.args.self.now.words) c.args.self.now.core c.reply_to.new.core takes c.in-Err.ensures.wanting

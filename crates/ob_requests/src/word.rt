@@ -1,0 +1,33 @@
+//! Words as tables keep them, and as they are looked for.
+
+ghost use Rattle.std.specs.Prelude.{◌≡◌};
+
+use indexmap::Equivalent;
+use smallvec::SmallVec;
+
+/// A word that is kept. Up to 16 of its bytes lie in the value itself. (this profile)
+pub type Word = SmallVec<u8, 16>;
+
+// A word that is looked for.
+#[derive(Clone, Copy, PartialEq, Eq, Hash)]
+pub(crate) struct Sought<'a> {
+    // Its bytes.
+    pub(crate) word: &'a [u8],
+}
+
+impl Equivalent<Word> for Sought<'_> {
+    ghost use Rattle.std.specs.Str.{bytes_eq};
+    ghost use Rattle.std.specs.Cmp.Lexicographic.{bytes_decides, nat_list_eq_equiv};
+    ghost use Rattle.std.specs.Hash as fed;
+    ghost use Rattle.std.proofs.Common.{ap};
+
+    ghost equivalent = { λ q k. bytes_eq q.word.now k.items };
+
+    ghost respects_hash = { λ q k h. ap (fed.slice fed.u8) ((bytes_decides q.word.now k.items).0 h) };
+
+    ghost respects_eq = { λ q x y. nat_list_eq_equiv.congr q.word.now x.items y.items };
+
+    fn equivalent(&self, key: &Word) -> bool {
+        self.word == key.as_slice()
+    }
+}
