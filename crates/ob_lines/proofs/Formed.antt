@@ -1,5 +1,5 @@
 -- Requests, and forms of a line.
-use Rattle.std.proofs.Common.{◌≡◌, ◌≢◌, ℕ, inl, inr, List, [], ◌∷◌, ◌++◌, Option, Some, None, IfSome, length, get_or, eqb, Bool, false, drop, refl, ap, arith, codes, append_assoc, sym, subst, ◌∙◌}
+use Rattle.std.proofs.Common.{◌≡◌, ◌≢◌, ℕ, inl, inr, List, [], ◌∷◌, ◌++◌, Option, Some, None, IfSome, IfNone, Bool, true, false, drop, refl, ap, arith, codes, append_assoc, sym, subst, ◌∙◌}
 use Rattle.std.specs.Borrow.{Bor}
 use Rattle.std.specs.Char.{IsAsciiAlphabetic}
 use Rattle.ob_lines.specs.declared.form.Form.{Form}
@@ -19,6 +19,7 @@ use Rattle.ob_lines.specs.declared.verb.Verb.{Verb}
 use Rattle.ob_lines.specs.declared.verb.Verb.TheVariants as verb
 use Rattle.ob_parts.specs.Text.{Lacks, IsText}
 use Rattle.ob_parts.specs.Parts.{text_of, BeginsWithName, BeginsWithPlace, BeginsWithRoom, BeginsWithProcess, BeginsWithInherit, SetsWord, SetsProcess, IsFlagsAndWord, IsFlagsTextAndWord, IsWantNameFlagsAndWord, IsPlaceFlagsTextAndWord}
+use Rattle.ob_lines.specs.Script.{HasForm, found_seen}
 use Rattle.ob_lines.specs.Grammar.{HasPlaceText, HasTexts, PendingHasTexts, FormHasTexts, verb_text, verb_of, IsOperands, IsVerbAndOperands, IsRequest, IsPending, IsHandleRoomAndMode, IsHandleProcessAndWord, IsInheritAndProcess, IsIdle, IsLine, LinesHaveOneForm, form_seen}
 use Rattle.ob_parts.proofs.Cuts.{lacks_no_cut}
 use Rattle.ob_parts.proofs.Flagged.{lacks_from_test}
@@ -225,15 +226,14 @@ line_alike line (Waits p w) (Waits q v) (rest, b, pending, short) t =
     let parts = waits_rest line p rest q v b t in
     rw (parts.0, pending_alike rest w v pending parts.1) refl
 
--- a line that has a first byte other than `#`, is no `stat`, asks for nothing, and nothing of an open that waits, has no form
-pub no_form : (line : List ℕ) → eqb (length line) 0 ≡ false → (get_or line 0 0 ≡ 0x23 → ⊥) → (line ≡ codes "stat" → ⊥)
+-- a line that isn't idle, is no `stat`, asks for nothing, and nothing of an open that waits, has no form
+pub no_form : (line : List ℕ) (idle : Bool) → idle ≡ false → (IsLine line Nothing → idle ≡ true) → (line ≡ codes "stat" → ⊥)
     → ((p : List ℕ) (r : Request (List ℕ)) → ¬ IsLine line (Asks p r)) × ((p : List ℕ) (w : PendingForm (List ℕ)) → ¬ IsLine line (Waits p w))
     → (form : Form (List ℕ)) → ¬ IsLine line form
-no_form line long first stat none (Asks p r) s = none.0 p r s
-no_form line long first stat none (Waits p w) s = none.1 p w s
-no_form line long first stat none Stat s = stat s
-no_form line long first stat none Nothing (inl e, short) = let empty = rw e at long in cc
-no_form line long first stat none Nothing (inr (comment, e), short) = first (ap (λ (z : List ℕ). get_or z 0 0) e)
+no_form line idle busy tells stat none (Asks p r) s = none.0 p r s
+no_form line idle busy tells stat none (Waits p w) s = none.1 p w s
+no_form line idle busy tells stat none Stat s = stat s
+no_form line idle busy tells stat none Nothing s = let yes : idle ≡ true = tells s in cc
 
 -- the texts of what a line asks for are texts
 name_has_text : (bytes : List ℕ) (n : NameForm (List ℕ)) (rest : List ℕ) → BeginsWithName bytes n rest → IsText (text_of n)
@@ -285,3 +285,9 @@ pub found_has_texts : (line : List ℕ) (found : Option (Form (Bor (List ℕ))))
     → IfSome found (λ form. FormHasTexts (form_seen form))
 found_has_texts line None is = tt
 found_has_texts line (Some form) is = form_has_texts line (form_seen form) is
+
+-- and the line has that form, or none
+pub has_form : (line : List ℕ) (found : Option (Form (Bor (List ℕ)))) → IfSome found (λ form. IsLine line (form_seen form))
+    → IfNone found ((form : Form (List ℕ)) → ¬ IsLine line form) → HasForm line (found_seen found)
+has_form line None is none = none
+has_form line (Some form) is none = is

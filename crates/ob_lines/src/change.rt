@@ -43,10 +43,10 @@ pub enum Change<T> {
 
 /// The words that the reply to a request changes. A `dup` with inheritance and one without change the
 /// same. Takes no memory. Source: this profile.
-pub fn change_of<'a>(request: Request<&'a [u8]>) -> Change<&'a [u8]>
-    ensures { change_seen result ≡ change_of (request_seen request.entry) }
+pub fn change_of<'a>(request: &Request<&'a [u8]>) -> Change<&'a [u8]>
+    ensures { change_seen result ≡ change_of (request_seen request.now) }
 {
-    match request {
+    match *request {
         Request::CreateDirectory { word, .. } => Change::Sets(word),
         Request::CreateLink { word, .. } => Change::Sets(word),
         Request::CreateObject { word, .. } => Change::Sets(word),

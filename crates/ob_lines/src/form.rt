@@ -1,6 +1,6 @@
 //! The forms of a line.
 
-ghost use Rattle.std.specs.Prelude.{◌≡◌, ◌+◌, ◌≤◌, ℕ, List, length, IfSome, IfNone};
+ghost use Rattle.std.specs.Prelude.{◌≡◌, ◌+◌, ◌≤◌, ◌↔◌, ℕ, List, length, IsTrue, IfSome, IfNone};
 ghost use Rattle.ob_lines.specs.declared.form.Form.{Form};
 ghost use Rattle.ob_lines.specs.declared.pending.PendingForm.{PendingForm};
 ghost use Rattle.ob_lines.specs.declared.request.Request.{Request};
@@ -36,17 +36,25 @@ pub enum Form<T> {
     },
 }
 
+/// Whether a line without its LF does nothing: it is empty or a comment, and has at most 262,144 bytes. Takes no memory.
+/// Source: this profile.
+pub fn is_idle(line: &[u8]) -> bool
+    ensures { IsTrue result ↔ IsLine line.now Form.Nothing }
+{
+    line.len() <= LONGEST_LINE && (line.is_empty() || line[0] == b'#')
+}
+
 /// The form of a line without its LF: none where it is no line of a script, as one of more than
 /// 262,144 bytes. Takes no memory. Source: this profile.
 pub fn form_of(line: &[u8]) -> Option<Form<&[u8]>>
     ensures found { IfSome result (λ form. IsLine line.now (form_seen form)) }
     ensures none { IfNone result ((form : Form (List ℕ)) → ¬ IsLine line.now form) }
 {
+    if is_idle(line) {
+        return Some(Form::Nothing);
+    }
     if line.len() > LONGEST_LINE {
         return None;
-    }
-    if line.is_empty() || line[0] == b'#' {
-        return Some(Form::Nothing);
     }
     if line == b"stat".as_slice() {
         return Some(Form::Stat);

@@ -14,7 +14,7 @@ mod script;
 mod verb;
 
 pub use change::{Change, change_of};
-pub use form::{Form, LONGEST_LINE, form_of, lines_have_one_form};
+pub use form::{Form, LONGEST_LINE, form_of, is_idle, lines_have_one_form};
 pub use ob_parts::{
     HandleForm, KindForm, NameForm, Offset, PageMode, PlaceForm, decode, offset_value,
     texts_spell_one_thing,

@@ -11,4 +11,4 @@ pub use counts::Totals;
 pub use lines::{LINE_ROOM, push_counts_line, push_text_line};
 pub use short_line::{Line, text_line};
 pub use status_lines::{push_status_front, push_status_line, push_text_front};
-pub use texts::push_printed;
+pub use texts::{push_entry, push_printed};

@@ -14,12 +14,15 @@ use crate::lines::{
 use ob_base::Status;
 use ob_effects::LineOutcome;
 use ob_model::{Entries, Given, Listed, Reply};
-use ob_output::push_printed;
+use ob_output::{LINE_ROOM, push_entry, push_printed};
 use ob_streams::Unwritten;
 use std::io::Write;
 
 // How many bytes of a text are printed at once.
 const PART: usize = 64;
+
+// How many bytes the names of an entry have at most that is written at once.
+const SHORT: usize = 32;
 
 // Writes what became of the line of a number, by way of the block.
 pub fn write_outcome<W: Write>(
@@ -134,6 +137,47 @@ fn write_entries<W: Write>(
 
 // Writes an entry of a page, by way of the block.
 fn write_entry<W: Write>(
+    writer: &mut W,
+    block: &mut Vec<u8>,
+    entry: &Listed,
+) -> Result<(), Unwritten>
+    requires { 192 ≤ vec_capacity block.old }
+    ensures ok { OnOk result (Gathers (W.contents writer.old)
+        (W.contents writer.new) block.old.items (entry_text entry.now) block.new.items) }
+    ensures front { OnErr result (AppendsFront (W.contents writer.old) (W.contents writer.new)
+        (block.old.items ++ entry_text entry.now)) }
+    ensures capacity { vec_capacity block.old ≤ vec_capacity block.new }
+{
+    let (name, type_name) = (entry.name.as_slice(), entry.type_name.as_str().as_bytes());
+    if name.len() <= SHORT && type_name.len() <= SHORT {
+        write_short_entry(writer, block, entry)
+    } else {
+        write_long_entry(writer, block, entry)
+    }
+}
+
+// Writes an entry of a page, whose name and whose type's name are short, by way of the block.
+fn write_short_entry<W: Write>(
+    writer: &mut W,
+    block: &mut Vec<u8>,
+    entry: &Listed,
+) -> Result<(), Unwritten>
+    requires name { length entry.now.name ≤ 32 }
+    requires type_name { length entry.now.type_name ≤ 32 }
+    requires room { 192 ≤ vec_capacity block.old }
+    ensures ok { OnOk result (Gathers (W.contents writer.old)
+        (W.contents writer.new) block.old.items (entry_text entry.now) block.new.items) }
+    ensures front { OnErr result (AppendsFront (W.contents writer.old) (W.contents writer.new)
+        (block.old.items ++ entry_text entry.now)) }
+    ensures capacity { vec_capacity block.old ≤ vec_capacity block.new }
+{
+    make_room(writer, block, LINE_ROOM)?;
+    push_entry(block, entry);
+    Ok(())
+}
+
+// Writes an entry of a page part by part, by way of the block.
+fn write_long_entry<W: Write>(
     writer: &mut W,
     block: &mut Vec<u8>,
     entry: &Listed,

@@ -1,17 +1,20 @@
 //! The run of a script.
 
-ghost use Rattle.std.specs.Prelude.{◌≡◌, ◌≢◌, ◌+◌, ◌<◌, ◌≤◌, false, [], ◌++◌, length, vec_capacity, IfOk, IfErr, OnOk, OnErr, IsErr, IfSome, IsErrOf};
+ghost use Rattle.std.specs.Prelude.{◌≡◌, ◌≢◌, ◌+◌, ◌<◌, ◌≤◌, false, [], ◌++◌, ℕ, List, Option, length, vec_capacity, IfOk, IfErr, OnOk, OnErr, IsErr, IfSome, IsErrOf};
 ghost use Rattle.ob_streams.specs.Fault.{is_unwritten};
 ghost use Rattle.ob_streams.specs.Reading.{StopsLong, TakesAtMost};
 ghost use Rattle.ob_shell.specs.Gathering.{Gathers};
 ghost use Rattle.ob_streams.specs.Writing.{AppendsFront};
 ghost use Rattle.ob_shell.specs.Shown.{PlaysTo, PlaysPartTo};
-ghost use Rattle.ob_effects.specs.Kept.{IsFirst, IsSession};
+ghost use Rattle.ob_effects.specs.Effects.{IsDone};
+ghost use Rattle.ob_effects.specs.Kept.{IsFirst, IsSession, space_of, words_of};
+ghost use Rattle.ob_lines.specs.Script.{HasForm};
+ghost use Rattle.ob_lines.specs.declared.form.Form.{Form};
 ghost use Rattle.ob_shell.specs.Running.{outcome_text, outcome_end, GathersRun, StopsPlaying};
 
 use crate::printing::write_outcome;
 use ob_effects::{LineOutcome, Session};
-use ob_lines::read_line;
+use ob_lines::{first_line, form_of, is_idle};
 use ob_streams::{SCRIPT_LIMIT, ShellFault, Unwritten, read_script, write_out};
 use std::alloc::Global;
 use std::io::{Read, Write};
@@ -152,9 +155,9 @@ fn play<W: Write>(
 {
     let mut rest = script;
     let mut number: u64 = 0;
-    while let Some((form, behind)) = read_line(rest) {
+    while let Some((line, behind)) = first_line(rest) {
         number += 1;
-        let outcome = session.perform(form);
+        let outcome = perform_line(session, line);
         match show(writer, block, number, outcome) {
             Ok(None) => {}
             Ok(Some(ending)) => return Ok(ending),
@@ -163,6 +166,20 @@ fn play<W: Write>(
         rest = behind;
     }
     Ok(Ending::Done)
+}
+
+// Does what a line says, whose form is looked for only where it isn't empty and no comment.
+fn perform_line(session: &mut Session, line: &[u8]) -> LineOutcome
+    requires { IsSession session.old }
+    ensures kept { IsSession session.new }
+    ensures done { (form : Option (Form (List ℕ))) × HasForm line.now form
+        × IsDone form (words_of session.old) (space_of session.old) result
+        (words_of session.new) (space_of session.new) }
+{
+    if is_idle(line) {
+        return LineOutcome::Idle;
+    }
+    session.perform(form_of(line))
 }
 
 // Writes what became of a line, by way of the block, and says how that ends the run, where it does.

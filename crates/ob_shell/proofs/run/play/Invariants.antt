@@ -6,10 +6,10 @@ use Rattle.ob_shell.proofs.run.play.Given as goal
 
 -- the rest stands behind what was run and gathered, each line so far has a byte of its own, the block
 -- has its room, and the session is one
-abbrev pub invariant-loop-form : goal.invariant-loop-form
-invariant-loop-form g l =
+abbrev pub invariant-loop-line : goal.invariant-loop-line
+invariant-loop-line g l =
     StandsBehind (g.W.Write.contents l.initial.writer) (g.W.Write.contents l.writer) l.block.items l.script l.rest l.number (words_of l.session) (space_of l.session)
     × (l.number + length l.rest ≤ length l.script) × (192 ≤ vec_capacity l.block) × IsSession l.session
 
-abbrev pub decreases-loop-form : goal.decreases-loop-form
-decreases-loop-form g l = length l.rest
+abbrev pub decreases-loop-line : goal.decreases-loop-line
+decreases-loop-line g l = length l.rest

@@ -3,7 +3,7 @@ use Rattle.std.proofs.Common.{◌∙◌}
 use Rattle.ob_streams.proofs.Writers.{at_err, at_err_weaker}
 use Rattle.ob_shell.proofs.Gathered.{at_ok_weaker}
 use Rattle.ob_shell.proofs.Listed.{left_all, left_front, quote_more, quote_front, name_more, name_front, close_more, close_front}
-use Rattle.ob_shell.proofs.printing.write_entry.Goals as goal
+use Rattle.ob_shell.proofs.printing.write_long_entry.Goals as goal
 
 pub returns-in_err-gather-clause-front : goal.returns-in_err-gather-clause-front
 returns-in_err-gather-clause-front g c = at_err c.from_residual.result _ (quote_front c.args.block.now.items c.args.entry.now c.in_err-gather.ensures.front)
