@@ -45,9 +45,10 @@ impl Bytes {
         ensures copy { IfOk result (λ bytes. bytes ≡ items.now) }
         ensures short { length items.now ≤ 16 → IsOk result }
     {
-        Ok(Bytes {
-            items: SmallVec::from_slice(alloc, items)?,
-        })
+        match SmallVec::from_slice(alloc, items) {
+            Ok(items) => Ok(Bytes { items }),
+            Err(fault) => Err(fault),
+        }
     }
 
     /// The bytes, as a slice.
