@@ -95,10 +95,11 @@ impl<T: TypeSet> Store<T> {
         let mut walk = self.walk();
         let mut items = Vec::with_capacity(alloc, shown.len())?;
         for entry in shown {
-            items.push(Listed {
-                name: Bytes::from_slice(alloc, entry.name.as_slice())?,
-                type_name: TypeName::new(type_name_at::<T>(&mut walk, entry.object)),
-            })?;
+            let type_name = TypeName::new(type_name_at::<T>(&mut walk, entry.object));
+            let Ok(name) = Bytes::from_slice(alloc, entry.name.as_slice()) else {
+                return Err(AllocError);
+            };
+            items.push(Listed { name, type_name })?;
         }
         Ok(items)
     }
