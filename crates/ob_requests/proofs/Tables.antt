@@ -1,5 +1,5 @@
--- Numbers of words, and the tables that keep them.
-use Rattle.std.proofs.Common.{◌≡◌, ℕ, zero, suc, ◌+◌, ◌<◌, ◌≤◌, Bool, true, false, not, cond, List, [], ◌∷◌, length, inl, inr, Option, Some, None, Result, Ok, Err, MatchResult, IfOk, is_some, sym, ap, ◌∙◌, refl, subst, arith}
+-- What is kept for words, and the tables that keep it.
+use Rattle.std.proofs.Common.{◌≡◌, ℕ, zero, suc, ◌+◌, ◌<◌, ◌≤◌, Bool, true, false, not, cond, List, [], ◌∷◌, length, Option, Some, None, Result, Ok, Err, MatchResult, IfOk, is_some, sym, ap, ◌∙◌, refl, subst, take, arith}
 use Rattle.std.specs.Prelude.{unwrap_or}
 use Rattle.std.specs.List.{AllByRecursion, AllZip, IsDistinct, position, position_or_len, slice_get}
 use Rattle.std.specs.Map.{lookup, keys_of, values_of}
@@ -11,7 +11,7 @@ use Rattle.std.proofs.lemmas.Slice.Eq.{bytes_eq-Decides}
 use Rattle.indexmap.specs.IndexMap.{IndexMap, insert_entry, set_value_at}
 use Rattle.indexmap.proofs.MapLemmas.{Found-position}
 use Rattle.ob_requests.specs.Words.{with_number}
-use Rattle.ob_requests.specs.Tables.{number_among, number_or, IsIn, IsSlotOf, IsKept}
+use Rattle.ob_requests.specs.Tables.{number_among, number_or, IsIn, IsSlotOf}
 
 abbrev Entries : Type 0 → Type 0
 Entries N = List (SmallVec ℕ × N)
@@ -19,7 +19,7 @@ Entries N = List (SmallVec ℕ × N)
 abbrev is_word : List ℕ → SmallVec ℕ → Bool
 is_word word key = bytes_eq word key.items
 
-abbrev same_key : SmallVec ℕ → SmallVec ℕ → Bool
+abbrev pub same_key : SmallVec ℕ → SmallVec ℕ → Bool
 same_key x y = bytes_eq x.items y.items
 
 -- the word's first entry is the one of this slot
@@ -71,6 +71,12 @@ module _ {N : Type 0} where
   picks_apart true false v x l h = refl
   picks_apart false true v x l h = refl
   picks_apart false false v x l h = refl
+
+  swapped : (a b : Bool) (v x y : N) → (a ≡ true → b ≡ true → ⊥) → cond a v (cond b x y) ≡ cond b x (cond a v y)
+  swapped true true v x y h = absurd (h refl refl)
+  swapped true false v x y h = refl
+  swapped false true v x y h = refl
+  swapped false false v x y h = refl
 
   -- a word's value where the value at a slot was set
   lookup_set : (es : Entries N) (slot : ℕ) (word : List ℕ) (v : N) (w : List ℕ) → IsAt es slot word
@@ -131,6 +137,22 @@ module _ {N : Type 0} where
       go true later = refl
       go false later = later
 
+  -- what a word's first entry keeps
+  value_first : (es : Entries N) (slot : ℕ) (word : List ℕ) (v : N) → IsAt es slot word → slice_get (values_of es) slot ≡ Some v → lookup (is_word word) es ≡ Some v
+  value_first [] slot word v at is = absurd at
+  value_first (e ∷ es) zero word v at is = ap (λ b. cond b (Some e.1) (lookup (is_word word) es)) at ∙ is
+  value_first (e ∷ es) (suc slot) word v at is = ap (λ b. cond b (Some e.1) (lookup (is_word word) es)) at.0 ∙ value_first es slot word v at.1 is
+
+  -- room for a word stays where one is added
+  pub added_room : {S : Type 0} (m n : IndexMap (SmallVec ℕ) N S) (k : SmallVec ℕ) (v : N) → n.entries ≡ insert_entry same_key m.entries k v
+      → (w : List ℕ) → is_some (lookup (is_word w) m.entries) ≡ true → is_some (lookup (is_word w) n.entries) ≡ true
+  added_room {S} m n k v e w there =
+      ap (λ (es : Entries N). is_some (lookup (is_word w) es)) e ∙ (ap is_some (lookup_added m.entries k v w) ∙ go (bytes_eq k.items w))
+    where
+      go : (b : Bool) → is_some (cond b (Some v) (lookup (is_word w) m.entries)) ≡ true
+      go true = refl
+      go false = there
+
   same_values : (f g : List ℕ → N) → ((w : List ℕ) → f w ≡ g w) → f ≡ g
   same_values f g h = λ i w. h w i
 
@@ -139,7 +161,7 @@ module _ {N : Type 0} where
     chosen true v o = refl
     chosen false v o = refl
 
-    none_found : (o : Option N) → is_some o ≡ false → unwrap_or o none ≡ none
+    pub none_found : (o : Option N) → is_some o ≡ false → unwrap_or o none ≡ none
     none_found None e = refl
     none_found (Some x) e = cc
 
@@ -150,6 +172,12 @@ module _ {N : Type 0} where
         ap (λ (es : Entries N). number_among none es w) e
         ∙ (ap (λ (o : Option N). unwrap_or o none) (lookup_set m.entries slot word v w (first_in m.entries slot word is_in.0 distinct is_in.1 is_in.2))
         ∙ chosen (bytes_eq word w) v (lookup (is_word w) m.entries)))
+
+    -- what stands in a word's slot is kept for it
+    pub kept_there : (es : Entries N) (slot : ℕ) (word : List ℕ) (v : N) → IsDistinct same_key (keys_of es) → IsIn es slot word → slice_get (values_of es) slot ≡ Some v
+        → number_among none es word ≡ v
+    kept_there es slot word v distinct is_in at =
+        ap (λ (o : Option N). unwrap_or o none) (value_first es slot word v (first_in es slot word is_in.0 distinct is_in.1 is_in.2) at)
 
     -- the number of the entry that stands in a word's slot is the word's
     pub number_found : (es : Entries N) (key : SmallVec ℕ) (word : List ℕ) (v : N) → key.items ≡ word → lookup (same_key key) es ≡ Some v → v ≡ number_among none es word
@@ -177,6 +205,47 @@ module _ {N : Type 0} where
             rw here (sym (none_found (lookup (is_word word) m.entries) unknown))
         kept w false q = refl
 
+    -- what the first entries keep for a word, where one more comes: nothing for its own word before
+    pub not_earlier : (es : Entries N) (slot : ℕ) (e : SmallVec ℕ × N) → IsDistinct same_key (keys_of es) → slice_get es slot ≡ Some e
+        → (w : List ℕ) → bytes_eq e.0.items w ≡ true → number_among none (take slot es) w ≡ none
+    not_earlier [] slot e distinct at w is = absurd (true≢false (sym (ap is_some at)))
+    not_earlier (x ∷ es) zero e distinct at w is = refl
+    not_earlier (x ∷ es) (suc slot) e distinct at w is =
+        chosen (bytes_eq w x.0.items) x.1 (lookup (is_word w) (take slot es))
+        ∙ (ap (λ b. cond b x.1 (number_among none (take slot es) w)) other
+        ∙ not_earlier es slot e (IsDistinct-tail same_key x.0 (keys_of es) distinct) at w is)
+      where
+        go : (b : Bool) → bytes_eq w x.0.items ≡ b → bytes_eq w x.0.items ≡ false
+        go true q = absurd (true≢false (sym (own_bytes x.0.items e.0.items (sym (same_bytes w x.0.items q) ∙ sym (same_bytes e.0.items w is)))
+            ∙ not_later x.0 es slot e (IsDistinct-head same_key x.0 (keys_of es) distinct) at))
+        go false q = q
+
+        other : bytes_eq w x.0.items ≡ false
+        other = go (bytes_eq w x.0.items) refl
+
+    one_taken : (es : Entries N) (slot : ℕ) (e : SmallVec ℕ × N) → IsDistinct same_key (keys_of es) → slice_get es slot ≡ Some e
+        → (w : List ℕ) → number_among none (take (suc slot) es) w ≡ cond (bytes_eq e.0.items w) e.1 (number_among none (take slot es) w)
+    one_taken [] slot e distinct at w = absurd (true≢false (sym (ap is_some at)))
+    one_taken (x ∷ es) zero e distinct at w =
+        chosen (bytes_eq w x.0.items) x.1 None ∙ (ap (λ b. cond b x.1 none) (flipped w x.0.items)
+        ∙ ap (λ (o : Option (SmallVec ℕ × N)). cond (bytes_eq (unwrap_or o x).0.items w) (unwrap_or o x).1 none) at)
+    one_taken (x ∷ es) (suc slot) e distinct at w =
+        chosen (bytes_eq w x.0.items) x.1 (lookup (is_word w) (take (suc slot) es))
+        ∙ (ap (λ n. cond (bytes_eq w x.0.items) x.1 n) (one_taken es slot e (IsDistinct-tail same_key x.0 (keys_of es) distinct) at w)
+        ∙ (swapped (bytes_eq w x.0.items) (bytes_eq e.0.items w) x.1 e.1 (number_among none (take slot es) w) apart_here
+        ∙ ap (λ n. cond (bytes_eq e.0.items w) e.1 n) (sym (chosen (bytes_eq w x.0.items) x.1 (lookup (is_word w) (take slot es))))))
+      where
+        apart_here : bytes_eq w x.0.items ≡ true → bytes_eq e.0.items w ≡ true → ⊥
+        apart_here p q = true≢false (sym (own_bytes x.0.items e.0.items (sym (same_bytes w x.0.items p) ∙ sym (same_bytes e.0.items w q)))
+            ∙ not_later x.0 es slot e (IsDistinct-head same_key x.0 (keys_of es) distinct) at)
+
+    more_taken : (n : ℕ) → suc n ≡ n + 1
+    more_taken n = omega arith
+
+    pub taken : (es : Entries N) (slot : ℕ) (e : SmallVec ℕ × N) → IsDistinct same_key (keys_of es) → slice_get es slot ≡ Some e
+        → (w : List ℕ) → number_among none (take (slot + 1) es) w ≡ cond (bytes_eq e.0.items w) e.1 (number_among none (take slot es) w)
+    taken es slot e distinct at w = subst (λ n. number_among none (take n es) w ≡ cond (bytes_eq e.0.items w) e.1 (number_among none (take slot es) w)) (more_taken slot) (one_taken es slot e distinct at w)
+
   -- the slot of a word that was found
   at_first : (es : Entries N) (slot : ℕ) (word : List ℕ) → position_or_len (is_word word) (keys_of es) ≡ slot → slot < length es → IsAt es slot word
   at_first [] slot word e l = absurd (omega arith)
@@ -203,23 +272,22 @@ module _ {S N : Type 0} where
 
 -- ---- a copy
 
--- a clone's words have the same numbers
-pub cloned_values : (C : SmallVec ℕ → SmallVec ℕ → Type 0) (D : ℕ → ℕ → Type 0) → ((x y : SmallVec ℕ) → C x y → x.items ≡ y.items) → ((x y : ℕ) → D x y → x ≡ y)
-    → (es fs : Entries ℕ) → AllZip (λ p q. C p.0 q.0 × D p.1 q.1) es fs → (w : List ℕ) → number_among 0 fs w ≡ number_among 0 es w
-cloned_values C D keys values [] [] a w = refl
-cloned_values C D keys values [] (f ∷ fs) a w = absurd a
-cloned_values C D keys values (e ∷ es) [] a w = absurd a
-cloned_values C D keys values (e ∷ es) (f ∷ fs) ((c, d), a) w =
-    rw (← keys e.0 f.0 c, ← values e.1 f.1 d) (go (bytes_eq w e.0.items) (cloned_values C D keys values es fs a w))
-  where
-    go : (b : Bool) → number_among 0 fs w ≡ number_among 0 es w
-        → unwrap_or (cond b (Some e.1) (lookup (is_word w) fs)) 0 ≡ unwrap_or (cond b (Some e.1) (lookup (is_word w) es)) 0
-    go true later = refl
-    go false later = later
+-- for the words of a clone the same is kept
+module _ {N : Type 0} (none : N) (C : SmallVec ℕ → SmallVec ℕ → Type 0) (D : N → N → Type 0) (keys : (x y : SmallVec ℕ) → C x y → x.items ≡ y.items) (values : (x y : N) → D x y → x ≡ y) where
+  cloned_values : (es fs : Entries N) → AllZip (λ p q. C p.0 q.0 × D p.1 q.1) es fs → (w : List ℕ) → number_among none fs w ≡ number_among none es w
+  cloned_values [] [] a w = refl
+  cloned_values [] (f ∷ fs) a w = absurd a
+  cloned_values (e ∷ es) [] a w = absurd a
+  cloned_values (e ∷ es) (f ∷ fs) ((c, d), a) w =
+      rw (← keys e.0 f.0 c, ← values e.1 f.1 d) (go (bytes_eq w e.0.items) (cloned_values es fs a w))
+    where
+      go : (b : Bool) → number_among none fs w ≡ number_among none es w
+          → unwrap_or (cond b (Some e.1) (lookup (is_word w) fs)) none ≡ unwrap_or (cond b (Some e.1) (lookup (is_word w) es)) none
+      go true later = refl
+      go false later = later
 
-pub cloned : {S : Type 0} (C : SmallVec ℕ → SmallVec ℕ → Type 0) (D : ℕ → ℕ → Type 0) → ((x y : SmallVec ℕ) → C x y → x.items ≡ y.items) → ((x y : ℕ) → D x y → x ≡ y)
-    → (m n : IndexMap (SmallVec ℕ) ℕ S) → AllZip (λ p q. C p.0 q.0 × D p.1 q.1) m.entries n.entries → number_or 0 n ≡ number_or 0 m
-cloned {S} C D keys values m n a = same_values _ _ (λ w. cloned_values C D keys values m.entries n.entries a w)
+  pub cloned : {S : Type 0} (m n : IndexMap (SmallVec ℕ) N S) → AllZip (λ p q. C p.0 q.0 × D p.1 q.1) m.entries n.entries → number_or none n ≡ number_or none m
+  cloned {S} m n a = same_values _ _ (λ w. cloned_values m.entries n.entries a w)
 
 pub where_ok : {A E : Type 0} (r : Result A E) (P Q : A → Type 0) (R : E → Type 0) → ((x : A) → P x → Q x) → MatchResult r P R → IfOk r Q
 where_ok (Ok x) P Q R more is = more x is
@@ -232,57 +300,55 @@ cloned_bytes [] (y ∷ ys) a = absurd a
 cloned_bytes (x ∷ xs) [] a = absurd a
 cloned_bytes (x ∷ xs) (y ∷ ys) (same, a) = rw same (ap (λ l. x ∷ l) (cloned_bytes xs ys a))
 
--- ---- a test that keeps numbers
+-- ---- a pass over a table
 
 -- no slot goes
-pub same_length : (es : Entries ℕ) (slot v : ℕ) → length (set_value_at es slot v) ≡ length es
+pub same_length : {N : Type 0} (es : Entries N) (slot : ℕ) (v : N) → length (set_value_at es slot v) ≡ length es
 same_length [] slot v = refl
 same_length (e ∷ es) zero v = refl
 same_length (e ∷ es) (suc slot) v = ap suc (same_length es slot v)
 
-module _ (Says : ℕ → Bool → Type 0) where
-  -- the first of these numbers were kept by the test, and the others stand as they did
-  abbrev pub IsSwept : ℕ → Entries ℕ → Entries ℕ → Type 0
+module _ {N : Type 0} (Goes : N → N → Type 0) where
+  -- what the first entries keep went so, and the others stand as they did
+  abbrev pub IsSwept : ℕ → Entries N → Entries N → Type 0
   IsSwept zero old new = new ≡ old
   IsSwept (suc count) [] new = new ≡ []
   IsSwept (suc count) (e ∷ old) [] = ⊥
-  IsSwept (suc count) (e ∷ old) (f ∷ new) = (f.0 ≡ e.0) × IsKept Says e.1 f.1 × IsSwept count old new
+  IsSwept (suc count) (e ∷ old) (f ∷ new) = (f.0 ≡ e.0) × Goes e.1 f.1 × IsSwept count old new
 
   more : (n : ℕ) → suc n ≡ n + 1
   more n = omega arith
 
-  -- one more is kept: where the test passes
-  pub swept_stays : (slot : ℕ) (old new : Entries ℕ) (v : ℕ) → slice_get (values_of new) slot ≡ Some v → Says v true → IsSwept slot old new → IsSwept (slot + 1) old new
-  swept_stays slot old new v at passes is = subst (λ n. IsSwept n old new) (more slot) (go slot old new at is)
+  -- one more goes: it stays as it is
+  pub swept_stays : (slot : ℕ) (old new : Entries N) (v : N) → slice_get (values_of new) slot ≡ Some v → Goes v v → IsSwept slot old new → IsSwept (slot + 1) old new
+  swept_stays slot old new v at goes is = subst (λ n. IsSwept n old new) (more slot) (go slot old new at is)
     where
-      first : (e f : SmallVec ℕ × ℕ) → f ≡ e → f.1 ≡ v → IsKept Says e.1 f.1
-      first e f same is_it =
-          let value : e.1 ≡ f.1 = ap (λ (z : SmallVec ℕ × ℕ). z.1) (sym same) in
-          inl (sym value, subst (λ x. Says x true) (sym (value ∙ is_it)) passes)
+      first : (e f : SmallVec ℕ × N) → f ≡ e → f.1 ≡ v → Goes e.1 f.1
+      first e f same here = subst (λ (z : SmallVec ℕ × N). Goes z.1 f.1) same (subst (λ x. Goes x x) (sym here) goes)
 
-      go : (slot : ℕ) (old new : Entries ℕ) → slice_get (values_of new) slot ≡ Some v → IsSwept slot old new → IsSwept (suc slot) old new
+      go : (slot : ℕ) (old new : Entries N) → slice_get (values_of new) slot ≡ Some v → IsSwept slot old new → IsSwept (suc slot) old new
       go zero [] new at is = is
       go zero (e ∷ old) [] at is = cc
       go zero (e ∷ old) (f ∷ new) at is =
           let head : f ≡ e = cc in
           let tail : new ≡ old = cc in
           let here : f.1 ≡ v = cc in
-          (ap (λ (z : SmallVec ℕ × ℕ). z.0) head, first e f head here, tail)
+          (ap (λ (z : SmallVec ℕ × N). z.0) head, first e f head here, tail)
       go (suc slot) [] new at is = is
       go (suc slot) (e ∷ old) [] at is = absurd is
-      go (suc slot) (e ∷ old) (f ∷ new) at (key, kept, is) = (key, kept, go slot old new at is)
+      go (suc slot) (e ∷ old) (f ∷ new) at (key, went, is) = (key, went, go slot old new at is)
 
-  -- and where it fails
-  pub swept_goes : (slot : ℕ) (old new : Entries ℕ) (v : ℕ) → slice_get (values_of new) slot ≡ Some v → Says v false → IsSwept slot old new
-      → IsSwept (slot + 1) old (set_value_at new slot 0)
-  swept_goes slot old new v at fails is = subst (λ n. IsSwept n old (set_value_at new slot 0)) (more slot) (go slot old new at is)
+  -- or it is written
+  pub swept_goes : (slot : ℕ) (old new : Entries N) (v u : N) → slice_get (values_of new) slot ≡ Some v → Goes v u → IsSwept slot old new
+      → IsSwept (slot + 1) old (set_value_at new slot u)
+  swept_goes slot old new v u at goes is = subst (λ n. IsSwept n old (set_value_at new slot u)) (more slot) (go slot old new at is)
     where
-      first : (e f : SmallVec ℕ × ℕ) → f ≡ e → f.1 ≡ v → IsKept Says e.1 0
-      first e f same is_it =
-          let value : e.1 ≡ v = ap (λ (z : SmallVec ℕ × ℕ). z.1) (sym same) ∙ is_it in
-          inr (inl (refl, subst (λ x. Says x false) (sym value) fails))
+      first : (e f : SmallVec ℕ × N) → f ≡ e → f.1 ≡ v → Goes e.1 u
+      first e f same here =
+          let value : e.1 ≡ v = ap (λ (z : SmallVec ℕ × N). z.1) (sym same) ∙ here in
+          subst (λ x. Goes x u) (sym value) goes
 
-      go : (slot : ℕ) (old new : Entries ℕ) → slice_get (values_of new) slot ≡ Some v → IsSwept slot old new → IsSwept (suc slot) old (set_value_at new slot 0)
+      go : (slot : ℕ) (old new : Entries N) → slice_get (values_of new) slot ≡ Some v → IsSwept slot old new → IsSwept (suc slot) old (set_value_at new slot u)
       go zero [] [] at is = cc
       go zero [] (f ∷ new) at is = cc
       go zero (e ∷ old) [] at is = cc
@@ -290,25 +356,26 @@ module _ (Says : ℕ → Bool → Type 0) where
           let head : f ≡ e = cc in
           let tail : new ≡ old = cc in
           let here : f.1 ≡ v = cc in
-          (ap (λ (z : SmallVec ℕ × ℕ). z.0) head, first e f head here, tail)
+          (ap (λ (z : SmallVec ℕ × N). z.0) head, first e f head here, tail)
       go (suc slot) [] [] at is = refl
       go (suc slot) [] (f ∷ new) at is = cc
       go (suc slot) (e ∷ old) [] at is = absurd is
-      go (suc slot) (e ∷ old) (f ∷ new) at (key, kept, is) = (key, kept, go slot old new at is)
+      go (suc slot) (e ∷ old) (f ∷ new) at (key, went, is) = (key, went, go slot old new at is)
 
-  -- where all were, each word's number was
-  pub swept_all : (count : ℕ) (old new : Entries ℕ) → length new ≤ count → IsSwept count old new → (w : List ℕ) → IsKept Says (number_among 0 old w) (number_among 0 new w)
-  swept_all zero [] [] few is w = inr (inr (refl, refl))
-  swept_all zero [] (f ∷ new) few is w = absurd (omega (arith, few))
-  swept_all zero (e ∷ old) [] few is w = cc
-  swept_all zero (e ∷ old) (f ∷ new) few is w = absurd (omega (arith, few))
-  swept_all (suc count) [] [] few is w = inr (inr (refl, refl))
-  swept_all (suc count) [] (f ∷ new) few is w = cc
-  swept_all (suc count) (e ∷ old) [] few is w = absurd is
-  swept_all (suc count) (e ∷ old) (f ∷ new) few (key, kept, is) w =
-      rw key (go (bytes_eq w e.0.items) (swept_all count old new (omega (arith, few)) is w))
+  -- where all did, what is kept for each word went so
+  pub swept_all : (none : N) → Goes none none → (count : ℕ) (old new : Entries N) → length new ≤ count → IsSwept count old new
+      → (w : List ℕ) → Goes (number_among none old w) (number_among none new w)
+  swept_all none goes zero [] [] few is w = goes
+  swept_all none goes zero [] (f ∷ new) few is w = absurd (omega (arith, few))
+  swept_all none goes zero (e ∷ old) [] few is w = cc
+  swept_all none goes zero (e ∷ old) (f ∷ new) few is w = absurd (omega (arith, few))
+  swept_all none goes (suc count) [] [] few is w = goes
+  swept_all none goes (suc count) [] (f ∷ new) few is w = cc
+  swept_all none goes (suc count) (e ∷ old) [] few is w = absurd is
+  swept_all none goes (suc count) (e ∷ old) (f ∷ new) few (key, went, is) w =
+      rw key (go (bytes_eq w e.0.items) (swept_all none goes count old new (omega (arith, few)) is w))
     where
-      go : (b : Bool) → IsKept Says (number_among 0 old w) (number_among 0 new w)
-          → IsKept Says (unwrap_or (cond b (Some e.1) (lookup (is_word w) old)) 0) (unwrap_or (cond b (Some f.1) (lookup (is_word w) new)) 0)
-      go true later = kept
+      go : (b : Bool) → Goes (number_among none old w) (number_among none new w)
+          → Goes (unwrap_or (cond b (Some e.1) (lookup (is_word w) old)) none) (unwrap_or (cond b (Some f.1) (lookup (is_word w) new)) none)
+      go true later = went
       go false later = later

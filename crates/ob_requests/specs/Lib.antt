@@ -1,4 +1,5 @@
 pub mod Words
+pub mod Rows
 pub mod Tables
 pub mod Room
 pub mod Commands

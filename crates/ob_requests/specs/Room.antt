@@ -15,7 +15,7 @@ HasRoomFor words process change.Nothing = Unit {0}
 HasRoomFor words process (change.Sets word) = HasRoom words.handles process word
 HasRoomFor words process (change.SetsFor to word) = HasRoom words.handles ((words_in words).processes to) word
 HasRoomFor words process (change.GivesUp word) = Unit {0}
-HasRoomFor words process (change.TurnsPage word) = HasRoom words.contexts process word
+HasRoomFor words process (change.TurnsPage word) = HasRoom words.handles process word
 HasRoomFor words process change.GivesAllUp = Unit {0}
 HasRoomFor words process (change.SetsProcess word inherit) = has_word words.processes word ≡ true
 

@@ -1,4 +1,4 @@
--- Tables: how the numbers of words are kept.
+-- Tables: how what is kept for words lies.
 --
 -- Source: this profile.
 use Rattle.std.specs.Prelude.{◌≡◌, ◌⊎◌, ℕ, Bool, true, false, List, Option, None, Some, MatchOption, slice_get, unwrap_or}
@@ -10,6 +10,8 @@ use Rattle.std.specs.Str.{bytes_eq}
 use Rattle.smallvec.specs.SmallVec.{SmallVec}
 use Rattle.indexmap.specs.IndexMap.{IndexMap}
 use Rattle.ob_requests.specs.Words.{Words}
+use Rattle.ob_requests.specs.Rows.{no_row}
+use Rattle.ob_requests.specs.declared.row.Row.{Row}
 use Rattle.ob_requests.specs.declared.word_tables.WordTables.{WordTables}
 use Rattle.ob_requests.specs.declared.words.Words as declared
 
@@ -49,26 +51,46 @@ module _ {S N : Type 0} where
 abbrev pub number_in : {S : Type 0} → IndexMap (SmallVec ℕ) ℕ S → List ℕ → ℕ
 number_in table = number_or 0 table
 
-module _ {N : Type 0} where
-  -- the numbers that words of processes have, and `none` where they have none
-  abbrev pub numbers_or : N → WordTables N → ℕ → List ℕ → N
-  numbers_or none words = numbers_among none words.tables.entries
+module _ {S : Type 0} where
+  -- what a table keeps for handle words
+  abbrev pub row_in : IndexMap (SmallVec ℕ) Row S → List ℕ → Row
+  row_in table = number_or no_row table
 
-  -- there is room for the words of a process
-  abbrev pub HasTable : WordTables N → ℕ → Type 0
-  HasTable words process = is_some (table_at words.tables.entries process) ≡ true
+  -- the values of handle words in a table
+  abbrev pub value_in : IndexMap (SmallVec ℕ) Row S → List ℕ → ℕ
+  value_in table word = (row_in table word).value
 
-  -- there is room for a word of a process
-  abbrev pub HasRoom : WordTables N → ℕ → List ℕ → Type 0
-  HasRoom words process word = MatchOption (table_at words.tables.entries process) ⊥ (λ table. has_word table word ≡ true)
+  -- between two tables at most values differ
+  abbrev pub DifferInValues : IndexMap (SmallVec ℕ) Row S → IndexMap (SmallVec ℕ) Row S → Type 0
+  DifferInValues old new = (word : List ℕ) → ((row_in new word).context ≡ (row_in old word).context) × ((row_in new word).ticket ≡ (row_in old word).ticket)
+
+  -- the words of a process can begin by a table: none has a context there, and under each the same open waits as now
+  abbrev pub CanBegin : Words → ℕ → IndexMap (SmallVec ℕ) Row S → Type 0
+  CanBegin words process table = (word : List ℕ) → ((row_in table word).context ≡ 0) × ((row_in table word).ticket ≡ words.tickets process word)
+
+-- what is kept for the handle words of processes
+abbrev pub rows_in : WordTables → ℕ → List ℕ → Row
+rows_in words = numbers_among no_row words.tables.entries
+
+-- there is room for the words of a process
+abbrev pub HasTable : WordTables → ℕ → Type 0
+HasTable words process = is_some (table_at words.tables.entries process) ≡ true
+
+-- there is room for a word of a process
+abbrev pub HasRoom : WordTables → ℕ → List ℕ → Type 0
+HasRoom words process word = MatchOption (table_at words.tables.entries process) ⊥ (λ table. has_word table word ≡ true)
+
+-- the room that there is for words stays
+abbrev pub KeepsRoom : WordTables → WordTables → Type 0
+KeepsRoom old new = (process : ℕ) (word : List ℕ) → HasRoom old process word → HasRoom new process word
 
 -- the words that are kept
 abbrev pub words_in : declared.Words → Words
 words_in words = record {
   processes = number_in words.processes;
-  values = numbers_or 0 words.handles;
-  contexts = numbers_or 0 words.contexts;
-  tickets = numbers_or 0 words.tickets;
+  values = λ process word. (rows_in words.handles process word).value;
+  contexts = λ process word. (rows_in words.handles process word).context;
+  tickets = λ process word. (rows_in words.handles process word).ticket;
 }
 
 -- A number was kept by a test, which may say this of it: it stays where it passes, and is 0 where it

@@ -23,13 +23,13 @@ impl Words {
     {
         match change {
             Change::Nothing => Ok(()),
-            Change::Sets(word) => self.room_for_handle(process, word),
+            Change::Sets(word) => self.room_for_word(process, word),
             Change::SetsFor { process: to, word } => {
                 let to = self.process_of(to);
-                self.room_for_handle(to, word)
+                self.room_for_word(to, word)
             }
             Change::GivesUp(_) => Ok(()),
-            Change::TurnsPage(word) => self.room_for_context(process, word),
+            Change::TurnsPage(word) => self.room_for_word(process, word),
             Change::GivesAllUp => Ok(()),
             Change::SetsProcess { process: word, .. } => self.room_for_process(word),
         }
@@ -70,7 +70,7 @@ impl Words {
 
     // Keeps the context of the page that was given for a word of a process, where one was.
     fn turn_page(&mut self, process: Proc, word: &[u8], given: &Given)
-        requires room { HasRoom self.old.contexts process word.now }
+        requires room { HasRoom self.old.handles process word.now }
         ensures { words_in self.new ≡ with_page (words_in self.old) process word.now given.now }
     {
         match given {

@@ -4,6 +4,7 @@
 mod changes;
 mod commands;
 pub mod laws;
+mod row;
 mod table;
 mod word;
 mod word_tables;
@@ -11,7 +12,8 @@ mod words;
 
 pub use changes::given_handle;
 pub use commands::{Asked, Asker, command_of};
-pub use table::{Table, keep};
+pub use row::Row;
+pub use table::{Table, clear_tickets, keep};
 pub use word::Word;
 pub use word_tables::WordTables;
 pub use words::Words;

@@ -1,26 +1,31 @@
-//! The words of each process and their numbers.
+//! The words of each process, and what is kept for them.
 
-ghost use Rattle.std.specs.Prelude.{◌≡◌, [], OnOk};
-ghost use Rattle.ob_requests.specs.Tables.{number_or, numbers_or, HasRoom, HasTable};
+ghost use Rattle.std.specs.Prelude.{◌≡◌, ◌⊎◌, ℕ, [], false, List, OnOk, IfOk};
+ghost use Rattle.ob_requests.specs.Rows.{no_row, written};
+ghost use Rattle.ob_requests.specs.Tables.{row_in, rows_in, HasRoom, HasTable, KeepsRoom};
 ghost use Rattle.ob_requests.specs.Words.{with_own, with_number_of};
+ghost use Rattle.ob_requests.specs.declared.row.Write.TheVariants.{Value, Ticket, Alone};
 
-use crate::table::{Table, give_up, number_of, room_for, set};
+use crate::row::{Row, Write, no_row};
+use crate::table::{
+    Table, add_tickets, copy_of, has_ticket, number_of, room_for, write as write_in, write_all,
+};
 use std::alloc::{AllocError, Global};
 use std::collections::BTreeMap;
 
-/// The words of each process, and the number that each stands for. (this profile)
+/// The handle words of each process, and what is kept for each. (this profile)
 #[derive(Drop)]
-pub struct WordTables<N> {
+pub struct WordTables {
     /// The words of each process, by its number. A process without a table has no word that was set.
-    pub tables: BTreeMap<u32, Table<N>>,
-    /// The slot of the word that was set last, or given room, in the table of its process. A word is looked for there first,
+    pub tables: BTreeMap<u32, Table<Row>>,
+    /// The slot of the word that was written last, or given room, in the table of its process. A word is looked for there first,
     /// so that any number gives the same words.
     pub recent: usize,
 }
 
-impl<N: Copy> WordTables<N> {
+impl WordTables {
     // No word was set.
-    pub(crate) fn new(alloc: Global) -> WordTables<N>
+    pub(crate) fn new(alloc: Global) -> WordTables
         ensures { result.tables.entries ≡ [] }
     {
         WordTables {
@@ -29,20 +34,21 @@ impl<N: Copy> WordTables<N> {
         }
     }
 
-    // The number of a word of a process: `none` where it was never set.
-    pub(crate) fn number_of(&self, process: u32, word: &[u8], none: N) -> N
-        ensures { result ≡ numbers_or none self.now process word.now }
+    // What is kept for a word of a process.
+    pub(crate) fn row_of(&self, process: u32, word: &[u8]) -> Row
+        ensures { result ≡ rows_in self.now process word.now }
     {
         match self.tables.get(&process) {
-            Some(table) => number_of(table, self.recent, word, none),
-            None => none,
+            Some(table) => number_of(table, self.recent, word, no_row()),
+            None => no_row(),
         }
     }
 
-    // Makes room for the words of a process, which keep their numbers.
+    // Makes room for the words of a process, which stay as they are.
     pub(crate) fn room_for_words(&mut self, alloc: Global, process: u32) -> Result<(), AllocError>
-        ensures same { (none : N) → numbers_or none self.new ≡ numbers_or none self.old }
+        ensures same { rows_in self.new ≡ rows_in self.old }
         ensures room { OnOk result (HasTable self.new process) }
+        ensures stays { KeepsRoom self.old self.new }
     {
         if !self.tables.contains_key(&process) {
             let table = Table::new(alloc);
@@ -51,59 +57,109 @@ impl<N: Copy> WordTables<N> {
         Ok(())
     }
 
-    // Makes room for a word of a process, which keeps its number: `none` where it was never set.
+    // Makes room for a word of a process, for which the same is kept as before.
     pub(crate) fn room_for(
         &mut self,
         alloc: Global,
         process: u32,
         word: &[u8],
-        none: N,
     ) -> Result<(), AllocError>
-        ensures same { numbers_or none self.new ≡ numbers_or none self.old }
+        ensures same { rows_in self.new ≡ rows_in self.old }
         ensures room { OnOk result (HasRoom self.new process word.now) }
+        ensures stays { KeepsRoom self.old self.new }
     {
         self.room_for_words(alloc, process)?;
         let Some(table) = self.tables.get_mut(&process) else {
             unreachable!();
         };
-        self.recent = room_for(alloc, table, self.recent, word, none)?;
+        self.recent = room_for(alloc, table, self.recent, word, no_row())?;
         Ok(())
     }
 
-    // Sets a word of a process, for which there is room. Takes no memory.
-    pub(crate) fn set(&mut self, process: u32, word: &[u8], number: N)
-        requires room { HasRoom self.old process word.now }
-        ensures { (none : N) → numbers_or none self.new
-            ≡ with_number_of (numbers_or none self.old) process word.now number }
+    // Writes what is kept for a word of a process. There is room for the word, or it is written as one that was never set has
+    // it. Takes no memory.
+    pub(crate) fn write(&mut self, process: u32, word: &[u8], write: Write)
+        requires room { HasRoom self.old process word.now ⊎ (written no_row write ≡ no_row) }
+        ensures { rows_in self.new ≡ with_number_of (rows_in self.old) process word.now
+            (written (rows_in self.old process word.now) write) }
     {
         if let Some(table) = self.tables.get_mut(&process) {
-            self.recent = set(table, self.recent, word, number);
+            self.recent = write_in(table, self.recent, word, write);
         }
     }
 
-    // A word of a process stands for `none` from now on, as one that was never set. Takes no memory.
-    pub(crate) fn give_up(&mut self, process: u32, word: &[u8], none: N)
-        ensures { numbers_or none self.new
-            ≡ with_number_of (numbers_or none self.old) process word.now none }
+    // All words of a process have the value 0 from now on, and no context. Where no open waits under one, its table goes. Takes
+    // no memory.
+    pub(crate) fn give_all_up(&mut self, process: u32)
+        ensures { rows_in self.new ≡ with_own (rows_in self.old) process
+            (λ word. written (rows_in self.old process word) (Value 0)) }
+    {
+        if self.has_ticket(process) {
+            self.clear_values(process);
+        } else {
+            self.remove(process);
+        }
+    }
+
+    // Whether an open may wait under a word of a process.
+    fn has_ticket(&self, process: u32) -> bool
+        ensures { result ≡ false → (word : List ℕ) → (rows_in self.now process word).ticket ≡ 0 }
+    {
+        match self.tables.get(&process) {
+            Some(table) => has_ticket(table),
+            None => false,
+        }
+    }
+
+    // All words of a process have the value 0 from now on, and no context. Takes no memory.
+    fn clear_values(&mut self, process: u32)
+        ensures { rows_in self.new ≡ with_own (rows_in self.old) process
+            (λ word. written (rows_in self.old process word) (Value 0)) }
     {
         if let Some(table) = self.tables.get_mut(&process) {
-            give_up(table, self.recent, word, none);
+            write_all(table, Write::Value(0));
         }
     }
 
     // No word of a process is set from now on. Takes no memory.
-    pub(crate) fn remove(&mut self, process: u32)
-        ensures { (none : N) → numbers_or none self.new
-            ≡ with_own (numbers_or none self.old) process (λ word. none) }
+    fn remove(&mut self, process: u32)
+        ensures { rows_in self.new ≡ with_own (rows_in self.old) process (λ word. no_row) }
     {
         self.tables.remove(&process);
     }
 
+    // The words of a process and their values, without contexts and tickets.
+    pub(crate) fn copy_of(&self, alloc: Global, process: u32) -> Result<Table<Row>, AllocError>
+        ensures { IfOk result (λ copy. (word : List ℕ) → row_in copy word
+            ≡ written (rows_in self.now process word) Alone) }
+    {
+        match self.tables.get(&process) {
+            Some(table) => copy_of(table),
+            None => Ok(Table::new(alloc)),
+        }
+    }
+
+    // Gives the words of a table, of which none has a ticket, those of a process.
+    pub(crate) fn add_tickets(
+        &self,
+        alloc: Global,
+        process: u32,
+        table: &mut Table<Row>,
+    ) -> Result<(), AllocError>
+        requires none { (word : List ℕ) → (row_in table.old word).ticket ≡ 0 }
+        ensures { OnOk result ((word : List ℕ) → row_in table.new word
+            ≡ written (row_in table.old word) (Ticket (rows_in self.now process word).ticket)) }
+    {
+        match self.tables.get(&process) {
+            Some(own) => add_tickets(alloc, table, own),
+            None => Ok(()),
+        }
+    }
+
     // The words of a process are these from now on. There must be room for them. Takes no memory.
-    pub(crate) fn replace(&mut self, process: u32, table: Table<N>)
+    pub(crate) fn replace(&mut self, process: u32, table: Table<Row>)
         requires room { HasTable self.old process }
-        ensures { (none : N) → numbers_or none self.new
-            ≡ with_own (numbers_or none self.old) process (number_or none table) }
+        ensures { rows_in self.new ≡ with_own (rows_in self.old) process (row_in table) }
     {
         if let Some(own) = self.tables.get_mut(&process) {
             *own = table;

@@ -1,9 +1,10 @@
 -- The process has no words and no contexts; all others stay.
-use Rattle.ob_requests.specs.Tables.{number_in, numbers_or}
+use Rattle.std.proofs.Common.{ℕ, ap, refl}
+use Rattle.ob_requests.specs.Tables.{number_in, rows_in}
 use Rattle.ob_requests.proofs.Written.{words_set}
 use Rattle.ob_requests.proofs.words.Words.give_all_up.Goals as goal
 
 pub returns : goal.returns
 returns c =
-    words_set (number_in c.args.self.now.processes) (numbers_or 0 c.args.self.now.handles) (numbers_or 0 c.args.self.now.contexts) (numbers_or 0 c.args.self.now.tickets) _
-    c.process.inside.0 c.args.process c.process.view_is (λ word. 0) _ (c.remove.ensures 0) (c.remove-2.ensures 0)
+    words_set (number_in c.args.self.now.processes) (rows_in c.args.self.now.handles) _ c.process.inside.0 c.args.process c.process.view_is _
+    (λ w. (refl, ap (λ (k : ℕ). (rows_in c.args.self.now.handles k w).ticket) c.process.view_is)) c.give_all_up.ensures

@@ -8,7 +8,7 @@ use Rattle.ob_requests.proofs.words.Words.make_room.Goals as goal
 
 pub returns-in-SetsFor-clause-room : goal.returns-in-SetsFor-clause-room
 returns-in-SetsFor-clause-room c =
-    let new = c.room_for_handle-in-SetsFor.new.self in
-    subst (λ ch. OnOk c.room_for_handle-in-SetsFor.result (HasRoomFor new c.args.process (change_seen ch))) (sym c.in-SetsFor.is)
-    (subst (λ to. OnOk c.room_for_handle-in-SetsFor.result (HasRoom new.handles to c.in-SetsFor.word.now))
-    (c.process_of-to.ensures ∙ ap (λ (w : Words). w.processes c.in-SetsFor.to.now) (sym c.room_for_handle-in-SetsFor.ensures.same)) c.room_for_handle-in-SetsFor.ensures.room)
+    let new = c.room_for_word-in-SetsFor.new.self in
+    subst (λ ch. OnOk c.room_for_word-in-SetsFor.result (HasRoomFor new c.args.process (change_seen ch))) (sym c.in-SetsFor.is)
+    (subst (λ to. OnOk c.room_for_word-in-SetsFor.result (HasRoom new.handles to c.in-SetsFor.word.now))
+    (c.process_of-to.ensures ∙ ap (λ (w : Words). w.processes c.in-SetsFor.to.now) (sym c.room_for_word-in-SetsFor.ensures.same)) c.room_for_word-in-SetsFor.ensures.room)

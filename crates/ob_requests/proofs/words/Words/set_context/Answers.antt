@@ -1,9 +1,8 @@
--- The word of one table is set, and all others stay.
-use Rattle.ob_requests.specs.Tables.{number_in, numbers_or}
+-- The word has its context; all others stay.
+use Rattle.ob_requests.specs.Tables.{number_in, rows_in}
 use Rattle.ob_requests.proofs.Written.{context_set}
 use Rattle.ob_requests.proofs.words.Words.set_context.Goals as goal
 
 pub returns : goal.returns
 returns c =
-    context_set (number_in c.args.self.now.processes) (numbers_or 0 c.args.self.now.handles) (numbers_or 0 c.args.self.now.contexts) (numbers_or 0 c.args.self.now.tickets) _
-    c.process.inside.0 c.args.process c.process.view_is c.args.word.now c.args.context (c.set.ensures 0)
+    context_set (number_in c.args.self.now.processes) (rows_in c.args.self.now.handles) _ c.process.inside.0 c.args.process c.process.view_is c.args.word.now c.args.context c.write.ensures

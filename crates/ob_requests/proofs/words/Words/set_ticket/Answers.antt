@@ -1,9 +1,8 @@
--- The word of one table is set, and all others stay.
-use Rattle.ob_requests.specs.Tables.{number_in, numbers_or}
+-- The word has its ticket; all others stay.
+use Rattle.ob_requests.specs.Tables.{number_in, rows_in}
 use Rattle.ob_requests.proofs.Written.{ticket_set}
 use Rattle.ob_requests.proofs.words.Words.set_ticket.Goals as goal
 
 pub returns : goal.returns
 returns c =
-    ticket_set (number_in c.args.self.now.processes) (numbers_or 0 c.args.self.now.handles) (numbers_or 0 c.args.self.now.contexts) (numbers_or 0 c.args.self.now.tickets) _
-    c.process.inside.0 c.args.process c.process.view_is c.args.word.now c.args.ticket (c.set.ensures 0)
+    ticket_set (number_in c.args.self.now.processes) (rows_in c.args.self.now.handles) _ c.process.inside.0 c.args.process c.process.view_is c.args.word.now c.args.ticket c.write.ensures
