@@ -1,18 +1,18 @@
 //! Requests of processes, run to their replies; and a child, with the words that it begins with.
 
-ghost use Rattle.std.specs.Prelude.{◌≡◌, true, if◌then◌else◌, IfOk, OnErr};
+ghost use Rattle.std.specs.Prelude.{◌≡◌, true, IfOk, OnErr};
 ghost use Rattle.ob_model.specs.Processes.{values_in};
 ghost use Rattle.ob_lines.specs.declared.request.Request.TheVariants.{NewProcess};
 ghost use Rattle.ob_lines.specs.Grammar.{HasTexts, request_seen};
 ghost use Rattle.ob_requests.specs.Commands.{with_child};
-ghost use Rattle.ob_requests.specs.Tables.{words_in, number_in, has_word};
+ghost use Rattle.ob_requests.specs.Tables.{words_in, value_in, has_word, DifferInValues};
 ghost use Rattle.ob_requests.specs.Words.{handed_on};
 ghost use Rattle.ob_effects.specs.Effects.{IsAsked, IsUnanswered};
 
 use ob_base::{Handle, Proc};
 use ob_lines::{Change, Request};
 use ob_model::{Given, Reply};
-use ob_requests::{Asker, Table, Words, command_of, keep};
+use ob_requests::{Asker, Row, Table, Words, command_of, keep};
 use ob_standard_core::StandardCore;
 use std::alloc::AllocError;
 
@@ -54,8 +54,9 @@ pub(crate) fn begin_child(
         ≡ with_child (words_in words.old) process word.now inherit reply.given) }
 {
     core.state_is_sound();
-    words.room_for_words(core.next_process())?;
-    let own = words_to_hand_on(words, process, inherit)?;
+    let next = core.next_process();
+    words.room_for_words(next)?;
+    let own = words.words_for_child(process, next, inherit)?;
     let reply = ask(core, words, process, request)?;
     if let Given::Process(child, _) = &reply.given {
         words.begin(*child, handed_on(core, *child, own));
@@ -68,21 +69,10 @@ pub(crate) fn begin_child(
     Ok(reply)
 }
 
-// The words that a child may get: a copy of its parent's where it inherits, and else none.
-fn words_to_hand_on(words: &Words, process: Proc, inherit: bool) -> Result<Table<u32>, AllocError>
-    ensures { IfOk result (λ own. number_in own
-        ≡ (λ word. if inherit then (words_in words.now).values process word else 0)) }
-{
-    if inherit {
-        Ok(words.copy_of(process)?)
-    } else {
-        Ok(Table::new(words.alloc))
-    }
-}
-
 // The words of a child, from those that it may get: those whose values it holds.
-fn handed_on(core: &StandardCore, child: Proc, own: Table<u32>) -> Table<u32>
-    ensures { number_in result ≡ handed_on (number_in own) true (values_in core.now child) }
+fn handed_on(core: &StandardCore, child: Proc, own: Table<Row>) -> Table<Row>
+    ensures values { value_in result ≡ handed_on (value_in own) true (values_in core.now child) }
+    ensures others { DifferInValues own result }
 {
     let mut own = own;
     keep(&mut own, |value| core.holds(child, Handle(value)));

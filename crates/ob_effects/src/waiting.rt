@@ -149,8 +149,7 @@ fn begin_under(
         (words_in words.new) core.new) }
     ensures kept { OnErr result (tickets_of waits.new ≡ tickets_of waits.old) }
 {
-    words.room_for_handle(process, word)?;
-    words.room_for_ticket(process, word)?;
+    words.room_for_word(process, word)?;
     let (want, name, attrs) = asked;
     let request = Request::OpenObject {
         want,
@@ -189,8 +188,7 @@ fn end_waiting(
         ⊎ ((words_in words.new ≡ with_ticket (words_in words.old) process word.now 0)
         × (tickets_of waits.new ≡ without ticket (tickets_of waits.old)))) }
 {
-    words.room_for_handle(process, word)?;
-    words.room_for_ticket(process, word)?;
+    words.room_for_word(process, word)?;
     match waits.end(core, words.alloc, ticket) {
         Ok(begun) => {
             keep(words, process, word, &begun);
@@ -205,8 +203,7 @@ fn end_waiting(
 
 // Keeps what became of an open under its word: the ticket under which it waits; or its reply, which sets the word.
 fn keep(words: &mut Words, process: Proc, word: &[u8], begun: &Begun)
-    requires handle { HasRoom words.old.handles process word.now }
-    requires ticket { HasRoom words.old.tickets process word.now }
+    requires room { HasRoom words.old.handles process word.now }
     ensures { words_in words.new
         ≡ words_answered (words_in words.old) process word.now (answer_in begun.now) }
 {

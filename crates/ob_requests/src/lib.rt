@@ -13,7 +13,7 @@ mod words;
 pub use changes::given_handle;
 pub use commands::{Asked, Asker, command_of};
 pub use row::Row;
-pub use table::{Table, clear_tickets, keep};
+pub use table::{Table, keep};
 pub use word::Word;
 pub use word_tables::WordTables;
 pub use words::Words;

@@ -187,8 +187,8 @@ fn add_ticket(
     Ok(())
 }
 
-/// No open waits under the words of a table from now on. Takes no memory. Source: this profile.
-pub fn clear_tickets(table: &mut Table<Row>)
+// No open waits under the words of a table from now on. Takes no memory.
+pub(crate) fn clear_tickets(table: &mut Table<Row>)
     ensures { (word : List ℕ) → row_in table.new word
         ≡ written (row_in table.old word) (Ticket 0) }
 {

@@ -2,13 +2,14 @@
 
 ghost use Rattle.std.specs.Prelude.{◌≡◌, ◌⊎◌, ℕ, [], false, List, OnOk, IfOk};
 ghost use Rattle.ob_requests.specs.Rows.{no_row, written};
-ghost use Rattle.ob_requests.specs.Tables.{row_in, rows_in, HasRoom, HasTable, KeepsRoom};
+ghost use Rattle.ob_requests.specs.Tables.{numbers_among, row_in, rows_in, HasRoom, HasTable, KeepsRoom};
 ghost use Rattle.ob_requests.specs.Words.{with_own, with_number_of};
 ghost use Rattle.ob_requests.specs.declared.row.Write.TheVariants.{Value, Ticket, Alone};
 
 use crate::row::{Row, Write, no_row};
 use crate::table::{
-    Table, add_tickets, copy_of, has_ticket, number_of, room_for, write as write_in, write_all,
+    Table, add_tickets, clear_tickets, copy_of, has_ticket, number_of, room_for, write as write_in,
+    write_all,
 };
 use std::alloc::{AllocError, Global};
 use std::collections::BTreeMap;
@@ -156,6 +157,19 @@ impl WordTables {
         }
     }
 
+    /// A copy, where no open waits under a word. The only fault is out of memory. (this profile)
+    pub fn without_tickets(&self) -> Result<WordTables, AllocError>
+        ensures { IfOk result (λ copy. (process : ℕ) (word : List ℕ) → rows_in copy process word
+            ≡ written (rows_in self.now process word) (Ticket 0)) }
+    {
+        let mut tables = self.tables.clone()?;
+        clear_all_tickets(&mut tables);
+        Ok(WordTables {
+            tables,
+            recent: self.recent,
+        })
+    }
+
     // The words of a process are these from now on. There must be room for them. Takes no memory.
     pub(crate) fn replace(&mut self, process: u32, table: Table<Row>)
         requires room { HasTable self.old process }
@@ -165,4 +179,16 @@ impl WordTables {
             *own = table;
         }
     }
+}
+
+// No open waits under the words of all tables from now on. Takes no memory.
+fn clear_all_tickets(tables: &mut BTreeMap<u32, Table<Row>>)
+    ensures { (process : ℕ) (word : List ℕ)
+        → numbers_among no_row tables.new.entries process word
+        ≡ written (numbers_among no_row tables.old.entries process word) (Ticket 0) }
+{
+    tables.retain(|_, table| {
+        clear_tickets(table);
+        true
+    });
 }

@@ -12,7 +12,7 @@ use Rattle.ob_effects.proofs.waiting.begin_under.Goals as goal
 
 pub returns-in_err-begun-clause-stopped : goal.returns-in_err-begun-clause-stopped
 returns-in_err-begun-clause-stopped c =
-    let same : words_in c.room_for_ticket.new.self ≡ words_in c.args.words.now = c.in_ok-room_for_ticket.ensures.same ∙ c.in_ok-room_for_handle.ensures.same in
+    let same : words_in c.room_for_word.new.self ≡ words_in c.args.words.now = c.in_ok-room_for_word.ensures.same in
     let faltered = c.in_err-begun.ensures.faltered in
     on_err _ c.from_residual-in_err-begun.result (
       faltered.0,
@@ -28,7 +28,7 @@ returns-in_err-begun-clause-stopped c =
 
 pub returns-clause-carried : goal.returns-clause-carried
 returns-clause-carried c =
-    let same : words_in c.room_for_ticket.new.self ≡ words_in c.args.words.now = c.in_ok-room_for_ticket.ensures.same ∙ c.in_ok-room_for_handle.ensures.same in (
+    let same : words_in c.room_for_word.new.self ≡ words_in c.args.words.now = c.in_ok-room_for_word.ensures.same in (
       (
         Start c.args.process c.in_ok-command.command,
         (

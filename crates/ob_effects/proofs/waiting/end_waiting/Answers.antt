@@ -11,7 +11,7 @@ use Rattle.ob_effects.proofs.waiting.end_waiting.Goals as goal
 
 pub returns-in-Ok-clause-carried : goal.returns-in-Ok-clause-carried
 returns-in-Ok-clause-carried c =
-    let same : words_in c.room_for_ticket.new.self ≡ words_in c.args.words.now = c.in_ok-room_for_ticket.ensures.same ∙ c.in_ok-room_for_handle.ensures.same in
+    let same : words_in c.room_for_word.new.self ≡ words_in c.args.words.now = c.in_ok-room_for_word.ensures.same in
     let ended = c.in-Ok.ensures.ended in (
       (Resume c.args.ticket ended.0, (ended.0, ended.1, ap (λ n. Resume n ended.0) (sym c.requires.under)), ended.2),
       c.keep.ensures ∙ ap (λ (w : Words). words_answered w c.args.process c.args.word.now (answer_in c.in-Ok.begun)) same,
@@ -19,7 +19,7 @@ returns-in-Ok-clause-carried c =
 
 pub returns-in-Err-clause-stopped : goal.returns-in-Err-clause-stopped
 returns-in-Err-clause-stopped c =
-    let same : words_in c.room_for_ticket.new.self ≡ words_in c.args.words.now = c.in_ok-room_for_ticket.ensures.same ∙ c.in_ok-room_for_handle.ensures.same in
+    let same : words_in c.room_for_word.new.self ≡ words_in c.args.words.now = c.in_ok-room_for_word.ensures.same in
     let faltered = c.in-Err.ensures.faltered in (
       faltered.0,
       inr (
@@ -30,5 +30,5 @@ returns-in-Err-clause-stopped c =
 
 pub returns-in-Err-clause-kept : goal.returns-in-Err-clause-kept
 returns-in-Err-clause-kept c =
-    let same : words_in c.room_for_ticket.new.self ≡ words_in c.args.words.now = c.in_ok-room_for_ticket.ensures.same ∙ c.in_ok-room_for_handle.ensures.same in
+    let same : words_in c.room_for_word.new.self ≡ words_in c.args.words.now = c.in_ok-room_for_word.ensures.same in
     inr (c.clear_ticket.ensures ∙ ap (λ (w : Words). with_ticket w c.args.process c.args.word.now 0) same, c.in-Err.ensures.kept)
