@@ -29,8 +29,10 @@ pub(crate) fn ask(
     ensures wanting { OnErr result (IsUnanswered (request_seen request.now) process
         (words_in words.now) core.old core.new) }
 {
-    let command = command_of(&Asker { words, process }, request)?;
-    core.run(words.alloc, process, &command)
+    match command_of(&Asker { words, process }, request) {
+        Ok(command) => core.run(words.alloc, process, &command),
+        Err(fault) => Err(fault),
+    }
 }
 
 // Begins a child of a process, and sets its process word, for which there is room: to the child, which has the words

@@ -52,17 +52,17 @@ impl Session {
             (words_of self.new) (space_of self.new) }
         ensures without_memory { IsLineWithoutMemory (found_seen form.entry) → FoundMemory result }
     {
-        match form {
+        match &form {
             None => LineOutcome::NoLine,
             Some(Form::Nothing) => LineOutcome::Idle,
             Some(Form::Stat) => LineOutcome::Counted(self.core.counts()),
             Some(Form::Asks { process, request }) => {
                 let process = self.words.process_of(process);
-                self.answer(process, &request)
+                self.answer(process, request)
             }
             Some(Form::Waits { process, pending }) => {
                 let process = self.words.process_of(process);
-                self.carry_on(process, pending)
+                self.carry_on(process, *pending)
             }
         }
     }
@@ -123,7 +123,11 @@ fn reply_to(
     {
         return begin_child(core, words, process, request, child, inherit);
     }
-    let reply = ask(core, words, process, request)?;
-    words.apply(process, change, &reply);
-    Ok(reply)
+    match ask(core, words, process, request) {
+        Ok(reply) => {
+            words.apply(process, change, &reply);
+            Ok(reply)
+        }
+        Err(fault) => Err(fault),
+    }
 }

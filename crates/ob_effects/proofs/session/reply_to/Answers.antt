@@ -8,13 +8,13 @@ use Rattle.ob_requests.specs.Words.{Words}
 use Rattle.ob_effects.proofs.Answered.{answered, applied_whole, asked_with}
 use Rattle.ob_effects.proofs.session.reply_to.Goals as goal
 
-pub returns-clause-answered : goal.returns-clause-answered
-returns-clause-answered c =
+pub returns-in-Ok-clause-answered : goal.returns-in-Ok-clause-answered
+returns-in-Ok-clause-answered c =
     let asked = request_seen c.args.request.now in
-    let reply = c.in_ok-reply.reply in
+    let reply = c.in-Ok.reply in
     let change = c.change_of-change.result in
     answered asked c.args.process (words_in c.args.words.now) (words_in c.apply.new.self) c.args.core.now c.ask.new.core reply (change_seen change) c.change_of-change.ensures
-    (asked_with asked c.args.process (words_in c.args.words.now) (words_in c.make_room.new.self) c.args.core.now c.ask.new.core reply c.in_ok-make_room.ensures.same c.in_ok-reply.ensures.asked)
+    (asked_with asked c.args.process (words_in c.args.words.now) (words_in c.make_room.new.self) c.args.core.now c.ask.new.core reply c.in_ok-make_room.ensures.same c.in-Ok.ensures.asked)
     (c.apply.ensures.applied
     ∙ (applied_whole change c.args.process reply (words_in c.make_room.new.self) (λ word inherit is. c.in_default.not-SetsProcess word inherit is)
     ∙ ap (λ (w : Words). changed (change_seen change) c.args.process reply w) c.in_ok-make_room.ensures.same))
