@@ -1,3 +1,4 @@
+pub mod AtOnce
 pub mod Opened
 pub mod Revalued
 pub mod Stepped

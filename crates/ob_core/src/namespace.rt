@@ -120,7 +120,10 @@ impl<T: TypeSet, H: HandleTable> Core<T, H> {
         ensures err { OnErr result (self.new ≡ self.old) }
         ensures memory { IfErr result (λ fault. fault ≡ Memory) }
     {
-        Ok(step_for(&mut self.space, process, command)?)
+        match step_for(&mut self.space, process, command) {
+            Ok(started) => Ok(started),
+            Err(_) => Err(Fault::Memory),
+        }
     }
 
     /// Brings a parse to the open that waits for it: makes one step of the machine, and answers what it answers. The

@@ -81,8 +81,10 @@ pub fn open_name<T: TypeSet, H: HandleTable>(
         Look::Refused(status) => Ok(Started::Done(status_alone(status))),
         Look::At(object) => {
             let status = Status::Success;
-            let reply = open_at(space, process, object, lawful, wanted, status)?;
-            Ok(Started::Done(reply))
+            match open_at(space, process, object, lawful, wanted, status) {
+                Ok(reply) => Ok(Started::Done(reply)),
+                Err(fault) => Err(fault),
+            }
         }
         Look::Vacant { .. } => unreachable!(),
         Look::Parse { object, rest, left } => {
@@ -91,8 +93,7 @@ pub fn open_name<T: TypeSet, H: HandleTable>(
                 attrs,
                 wanted,
             };
-            let begun = begin(space, request, object, rest, left)?;
-            Ok(begun)
+            begin(space, request, object, rest, left)
         }
     }
 }

@@ -1,4 +1,4 @@
--- The step of an open is that of its command.
+-- The step of an open is that of its command, and so is that of what is no open.
 use Rattle.std.proofs.Common.{sym, subst, List, ℕ}
 use Rattle.ob_model.specs.declared.command.Command.{Command}
 use Rattle.ob_model.specs.declared.reply.Event.TheVariants.{Start}
@@ -6,11 +6,9 @@ use Rattle.ob_model.specs.declared.state.Wanted.{Wanted}
 use Rattle.ob_model.specs.declared.state.Wanted.TheVariants as wanted
 use Rattle.ob_model.specs.Opens.{type_wanted}
 use Rattle.ob_model.specs.Step.{Step, OpensName}
-use Rattle.ob_space.specs.Found.{IsRefusedAtFound}
-use Rattle.ob_space.proofs.InPlace.{isnt, never}
 use Rattle.ob_space.proofs.Results.{IfOk-map}
-use Rattle.ob_model.specs.declared.reply.Answer.TheVariants.{Done}
 use Rattle.ob_opens.specs.Waiting.{answer_of}
+use Rattle.ob_core.proofs.AtOnce.{no_open}
 use Rattle.ob_core.proofs.steps.step_for.Goals as goal
 
 pub returns-in-OpenDirectory-clause-step : goal.returns-in-OpenDirectory-clause-step
@@ -28,12 +26,6 @@ returns-in-OpenObject-clause-step g c =
     (subst (λ (name : List ℕ). OpensName g.T.TypeSet.procedures s c.args.process c.in-OpenObject.root name c.in-OpenObject.attrs (type_wanted c.in-OpenObject.want) (answer_of started) c.open_name-in-OpenObject.new.space) c.as_slice-in-OpenObject.ensures
     (subst (λ (wanted : Wanted _). OpensName g.T.TypeSet.procedures s c.args.process c.in-OpenObject.root c.as_slice-in-OpenObject.result.now c.in-OpenObject.attrs wanted (answer_of started) c.open_name-in-OpenObject.new.space) c.type_wanted-wanted.ensures done))) c.open_name-in-OpenObject.ensures.step
 
-pub returns-in_ok-duplicate-in-Duplicate-clause-step : goal.returns-in_ok-duplicate-in-Duplicate-clause-step
-returns-in_ok-duplicate-in-Duplicate-clause-step g c =
-    subst (λ (command : Command _). Step g.T.TypeSet.procedures c.args.space.now (Start c.args.process command) (Done c.in_ok-duplicate-in-Duplicate.field-0) c.duplicate.new.space) (sym c.in-Duplicate.is)
-    c.in_ok-duplicate-in-Duplicate.ensures.step
-
-pub returns-in_err-duplicate-in-Duplicate-clause-found : goal.returns-in_err-duplicate-in-Duplicate-clause-found
-returns-in_err-duplicate-in-Duplicate-clause-found g c = λ refused.
-    never (isnt c.in_err-duplicate-in-Duplicate.ensures.found)
-    (subst (λ (command : Command _). IsRefusedAtFound g.T.TypeSet.procedures c.args.space.now c.args.process command) c.in-Duplicate.is refused)
+pub reply_for-requires-clause-no_open : goal.reply_for-requires-clause-no_open
+reply_for-requires-clause-no_open g c =
+    no_open c.args.command.now c.in_default.not-OpenDirectory c.in_default.not-OpenLink c.in_default.not-OpenObject
