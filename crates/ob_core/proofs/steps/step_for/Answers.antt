@@ -27,5 +27,5 @@ returns-in-OpenObject-clause-step g c =
     (subst (λ (wanted : Wanted _). OpensName g.T.TypeSet.procedures s c.args.process c.in-OpenObject.root c.as_slice-in-OpenObject.result.now c.in-OpenObject.attrs wanted (answer_of started) c.open_name-in-OpenObject.new.space) c.type_wanted-wanted.ensures done))) c.open_name-in-OpenObject.ensures.step
 
 pub reply_for-requires-clause-no_open : goal.reply_for-requires-clause-no_open
-reply_for-requires-clause-no_open g c =
+reply_for-requires-clause-no_open g c κs within =
     no_open c.args.command.now c.in_default.not-OpenDirectory c.in_default.not-OpenLink c.in_default.not-OpenObject

@@ -12,11 +12,3 @@ invariant_of-self g c = (
   reached_stepped g.T.TypeSet.procedures c.self.inside.space c.step_for.new.space (Start c.args.process c.args.command.now) c.step_for.result answer_of
       c.self.invariant.1 c.step_for.ensures.step c.step_for.ensures.err,
 )
-
-pub invariant_of-self-2 : goal.invariant_of-self-2
-invariant_of-self-2 g c = (
-  stepped g.T.TypeSet.procedures g.T.TypeSet.idle c.self.inside.space c.step_for.new.space (Start c.args.process c.args.command.now) c.step_for.result answer_of
-      c.self.invariant.0 c.step_for.ensures.orderly c.step_for.ensures.step c.step_for.ensures.err,
-  reached_stepped g.T.TypeSet.procedures c.self.inside.space c.step_for.new.space (Start c.args.process c.args.command.now) c.step_for.result answer_of
-      c.self.invariant.1 c.step_for.ensures.step c.step_for.ensures.err,
-)
