@@ -1,11 +1,11 @@
 -- The words of a child, behind its process word.
-use Rattle.std.proofs.Common.{◌≡◌, ◌∙◌, ℕ, Bool, List, Result, OnOk, ap, refl, sym}
+use Rattle.std.proofs.Common.{◌≡◌, ◌∙◌, ℕ, Bool, true, false, cond, List, Result, OnOk, ap, refl, sym}
 use Rattle.ob_model.specs.declared.reply.Given.{Given}
 use Rattle.ob_model.specs.declared.reply.Given.TheVariants as given
 use Rattle.ob_model.specs.declared.reply.Reply.{Reply}
 use Rattle.ob_lines.specs.declared.change.Change.{Change}
 use Rattle.ob_lines.specs.declared.change.Change.TheVariants as change
-use Rattle.ob_requests.specs.Words.{Words, with_process}
+use Rattle.ob_requests.specs.Words.{Words, handed_on, with_process}
 use Rattle.ob_requests.specs.Commands.{applied, changed, given_process, with_child, with_own_words}
 use Rattle.ob_seats.proofs.Told.{then_ok}
 
@@ -28,3 +28,17 @@ child_changed r c p reply word inherit words between words' is first then =
     last
     ∙ (ap (λ (w : Words). with_own_words w p inherit reply.given) (first ∙ ap (λ (x : Change (List ℕ)). applied x p reply words) is)
     ∙ (begun_apart words p word inherit reply.given ∙ ap (λ (x : Change (List ℕ)). changed x p reply words) (sym is)))) then
+
+-- ---- words that are handed on, from those that a child may get
+
+module _ (values own : List ℕ → ℕ) (handles : List ℕ) where
+  -- where it doesn't inherit: none
+  pub handed_none : (inherit : Bool) → inherit ≡ false → own ≡ (λ w. cond inherit (values w) 0) → own ≡ handed_on values inherit handles
+  handed_none true not is = cc
+  handed_none false not is = is
+
+  -- where it does
+  pub handed_all : (inherit : Bool) (new : List ℕ → ℕ) → inherit ≡ true → own ≡ (λ w. cond inherit (values w) 0) → new ≡ handed_on own true handles
+      → new ≡ handed_on values inherit handles
+  handed_all true new yes is kept = kept ∙ ap (λ (f : List ℕ → ℕ). handed_on f true handles) is
+  handed_all false new yes is kept = cc

@@ -4,4 +4,3 @@ pub mod Held
 pub mod Keys
 pub mod Chained
 pub mod Playing
-pub mod Cloned

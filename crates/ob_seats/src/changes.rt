@@ -6,13 +6,13 @@ ghost use Rattle.std.specs.Ordering.{nat_cmp};
 ghost use Rattle.ob_lines.specs.Changes.{change_seen};
 ghost use Rattle.ob_requests.specs.Commands.{changed, with_own_words};
 ghost use Rattle.ob_requests.specs.Room.{HasRoomFor};
-ghost use Rattle.ob_requests.specs.Tables.{words_in, number_in};
+ghost use Rattle.ob_requests.specs.Tables.{words_in, value_in, CanBegin, DifferInValues};
 ghost use Rattle.ob_requests.specs.Words.{handed_on, is_among};
 
 use ob_base::{Handle, Proc};
 use ob_lines::Change;
 use ob_model::{Given, Handles, Reply};
-use ob_requests::{Table, Words, keep};
+use ob_requests::{Row, Table, Words, keep};
 use std::alloc::{AllocError, Global};
 use std::collections::BTreeSet;
 
@@ -53,7 +53,7 @@ fn begin_child(
 {
     match given {
         Given::Process(child, handles) => {
-            let own = words_to_hand_on(words, parent, inherit, handles)?;
+            let own = words_to_hand_on(words, parent, *child, inherit, handles)?;
             words.room_for_words(*child)?;
             words.begin(*child, own);
             Ok(())
@@ -65,20 +65,22 @@ fn begin_child(
     }
 }
 
-/// The words that a child gets: where it inherits, those of its parent's whose values are among these.
+/// The words that a child of a parent gets: where it inherits, those of its parent's whose values are among these.
 fn words_to_hand_on(
     words: &Words,
     parent: Proc,
+    child: Proc,
     inherit: bool,
     handles: &Handles,
-) -> Result<Table<u32>, AllocError>
-    ensures { IfOk result (λ own. number_in own
+) -> Result<Table<Row>, AllocError>
+    ensures values { IfOk result (λ own. value_in own
         ≡ handed_on ((words_in words.now).values parent) inherit handles.now) }
+    ensures begins { IfOk result (CanBegin (words_in words.now) child) }
 {
+    let mut own = words.words_for_child(parent, child, inherit)?;
     if !inherit {
-        return Ok(Table::new(words.alloc));
+        return Ok(own);
     }
-    let mut own = words.copy_of(parent)?;
     let values = values_of(words.alloc, handles.as_slice())?;
     keep_among(&mut own, &values);
     Ok(own)
@@ -97,10 +99,11 @@ fn values_of(alloc: Global, handles: &[Handle]) -> Result<BTreeSet<u32>, AllocEr
 }
 
 /// Keeps the words whose values are in a set; each other word stands for 0.
-fn keep_among(own: &mut Table<u32>, values: &BTreeSet<u32>)
-    ensures { (handles : List ℕ) → ((value : ℕ) → contains nat_cmp values.now value
+fn keep_among(own: &mut Table<Row>, values: &BTreeSet<u32>)
+    ensures kept { (handles : List ℕ) → ((value : ℕ) → contains nat_cmp values.now value
         ≡ is_among handles value)
-        → number_in own.new ≡ handed_on (number_in own.old) true handles }
+        → value_in own.new ≡ handed_on (value_in own.old) true handles }
+    ensures others { DifferInValues own.old own.new }
 {
     keep(
         own,

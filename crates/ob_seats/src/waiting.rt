@@ -194,11 +194,10 @@ fn prepare(
     requires text { IsText (text_of (name_seen (asked.1))) }
     ensures command { IfOk result (IsOpenObject (asked.entry.0) (name_seen (asked.entry.1))
         (asked.entry.2) ((words_in words.old).values process)) }
-    ensures handle { OnOk result (HasRoom words.new.handles process word.now) }
-    ensures ticket { OnOk result (HasRoom words.new.tickets process word.now) }
+    ensures room { OnOk result (HasRoom words.new.handles process word.now) }
     ensures same { words_in words.new ≡ words_in words.old }
 {
-    make_room(words, process, word)?;
+    words.room_for_word(process, word)?;
     let (want, name, attrs) = asked;
     let request = Request::OpenObject {
         want,
@@ -209,19 +208,9 @@ fn prepare(
     command_of(&Asker { words, process }, &request)
 }
 
-/// Makes room for a handle and a ticket of a word.
-fn make_room(words: &mut Words, process: Proc, word: &[u8]) -> Result<(), AllocError>
-    ensures handle { OnOk result (HasRoom words.new.handles process word.now) }
-    ensures ticket { OnOk result (HasRoom words.new.tickets process word.now) }
-    ensures same { words_in words.new ≡ words_in words.old }
-{
-    words.room_for_handle(process, word)?;
-    words.room_for_ticket(process, word)
-}
-
 /// Keeps the reply of an open under its word: the handle that was given, or 0, and no open waits there any longer.
 fn keep_reply(words: &mut Words, process: Proc, word: &[u8], reply: &Reply)
-    requires handle { HasRoom words.old.handles process word.now }
+    requires room { HasRoom words.old.handles process word.now }
     ensures { words_in words.new
         ≡ words_answered (words_in words.old) process word.now (Done reply.now) }
 {
@@ -239,7 +228,7 @@ fn wait<C: Callers>(
     word: &[u8],
     parsing: C::Parsing,
 ) -> (C::Pass, Result<(), Stop>)
-    requires ticket { HasRoom words.old.tickets process word.now }
+    requires room { HasRoom words.old.handles process word.now }
     requires held { AreHeld (with_ticket
         (words_in words.old) process word.now 0).tickets waits.old }
     ensures held { AreHeld (words_in words.new).tickets waits.new }
@@ -281,7 +270,7 @@ fn end<C: Callers>(
         × IsStepPlayed (End word.now) process (words_in words.old) e (words_in words.new)) }
     ensures seat { C.seat_of (result.0) ≡ C.seat_of pass }
 {
-    match make_room(words, process, word) {
+    match words.room_for_word(process, word) {
         Err(_) => (pass, Err(Stop::Memory)),
         Ok(()) => {
             let parsing = waits.take(ticket);

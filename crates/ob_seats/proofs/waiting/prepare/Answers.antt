@@ -7,5 +7,5 @@ use Rattle.ob_seats.proofs.waiting.prepare.Goals as goal
 
 pub returns-clause-command : goal.returns-clause-command
 returns-clause-command c =
-    subst (λ (w : Words). IfOk c.command_of.result (IsOpenObject c.args.asked.0 (name_seen c.args.asked.1) c.args.asked.2 (w.values c.args.process))) c.in_ok-make_room.ensures.same
+    subst (λ (w : Words). IfOk c.command_of.result (IsOpenObject c.args.asked.0 (name_seen c.args.asked.1) c.args.asked.2 (w.values c.args.process))) c.in_ok-room_for_word.ensures.same
     c.command_of.ensures.command
