@@ -34,11 +34,11 @@ child_changed r c p reply word inherit words between words' is first then =
 module _ (values own : List ℕ → ℕ) (handles : List ℕ) where
   -- where it doesn't inherit: none
   pub handed_none : (inherit : Bool) → inherit ≡ false → own ≡ (λ w. cond inherit (values w) 0) → own ≡ handed_on values inherit handles
-  handed_none true not is = cc
-  handed_none false not is = is
+  handed_none true apart is = cc
+  handed_none false apart is = is
 
   -- where it does
   pub handed_all : (inherit : Bool) (new : List ℕ → ℕ) → inherit ≡ true → own ≡ (λ w. cond inherit (values w) 0) → new ≡ handed_on own true handles
       → new ≡ handed_on values inherit handles
-  handed_all true new yes is kept = kept ∙ ap (λ (f : List ℕ → ℕ). handed_on f true handles) is
-  handed_all false new yes is kept = cc
+  handed_all true new inherits is kept = kept ∙ ap (λ (f : List ℕ → ℕ). handed_on f true handles) is
+  handed_all false new inherits is kept = cc

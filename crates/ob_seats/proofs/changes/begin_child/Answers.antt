@@ -6,4 +6,4 @@ use Rattle.ob_seats.proofs.changes.begin_child.Goals as goal
 
 pub begin-requires-clause-begins : goal.begin-requires-clause-begins
 begin-requires-clause-begins c =
-    subst (λ (w : Words). CanBegin w c.in-Process.child.now c.in_ok-own.own) (sym c.in_ok-room_for_words.ensures.same) c.in_ok-own.ensures.begins
+    subst (λ (w : Words). CanBegin w c.in-Process.child c.in_ok-own-in-Process.own) (sym c.in_ok-room_for_words-in-Process.ensures.same) c.in_ok-own-in-Process.ensures.begins
