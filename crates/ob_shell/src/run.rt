@@ -158,7 +158,7 @@ fn play<W: Write>(
     while let Some((line, behind)) = first_line(rest) {
         number += 1;
         let outcome = perform_line(session, line);
-        match show(writer, block, number, &outcome) {
+        match show(writer, block, number, outcome) {
             Ok(None) => {}
             Ok(Some(ending)) => return Ok(ending),
             Err(unwritten) => return Err(unwritten),
@@ -187,18 +187,18 @@ fn show<W: Write>(
     writer: &mut W,
     block: &mut Vec<u8>,
     number: u64,
-    outcome: &LineOutcome,
+    outcome: LineOutcome,
 ) -> Result<Option<Ending>, Unwritten>
     requires { 192 ≤ vec_capacity block.old }
-    ensures ending { IfOk result (λ ending. ending ≡ outcome_end number outcome.now) }
+    ensures ending { IfOk result (λ ending. ending ≡ outcome_end number outcome) }
     ensures ok { OnOk result (Gathers (W.contents writer.old)
-        (W.contents writer.new) block.old.items (outcome_text number outcome.now) block.new.items) }
+        (W.contents writer.new) block.old.items (outcome_text number outcome) block.new.items) }
     ensures front { OnErr result (AppendsFront (W.contents writer.old) (W.contents writer.new)
-        (block.old.items ++ outcome_text number outcome.now)) }
+        (block.old.items ++ outcome_text number outcome)) }
     ensures capacity { vec_capacity block.old ≤ vec_capacity block.new }
 {
-    write_outcome(writer, block, number, outcome)?;
-    Ok(ending_of(number, outcome))
+    write_outcome(writer, block, number, &outcome)?;
+    Ok(ending_of(number, &outcome))
 }
 
 // How what became of a line ends the run, where it does.
