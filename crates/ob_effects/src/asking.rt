@@ -17,6 +17,7 @@ use ob_standard_core::StandardCore;
 use std::alloc::AllocError;
 
 // Runs the request of a process to its reply.
+#[inline(always)]
 pub(crate) fn ask(
     core: &mut StandardCore,
     words: &Words,

@@ -26,6 +26,7 @@ pub fn push_entry(block: &mut Vec<u8>, entry: &Listed)
 
 /// Adds a text as it is printed to a block with three bytes of room for each byte of the text: `%25` for `%`, `%22`
 /// for `"`, and any other byte as itself. (this profile)
+#[inline(always)]
 pub fn push_printed(block: &mut Vec<u8>, text: &[u8])
     requires { vec_len block.old + 3 * length text.now ≤ vec_capacity block.old }
     ensures items { block.new.items ≡ block.old.items ++ printed_bytes text.now }
