@@ -253,8 +253,9 @@ def seen_by_others(text, inner=()):
 
 
 def without_comments(text):
-    """A source file's text without comments and layout."""
-    return " ".join(re.sub(r'("(?:\\.|[^"\\])*")|//[^\n]*', lambda match: match.group(1) or " ", text).split())
+    """A source file's text without comments, layout, and hints on inlining, which change no proof."""
+    idle = r'("(?:\\.|[^"\\])*")|//[^\n]*|#\[(?:inline(?:\((?:always|never)\))?|cold)\]'
+    return " ".join(re.sub(idle, lambda match: match.group(1) or " ", text).split())
 
 
 def read_pairs(path):

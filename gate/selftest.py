@@ -126,6 +126,8 @@ def faults_of_shown():
     inner = "pub fn told() -> u64 {\n    1\n}\n\npub(crate) fn kept() -> u64 {\n    2\n}\n"
     yield "edits: functions for the own crate are seen there", "kept" in edits.bodies_cut(inner) and "told" in edits.bodies_cut(inner)
     yield "edits: and in no other", "kept" not in edits.bodies_cut(inner, False, False) and "told" in edits.bodies_cut(inner, False, False)
+    yield "edits: comments and hints on inlining say nothing", edits.without_comments('// it\n#[inline(always)]\npub fn it()  {\n}\n') == "pub fn it() { }"
+    yield "edits: and in a string they are text", edits.without_comments('"#[cold] // it"') == '"#[cold] // it"'
     hashed = "impl Hash for Key {\n    ghost hash_input = { λ key. key.bytes };\n\n    fn hash(&self) {\n    }\n}\n"
     yield "edits: how a type is hashed is seen where it can be named", "hash_input" in edits.seen_by_others(hashed)
     yield "edits: and nowhere else", "hash_input" not in edits.seen_by_others(hashed, {"Key"})
