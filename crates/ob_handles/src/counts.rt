@@ -61,6 +61,7 @@ impl Counts {
     }
 
     /// The count of an object. Takes no memory.
+    #[inline(always)]
     pub fn get(&self, object: ObjId) -> usize
         ensures { result ≡ count_of self.now object }
     {
@@ -74,6 +75,7 @@ impl Counts {
     }
 
     /// Counts one more of an object. Where memory is wanted nothing has changed.
+    #[inline(always)]
     pub fn add(&mut self, object: ObjId) -> Result<(), AllocError>
         requires room { count_of self.old object ≤ greatest_number }
         ensures counted { OnOk result (CountsOneMore object self.old self.new) }
@@ -110,6 +112,7 @@ impl Counts {
     }
 
     /// Counts one less of an object, where there is one. Takes no memory.
+    #[inline(always)]
     pub fn lower(&mut self, object: ObjId)
         ensures counted { CountsOneLess object self.old self.new }
     {
@@ -117,6 +120,7 @@ impl Counts {
     }
 
     /// Counts so many less of an object, and none where there are fewer. Takes no memory.
+    #[inline(always)]
     fn lower_by(&mut self, object: ObjId, less: usize)
         ensures counted { CountsLessBy object less self.old self.new }
     {

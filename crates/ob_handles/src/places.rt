@@ -34,6 +34,7 @@ impl Recent {
 
 /// The place at which an object's count is kept, looked for first where the two stand that were counted last; `None`
 /// exactly where none is kept. Takes no memory, and a time that doesn't grow with the objects.
+#[inline(always)]
 pub(crate) fn place_of(
     numbers: &IndexMap<u64, usize>,
     recent: Recent,
@@ -47,6 +48,14 @@ pub(crate) fn place_of(
     if is_at(numbers, recent.before, object) {
         return Some(recent.before);
     }
+    searched_place(numbers, object)
+}
+
+/// The same, searched for in the map.
+#[inline(never)]
+fn searched_place(numbers: &IndexMap<u64, usize>, object: ObjId) -> Option<usize>
+    ensures { IsPlaceOf object numbers.now.entries result }
+{
     let (place, _, _) = numbers.get_full(&object.0)?;
     Some(place)
 }

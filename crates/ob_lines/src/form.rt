@@ -72,11 +72,11 @@ fn asking_of(line: &[u8]) -> Option<Form<&[u8]>>
         → ¬ IsLine line.now (Form.Waits process pending))) }
 {
     let (process, rest) = take_process(line)?;
-    if let Some(pending) = pending_of(rest) {
-        return Some(Form::Waits { process, pending });
+    if let Some(request) = request_of(rest) {
+        return Some(Form::Asks { process, request });
     }
-    let request = request_of(rest)?;
-    Some(Form::Asks { process, request })
+    let pending = pending_of(rest)?;
+    Some(Form::Waits { process, pending })
 }
 
 /// The law that a line has at most one form. The call does nothing; a caller makes it to have the

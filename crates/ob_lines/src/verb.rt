@@ -46,53 +46,23 @@ pub fn verb_of(word: &[u8]) -> Option<Verb>
     ensures found { IfSome result (λ verb. word.now ≡ verb_text verb) }
     ensures none { IfNone result ((verb : Verb) → word.now ≢ verb_text verb) }
 {
-    if word == b"dir".as_slice() {
-        return Some(Verb::Dir);
+    match word {
+        b"dir" => Some(Verb::Dir),
+        b"link" => Some(Verb::Link),
+        b"make" => Some(Verb::Make),
+        b"opendir" => Some(Verb::OpenDir),
+        b"openlink" => Some(Verb::OpenLink),
+        b"open" => Some(Verb::Open),
+        b"close" => Some(Verb::Close),
+        b"target" => Some(Verb::Target),
+        b"name" => Some(Verb::Name),
+        b"list" => Some(Verb::List),
+        b"dup" => Some(Verb::Dup),
+        b"temp" => Some(Verb::Temp),
+        b"perm" => Some(Verb::Perm),
+        b"map" => Some(Verb::Map),
+        b"new" => Some(Verb::New),
+        b"exit" => Some(Verb::Exit),
+        _ => None,
     }
-    if word == b"link".as_slice() {
-        return Some(Verb::Link);
-    }
-    if word == b"make".as_slice() {
-        return Some(Verb::Make);
-    }
-    if word == b"opendir".as_slice() {
-        return Some(Verb::OpenDir);
-    }
-    if word == b"openlink".as_slice() {
-        return Some(Verb::OpenLink);
-    }
-    if word == b"open".as_slice() {
-        return Some(Verb::Open);
-    }
-    if word == b"close".as_slice() {
-        return Some(Verb::Close);
-    }
-    if word == b"target".as_slice() {
-        return Some(Verb::Target);
-    }
-    if word == b"name".as_slice() {
-        return Some(Verb::Name);
-    }
-    if word == b"list".as_slice() {
-        return Some(Verb::List);
-    }
-    if word == b"dup".as_slice() {
-        return Some(Verb::Dup);
-    }
-    if word == b"temp".as_slice() {
-        return Some(Verb::Temp);
-    }
-    if word == b"perm".as_slice() {
-        return Some(Verb::Perm);
-    }
-    if word == b"map".as_slice() {
-        return Some(Verb::Map);
-    }
-    if word == b"new".as_slice() {
-        return Some(Verb::New);
-    }
-    if word == b"exit".as_slice() {
-        return Some(Verb::Exit);
-    }
-    None
 }

@@ -71,16 +71,15 @@ pub(crate) fn absolute<'a>(view: &View, text: Name<'a>, create: bool) -> Option<
     ensures { (p : ℕ) → option_map (λ start. (place_of p start, text_of start)) result
         ≡ absolute_origin view.now p create text.entry }
 {
-    let bytes = text.as_slice();
-    if bytes == b"\\??".as_slice() {
-        return Some(Start {
+    match text.as_slice() {
+        b"\\??" => Some(Start {
             place: Standpoint::InView,
             behind: None,
-        });
-    }
-    match bytes.strip_prefix(b"\\??\\".as_slice()) {
-        Some(behind) => Some(behind_view(view, Name::new(behind), create)),
-        None => from_root(text),
+        }),
+        [b'\\', b'?', b'?', b'\\', behind @ ..] => {
+            Some(behind_view(view, Name::new(behind), create))
+        }
+        _ => from_root(text),
     }
 }
 

@@ -4,7 +4,6 @@ ghost use Rattle.std.specs.Prelude.{◌≡◌, ◌+◌, ◌*◌, ◌≤◌, ℕ,
 ghost use Rattle.std.specs.Str.Parse.{AllDigits, digits_value};
 ghost use Rattle.ob_parts.specs.Flags.{flag_of, IsLetters, IsFlags};
 
-use crate::split::behind;
 use crate::text::hex_value;
 use ob_base::Attrs;
 
@@ -14,16 +13,12 @@ pub fn flags_of(flags: &[u8]) -> Option<u32>
     ensures found { IfSome result (λ bits. IsFlags flags.now bits) }
     ensures none { IfNone result ((bits : ℕ) → ¬ IsFlags flags.now bits) }
 {
-    if flags == b"-".as_slice() {
-        return Some(0);
+    match flags {
+        b"-" => Some(0),
+        [b'x', digits @ ..] => raw_bits_of(digits),
+        [] => None,
+        _ => letters_of(flags),
     }
-    if let Some(digits) = behind(flags, b"x") {
-        return raw_bits_of(digits);
-    }
-    if flags.is_empty() {
-        return None;
-    }
-    letters_of(flags)
 }
 
 // The bits of distinct letters. A letter stands at most once, so the depth is 7 at most.

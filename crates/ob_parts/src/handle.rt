@@ -57,16 +57,12 @@ fn offset_of(number: &[u8]) -> Option<Offset>
     ensures none { IfNone result ((offset : Offset) → codes "+"
         ++ number.now ≢ offset_text offset) }
 {
-    if number == b"1".as_slice() {
-        return Some(Offset::One);
+    match number {
+        b"1" => Some(Offset::One),
+        b"2" => Some(Offset::Two),
+        b"3" => Some(Offset::Three),
+        _ => None,
     }
-    if number == b"2".as_slice() {
-        return Some(Offset::Two);
-    }
-    if number == b"3".as_slice() {
-        return Some(Offset::Three);
-    }
-    None
 }
 
 /// What is added to the value of a handle word: 0 to 3. Source: this profile.

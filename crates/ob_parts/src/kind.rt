@@ -5,7 +5,7 @@ ghost use Rattle.ob_parts.specs.declared.kind.KindForm.{KindForm};
 ghost use Rattle.ob_parts.specs.Kinds.{name_of};
 ghost use Rattle.ob_parts.specs.Parts.{BeginsWithKind, BeginsWithWant};
 
-use crate::split::{behind, split_at};
+use crate::split::split_at;
 
 /// A kind of objects as a line names it: by the name of its type. (this profile)
 #[derive(Clone, Copy, PartialEq, Eq, Debug)]
@@ -45,7 +45,7 @@ pub fn take_want(bytes: &[u8]) -> Option<(Option<KindForm>, &[u8])>
     ensures none { IfNone result ((want : Option KindForm) (rest : List ℕ)
         → ¬ BeginsWithWant bytes.now want rest) }
 {
-    if let Some(rest) = behind(bytes, b"any ") {
+    if let [b'a', b'n', b'y', b' ', rest @ ..] = bytes {
         return Some((None, rest));
     }
     let (kind, rest) = take_kind(bytes)?;
@@ -57,23 +57,13 @@ fn kind_of(word: &[u8]) -> Option<KindForm>
     ensures found { IfSome result (λ kind. word.now ≡ name_of kind) }
     ensures none { IfNone result ((kind : KindForm) → word.now ≢ name_of kind) }
 {
-    if word == b"Event".as_slice() {
-        return Some(KindForm::Event);
+    match word {
+        b"Event" => Some(KindForm::Event),
+        b"Mutant" => Some(KindForm::Mutant),
+        b"Section" => Some(KindForm::Section),
+        b"Device" => Some(KindForm::Device),
+        b"File" => Some(KindForm::File),
+        b"Key" => Some(KindForm::Key),
+        _ => None,
     }
-    if word == b"Mutant".as_slice() {
-        return Some(KindForm::Mutant);
-    }
-    if word == b"Section".as_slice() {
-        return Some(KindForm::Section);
-    }
-    if word == b"Device".as_slice() {
-        return Some(KindForm::Device);
-    }
-    if word == b"File".as_slice() {
-        return Some(KindForm::File);
-    }
-    if word == b"Key".as_slice() {
-        return Some(KindForm::Key);
-    }
-    None
 }

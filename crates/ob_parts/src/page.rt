@@ -51,19 +51,13 @@ pub fn mode_of(word: &[u8]) -> Option<PageMode>
     ensures found { IfSome result (λ mode. word.now ≡ mode_text mode) }
     ensures none { IfNone result ((mode : PageMode) → word.now ≢ mode_text mode) }
 {
-    if word == b"first".as_slice() {
-        return Some(PageMode::First);
+    match word {
+        b"first" => Some(PageMode::First),
+        b"next" => Some(PageMode::Next),
+        b"first1" => Some(PageMode::FirstSingle),
+        b"next1" => Some(PageMode::NextSingle),
+        _ => None,
     }
-    if word == b"next".as_slice() {
-        return Some(PageMode::Next);
-    }
-    if word == b"first1".as_slice() {
-        return Some(PageMode::FirstSingle);
-    }
-    if word == b"next1".as_slice() {
-        return Some(PageMode::NextSingle);
-    }
-    None
 }
 
 /// The room with which the bytes begin, `ROOM`, and what stands behind it and a space: none where they begin with no

@@ -10,7 +10,7 @@ use crate::flags::flags_of;
 use crate::handle::handle_of;
 use crate::kind::{KindForm, take_want};
 use crate::name::{NameForm, PlaceForm};
-use crate::split::{behind, split_at};
+use crate::split::{behind_byte, split_at};
 use crate::text::{is_text, is_word};
 
 // The text between double quotes with which the bytes begin, and what stands behind it and a space.
@@ -19,9 +19,9 @@ fn take_text(bytes: &[u8]) -> Option<(&[u8], &[u8])>
     ensures shorter { IfSome result (λ found. length found.1.now ≤ length bytes.now) }
     ensures none { IfNone result ((text rest : List ℕ) → ¬ BeginsWithText bytes.now text rest) }
 {
-    let quoted = behind(bytes, b"\"")?;
+    let quoted = behind_byte(bytes, b'"')?;
     let (text, rest) = split_at(quoted, b'"')?;
-    let rest = behind(rest, b" ")?;
+    let rest = behind_byte(rest, b' ')?;
     if !is_text(text) {
         return None;
     }
@@ -54,7 +54,7 @@ pub fn take_place(bytes: &[u8]) -> Option<(PlaceForm<&[u8]>, &[u8])>
     ensures none { IfNone result ((place : PlaceForm (List ℕ)) (rest : List ℕ)
         → ¬ BeginsWithPlace bytes.now place rest) }
 {
-    if let Some(rest) = behind(bytes, b"none ") {
+    if let [b'n', b'o', b'n', b'e', b' ', rest @ ..] = bytes {
         return Some((PlaceForm::Unnamed, rest));
     }
     let (name, rest) = take_name(bytes)?;
@@ -80,11 +80,10 @@ pub fn word_set(bytes: &[u8]) -> Option<&[u8]>
     ensures found { IfSome result (λ word. SetsWord bytes.now word.now) }
     ensures none { IfNone result ((word : List ℕ) → ¬ SetsWord bytes.now word) }
 {
-    let word = behind(bytes, b"=")?;
-    if !is_word(word) {
-        return None;
+    match bytes {
+        [b'=', word @ ..] if is_word(word) => Some(word),
+        _ => None,
     }
-    Some(word)
 }
 
 /// The parts of `FLAGS =V`: the bits of the flags, and the word that is set. None where the bytes aren't that.

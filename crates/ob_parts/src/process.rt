@@ -56,9 +56,8 @@ pub fn process_set(bytes: &[u8]) -> Option<&[u8]>
     ensures found { IfSome result (λ process. SetsProcess bytes.now process.now) }
     ensures none { IfNone result ((process : List ℕ) → ¬ SetsProcess bytes.now process) }
 {
-    let process = behind(bytes, b"=")?;
-    if !is_process_word(process) {
-        return None;
+    match bytes {
+        [b'=', process @ ..] if is_process_word(process) => Some(process),
+        _ => None,
     }
-    Some(process)
 }

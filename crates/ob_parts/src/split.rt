@@ -23,3 +23,14 @@ pub fn behind<'a>(bytes: &'a [u8], front: &[u8]) -> Option<&'a [u8]>
 {
     bytes.strip_prefix(front)
 }
+
+// What stands behind one byte: none where the bytes don't begin with it.
+pub(crate) fn behind_byte(bytes: &[u8], mark: u8) -> Option<&[u8]>
+    ensures found { IfSome result (λ rest. bytes.now ≡ mark ∷ rest.now) }
+    ensures none { IfNone result ((rest : List ℕ) → bytes.now ≢ mark ∷ rest) }
+{
+    match bytes {
+        [first, rest @ ..] if *first == mark => Some(rest),
+        _ => None,
+    }
+}

@@ -26,10 +26,7 @@ pub fn is_word(bytes: &[u8]) -> bool
 pub fn is_process_word(bytes: &[u8]) -> bool
     ensures { IsTrue result ↔ IsProcessWord bytes.now }
 {
-    is_word(bytes)
-        && bytes != b"stat".as_slice()
-        && bytes != b"thread".as_slice()
-        && bytes != b"join".as_slice()
+    is_word(bytes) && !matches!(bytes, b"stat" | b"thread" | b"join")
 }
 
 // The first byte that a text spells, and the rest of the text.

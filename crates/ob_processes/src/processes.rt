@@ -205,6 +205,7 @@ impl<H: HandleTable> Processes<H> {
     }
 
     /// The handle of a process of a value, and `None` exactly where it has none. Takes no memory.
+    #[inline(always)]
     pub fn get(&self, process: Proc, value: Handle) -> Option<Held>
         ensures { result ≡ find (is_handle process value) self.now.handles }
     {
@@ -267,6 +268,7 @@ impl<H: HandleTable> Processes<H> {
     ///
     /// It is refused with `InsufficientResources` exactly where the process has 65,535 handles. The only
     /// other fault is `Memory`. After either nothing has changed.
+    #[inline(always)]
     pub fn grant(
         &mut self,
         process: Proc,
@@ -312,6 +314,7 @@ impl<H: HandleTable> Processes<H> {
     /// Opens a handle of a live process under a value that is given, as a child does that inherits it.
     /// The process must not use the value, and the order must be above those of all handles, and at
     /// most 2^64 - 2. Where memory is wanted nothing has changed.
+    #[inline(always)]
     pub fn put(&mut self, held: Held) -> Result<(), AllocError>
         requires live { is_some (find (λ x. x.number == held.process) self.old.processes) ≡ true }
         requires value { IsHandleValue held.value }
@@ -411,6 +414,7 @@ impl<H: HandleTable> Processes<H> {
 
     /// Takes the handle of a process of a value out, and gives it; `None` where it has none, and then
     /// nothing changes. Takes no memory.
+    #[inline(always)]
     pub fn take(&mut self, process: Proc, value: Handle) -> Option<Held>
         ensures there { result ≡ find (is_handle process value) self.old.handles }
         ensures others { self.new.handles

@@ -194,48 +194,36 @@ module _ (processes : List ℕ → ℕ) (rows new : ℕ → List ℕ → Row) wh
   rows_same same = ap (kept processes) same
 
   module _ (key p : ℕ) (is : key ≡ p) where
-    module _ (word : List ℕ) (number : ℕ) where
-      pub value_set : new ≡ with_number_of rows key word (written (rows key word) (write.Value number)) → kept processes new ≡ with_word (kept processes rows) p word number
-      value_set set = ap (kept processes) set ∙ (whole ∙ ap (λ (k : ℕ). with_word (kept processes rows) k word number) is)
-        where
-          row : Row
-          row = written (rows key word) (write.Value number)
+    module _ (word : List ℕ) where
+      -- one row was written: the words whose numbers are told for it, each as set or as the same
+      row_set : (row : Row) (values contexts tickets : ℕ → List ℕ → ℕ)
+          → (λ q w. (with_number_of rows key word row q w).value) ≡ values → (λ q w. (with_number_of rows key word row q w).context) ≡ contexts
+          → (λ q w. (with_number_of rows key word row q w).ticket) ≡ tickets → new ≡ with_number_of rows key word row
+          → kept processes new ≡ record { processes = processes; values = values; contexts = contexts; tickets = tickets }
+      row_set row values contexts tickets value context ticket set =
+          ap (kept processes) set ∙ (λ i. record { processes = processes; values = value i; contexts = context i; tickets = ticket i })
 
-          whole : kept processes (with_number_of rows key word row) ≡ with_word (kept processes rows) key word number
-          whole = λ i. record {
-            processes = processes;
-            values = word_set (λ (r : Row). r.value) rows key word row i;
-            contexts = word_set (λ (r : Row). r.context) rows key word row i;
-            tickets = word_same (λ (r : Row). r.ticket) rows key word row refl i;
-          }
+      is_set : (f : Row → ℕ) (row : Row) → each f rows key (with_number_of rows key word row) ≡ with_number_of (each f rows key rows) key word (f row)
+      is_set f row = word_set f rows key word row
 
-      pub context_set : new ≡ with_number_of rows key word (written (rows key word) (write.Context number)) → kept processes new ≡ with_context (kept processes rows) p word number
-      context_set set = ap (kept processes) set ∙ (whole ∙ ap (λ (k : ℕ). with_context (kept processes rows) k word number) is)
-        where
-          row : Row
-          row = written (rows key word) (write.Context number)
+      is_same : (f : Row → ℕ) (row : Row) → f row ≡ f (rows key word) → each f rows key (with_number_of rows key word row) ≡ each f rows key rows
+      is_same f row same = word_same f rows key word row same
 
-          whole : kept processes (with_number_of rows key word row) ≡ with_context (kept processes rows) key word number
-          whole = λ i. record {
-            processes = processes;
-            values = word_same (λ (r : Row). r.value) rows key word row refl i;
-            contexts = word_set (λ (r : Row). r.context) rows key word row i;
-            tickets = word_same (λ (r : Row). r.ticket) rows key word row refl i;
-          }
+      module _ (number : ℕ) where
+        pub value_set : new ≡ with_number_of rows key word (written (rows key word) (write.Value number)) → kept processes new ≡ with_word (kept processes rows) p word number
+        value_set set =
+            row_set _ _ _ _ (is_set (λ r. r.value) _) (is_set (λ r. r.context) _) (is_same (λ r. r.ticket) _ refl) set
+            ∙ ap (λ (k : ℕ). with_word (kept processes rows) k word number) is
 
-      pub ticket_set : new ≡ with_number_of rows key word (written (rows key word) (write.Ticket number)) → kept processes new ≡ with_ticket (kept processes rows) p word number
-      ticket_set set = ap (kept processes) set ∙ (whole ∙ ap (λ (k : ℕ). with_ticket (kept processes rows) k word number) is)
-        where
-          row : Row
-          row = written (rows key word) (write.Ticket number)
+        pub context_set : new ≡ with_number_of rows key word (written (rows key word) (write.Context number)) → kept processes new ≡ with_context (kept processes rows) p word number
+        context_set set =
+            row_set _ _ _ _ (is_same (λ r. r.value) _ refl) (is_set (λ r. r.context) _) (is_same (λ r. r.ticket) _ refl) set
+            ∙ ap (λ (k : ℕ). with_context (kept processes rows) k word number) is
 
-          whole : kept processes (with_number_of rows key word row) ≡ with_ticket (kept processes rows) key word number
-          whole = λ i. record {
-            processes = processes;
-            values = word_same (λ (r : Row). r.value) rows key word row refl i;
-            contexts = word_same (λ (r : Row). r.context) rows key word row refl i;
-            tickets = word_set (λ (r : Row). r.ticket) rows key word row i;
-          }
+        pub ticket_set : new ≡ with_number_of rows key word (written (rows key word) (write.Ticket number)) → kept processes new ≡ with_ticket (kept processes rows) p word number
+        ticket_set set =
+            row_set _ _ _ _ (is_same (λ r. r.value) _ refl) (is_same (λ r. r.context) _ refl) (is_set (λ r. r.ticket) _) set
+            ∙ ap (λ (k : ℕ). with_ticket (kept processes rows) k word number) is
 
     pub words_set : (own : List ℕ → Row) → ((w : List ℕ) → ((own w).context ≡ 0) × ((own w).ticket ≡ (rows p w).ticket)) → new ≡ with_own rows key own
         → kept processes new ≡ with_words (kept processes rows) p (λ w. (own w).value)

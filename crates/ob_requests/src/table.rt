@@ -15,6 +15,7 @@ use std::alloc::{AllocError, Global};
 pub type Table<N> = IndexMap<Word, N>;
 
 // The number of a word: `none` where it was never set. It is looked for first in a slot where it may stand.
+#[inline(always)]
 pub(crate) fn number_of<N: Copy>(table: &Table<N>, guess: usize, word: &[u8], none: N) -> N
     ensures { result ≡ number_or none table.now word.now }
 {
@@ -23,20 +24,38 @@ pub(crate) fn number_of<N: Copy>(table: &Table<N>, guess: usize, word: &[u8], no
     {
         return *number;
     }
+    searched_number(table, word, none)
+}
+
+// The number of a word, searched for in all slots: `none` where it was never set.
+#[inline(never)]
+fn searched_number<N: Copy>(table: &Table<N>, word: &[u8], none: N) -> N
+    ensures { result ≡ number_or none table.now word.now }
+{
     table.get(Sought { word }).copied().unwrap_or(none)
 }
 
 // The slot of a word, where there is room for it. It is looked for first in a slot where it may stand.
+#[inline(always)]
 fn slot_of<N>(table: &Table<N>, guess: usize, word: &[u8]) -> Option<usize>
     ensures { IsSlotOf table.now word.now result }
 {
     if is_in(table, guess, word) {
         return Some(guess);
     }
+    searched_slot(table, word)
+}
+
+// The slot of a word, searched for among all, where there is room for it.
+#[inline(never)]
+fn searched_slot<N>(table: &Table<N>, word: &[u8]) -> Option<usize>
+    ensures { IsSlotOf table.now word.now result }
+{
     table.get_index_of(Sought { word })
 }
 
 // Whether a word stands in a slot.
+#[inline(always)]
 fn is_in<N>(table: &Table<N>, slot: usize, word: &[u8]) -> bool
     ensures { IsTrue result → IsIn table.now.entries slot word.now }
 {
@@ -68,6 +87,7 @@ pub(crate) fn room_for<N: Copy>(
 }
 
 // Sets a word, for which there is room; gives its slot.
+#[inline(always)]
 pub(crate) fn set<N: Copy>(table: &mut Table<N>, guess: usize, word: &[u8], number: N) -> usize
     requires room { has_word table.old word.now ≡ true }
     ensures { (none : N) → number_or none table.new
@@ -93,6 +113,7 @@ fn set_at<N: Copy>(table: &mut Table<N>, slot: usize, number: N)
 }
 
 // Writes what is kept for a word; gives its slot. There is room for the word, or it is written as one that was never set has it.
+#[inline(always)]
 pub(crate) fn write(table: &mut Table<Row>, guess: usize, word: &[u8], write: Write) -> usize
     requires room { (has_word table.old word.now ≡ true) ⊎ (written no_row write ≡ no_row) }
     ensures { row_in table.new
@@ -108,6 +129,7 @@ pub(crate) fn write(table: &mut Table<Row>, guess: usize, word: &[u8], write: Wr
 }
 
 // Writes what is kept for the word that has this slot.
+#[inline(always)]
 fn write_at(table: &mut Table<Row>, slot: usize, write: Write)
     ensures { (word : List ℕ) → IsIn table.old.entries slot word → row_in table.new
         ≡ with_number (row_in table.old) word (written (row_in table.old word) write) }

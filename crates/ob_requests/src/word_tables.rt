@@ -36,6 +36,7 @@ impl WordTables {
     }
 
     // What is kept for a word of a process.
+    #[inline(always)]
     pub(crate) fn row_of(&self, process: u32, word: &[u8]) -> Row
         ensures { result ≡ rows_in self.now process word.now }
     {
@@ -79,6 +80,7 @@ impl WordTables {
 
     // Writes what is kept for a word of a process. There is room for the word, or it is written as one that was never set has
     // it. Takes no memory.
+    #[inline(always)]
     pub(crate) fn write(&mut self, process: u32, word: &[u8], write: Write)
         requires room { HasRoom self.old process word.now ⊎ (written no_row write ≡ no_row) }
         ensures { rows_in self.new ≡ with_number_of (rows_in self.old) process word.now

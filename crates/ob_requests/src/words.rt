@@ -50,6 +50,7 @@ impl Words {
     }
 
     /// The process of a process word. Takes no memory.
+    #[inline(always)]
     pub fn process_of(&self, word: &[u8]) -> Proc
         ensures { result ≡ (words_in self.now).processes word.now }
     {
@@ -57,6 +58,7 @@ impl Words {
     }
 
     /// The value of a handle word of a process. Takes no memory.
+    #[inline(always)]
     pub fn value_of(&self, process: Proc, word: &[u8]) -> Handle
         ensures { result ≡ (words_in self.now).values process word.now }
     {
@@ -110,6 +112,7 @@ impl Words {
 
     /// Makes room for a handle word of a process, which keeps its value, its context and its ticket: there is room for each of
     /// them. The only fault is out of memory. (this profile)
+    #[inline(always)]
     pub fn room_for_word(&mut self, process: Proc, word: &[u8]) -> Result<(), AllocError>
         ensures same { words_in self.new ≡ words_in self.old }
         ensures processes { self.new.processes ≡ self.old.processes }
@@ -121,6 +124,7 @@ impl Words {
 
     /// Sets a handle word of a process, for which there is room. It has no context from now on. Takes no
     /// memory.
+    #[inline(always)]
     pub fn set_handle(&mut self, process: Proc, word: &[u8], handle: Handle)
         requires room { HasRoom self.old.handles process word.now }
         ensures { words_in self.new ≡ with_word (words_in self.old) process word.now handle }
@@ -153,6 +157,7 @@ impl Words {
     }
 
     /// A handle word of a process stands for 0 from now on, and has no context. Takes no memory.
+    #[inline(always)]
     pub fn give_up(&mut self, process: Proc, word: &[u8])
         ensures { words_in self.new ≡ with_word (words_in self.old) process word.now 0 }
     {

@@ -89,6 +89,7 @@ impl HandleTable for SlabTable {
         self.opened.reserve(more)
     }
 
+    #[inline(always)]
     fn grant(
         &mut self,
         process: Proc,
@@ -110,6 +111,7 @@ impl HandleTable for SlabTable {
         Ok(value)
     }
 
+    #[inline(always)]
     fn put(&mut self, held: Held) -> Result<(), AllocError> {
         let (value, order) = (held.value, held.order);
         self.rows.reserve(1)?;
@@ -121,11 +123,13 @@ impl HandleTable for SlabTable {
         Ok(())
     }
 
+    #[inline(always)]
     fn get(&self, value: Handle) -> Option<Held> {
         let key = key_of(&self.rows, &self.foreign, value.0)?;
         self.rows.get(key).copied()
     }
 
+    #[inline(always)]
     fn take(&mut self, value: Handle) -> Option<Held> {
         let number = value.0;
         let key = key_of(&self.rows, &self.foreign, number)?;

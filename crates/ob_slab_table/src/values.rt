@@ -36,6 +36,7 @@ pub(crate) fn row_of_value(value: u32) -> usize
 
 /// The key of the row that a value leads to: its own, if that has a handle of this value, and else the one
 /// that the map has for it, if any. Takes no memory.
+#[inline(always)]
 pub(crate) fn key_of(rows: &Slab<Held>, foreign: &IndexMap<u32, usize>, value: u32) -> Option<usize>
     ensures { result ≡ key_in (row rows.now) (get nat_eq foreign.now) value }
 {
@@ -45,6 +46,14 @@ pub(crate) fn key_of(rows: &Slab<Held>, foreign: &IndexMap<u32, usize>, value: u
     {
         return Some(own);
     }
+    foreign_key_of(foreign, value)
+}
+
+/// The key of the row that the map has for a value, if any. Takes no memory.
+#[inline(never)]
+fn foreign_key_of(foreign: &IndexMap<u32, usize>, value: u32) -> Option<usize>
+    ensures { result ≡ get nat_eq foreign.now value }
+{
     if foreign.is_empty() {
         return None;
     }

@@ -2,7 +2,7 @@
 use Rattle.std.proofs.Common.{◌≡◌, ℕ, Some, slice_get, subst}
 use Rattle.ob_handles.specs.Counts.{count_of}
 use Rattle.ob_handles.proofs.Counted.{counted_in_full}
-use Rattle.ob_handles.proofs.places.place_of.Goals as goal
+use Rattle.ob_handles.proofs.places.searched_place.Goals as goal
 
 pub returns : goal.returns
 returns c =
