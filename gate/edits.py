@@ -136,7 +136,7 @@ def body_of(plain, place):
             place = match.end()
             continue
         before = plain[: match.start()].rstrip()
-        if not re.search(r"\b(?:requires|ensures|ghost)(?:\s+\w+)?(?:\s*=)?$", before):
+        if not re.search(r"\b(?:requires|ensures\*?|ghost)(?:\s+\w+)?(?:\s*=)?$", before):
             return match.start()
         place = closing(plain, match.start()) + 1
 

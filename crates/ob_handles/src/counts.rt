@@ -154,6 +154,7 @@ impl Counts {
         Touched {
             ids: in_order(self.room, &self.numbers),
             numbers: self.numbers,
+            recent: Recent::new(),
         }
     }
 }

@@ -32,8 +32,9 @@ impl Recent {
     }
 }
 
-/// The place at which an object's count is kept, looked for first where the two stand that were counted last; `None`
-/// exactly where none is kept. Takes no memory, and a time that doesn't grow with the objects.
+/// The place at which an object's count is kept, looked for first where the two stand that were counted last, and behind
+/// the last of them, since what was counted in turn once is counted so again; `None` exactly where none is kept. Takes no
+/// memory, and a time that doesn't grow with the objects.
 #[inline(always)]
 pub(crate) fn place_of(
     numbers: &IndexMap<u64, usize>,
@@ -47,6 +48,10 @@ pub(crate) fn place_of(
     }
     if is_at(numbers, recent.before, object) {
         return Some(recent.before);
+    }
+    let behind = recent.last.wrapping_add(1);
+    if is_at(numbers, behind, object) {
+        return Some(behind);
     }
     searched_place(numbers, object)
 }

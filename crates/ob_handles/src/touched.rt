@@ -16,6 +16,8 @@ pub struct Touched {
     pub(crate) numbers: IndexMap<u64, usize>,
     // The objects that are listed, in order.
     pub(crate) ids: Vec<u64>,
+    // Where the objects stand that were counted last.
+    pub(crate) recent: Recent,
 }
 
 impl Model for Touched {
@@ -44,9 +46,10 @@ impl Touched {
         ensures counted { CountsOneLess object self.old self.new }
         ensures listed { ListsTheSame self.old self.new }
     {
-        let Some(place) = place_of(&self.numbers, Recent::new(), object) else {
+        let Some(place) = place_of(&self.numbers, self.recent, object) else {
             return;
         };
+        self.recent = self.recent.then(place);
         let Some(count) = self.numbers.get_index_mut(place) else {
             return;
         };

@@ -19,7 +19,7 @@ use Rattle.ob_model.specs.State.{State, root_id, global_id}
 use Rattle.ob_model.specs.Settle.{is_kept, is_alive, is_permanent, has_handle, has_name, is_pinned, is_mapped, holds_kept, deleted_one, deleted_all, settle}
 use Rattle.ob_model.proofs.Finds.{filter_all, filter_none, find-filter, not_found}
 use Rattle.ob_space.specs.Orderly.{IsIdleUnheld}
-use Rattle.ob_life.specs.Settling.{is_held_up, without_names, without_object, settled_one}
+use Rattle.ob_life.specs.Settling.{is_held_up, without_names, without_object, settled_one, MaySettle}
 use Rattle.ob_space.proofs.Handles.{found_passes}
 use Rattle.ob_space.proofs.Orders.{any_stays, none_pass as none_passes}
 
@@ -266,7 +266,7 @@ module _ {K T F I : Type 0} (g : Procedures K T F I) (s : State K T F I) where
         ap (find (λ x. x.id == o)) judged.objects
         ∙ find-filter (λ (x : Object F I). x.id == o) (λ x. is_alive s x.id || not (done x.id)) (λ x same. ap (λ n. is_alive s n || not (done n)) (eqb-true x.id o same) ∙ stays) s.objects
 
-    found_left : (o : ℕ) → done o ≡ false → find (λ x. x.id == o) t.objects ≡ find (λ x. x.id == o) s.objects
+    pub found_left : (o : ℕ) → done o ≡ false → find (λ x. x.id == o) t.objects ≡ find (λ x. x.id == o) s.objects
     found_left o new = stays_found o (none_done (is_alive s o) (done o) new)
 
     -- so what holds of the numbers that are left holds of its own
@@ -277,10 +277,12 @@ module _ {K T F I : Type 0} (g : Procedures K T F I) (s : State K T F I) where
         go None e there = absurd (false≢true there)
         go (Some x) e there = subst P (eqb-true x.id o (found_passes (λ y. y.id == o) t.objects x e)) (all_found (λ y. P y.id) (λ y. y.id == o) t.objects x all e)
 
-    pub unheld_left : (idle : I → Type 0) → All (IsIdleUnheld idle s.handles) s.objects → All (IsIdleUnheld idle t.handles) t.objects
-    unheld_left idle unheld =
-        subst (λ (hs : List Held). All (IsIdleUnheld idle hs) t.objects) (sym judged.handles)
-        (subst (All (IsIdleUnheld idle s.handles)) (sym judged.objects) (All-filter (λ x. is_alive s x.id || not (done x.id)) (IsIdleUnheld idle s.handles) s.objects unheld))
+    pub may_left : (idle : I → Type 0) → MaySettle idle s → MaySettle idle t
+    may_left idle may = record {
+      unheld = subst (λ (hs : List Held). All (IsIdleUnheld idle hs) t.objects) (sym judged.handles)
+          (subst (All (IsIdleUnheld idle s.handles)) (sym judged.objects) (All-filter (λ x. is_alive s x.id || not (done x.id)) (IsIdleUnheld idle s.handles) s.objects may.unheld));
+      descending = subst (All (λ r. r.directory < r.object)) (sym judged.rows) (All-filter (λ r. is_kept s r || not (done r.object)) (λ r. r.directory < r.object) s.rows may.descending);
+    }
 
     -- one object is the first to be deleted of those that are left and go
     abbrev pub IsDeletedFirst : ℕ → Type 0

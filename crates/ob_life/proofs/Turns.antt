@@ -21,9 +21,9 @@ use Rattle.ob_model.proofs.Finds.{filter_all, All-kept, list_any_weaker}
 use Rattle.ob_model.proofs.Settled.{alive_from_held_name}
 use Rattle.ob_model.proofs.Soundness.{stands_drawn}
 use Rattle.ob_space.specs.Orderly.{IsOrderly}
-use Rattle.ob_life.specs.Settling.{is_held_up, without_names, without_object, settled_one, settled_unless, AreSettled, HadItsTurn, StaysBut}
+use Rattle.ob_life.specs.Settling.{is_held_up, is_upheld, without_names, without_object, settled_one, settled_unless, AreSettled, HadItsTurn, StaysBut}
 use Rattle.ob_space.proofs.Handles.{found_passes}
-use Rattle.ob_life.proofs.Judged.{Judged, none_judged, judged_alike, all_judged, one_judged, greatest_first, directory_first, stays_found, all_pass, all_found, any_agrees, some_done, left_stays}
+use Rattle.ob_life.proofs.Judged.{Judged, none_judged, judged_alike, all_judged, one_judged, greatest_first, directory_first, found_left, stays_found, all_pass, all_found, any_agrees, some_done, left_stays}
 use Rattle.ob_space.proofs.Orders.{finds_itself, none_pass}
 
 -- ---- lists and tests
@@ -105,18 +105,32 @@ stays_alike : (k a b : Bool) → k ≡ true → (k || a) ≡ (k || b)
 stays_alike true a b h = refl
 stays_alike false a b h = cc
 
-held_stays : (root h pin map q holds : Bool) → h ≡ true → (root || h || pin || map || q || holds) ≡ true
-held_stays true h pin map q holds e = refl
-held_stays false true pin map q holds e = refl
-held_stays false false pin map q holds e = cc
+upheld_stays : (root h pin map q holds : Bool) → (h || q) ≡ true → (root || h || pin || map || q || holds) ≡ true
+upheld_stays true h pin map q holds e = refl
+upheld_stays false true pin map q holds e = refl
+upheld_stays false false true map q holds e = refl
+upheld_stays false false false true q holds e = refl
+upheld_stays false false false false true holds e = refl
+upheld_stays false false false false false holds e = cc
+
+name_stays : (p h n : Bool) → (h || (p && n)) ≡ true → (p || h) ≡ true
+name_stays true h n e = refl
+name_stays false true n e = refl
+name_stays false false n e = cc
+
+-- what has a handle, or is permanent and has one name more, is upheld too
+upheld_too : (h p n m : Bool) → (n ≡ true → m ≡ true) → (h || (p && n)) ≡ true → (h || (p && m)) ≡ true
+upheld_too true p n m more e = refl
+upheld_too false true n m more e = more e
+upheld_too false false n m more e = e
 
 module _ {K T F I : Type 0} (s : State K T F I) where
-  -- what has a handle stays, and so do its names
-  held_alive : (o : ℕ) → has_handle s o ≡ true → is_alive s o ≡ true
-  held_alive o held = held_stays (o == root_id) (has_handle s o) (is_pinned s o) (is_mapped s o) (is_permanent s o && has_name s o) (holds_kept s o) held
+  -- what is upheld stays, and so do its names
+  upheld_alive : (o : ℕ) → is_upheld s o ≡ true → is_alive s o ≡ true
+  upheld_alive o up = upheld_stays (o == root_id) (has_handle s o) (is_pinned s o) (is_mapped s o) (is_permanent s o && has_name s o) (holds_kept s o) up
 
-  held_kept : (o : ℕ) → has_handle s o ≡ true → (r : Row) → (r.object == o) ≡ true → is_kept s r ≡ true
-  held_kept o held r own = ap (λ n. is_permanent s n || has_handle s n) (eqb-true r.object o own) ∙ (λ i. is_permanent s o || held i) ∙ or_true (is_permanent s o)
+  upheld_kept : (o : ℕ) → is_upheld s o ≡ true → (r : Row) → (r.object == o) ≡ true → is_kept s r ≡ true
+  upheld_kept o up r own = ap (λ n. is_permanent s n || has_handle s n) (eqb-true r.object o own) ∙ name_stays (is_permanent s o) (has_handle s o) (has_name s o) up
 
 module _ {K T F I : Type 0} (s : State K T F I) where
   -- a name in a directory goes, and its object has its turn below a bound
@@ -564,8 +578,8 @@ module _ {K T F I : Type 0} (g : Procedures K T F I) (idle : I → Type 0) (s : 
             unfiltered (λ q. (q.directory == o) ≡ false) (λ k x below own. absurd (false≢true (sym (are.1 k x below) ∙ own)))))
         go (Some r) e are = named_turn r e are.1 u are.0
 
-    -- a handle to the object is left, so that it stays, and its names do
-    module _ (held : has_handle s id ≡ true) where
+    -- the object is upheld, so that it stays, and its names do
+    module _ (up : is_upheld s id ≡ true) where
       apart_done : (o : ℕ) → (o == id) ≡ false → done b o ≡ done id o
       apart_done o apart = go (touched o) refl
         where
@@ -574,30 +588,44 @@ module _ {K T F I : Type 0} (g : Procedures K T F I) (idle : I → Type 0) (s : 
           go false e =
               done_other b o e
               ∙ ap not (any_agrees (is_open b o) (is_open id o) s.rows
-              (open_alike o (λ k x below here gone. is_false ((get_or s.rows k x).object == id) (λ own. false≢true (sym gone ∙ held_kept s id held (get_or s.rows k x) own)))))
+              (open_alike o (λ k x below here gone. is_false ((get_or s.rows k x).object == id) (λ own. false≢true (sym gone ∙ upheld_kept s id up (get_or s.rows k x) own)))))
               ∙ sym (done_other id o e)
 
-      held_turn : Judged g s (done id) t
-      held_turn = judged_alike g s (done b) (done id) t (λ k x below. object (get_or s.objects k x).id) (λ k x below. name (get_or s.rows k x)) judged
+      upheld_turn : Judged g s (done id) t
+      upheld_turn = judged_alike g s (done b) (done id) t (λ k x below. object (get_or s.objects k x).id) (λ k x below. name (get_or s.rows k x)) judged
         where
           object : (o : ℕ) → (is_alive s o || not (done b o)) ≡ (is_alive s o || not (done id o))
           object o = go (o == id) refl
             where
               go : (c : Bool) → (o == id) ≡ c → (is_alive s o || not (done b o)) ≡ (is_alive s o || not (done id o))
-              go true own = stays_alike (is_alive s o) (not (done b o)) (not (done id o)) (ap (is_alive s) (eqb-true o id own) ∙ held_alive s id held)
+              go true own = stays_alike (is_alive s o) (not (done b o)) (not (done id o)) (ap (is_alive s) (eqb-true o id own) ∙ upheld_alive s id up)
               go false apart = ap (λ c. is_alive s o || not c) (apart_done o apart)
 
           name : (r : Row) → (is_kept s r || not (done b r.object)) ≡ (is_kept s r || not (done id r.object))
           name r = go (r.object == id) refl
             where
               go : (c : Bool) → (r.object == id) ≡ c → (is_kept s r || not (done b r.object)) ≡ (is_kept s r || not (done id r.object))
-              go true own = stays_alike (is_kept s r) (not (done b r.object)) (not (done id r.object)) (held_kept s id held r own)
+              go true own = stays_alike (is_kept s r) (not (done b r.object)) (not (done id r.object)) (upheld_kept s id up r own)
               go false apart = ap (λ c. is_kept s r || not c) (apart_done r.object apart)
 
+    -- what is upheld of what is left was upheld at first
+    upheld_first : is_upheld t id ≡ true → is_upheld s id ≡ true
+    upheld_first up =
+        upheld_too (has_handle s id) (is_permanent s id) (has_name t id) (has_name s id) (λ there. go (has_name s id) refl there)
+        (sym (λ i. held i || (permanent i && has_name t id)) ∙ up)
+      where
+        held : has_handle t id ≡ has_handle s id
+        held = ap (list_any (λ (h : Held). h.object == id)) judged.handles
+
+        permanent : is_permanent t id ≡ is_permanent s id
+        permanent = ap (λ (o : Option (Object F I)). option_map_or (λ x. x.permanent) o false) (found_left g s (done b) t judged id new)
+
+        go : (c : Bool) → has_name s id ≡ c → has_name t id ≡ true → has_name s id ≡ true
+        go true e there = e
+        go false e there = absurd (false≢true (sym (none_any (λ r. r.object == id) t.rows (filtered (λ r. (r.object == id) ≡ false) (none_pass (λ r. r.object == id) s.rows e))) ∙ there))
+
     pub any_turn : (u : State K T F I) → HadItsTurn g t touched id u → Judged g s (done id) u
-    any_turn u (inl stays_held) =
-        subst (Judged g s (done id)) (sym stays_held.1)
-        (held_turn (sym (ap (list_any (λ (h : Held). h.object == id)) judged.handles) ∙ stays_held.0))
+    any_turn u (inl stays) = subst (Judged g s (done id)) (sym stays.1) (upheld_turn (upheld_first stays.0))
     any_turn u (inr settled) = one_turn u settled
 
   -- ---- after the last turn

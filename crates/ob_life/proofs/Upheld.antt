@@ -1,7 +1,8 @@
 -- An object to which a handle is left, or which is permanent and has a name, is upheld: where one handle more would
 -- leave a settled state, the state is settled as it is.
 use Rattle.std.proofs.Common.{◌≡◌, ◌∙◌, ℕ, Bool, true, false, ◌||◌, ◌&&◌, ◌==◌, refl, ap, sym, subst, eqb-true}
-use Rattle.std.specs.List.{list_any}
+use Rattle.std.specs.List.{list_any, find}
+use Rattle.std.specs.Option.{is_some}
 use Rattle.std.proofs.lemmas.List.Elements.{All-weaker}
 use Rattle.std.proofs.lemmas.List.Folds.{list_any-append}
 use Rattle.ob_model.specs.declared.state.Held.{Held}
@@ -10,6 +11,10 @@ use Rattle.ob_model.specs.Procedures.{Procedures}
 use Rattle.ob_model.specs.State.{State, root_id}
 use Rattle.ob_model.specs.Settle.{is_kept, is_alive, is_permanent, has_handle, has_name, is_pinned, is_mapped, holds_kept, settle, IsSettled}
 use Rattle.ob_model.proofs.Staying.{settled_itself}
+use Rattle.ob_objects.specs.declared.standing.Standing.{Standing}
+use Rattle.ob_objects.specs.Named.{place_of}
+use Rattle.ob_objects.specs.Standing.{standing_among}
+use Rattle.ob_objects.proofs.Stands.{any_found, is_mapped_some}
 use Rattle.ob_life.specs.Settling.{is_upheld, with_handle_to}
 use Rattle.ob_life.proofs.Judged.{or_none}
 
@@ -27,6 +32,21 @@ alive_both false false true map q holds e = refl
 alive_both false false false true q holds e = refl
 alive_both false false false false true holds e = refl
 alive_both false false false false false holds e = cc
+
+-- what has a handle is upheld
+pub held_upheld : {K T F I : Type 0} (s : State K T F I) (o : ℕ) → has_handle s o ≡ true → is_upheld s o ≡ true
+held_upheld s o held = ap (λ b. b || (is_permanent s o && has_name s o)) held
+
+-- and what is permanent and has a name, as it is told
+pub named_upheld : {K T F I : Type 0} (s : State K T F I) (o : ℕ) (standing : Standing) → standing ≡ standing_among s.objects s.rows o → (standing.permanent && is_some standing.place) ≡ true → is_upheld s o ≡ true
+named_upheld s o standing told named =
+    or_true (has_handle s o) (is_permanent s o && has_name s o)
+    (ap (λ b. is_permanent s o && b) (any_found (λ r. r.object == o) s.rows ∙ sym (is_mapped_some place_of (find (λ r. r.object == o) s.rows)))
+    ∙ ap (λ (x : Standing). x.permanent && is_some x.place) (sym told) ∙ named)
+  where
+    or_true : (h b : Bool) → b ≡ true → (h || b) ≡ true
+    or_true true b e = refl
+    or_true false b e = e
 
 module _ {K T F I : Type 0} (s : State K T F I) (o : ℕ) (upheld : is_upheld s o ≡ true) where
   handle_more : (x : ℕ) → has_handle (with_handle_to s o) x ≡ (has_handle s x || ((o == x) || false))

@@ -1,9 +1,9 @@
 -- What the calls of settling make of a namespace: one object forgotten, deleted and settled; and the two that
 -- may go after a close.
-use Rattle.std.proofs.Common.{◌≡◌, ℕ, ◌<◌, Bool, true, false, not, ◌||◌, ◌&&◌, ◌==◌, cond, List, [], get_or, find, refl, ap, ◌∙◌, sym, subst, arith, filter, All, eq-eqb, eqb-true}
+use Rattle.std.proofs.Common.{◌≡◌, ℕ, ◌<◌, Bool, true, false, not, ◌||◌, ◌&&◌, ◌==◌, cond, List, [], ◌∷◌, suc, get_or, find, refl, ap, ◌∙◌, sym, subst, arith, filter, All, eq-eqb, eqb-true}
 use Rattle.std.specs.Prelude.{Option, None, Some, option_map, MatchOption}
 use Rattle.std.specs.List.{list_any}
-use Rattle.std.specs.Option.{option_map_or}
+use Rattle.std.specs.Option.{option_map_or, is_some}
 use Rattle.std.proofs.lemmas.Bool.{false≢true, ne_eqb}
 use Rattle.std.proofs.lemmas.List.Elements.{All-filter}
 use Rattle.std.proofs.lemmas.List.Folds.{list_any-append}
@@ -16,17 +16,19 @@ use Rattle.ob_model.specs.Settle.{is_kept, is_alive, is_permanent, has_handle, h
 use Rattle.ob_model.proofs.Finds.{filter_all}
 use Rattle.ob_objects.specs.declared.named.EntryPlace.{EntryPlace}
 use Rattle.ob_objects.specs.declared.object.StoredObject.{StoredObject}
+use Rattle.ob_objects.specs.declared.standing.Standing.{Standing}
 use Rattle.ob_objects.specs.Changes as changes
 use Rattle.ob_objects.specs.Named.{place_of}
+use Rattle.ob_objects.specs.Standing.{standing_among, standing_at}
 use Rattle.ob_objects.specs.Store.{Entries, NameEntry, IsStore, Shows, stored_at, body_of_stored, object_of_stored, objects_of, rows_of, place_at}
 use Rattle.ob_objects.proofs.Follow.{found_is_stored, object_goes_alone}
 use Rattle.ob_objects.proofs.Shown.{names_change_no_object, rows_go_with_directory}
-use Rattle.ob_objects.proofs.Stands.{name_goes, no_name, one_directory, placed}
+use Rattle.ob_objects.proofs.Stands.{any_found, is_mapped_some, name_goes, no_name, one_directory, placed}
 use Rattle.ob_space.specs.Namespace.{Parts, state_of}
-use Rattle.ob_space.specs.Orderly.{IsIdleBody, is_held, IsIdleUnheld, IsOrderly}
-use Rattle.ob_life.specs.Settling.{is_held_up, without_names, with_handle_to, without_object, settled_one, settled_unless, AreSettled}
+use Rattle.ob_space.specs.Orderly.{IsIdleBody, IsIdleUnheld, IsOrderly}
+use Rattle.ob_life.specs.Settling.{is_held_up, held_up_by, without_names, with_handle_to, without_object, settled_one, settled_unless, AreSettled, MaySettle}
 use Rattle.ob_space.proofs.Handles.{found_passes}
-use Rattle.ob_life.proofs.Judged.{Judged, none_judged, all_judged, one_judged, greatest_first, unheld_left, or_none, any_agrees, all_pass, all_found, left_stays, some_done}
+use Rattle.ob_life.proofs.Judged.{Judged, none_judged, all_judged, one_judged, greatest_first, may_left, or_none, any_agrees, all_pass, all_found, left_stays, some_done}
 use Rattle.ob_space.proofs.Orders.{settled_orderly}
 use Rattle.ob_space.proofs.Stored.{body_is}
 
@@ -46,10 +48,57 @@ module _ {F I : Type 0} (store : Entries F I) (is : IsStore store) (id : ℕ) wh
   pub none_gone : place_at store id ≡ None → rows_of store ≡ filter (λ r. not (r.object == id)) (rows_of store)
   none_gone none = sym (filter_all (λ r. not (r.object == id)) (rows_of store) (λ k d below. ap not (no_name store is id none k d below)))
 
-second_false : (a b c d e f : Bool) → (a || b || c || d || e || f) ≡ false → b ≡ false
-second_false true b c d e f h = cc
-second_false false true c d e f h = cc
-second_false false false c d e f h = refl
+-- ---- what is told of an object without a handle
+
+-- the tests in the order in which they are made
+in_turn : (root named holds mapped pinned : Bool) → (holds || named || root || mapped || pinned) ≡ (root || false || pinned || mapped || named || holds)
+in_turn true named true mapped pinned = refl
+in_turn true true false mapped pinned = refl
+in_turn true false false mapped pinned = refl
+in_turn false true true mapped true = refl
+in_turn false true true true false = refl
+in_turn false true true false false = refl
+in_turn false true false mapped true = refl
+in_turn false true false true false = refl
+in_turn false true false false false = refl
+in_turn false false true mapped true = refl
+in_turn false false true true false = refl
+in_turn false false true false false = refl
+in_turn false false false true true = refl
+in_turn false false false true false = refl
+in_turn false false false false true = refl
+in_turn false false false false false = refl
+
+-- where no name of an object lies in it, what lies in it is told without its names too
+others_lie : (rows : List Row) (id : ℕ) → All (λ r. r.directory < r.object) rows → list_any (λ r. r.directory == id) (filter (λ r. not (r.object == id)) rows) ≡ list_any (λ r. r.directory == id) rows
+others_lie [] id descending = refl
+others_lie (r ∷ rs) id descending = go (r.object == id) refl (others_lie rs id (λ k d below. descending (suc k) d (omega (arith, below))))
+  where
+    go : (b : Bool) → (r.object == id) ≡ b → list_any (λ q. q.directory == id) (filter (λ q. not (q.object == id)) rs) ≡ list_any (λ q. q.directory == id) rs
+        → list_any (λ q. q.directory == id) (cond (not b) (r ∷ filter (λ q. not (q.object == id)) rs) (filter (λ q. not (q.object == id)) rs)) ≡ ((r.directory == id) || list_any (λ q. q.directory == id) rs)
+    go true own more =
+        more ∙ ap (λ b. b || list_any (λ q. q.directory == id) rs) (sym (ne_eqb r.directory id (λ same. omega (arith, same, eqb-true r.object id own, descending 0 r (omega arith)))))
+    go false other more = ap (λ b. (r.directory == id) || b) more
+
+module _ {K T F I : Type 0} (s : State K T F I) (id : ℕ) (unheld : has_handle s id ≡ false) (descending : All (λ r. r.directory < r.object) s.rows) where
+  -- whether it stays, by what is told of it
+  pub stays_as_told : (standing : Standing) → standing ≡ standing_among s.objects s.rows id
+      → held_up_by (record { processes = s.processes; handles = s.handles }) s.pending id standing ≡ is_held_up (without_names s id) id
+  stays_as_told standing told =
+      ap (held_up_by (record { processes = s.processes; handles = s.handles }) s.pending id) told
+      ∙ in_turn (id == root_id) (is_permanent s id && is_some (option_map place_of (find (λ r. r.object == id) s.rows))) (list_any (λ r. r.directory == id) s.rows) (is_mapped s id) (is_pinned s id)
+      ∙ (λ i. (id == root_id) || sym unheld i || is_pinned s id || is_mapped s id || named (is_permanent s id) i || holds (is_permanent s id) i)
+    where
+      -- its name, by whether it is permanent
+      named : (p : Bool) → (p && is_some (option_map place_of (find (λ r. r.object == id) s.rows)))
+          ≡ (p && list_any (λ r. r.object == id) (cond (p || has_handle s id) s.rows (filter (λ r. not (r.object == id)) s.rows)))
+      named true = is_mapped_some place_of (find (λ r. r.object == id) s.rows) ∙ sym (any_found (λ r. r.object == id) s.rows)
+      named false = refl
+
+      -- and what lies in it
+      holds : (p : Bool) → list_any (λ r. r.directory == id) s.rows ≡ list_any (λ r. r.directory == id) (cond (p || has_handle s id) s.rows (filter (λ r. not (r.object == id)) s.rows))
+      holds true = refl
+      holds false = sym (ap (λ b. list_any (λ r. r.directory == id) (cond b s.rows (filter (λ r. not (r.object == id)) s.rows))) unheld ∙ others_lie s.rows id descending)
 
 module _ (K : Type 0) {T F I : Type 0} (g : Procedures K T F I) (a : Parts K T F I) (id : ℕ) where
   -- ---- one object is deleted
@@ -71,23 +120,38 @@ module _ (K : Type 0) {T F I : Type 0} (g : Procedures K T F I) (a : Parts K T F
 
   -- ---- one object is settled
 
-  module _ (store : Entries F I) (objects : objects_of store ≡ objects_of a.store) (rows : rows_of store ≡ (without_names (state_of K a) id).rows) where
-    forgotten : state_of K (record a { store = store }) ≡ without_names (state_of K a) id
-    forgotten = λ i. record (state_of K a) { objects = objects i; rows = rows i }
+  -- the name goes unless the object is permanent
+  module _ (is : IsStore a.store) (unheld : has_handle (state_of K a) id ≡ false) (standing : Standing) (told : standing ≡ standing_at a.store id) (store : Entries F I)
+      (left : store ≡ cond standing.permanent a.store (option_map_or (λ (p : EntryPlace). changes.without_name a.store p.directory p.stamp) standing.place a.store)) where
+    name_left : (objects_of store ≡ objects_of a.store) × (rows_of store ≡ (without_names (state_of K a) id).rows)
+    name_left = go (is_permanent (state_of K a) id) (place_at a.store id) refl refl (left ∙ ap (λ (x : Standing). cond x.permanent a.store (option_map_or (λ (p : EntryPlace). changes.without_name a.store p.directory p.stamp) x.place a.store)) told)
+      where
+        go : (p : Bool) (o : Option EntryPlace) → is_permanent (state_of K a) id ≡ p → place_at a.store id ≡ o
+            → store ≡ cond p a.store (option_map_or (λ (x : EntryPlace). changes.without_name a.store x.directory x.stamp) o a.store)
+            → (objects_of store ≡ objects_of a.store) × (rows_of store ≡ cond (p || has_handle (state_of K a) id) (rows_of a.store) (filter (λ r. not (r.object == id)) (rows_of a.store)))
+        go true o e at then = (ap objects_of then, ap rows_of then)
+        go false None e at then = (
+          ap objects_of then,
+          ap rows_of then ∙ none_gone a.store is id at ∙ sym (ap (λ b. cond b (rows_of a.store) (filter (λ r. not (r.object == id)) (rows_of a.store))) unheld),
+        )
+        go false (Some x) e at then = (
+          objects_stay a.store is id x at store then,
+          name_gone a.store is id x at store then ∙ sym (ap (λ b. cond b (rows_of a.store) (filter (λ r. not (r.object == id)) (rows_of a.store))) unheld),
+        )
 
-    pub settled_gone : (u : State K T F I) → u ≡ without_object g (state_of K (record a { store = store })) id → is_held_up (state_of K (record a { store = store })) id ≡ false → u ≡ settled_one g (state_of K a) id
+    forgotten : state_of K (record a { store = store }) ≡ without_names (state_of K a) id
+    forgotten = λ i. record (state_of K a) { objects = name_left.0 i; rows = name_left.1 i }
+
+    pub settled_gone : (u : State K T F I) → u ≡ without_object g (state_of K (record a { store = store })) id → is_held_up (without_names (state_of K a) id) id ≡ false → u ≡ settled_one g (state_of K a) id
     settled_gone u is up =
         is ∙ ap (λ t. without_object g t id) forgotten
-        ∙ sym (ap (λ b. cond b (without_names (state_of K a) id) (without_object g (without_names (state_of K a) id) id)) (sym (ap (λ t. is_held_up t id) forgotten) ∙ up))
+        ∙ sym (ap (λ b. cond b (without_names (state_of K a) id) (without_object g (without_names (state_of K a) id) id)) up)
 
-    pub settled_there : is_held_up (state_of K (record a { store = store })) id ≡ true → state_of K (record a { store = store }) ≡ settled_one g (state_of K a) id
-    settled_there up =
-        forgotten
-        ∙ sym (ap (λ b. cond b (without_names (state_of K a) id) (without_object g (without_names (state_of K a) id) id)) (sym (ap (λ t. is_held_up t id) forgotten) ∙ up))
+    pub settled_there : is_held_up (without_names (state_of K a) id) id ≡ true → state_of K (record a { store = store }) ≡ settled_one g (state_of K a) id
+    settled_there up = forgotten ∙ sym (ap (λ b. cond b (without_names (state_of K a) id) (without_object g (without_names (state_of K a) id) id)) up)
 
-    pub idle_there : (idle : I → Type 0) → All (IsIdleUnheld idle a.processes.handles) (objects_of a.store) → is_held_up (state_of K (record a { store = store })) id ≡ false
-        → MatchOption (body_of (state_of K (record a { store = store })) id) (Unit {0}) (IsIdleBody idle)
-    idle_there idle unheld up =
+    pub idle_there : (idle : I → Type 0) → All (IsIdleUnheld idle a.processes.handles) (objects_of a.store) → MatchOption (body_of (state_of K (record a { store = store })) id) (Unit {0}) (IsIdleBody idle)
+    idle_there idle unheld_idle =
         subst (λ o. MatchOption o (Unit {0}) (IsIdleBody idle)) (sym (body_is (state_of K (record a { store = store })) store (record { objects = refl; rows = refl }) id (stored_at store id) refl))
         (go (stored_at store id) refl)
       where
@@ -95,19 +159,29 @@ module _ (K : Type 0) {T F I : Type 0} (g : Procedures K T F I) (a : Parts K T F
         go None e = tt
         go (Some x) e =
             all_found (IsIdleUnheld idle a.processes.handles) (λ o. o.id == id) (objects_of store) (object_of_stored id x)
-            (subst (All (IsIdleUnheld idle a.processes.handles)) (sym objects) unheld) (found_is_stored store id ∙ ap (option_map (object_of_stored id)) e)
-            (second_false (id == root_id) (is_held a.processes.handles id) _ _ _ _ up)
+            (subst (All (IsIdleUnheld idle a.processes.handles)) (sym name_left.0) unheld_idle) (found_is_stored store id ∙ ap (option_map (object_of_stored id)) e)
+            unheld
 
 -- ---- one object, and then the directory of its name
 
--- what is left of a state in which objects without a handle are idle
-pub settled_unheld : {K T F I : Type 0} (g : Procedures K T F I) (idle : I → Type 0) (s : State K T F I) (o : ℕ) → All (IsIdleUnheld idle s.handles) s.objects
-    → (t : State K T F I) → t ≡ settled_one g s o → All (IsIdleUnheld idle t.handles) t.objects
-settled_unheld {K} {T} {F} {I} g idle s o unheld t is = subst (λ (u : State K T F I). All (IsIdleUnheld idle u.handles) u.objects) (sym is) (go (is_held_up (without_names s o) o))
+-- what is left may be settled further
+pub may_then : {K T F I : Type 0} (g : Procedures K T F I) (idle : I → Type 0) (s : State K T F I) (o : ℕ) → MaySettle idle s → (t : State K T F I) → t ≡ settled_one g s o → MaySettle idle t
+may_then {K} {T} {F} {I} g idle s o may t is = subst (MaySettle idle) (sym is) (go (is_held_up (without_names s o) o))
   where
-    go : (b : Bool) → All (IsIdleUnheld idle (cond b (without_names s o) (without_object g (without_names s o) o)).handles) (cond b (without_names s o) (without_object g (without_names s o) o)).objects
-    go true = unheld
-    go false = All-filter (λ x. not (x.id == o)) (IsIdleUnheld idle s.handles) s.objects unheld
+    named : (b : Bool) → All (λ (r : Row). r.directory < r.object) (cond b s.rows (filter (λ r. not (r.object == o)) s.rows))
+    named true = may.descending
+    named false = All-filter (λ r. not (r.object == o)) (λ r. r.directory < r.object) s.rows may.descending
+
+    go : (b : Bool) → MaySettle idle (cond b (without_names s o) (without_object g (without_names s o) o))
+    go true = record { unheld = may.unheld; descending = named (is_permanent s o || has_handle s o) }
+    go false = record {
+      unheld = All-filter (λ x. not (x.id == o)) (IsIdleUnheld idle s.handles) s.objects may.unheld;
+      descending = All-filter (λ r. not (r.directory == o)) (λ r. r.directory < r.object) (without_names s o).rows (named (is_permanent s o || has_handle s o));
+    }
+
+-- of an orderly state each object may
+pub may_orderly : {K T F I : Type 0} (idle : I → Type 0) (s : State K T F I) → IsOrderly idle s → MaySettle idle s
+may_orderly idle s orderly = record { unheld = orderly.unheld; descending = orderly.descending }
 
 -- the names of a state stand where those of its store do
 module _ {K T F I : Type 0} (s : State K T F I) (store : Entries F I) (shows : Shows s store) (stores : IsStore store) (id : ℕ) where
@@ -249,8 +323,8 @@ module _ {K T F I : Type 0} (g : Procedures K T F I) (idle : I → Type 0) (s : 
         judged : Judged g s (λ o. false || (o == object)) t
         judged = subst (Judged g s (λ o. false || (o == object))) (sym is) first_judged
 
-        pub closed_unheld : All (IsIdleUnheld idle t.handles) t.objects
-        closed_unheld = unheld_left g s (λ o. false || (o == object)) t judged idle orderly.unheld
+        pub closed_may : MaySettle idle t
+        closed_may = may_left g s (λ o. false || (o == object)) t judged idle (may_orderly idle s orderly)
 
         behind : All (λ x. p.directory < x.id → is_alive s x.id ≡ true) t.objects
         behind k d below later = go (get_or t.objects k d).id ((get_or t.objects k d).id == object) refl later (left k d below) (alive k d below)

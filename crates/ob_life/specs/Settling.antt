@@ -1,12 +1,23 @@
--- Which objects stay, told from the names that stay; what settling makes of one object; what was settled
--- before one handle was closed; and what a process that ends leaves to be settled.
-use Rattle.std.specs.Prelude.{◌≡◌, ◌⊎◌, ℕ, Bool, true, false, ◌&&◌, ◌||◌, ◌==◌, not, if◌then◌else◌, [], ◌∷◌, ◌++◌, filter, All, Option, Some, MatchOption}
+-- Which objects stay, told from the names that stay; what settling makes of one object, and asks of a state; what was
+-- settled before one handle was closed; and what a process that ends leaves to be settled.
+use Rattle.std.specs.Prelude.{◌≡◌, ◌⊎◌, ℕ, ◌<◌, Bool, true, false, ◌&&◌, ◌||◌, ◌==◌, not, if◌then◌else◌, [], ◌∷◌, ◌++◌, filter, All, List, Option, Some, MatchOption}
 use Rattle.std.specs.List.{list_any, find}
-use Rattle.std.specs.Option.{option_map_or}
+use Rattle.std.specs.Option.{option_map_or, is_some}
+use Rattle.ob_model.specs.declared.state.Pending.{Pending}
 use Rattle.ob_model.specs.Procedures.{Procedures}
 use Rattle.ob_model.specs.State.{State, root_id, body_of}
 use Rattle.ob_model.specs.Settle.{is_permanent, has_handle, is_kept, has_name, is_pinned, is_mapped, deleted_one}
 use Rattle.ob_model.specs.Sound.{IsDirectory}
+use Rattle.ob_objects.specs.declared.standing.Standing.{Standing}
+use Rattle.ob_processes.specs.Running.{Running}
+use Rattle.ob_space.specs.Namespace.{running_alone}
+use Rattle.ob_space.specs.Orderly.{IsIdleUnheld}
+
+-- by what is told of an object without a handle: it stays by its name, by what lies in it, as the root, as a map
+-- directory, or pinned by a pending open
+abbrev pub held_up_by : {K : Type 0} → Running → List (Pending K) → ℕ → Standing → Bool
+held_up_by running pending o standing =
+    standing.holds_names || (standing.permanent && is_some standing.place) || (o == root_id) || is_mapped (running_alone running) o || list_any (λ p. p.object == o) pending
 
 module _ {K T F I : Type 0} where
   -- the object is the root, has a handle, is pinned by a pending open, is `\GLOBAL??` or a live process's map
@@ -19,6 +30,12 @@ module _ {K T F I : Type 0} where
   -- a handle to the object is left, or it is permanent and has a name
   abbrev pub is_upheld : State K T F I → ℕ → Bool
   is_upheld s o = has_handle s o || (is_permanent s o && has_name s o)
+
+  -- what is asked of a state while its objects are settled: those without a handle are idle, and each name's directory
+  -- was made before its object, so that none lies in what it names
+  pub record MaySettle (idle : I → Type 0) (s : State K T F I) : Type 0 where
+    pub unheld : All (IsIdleUnheld idle s.handles) s.objects
+    pub descending : All (λ r. r.directory < r.object) s.rows
 
   -- the state without the names of an object that don't stay
   abbrev pub without_names : State K T F I → ℕ → State K T F I
@@ -65,6 +82,6 @@ module _ {K T F I : Type 0} (g : Procedures K T F I) where
       MatchOption (find (λ r. r.object == o) s.rows) ((t ≡ settled_one s o) × All (λ q. (q.object == o) ≡ false) s.rows)
       (λ r. (t ≡ settled_unless touched (settled_one s o) r.directory) × All (λ q. (q.object == o) ≡ true → q.directory ≡ r.directory) s.rows)
 
-  -- an object had its turn: a handle to it is left, and nothing went, or it was settled so
+  -- an object had its turn: a handle to it is left, or it is permanent and has a name, and nothing went; or it was settled so
   abbrev pub HadItsTurn : State K T F I → (ℕ → Bool) → ℕ → State K T F I → Type 0
-  HadItsTurn s touched o t = ((has_handle s o ≡ true) × (t ≡ s)) ⊎ AreSettled s touched o t
+  HadItsTurn s touched o t = ((is_upheld s o ≡ true) × (t ≡ s)) ⊎ AreSettled s touched o t

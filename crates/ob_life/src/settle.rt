@@ -1,18 +1,21 @@
 //! What stays at the end of a step.
 
-ghost use Rattle.std.specs.Prelude.{◌≡◌, ◌||◌, ◌==◌, [], filter, not, All, MatchOption};
-ghost use Rattle.ob_model.specs.Settle.{settle, IsSettled, is_permanent, has_handle, is_mapped, deleted_one};
-ghost use Rattle.ob_objects.specs.Store.{objects_of, rows_of, body_of_stored};
+ghost use Rattle.std.specs.Prelude.{◌≡◌, if◌then◌else◌, false, MatchOption};
+ghost use Rattle.std.specs.Option.{option_map_or};
+ghost use Rattle.ob_model.specs.Settle.{settle, IsSettled, has_handle, is_mapped};
+ghost use Rattle.ob_objects.specs.Changes.{without_name};
+ghost use Rattle.ob_objects.specs.Standing.{standing_among};
 ghost use Rattle.ob_model.specs.State.{body_of};
-ghost use Rattle.ob_space.specs.Namespace.{listed, with_opens, none_running, running_alone, handles_alone};
-ghost use Rattle.ob_space.specs.Orderly.{IsOrderly, IsIdleBody, IsIdleUnheld};
+ghost use Rattle.ob_space.specs.Namespace.{running_alone, handles_alone};
+ghost use Rattle.ob_space.specs.Orderly.{IsOrderly, IsIdleBody};
 ghost use Rattle.ob_handles.specs.Counts.{is_listed};
 ghost use Rattle.ob_model.specs.Sound.{IsSound};
-ghost use Rattle.ob_life.specs.Settling.{is_held_up, is_upheld, settled_one, settled_unless, AreSettled, HadItsTurn, StaysBut, with_handle_to, without_names, without_object};
+ghost use Rattle.ob_life.specs.Settling.{settled_one, settled_unless, held_up_by, AreSettled, HadItsTurn, MaySettle, StaysBut, with_handle_to, without_object};
 
 use ob_base::ObjId;
 use ob_handles::{HandleTable, Touched};
 use ob_lookup::CachedStore;
+use ob_objects::Standing;
 use ob_processes::{PendingOpens, Processes};
 use ob_space::{GLOBAL, ROOT, Space, delete_body};
 use ob_types::TypeSet;
@@ -35,25 +38,18 @@ pub fn settle_after_loss<T: TypeSet, H: HandleTable>(space: &mut Space<T, H>, ob
     ensures orderly { IsOrderly T.idle space.new }
     ensures settled { space.new ≡ settle T.procedures space.old }
 {
-    if is_upheld(space, object) {
+    if has_handle(&space.processes, object) {
         return;
     }
-    // The length tells what holds of every store.
-    let _ = space.store.len();
-    let place = space.store.place_of(object);
-    settle_one(space, object);
+    let standing = space.store.standing_of(object);
+    if standing.stays_by_name() {
+        return;
+    }
+    let place = standing.place;
+    settle_unheld(space, object, &standing);
     if let Some(place) = place {
         settle_one(space, place.directory);
     }
-}
-
-/// Whether a handle to an object is left, or it is permanent and has a name: then it goes by no loss, nor does
-/// the directory of its name.
-fn is_upheld<T: TypeSet, H: HandleTable>(space: &Space<T, H>, object: ObjId) -> bool
-    ensures { result ≡ is_upheld space.now object }
-{
-    has_handle(&space.processes, object)
-        || (space.store.is_permanent(object) && space.store.has_name(object))
 }
 
 /// Settles after a process has ended: of the objects that its handles led to, each that is neither
@@ -90,27 +86,38 @@ pub fn settle_after_end<T: TypeSet, H: HandleTable>(
     }
 }
 
-/// Settles one object in its turn: where a handle to it is left nothing goes, neither of it nor of the directory of its
-/// name.
+/// Settles one object in its turn: where a handle to it is left, or it is permanent and has a name, nothing goes, neither
+/// of it nor of the directory of its name.
 fn settle_in_turn<T: TypeSet, H: HandleTable>(space: &mut Space<T, H>, touched: &Touched, id: ObjId)
-    requires { All (IsIdleUnheld T.idle space.old.handles) space.old.objects }
+    requires { MaySettle T.idle space.old }
     ensures { HadItsTurn T.procedures space.old (is_listed touched.now) id space.new }
 {
-    if !has_handle(&space.processes, id) {
-        settle_named(space, touched, id);
+    if has_handle(&space.processes, id) {
+        return;
+    }
+    let standing = space.store.standing_of(id);
+    if !standing.stays_by_name() {
+        settle_named(space, touched, id, &standing);
     }
 }
 
-/// Settles one object, and then the directory of its name, unless that has its own turn.
-fn settle_named<T: TypeSet, H: HandleTable>(space: &mut Space<T, H>, touched: &Touched, id: ObjId)
-    requires { All (IsIdleUnheld T.idle space.old.handles) space.old.objects }
+/// Settles one object that has no handle, by what the store told of it, and then the directory of its name, unless that has
+/// its own turn.
+fn settle_named<T: TypeSet, H: HandleTable>(
+    space: &mut Space<T, H>,
+    touched: &Touched,
+    id: ObjId,
+    standing: &Standing,
+)
+    requires may { MaySettle T.idle space.old }
+    requires unheld { has_handle space.old id ≡ false }
+    requires told { standing.now ≡ standing_among space.old.objects space.old.rows id }
     ensures { AreSettled T.procedures space.old (is_listed touched.now) id space.new }
 {
     // The length tells what holds of every store.
     let _ = space.store.len();
-    let place = space.store.place_of(id);
-    settle_one(space, id);
-    if let Some(place) = place {
+    settle_unheld(space, id, standing);
+    if let Some(place) = standing.place {
         settle_untouched(space, touched, place.directory);
     }
 }
@@ -122,7 +129,7 @@ fn settle_untouched<T: TypeSet, H: HandleTable>(
     touched: &Touched,
     directory: ObjId,
 )
-    requires { All (IsIdleUnheld T.idle space.old.handles) space.old.objects }
+    requires { MaySettle T.idle space.old }
     ensures { space.new
         ≡ settled_unless T.procedures (is_listed touched.now) space.old directory }
 {
@@ -134,39 +141,45 @@ fn settle_untouched<T: TypeSet, H: HandleTable>(
 /// Settles one object: its name goes unless it stays, and then the object goes unless it stays, given
 /// the names that are left.
 fn settle_one<T: TypeSet, H: HandleTable>(space: &mut Space<T, H>, id: ObjId)
-    requires { All (IsIdleUnheld T.idle space.old.handles) space.old.objects }
+    requires { MaySettle T.idle space.old }
     ensures { space.new ≡ settled_one T.procedures space.old id }
 {
-    forget_unkept(&mut space.store, &space.processes, id);
-    if !is_held_up(&space.store, &space.processes, &space.pending, id) {
+    if has_handle(&space.processes, id) {
+        return;
+    }
+    let standing = space.store.standing_of(id);
+    settle_unheld(space, id, &standing);
+}
+
+/// Settles one object that has no handle, by what the store told of it.
+fn settle_unheld<T: TypeSet, H: HandleTable>(
+    space: &mut Space<T, H>,
+    id: ObjId,
+    standing: &Standing,
+)
+    requires may { MaySettle T.idle space.old }
+    requires unheld { has_handle space.old id ≡ false }
+    requires told { standing.now ≡ standing_among space.old.objects space.old.rows id }
+    ensures { space.new ≡ settled_one T.procedures space.old id }
+{
+    // The length tells what holds of every store.
+    let _ = space.store.len();
+    forget_unkept(&mut space.store, standing);
+    if !is_held_up::<T, H>(&space.processes, &space.pending, id, standing) {
         delete_object(space, id);
     }
 }
 
-/// Takes away the name of an object, unless it stays.
-fn forget_unkept<T: TypeSet, H: HandleTable>(
-    store: &mut CachedStore<T>,
-    processes: &Processes<H>,
-    id: ObjId,
-)
-    ensures objects { objects_of store.new ≡ objects_of store.old }
-    ensures rows { rows_of store.new
-        ≡ (without_names (listed (objects_of store.old)
-        (rows_of store.old) processes.now) id).rows }
+/// Takes away the name of an object that has no handle, unless it is permanent.
+fn forget_unkept<T: TypeSet>(store: &mut CachedStore<T>, standing: &Standing)
+    ensures { store.new ≡ (if standing.now.permanent then store.old
+        else option_map_or (λ place. without_name store.old place.directory place.stamp)
+        standing.now.place store.old) }
 {
-    if !is_kept(store, processes, id) {
-        forget_name(store, id);
+    if standing.permanent {
+        return;
     }
-}
-
-/// Takes away the name of an object, where it has one.
-fn forget_name<T: TypeSet>(store: &mut CachedStore<T>, id: ObjId)
-    ensures objects { objects_of store.new ≡ objects_of store.old }
-    ensures rows { rows_of store.new ≡ filter (λ row. not (row.object == id)) (rows_of store.old) }
-{
-    // The length tells what holds of every store.
-    let _ = store.len();
-    if let Some(place) = store.place_of(id) {
+    if let Some(place) = standing.place {
         store.remove_name(place.directory, place.stamp);
     }
 }
@@ -181,35 +194,20 @@ fn delete_object<T: TypeSet, H: HandleTable>(space: &mut Space<T, H>, id: ObjId)
     }
 }
 
-/// Whether the names of an object stay: it is permanent or has a handle.
-fn is_kept<T: TypeSet, H: HandleTable>(
-    store: &CachedStore<T>,
-    processes: &Processes<H>,
-    id: ObjId,
-) -> bool
-    ensures { result ≡ (is_permanent (listed (objects_of store.now) [] none_running) id
-        || has_handle (handles_alone processes.now.handles) id) }
-{
-    store.is_permanent(id) || has_handle(processes, id)
-}
-
-/// Whether an object stays, given the names that stay.
+/// Whether an object that has no handle stays, by what the store told of it.
 fn is_held_up<T: TypeSet, H: HandleTable>(
-    store: &CachedStore<T>,
     processes: &Processes<H>,
     pending: &PendingOpens<T::Kind>,
     id: ObjId,
+    standing: &Standing,
 ) -> bool
-    ensures { result
-        ≡ is_held_up (with_opens (objects_of store.now)
-        (rows_of store.now) processes.now pending.now) id }
+    ensures { result ≡ held_up_by processes.now pending.now id standing.now }
 {
-    id == ROOT
-        || has_handle(processes, id)
-        || pending.is_pinned(id)
+    standing.holds_names
+        || standing.stays_by_name()
+        || id == ROOT
         || is_mapped(processes, id)
-        || (store.is_permanent(id) && store.has_name(id))
-        || store.holds_names(id)
+        || pending.is_pinned(id)
 }
 
 /// Whether an object has a handle.

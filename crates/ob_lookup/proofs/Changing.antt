@@ -1,12 +1,14 @@
 -- A store in which a name comes or goes, beside a cache that stays: each prefix leads where it led.
-use Rattle.std.proofs.Common.{◌≡◌, ◌∙◌, ℕ, ◌<◌, ◌==◌, ◌&&◌, Bool, true, false, cond, not, List, [], ◌∷◌, ◌++◌, filter, find, Option, None, Some, option_map, IsSome, All, Bor, refl, ap, sym, subst, eqb-true, eq-eqb, arith}
+use Rattle.std.proofs.Common.{◌≡◌, ◌∙◌, ℕ, ◌<◌, ◌==◌, ◌&&◌, Bool, true, false, cond, not, List, [], ◌∷◌, ◌++◌, filter, find, Option, None, Some, option_map, IsSome, All, refl, ap, sym, subst, eqb-true, arith}
 use Rattle.std.specs.Prelude.{Contains}
 use Rattle.std.proofs.lemmas.Bool.{false≢true}
 use Rattle.std.proofs.lemmas.List.Elements.{All-head, All-tail}
-use Rattle.std.specs.Option.{option_and_then, option_copied, option_or, is_some, unwrap_or}
+use Rattle.std.specs.List.{list_any}
+use Rattle.std.specs.Option.{option_and_then, option_map_or, option_or, is_some, unwrap_or}
 use Rattle.ob_model.specs.declared.state.Body.TheVariants as model
 use Rattle.ob_model.specs.declared.state.Row.{Row}
-use Rattle.ob_model.specs.State.{State, global_id, is_directory}
+use Rattle.ob_model.specs.declared.state.Object.{Object}
+use Rattle.ob_model.specs.State.{State, global_id, is_directory, is_directory_body}
 use Rattle.ob_model.specs.Paths.{IsPath, found_object}
 use Rattle.ob_model.specs.Paths as paths
 use Rattle.ob_dirs.specs.declared.entry.DirEntry.{DirEntry}
@@ -15,10 +17,12 @@ use Rattle.ob_dirs.proofs.Earliest.{first_comes_before, others_are_dir, found_is
 use Rattle.ob_objects.specs.declared.object.StoredBody.{StoredBody}
 use Rattle.ob_objects.specs.declared.object.StoredBody.TheVariants.{Directory, Link, Other}
 use Rattle.ob_objects.specs.declared.object.StoredObject.{StoredObject}
-use Rattle.ob_objects.specs.Store.{Entries, IsStore, Shows, stored_at, directory_of, directory_at, entries_in, entries_at, objects_of, rows_of}
+use Rattle.ob_objects.specs.Store.{Entries, IsStore, Shows, stored_at, directory_of, directory_at, body_of_stored, entries_at, objects_of, rows_of}
 use Rattle.ob_objects.specs.Changes.{changed_at, body_with_name, body_without_name, with_name, without_name}
 use Rattle.ob_objects.proofs.Entries.{nothing_mapped}
-use Rattle.ob_objects.proofs.Shown.{entries_at-is_dir, store_finds}
+use Rattle.ob_objects.proofs.Follow.{told_of_object}
+use Rattle.ob_objects.proofs.Shown.{entries_at-is_dir, names_change_no_object, store_finds}
+use Rattle.ob_objects.proofs.Stands.{any_found, is_mapped_some}
 use Rattle.ob_lookup.specs.declared.prefix.Prefix.{Prefix}
 use Rattle.ob_lookup.specs.Cache.{Kept, ArePaths, NoneIsLocal}
 use Rattle.ob_lookup.specs.Prefix.{LeadsFrom, LeadsTo}
@@ -309,15 +313,36 @@ module _ {K T F I : Type 0} (store : Entries F I) (cache : Kept) (are : ArePaths
           go true = find_none (is_named c fold) (λ x. not (x.stamp == stamp)) (entries_at store e.0.place) none
           go false = none
 
--- ---- what the entry of a stamp names
+-- ---- what the entry of a stamp named
 
-pub is_some_copied : {X : Type 0} (o : Option (Bor X)) → is_some (option_copied o) ≡ is_some o
-is_some_copied None = refl
-is_some_copied (Some x) = refl
+-- an object is a directory where one is stored
+directory_told : {F I : Type 0} (store : Entries F I) (id : ℕ) → is_some (directory_at store id) ≡ option_map_or (λ x. is_directory_body x.body) (find (λ x. x.id == id) (objects_of store)) false
+directory_told {F} {I} store id = go (stored_at store id) ∙ told_of_object (λ x. is_directory_body x.body) store id (stored_at store id) refl
+  where
+    body : (b : StoredBody F I) → is_some (directory_of b) ≡ is_directory_body (body_of_stored b)
+    body (Directory es) = refl
+    body (Link target) = refl
+    body (Other face inner) = refl
 
-pub same_entry : (a b : DirEntry) → Some a ≡ Some b → a ≡ b
-same_entry a b e = cc
+    go : (o : Option (StoredObject F I)) → is_some (option_and_then (λ x. directory_of x.body) o) ≡ option_map_or (λ x. is_directory_body (body_of_stored x.body)) o false
+    go None = refl
+    go (Some x) = body x.body
 
-pub entries_are : {F I : Type 0} (store : Entries F I) (d : ℕ) (entries : List DirEntry) (stamp : ℕ) → directory_at store d ≡ Some entries
-    → find (λ e. e.stamp == stamp) (entries_at store d) ≡ find (λ e. e.stamp == stamp) entries
-entries_are store d entries stamp is = ap (λ (o : Option (List DirEntry)). find (λ (e : DirEntry). e.stamp == stamp) (unwrap_or o [])) is
+module _ {F I : Type 0} (store : Entries F I) (id stamp : ℕ) (took : Option ℕ) (is : took ≡ option_map (λ e. e.object) (find (λ e. e.stamp == stamp) (entries_at store id))) where
+  -- an object is told exactly where there was an entry
+  pub was_there : is_some took ≡ list_any (λ e. e.stamp == stamp) (entries_at store id)
+  was_there = ap is_some is ∙ is_mapped_some (λ (e : DirEntry). e.object) (find (λ e. e.stamp == stamp) (entries_at store id)) ∙ sym (any_found (λ e. e.stamp == stamp) (entries_at store id))
+
+  -- where none is, no entry names a directory
+  pub none_named : took ≡ None → (e : DirEntry) → find (λ x. x.stamp == stamp) (entries_at store id) ≡ Some e → is_some (directory_at store e.object) ≡ false
+  none_named none e found = let no : Some e.object ≡ None = sym (ap (option_map (λ (x : DirEntry). x.object)) found) ∙ sym is ∙ none in cc
+
+  -- nor where the object is none, asked once its name has gone
+  pub other_named : (object : ℕ) → took ≡ Some object → (left : Entries F I) → left ≡ without_name store id stamp → option_map_or (λ x. is_directory_body x.body) (find (λ x. x.id == object) (objects_of left)) false ≡ false
+      → (e : DirEntry) → find (λ x. x.stamp == stamp) (entries_at store id) ≡ Some e → is_some (directory_at store e.object) ≡ false
+  other_named object some left others plain e found =
+      let it : Some e.object ≡ Some object = sym (ap (option_map (λ (x : DirEntry). x.object)) found) ∙ sym is ∙ some in
+      let same : e.object ≡ object = cc in
+      directory_told store e.object ∙ ap (λ (xs : List (Object F I)). option_map_or (λ x. is_directory_body x.body) (find (λ x. x.id == e.object) xs) false)
+      (sym (ap objects_of others ∙ (names_change_no_object store id e stamp).1))
+      ∙ ap (λ n. option_map_or (λ (x : Object F I). is_directory_body x.body) (find (λ x. x.id == n) (objects_of left)) false) same ∙ plain

@@ -1,15 +1,15 @@
 //! A store with a cache of the prefixes that lead in it.
 
 ghost use Rattle.std.specs.Prelude.{◌≡◌, ◌≢◌, ◌<◌, ◌==◌, [], length, None, Some};
-ghost use Rattle.std.specs.Prelude.{All, ℕ, IsOk, IsSome, IfOk, IfErr, OnErr, false};
+ghost use Rattle.std.specs.Prelude.{All, IsOk, IsSome, IfOk, IfErr, OnErr, false};
 ghost use Rattle.std.specs.List.{find, list_any};
 ghost use Rattle.std.specs.Option.{is_some, option_and_then, option_copied, option_map, option_map_or};
 ghost use Rattle.ob_model.specs.Enumeration.{enumerated};
 ghost use Rattle.ob_model.specs.State.{State, is_directory_body};
 ghost use Rattle.ob_objects.specs.Store.{IsStore, Shows, stored_at, directory_of, directory_at, entries_in, entries_at, place_at, objects_of, rows_of};
-ghost use Rattle.ob_dirs.specs.declared.entry.DirEntry.{DirEntry};
 ghost use Rattle.ob_objects.specs.Listing.{page_given};
 ghost use Rattle.ob_objects.specs.Named.{row_of_named};
+ghost use Rattle.ob_objects.specs.Standing.{standing_at};
 ghost use Rattle.ob_objects.specs.Changes.{with_entry, without_object, with_name, without_name, with_permanence};
 ghost use Rattle.ob_objects.specs.Changes.{
   refusal_to_open,
@@ -26,10 +26,9 @@ use crate::cached::look_cached;
 use crate::terms::Look;
 use ob_base::ObjId;
 use ob_devmap::View;
-use ob_dirs::Dir;
 use ob_model::Mode;
 use ob_names::{Name, NameBuf};
-use ob_objects::{EntryPlace, Named, Page, Store, StoredBody, StoredObject};
+use ob_objects::{EntryPlace, Named, Page, Standing, Store, StoredBody, StoredObject};
 use ob_types::{Reason, TypeSet};
 use std::alloc::{AllocError, Global};
 use std::marker::Model;
@@ -180,6 +179,18 @@ impl<T: TypeSet> CachedStore<T> {
         self.store.name_of(id)
     }
 
+    /// What tells whether an object stays, found at once. Takes no memory.
+    ///
+    /// Source: Windows Internals, Object Manager (object retention); the stamps are this profile.
+    pub fn standing_of(&self, id: ObjId) -> Standing
+        ensures standing { result ≡ standing_at self.now id }
+
+        // What holds of every store.
+        ensures store { IsStore self.now }
+    {
+        self.store.standing_of(id)
+    }
+
     /// A page of a directory, as [`Store::page`] gives it. The only fault is out of memory, which a page that shows
     /// none doesn't take.
     ///
@@ -289,13 +300,15 @@ impl<T: TypeSet> CachedStore<T> {
     {
         // The length tells what holds of every store.
         let _ = self.store.len();
-        let names_directory = names_directory(&self.store, directory, stamp);
-        let gone = self.store.remove_name(directory, stamp);
+        let Some(object) = self.store.take_name(directory, stamp) else {
+            let _ = self.store.len();
+            return false;
+        };
         let _ = self.store.len();
-        if names_directory {
+        if self.store.is_directory(object) {
             self.cache.clear();
         }
-        gone
+        true
     }
 
     /// Makes an object permanent or temporary; where there is none, nothing changes. Takes no memory.
@@ -347,30 +360,5 @@ fn is_directory<F, I>(taken: &Option<StoredObject<F, I>>) -> bool
     match taken {
         Some(stored) => matches!(stored.body, StoredBody::Directory(_)),
         None => false,
-    }
-}
-
-/// Whether the entry of a stamp in a directory names a directory; false where there is no such entry.
-fn names_directory<T: TypeSet>(store: &Store<T>, directory: ObjId, stamp: u64) -> bool
-    ensures { result ≡ false → (entry : DirEntry)
-        → find (λ e. e.stamp == stamp) (entries_at store.now directory) ≡ Some entry
-        → is_some (directory_at store.now entry.object) ≡ false }
-{
-    match directory_in(store, directory) {
-        Some(dir) => match dir.get(stamp) {
-            Some(entry) => directory_in(store, entry.object).is_some(),
-            None => false,
-        },
-        None => false,
-    }
-}
-
-/// The directory of an id, where it is one.
-fn directory_in<T: TypeSet>(store: &Store<T>, id: ObjId) -> Option<&Dir>
-    ensures { option_copied result ≡ directory_at store.now id }
-{
-    match &store.get(id)?.body {
-        StoredBody::Directory(dir) => Some(dir),
-        _ => None,
     }
 }

@@ -9,6 +9,7 @@ pub mod Searches
 pub mod Stands
 pub mod LastBefore
 pub mod Follow
+pub mod Told
 pub mod Free
 pub mod Pages
 pub mod KeptTypes

@@ -8,13 +8,13 @@ use Rattle.std.specs.Borrow.{MutBor}
 use Rattle.std.specs.Cmp.{nat_eq_equiv}
 use Rattle.std.specs.Map.{lookup, lookup_key, remove_entry, values_of}
 use Rattle.std.specs.Option.{is_some, option_copied_mut, option_and_then, OnSome}
-use Rattle.indexmap.specs.IndexMap.{IndexMap, IsUnique, Updates, WritesThrough, set_value_at, with_value_at}
+use Rattle.indexmap.specs.IndexMap.{IndexMap, IsUnique, Updates, set_value_at, with_value_at}
 use Rattle.indexmap.proofs.CallerLemmas.{updates-with_value_at}
 use Rattle.ob_objects.specs.declared.named.EntryPlace.{EntryPlace}
 use Rattle.ob_objects.specs.declared.object.StoredObject.{StoredObject}
 use Rattle.ob_objects.specs.declared.slots.Slot.{Slot}
 use Rattle.ob_objects.specs.declared.slots.Slots.{Slots}
-use Rattle.ob_objects.specs.Slots.{objects_in, KeepPlaces, AreFilled, StayFilled}
+use Rattle.ob_objects.specs.Slots.{objects_in, KeepPlaces, AreFilled, StayFilled, IsPlaceOf}
 use Rattle.ob_objects.proofs.ById.{seen_removed, part_stays}
 
 module _ {X : Type 0} where
@@ -23,12 +23,9 @@ module _ {X : Type 0} where
   ChangesAt id w old new = (q : ℕ) → lookup (nat_eq q) new ≡ cond (nat_eq id q) w (lookup (nat_eq q) old)
 
   -- what was lent was there, and was written
-  pub written : {S : Type 0} (old new : IndexMap ℕ X S) (id : ℕ) (x w : X) → lookup (nat_eq id) old.entries ≡ Some x → WritesThrough nat_eq (nat_eq id) old w new
-      → ChangesAt id (Some w) old.entries new.entries
-  written old new id x w found writes q = (writes.3 (subst (λ o. IsSome o) (sym found) refl)).0 q
-
-  pub changed_key : (id key : ℕ) (w : Option X) (old new : List (ℕ × X)) → id ≡ key → ChangesAt id w old new → ChangesAt key w old new
-  changed_key id key w old new is changes = subst (λ k. ChangesAt k w old new) is changes
+  pub written : (old new : List (ℕ × X)) (id : ℕ) (x w : X) → lookup (nat_eq id) old ≡ Some x
+      → (IsSome (lookup (nat_eq id) old) → ChangesAt id (Some w) old new) → ChangesAt id (Some w) old new
+  written old new id x w found writes = writes (subst (λ o. IsSome o) (sym found) refl)
 
   -- of two changes of one entry the later stays
   pub changed_again : (id : ℕ) (v w : Option X) (first then last : List (ℕ × X)) → ChangesAt id v first then → ChangesAt id w then last → ChangesAt id w first last
@@ -58,22 +55,27 @@ module _ {X : Type 0} where
   written_at_index (e ∷ es) zero k v w at = cc
   written_at_index (e ∷ es) (suc i) k v w at = written_at_index es i k v w at
 
-  module _ {S : Type 0} (m : IndexMap ℕ X S) (id i k : ℕ) (v : X) (found : Some k ≡ lookup_key (nat_eq id) m.entries) (at : slice_get m.entries i ≡ Some (k, v)) where
-    pub lent_at : (x : X) → Some v ≡ lookup (nat_eq id) m.entries → Some x ≡ slice_get (values_of m.entries) i → lookup (nat_eq id) m.entries ≡ Some x
-    lent_at x value lent = sym value ∙ sym (found_at_index m.entries i k v at) ∙ sym lent
+  -- what stands at an index under a key, and is found under it, is what an id that is the same is sought for
+  pub place_at : (es : List (ℕ × X)) (i k id : ℕ) (v : X) → k ≡ id → slice_get es i ≡ Some (k, v) → lookup (nat_eq k) es ≡ Some v → IsPlaceOf id es (Some i)
+  place_at es i k id v same at found = subst (λ n. IsPlaceOf n es (Some i)) same (v, at, found)
 
-    key_is : id ≡ k
-    key_is = lookup_key_same Decides-eqb id m.entries k (sym found)
+  pub place_by_key : (es : List (ℕ × X)) (i k id : ℕ) (v : X) → Some k ≡ lookup_key (nat_eq id) es → slice_get es i ≡ Some (k, v) → Some v ≡ lookup (nat_eq id) es → IsPlaceOf id es (Some i)
+  place_by_key es i k id v key at found =
+      let is : id ≡ k = lookup_key_same Decides-eqb id es k (sym key) in
+      (v, at ∙ ap (λ n. Some (n, v)) (sym is), sym found)
+
+  module _ {S : Type 0} (m : IndexMap ℕ X S) (id i : ℕ) (there : IsPlaceOf id m.entries (Some i)) where
+    -- what is lent by the index is what is found under the id
+    pub lent_at : slice_get (values_of m.entries) i ≡ lookup (nat_eq id) m.entries
+    lent_at = found_at_index m.entries i id there.0 there.1 ∙ sym there.2
 
     pub written_at : (w : X) → IsUnique nat_eq m → ChangesAt id (Some w) m.entries (with_value_at m i w).entries
-    written_at w unique =
-        changed_key k id (Some w) m.entries (with_value_at m i w).entries (sym key_is) (λ q. (updates-with_value_at m i w nat_eq_equiv unique k v at).0 q)
+    written_at w unique q = (updates-with_value_at m i w nat_eq_equiv unique id there.0 there.1).0 q
 
     pub removed_at : (w : X) (n : IndexMap ℕ X S) (r : Option (ℕ × X)) → r ≡ slice_get (with_value_at m i w).entries i → IfSome r (λ p. Updates nat_eq (with_value_at m i w) n p.0 None)
         → ChangesAt id None (with_value_at m i w).entries n.entries
-    removed_at w n r gone updates =
-        changed_key k id None (with_value_at m i w).entries n.entries (sym key_is)
-        (λ q. (subst (λ (o : Option (ℕ × X)). IfSome o (λ p. Updates nat_eq (with_value_at m i w) n p.0 None)) (gone ∙ written_at_index m.entries i k v w at) updates).0 q)
+    removed_at w n r gone updates q =
+        (subst (λ (o : Option (ℕ × X)). IfSome o (λ p. Updates nat_eq (with_value_at m i w) n p.0 None)) (gone ∙ written_at_index m.entries i id there.0 w there.1) updates).0 q
 
   -- what is said where a reference is lent, of a value that is there
   pub on_lent : {P : Type 0} (r : Option (MutBor X)) (o : Option X) → option_copied_mut r ≡ o → ((x : X) → o ≡ Some x → P) → OnSome r P
@@ -114,12 +116,12 @@ module _ {F I : Type 0} where
   has_object x place e = cc
 
   -- the object is taken, and the place stays
-  pub taken_then : (old new : Slots F I) (id key : ℕ) (slot : Slot F I) (w : Option (Slot F I)) → id ≡ key → lookup (nat_eq id) old.map.entries ≡ Some slot
+  pub taken_then : (old new : Slots F I) (id : ℕ) (slot : Slot F I) (w : Option (Slot F I)) → lookup (nat_eq id) old.map.entries ≡ Some slot
       → ChangesAt id w old.map.entries new.map.entries → option_and_then (λ x. x.object) w ≡ None → option_and_then (λ x. x.place) w ≡ slot.place
       → (AreFilled old → option_and_then (λ x. x.object) w ≡ None → option_and_then (λ x. x.place) w ≡ None → w ≡ None)
-      → (objects_in new ≡ remove_entry (is_at (nat_cmp key)) (objects_in old)) × KeepPlaces old new × StayFilled old new
-  taken_then old new id key slot w is_id raw changed free stays fills = (
-    seen_removed (λ (x : Slot F I). x.object) old.map.entries new.map.entries id w changed free ∙ ap (λ k. remove_entry (is_at (nat_cmp k)) (objects_in old)) is_id,
+      → (objects_in new ≡ remove_entry (is_at (nat_cmp id)) (objects_in old)) × KeepPlaces old new × StayFilled old new
+  taken_then old new id slot w raw changed free stays fills = (
+    seen_removed (λ (x : Slot F I). x.object) old.map.entries new.map.entries id w changed free,
     part_stays (λ (x : Slot F I). x.place) old.map.entries new.map.entries id w changed (stays ∙ ap (option_and_then (λ (x : Slot F I). x.place)) (sym raw)),
     filled_then old new id w changed fills,
   )

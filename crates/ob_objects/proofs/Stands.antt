@@ -195,9 +195,9 @@ pub placed : (o : Option Row) (p : EntryPlace) → option_map place_of o ≡ Som
 placed None p e = cc
 placed (Some r) p e = (r, refl, cc)
 
-pub is_placed : (o : Option Row) → is_some (option_map place_of o) ≡ is_some o
-is_placed None = refl
-is_placed (Some r) = refl
+pub is_mapped_some : {X Y : Type 0} (f : X → Y) (o : Option X) → is_some (option_map f o) ≡ is_some o
+is_mapped_some f None = refl
+is_mapped_some f (Some x) = refl
 
 module _ {F I : Type 0} (store : Entries F I) (is : IsStore store) where
   entries_dir : (d : ℕ) → IsDir (entries_at store d)

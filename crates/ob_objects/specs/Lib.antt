@@ -2,6 +2,7 @@ pub mod Rows
 pub mod ById
 pub mod Named
 pub mod Store
+pub mod Standing
 pub mod Slots
 pub mod Types
 pub mod Kept

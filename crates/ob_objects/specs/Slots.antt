@@ -1,20 +1,27 @@
 -- What is kept under ids: objects, and where the names for them stand.
 --
 -- Source: this profile.
-use Rattle.std.specs.Prelude.{◌≡◌, ℕ, nat_eq, Option, None, OnSome}
+use Rattle.std.specs.Prelude.{◌≡◌, ℕ, ◌==◌, nat_eq, if◌then◌else◌, List, Option, None, Some, IsSome, OnSome, slice_get}
 use Rattle.std.specs.BTreeMap.{is_at}
 use Rattle.std.specs.Borrow.{Fml, RattleType, MutBor, LendsSo}
-use Rattle.std.specs.Map.{set_value}
+use Rattle.std.specs.Map.{lookup, set_value}
 use Rattle.std.specs.Option.{option_and_then}
 use Rattle.std.specs.Ordering.{nat_cmp}
 use Rattle.indexmap.specs.IndexMap.{get}
 use Rattle.ob_objects.specs.declared.named.EntryPlace.{EntryPlace}
 use Rattle.ob_objects.specs.declared.object.StoredObject.{StoredObject}
+use Rattle.ob_objects.specs.declared.slots.Slot.{Slot}
 use Rattle.ob_objects.specs.declared.slots.Slots.{Slots}
 use Rattle.ob_objects.specs.contracts.object.StoredObject.{the_row as object_row}
+use Rattle.ob_objects.specs.contracts.slots.Slot.{the_row as slot_row}
 use Rattle.ob_objects.specs.contracts.slots.Slots.{the_row}
 use Rattle.ob_objects.specs.ById.{by_id, parts}
 use Rattle.ob_objects.specs.Store.{Entries}
+
+-- where what is under an id stands: at this place of the list, and it is what is found there; none where nothing is
+abbrev pub IsPlaceOf : {X : Type 0} → ℕ → List (ℕ × X) → Option ℕ → Type 0
+IsPlaceOf id entries None = lookup (nat_eq id) entries ≡ None
+IsPlaceOf {X} id entries (Some place) = (x : X) × (slice_get entries place ≡ Some (id, x)) × (lookup (nat_eq id) entries ≡ Some x)
 
 module _ {F I : Type 0} where
   -- the objects, by rising ids
@@ -45,6 +52,10 @@ module _ {F I : Type 0} where
     pub places : KeepPlaces old new
     pub filled : StayFilled old new
 
+  -- the slot of an id is written over, and every other stays
+  abbrev pub IsSlotWritten : Slots F I → ℕ → Slot F I → Slots F I → Type 0
+  IsSlotWritten old id slot new = (other : ℕ) → get nat_eq new.map other ≡ (if id == other then Some slot else get nat_eq old.map other)
+
   -- nothing changes
   pub record IsSame (old new : Slots F I) : Type 0 where
     pub objects : objects_in new ≡ objects_in old
@@ -57,3 +68,9 @@ module _ (F I : RattleType) where
   LendsObject slots id r =
       LendsSo (the_row F I) (object_row F I) slots r
       (λ new w. OnSome r (IsWritten slots.now id w new)) (IsSame slots.now)
+
+  -- the slot of an id ends as the last value written through what is lent, and every other stays
+  abbrev pub LendsSlot : MutBor (Slots F.Denot I.Denot) → ℕ → Option (MutBor (Slot F.Denot I.Denot)) → Fml
+  LendsSlot slots id r =
+      LendsSo (the_row F I) (slot_row F I) slots r
+      (λ new w. IsSome (get nat_eq slots.now.map id) → IsSlotWritten slots.now id w new) (λ new. new.map ≡ slots.now.map)

@@ -1,7 +1,7 @@
 //! What is kept under ids: objects, and where the names for them stand.
 
 ghost use Rattle.std.specs.Prelude.{◌≡◌, ◌==◌, ℕ, [], None, Some, IfErr, OnOk, OnErr};
-ghost use Rattle.std.specs.Prelude.{nat_eq, if◌then◌else◌};
+ghost use Rattle.std.specs.Prelude.{nat_eq, if◌then◌else◌, IsTrue};
 ghost use Rattle.std.specs.BTreeMap.{is_at, insert_entry};
 ghost use Rattle.std.specs.Borrow.{sem};
 ghost use Rattle.std.specs.List.{list_any};
@@ -10,7 +10,7 @@ ghost use Rattle.std.specs.Option.{option_copied, option_copied_mut};
 ghost use Rattle.std.specs.Ordering.{nat_cmp};
 ghost use Rattle.indexmap.specs.IndexMap.{get};
 ghost use Rattle.ob_objects.specs.Slots.{objects_in, object_in, place_in, KeepPlaces};
-ghost use Rattle.ob_objects.specs.Slots.{AreFilled, StayFilled, LendsObject};
+ghost use Rattle.ob_objects.specs.Slots.{AreFilled, StayFilled, LendsObject, LendsSlot, IsPlaceOf};
 ghost use Rattle.ob_objects.specs.Store.{entries_in};
 
 use crate::{EntryPlace, StoredBody, StoredObject};
@@ -25,11 +25,13 @@ pub(crate) struct Slot<F, I> {
     place: Option<EntryPlace>,
 }
 
-/// Slots by their ids. Each is found in a time that doesn't grow with their number; one that would be empty is taken
-/// out.
+/// Slots by their ids. Each is found in a time that doesn't grow with their number, and one that was changed of late
+/// mostly with no hash; one that would be empty is taken out.
 #[derive(Drop)]
 pub(crate) struct Slots<F, I> {
     map: IndexMap<u64, Slot<F, I>>,
+    // Where slots stood that were changed of late, by the ends of their ids: any places give the same slots.
+    guesses: [usize; 64],
 }
 
 impl<F: Drop, I: Drop> Slots<F, I> {
@@ -41,14 +43,47 @@ impl<F: Drop, I: Drop> Slots<F, I> {
     {
         Slots {
             map: IndexMap::new(alloc),
+            guesses: [0; 64],
         }
+    }
+
+    /// Where the slot of an id stands, looked for first where it may have stood of late.
+    #[inline(always)]
+    fn place_of(&self, id: ObjId) -> Option<usize>
+        ensures { IsPlaceOf id self.now.map.entries result }
+    {
+        let guess = self.guesses[(id.0 % 64) as usize];
+        if is_at(&self.map, guess, id) {
+            return Some(guess);
+        }
+        searched_place(&self.map, id)
+    }
+
+    /// The slot of an id.
+    #[inline(always)]
+    fn slot(&self, id: ObjId) -> Option<&Slot<F, I>>
+        ensures { option_copied result ≡ get nat_eq self.now.map id }
+    {
+        let (_, slot) = self.map.get_index(self.place_of(id)?)?;
+        Some(slot)
+    }
+
+    /// The slot of an id, to be changed.
+    #[inline(always)]
+    fn slot_mut(&mut self, id: ObjId) -> Option<&mut Slot<F, I>>
+        ensures* writes_back { sem 𝓛 (LendsSlot F.row I.row self.entry id result) }
+        ensures value { option_copied_mut result ≡ get nat_eq self.old.map id }
+    {
+        let place = self.place_of(id)?;
+        self.guesses[(id.0 % 64) as usize] = place;
+        self.map.get_index_mut(place)
     }
 
     /// The object of an id.
     pub(crate) fn object(&self, id: ObjId) -> Option<&StoredObject<F, I>>
         ensures { option_copied result ≡ object_in self.now id }
     {
-        self.map.get(&id.0)?.object.as_ref()
+        self.slot(id)?.object.as_ref()
     }
 
     /// The object of an id, to be changed.
@@ -56,7 +91,7 @@ impl<F: Drop, I: Drop> Slots<F, I> {
         ensures* writes_back { sem 𝓛 (LendsObject F.row I.row self.entry id result) }
         ensures value { option_copied_mut result ≡ object_in self.old id }
     {
-        let slot = self.map.get_mut(&id.0)?;
+        let slot = self.slot_mut(id)?;
         slot.object.as_mut()
     }
 
@@ -64,7 +99,18 @@ impl<F: Drop, I: Drop> Slots<F, I> {
     pub(crate) fn place(&self, id: ObjId) -> Option<EntryPlace>
         ensures { result ≡ place_in self.now id }
     {
-        self.map.get(&id.0)?.place
+        self.slot(id)?.place
+    }
+
+    /// The object of an id, and where the name for it stands.
+    pub(crate) fn both(&self, id: ObjId) -> (Option<&StoredObject<F, I>>, Option<EntryPlace>)
+        ensures object { option_copied result.0 ≡ object_in self.now id }
+        ensures place { result.1 ≡ place_in self.now id }
+    {
+        match self.slot(id) {
+            Some(slot) => (slot.object.as_ref(), slot.place),
+            None => (None, None),
+        }
     }
 
     /// Puts an object under an id that no object has, and hands it back where memory is wanted.
@@ -85,10 +131,11 @@ impl<F: Drop, I: Drop> Slots<F, I> {
             object: Some(object),
             place: None,
         };
+        self.guesses[(id.0 % 64) as usize] = self.map.len();
         match self.map.insert(id.0, slot) {
             Ok(None) => Ok(()),
             Ok(Some(was)) => {
-                if let Some(slot) = self.map.get_mut(&id.0) {
+                if let Some(slot) = self.slot_mut(id) {
                     slot.place = was.place;
                 }
                 Ok(())
@@ -110,7 +157,7 @@ impl<F: Drop, I: Drop> Slots<F, I> {
         ensures places { KeepPlaces self.old self.new }
         ensures filled { StayFilled self.old self.new }
     {
-        let (index, _, _) = self.map.get_full(&id.0)?;
+        let index = self.place_of(id)?;
         let slot = self.map.get_index_mut(index)?;
         let object = slot.object.take()?;
         if slot.place.is_some() {
@@ -128,7 +175,7 @@ impl<F: Drop, I: Drop> Slots<F, I> {
         ensures objects { objects_in self.new ≡ objects_in self.old }
         ensures filled { StayFilled self.old self.new }
     {
-        if let Some(slot) = self.map.get_mut(&id.0) {
+        if let Some(slot) = self.slot_mut(id) {
             slot.place = Some(place);
             return Ok(());
         }
@@ -147,7 +194,7 @@ impl<F: Drop, I: Drop> Slots<F, I> {
         ensures objects { objects_in self.new ≡ objects_in self.old }
         ensures filled { StayFilled self.old self.new }
     {
-        let Some(slot) = self.map.get_mut(&id.0) else {
+        let Some(slot) = self.slot_mut(id) else {
             return;
         };
         slot.place = None;
@@ -179,4 +226,24 @@ impl<F: Drop, I: Drop> Slots<F, I> {
             self.forget_place(entry.object);
         }
     }
+}
+
+/// Whether what is under an id stands at a place.
+#[inline(always)]
+fn is_at<V>(map: &IndexMap<u64, V>, place: usize, id: ObjId) -> bool
+    ensures { IsTrue result → IsPlaceOf id map.now.entries (Some place) }
+{
+    match map.get_index(place) {
+        Some((key, _)) => *key == id.0,
+        None => false,
+    }
+}
+
+/// Where what is under an id stands, searched for by its hash.
+#[inline(never)]
+fn searched_place<V>(map: &IndexMap<u64, V>, id: ObjId) -> Option<usize>
+    ensures { IsPlaceOf id map.now.entries result }
+{
+    let (place, _, _) = map.get_full(&id.0)?;
+    Some(place)
 }

@@ -10,6 +10,7 @@ ghost use Rattle.ob_objects.specs.Store.{IsStore, stored_at, directory_at, entri
 ghost use Rattle.ob_objects.specs.Store.{objects_of, rows_of};
 ghost use Rattle.ob_objects.specs.Types.{KeepsTypes};
 ghost use Rattle.ob_objects.specs.Named.{row_of_named, IsLastBefore};
+ghost use Rattle.ob_objects.specs.Standing.{standing_at};
 ghost use Rattle.ob_objects.specs.Changes.{with_entry, without_object, with_name, without_name, with_permanence};
 ghost use Rattle.ob_objects.specs.Changes.{
   refusal_to_open,
@@ -22,7 +23,7 @@ ghost use Rattle.ob_objects.specs.Changes.{
 use crate::slots::Slots;
 use crate::types::StoredType;
 use crate::walk::Walk;
-use crate::{EntryPlace, Named, StoredObject, changes, named, types};
+use crate::{EntryPlace, Named, Standing, StoredObject, changes, named, types};
 use ob_base::ObjId;
 use ob_names::NameBuf;
 use ob_types::{Reason, TypeSet};
@@ -170,6 +171,24 @@ impl<T: TypeSet> Store<T> {
         })
     }
 
+    /// What tells whether an object stays, found at once: whether it is permanent, whether names lie in it, and where
+    /// its name stands. Takes no memory.
+    ///
+    /// Source: Windows Internals, Object Manager (object retention); the stamps are this profile.
+    pub fn standing_of(&self, id: ObjId) -> Standing
+        ensures standing { result ≡ standing_at self.now id }
+
+        // What holds of every store.
+        ensures store { IsStore self.now }
+    {
+        let (object, place) = self.slots.both(id);
+        Standing {
+            permanent: object.is_some_and(|stored| stored.permanent),
+            holds_names: object.is_some_and(|stored| changes::holds_names(stored)),
+            place,
+        }
+    }
+
     /// The greatest id of an object below this one; `None` exactly where no object has a lesser id.
     /// Takes no memory.
     ///
@@ -295,14 +314,22 @@ impl<T: TypeSet> Store<T> {
             ≡ list_any (λ entry. entry.stamp == stamp) (entries_at self.old directory) }
         ensures others { self.new ≡ without_name self.old directory stamp }
     {
-        let Some(stored) = self.slots.object_mut(directory) else {
-            return false;
-        };
-        let Some(entry) = changes::remove_name(stored, stamp) else {
-            return false;
-        };
+        self.take_name(directory, stamp).is_some()
+    }
+
+    /// Takes the entry of a stamp out of a directory, as [`Store::remove_name`] does, and gives the object that it
+    /// named; `None` where there was none, and then nothing changes. Takes no memory.
+    ///
+    /// Source: Windows Internals, Object Manager: object directories; the stamps are this profile.
+    pub fn take_name(&mut self, directory: ObjId, stamp: u64) -> Option<ObjId>
+        ensures there { result ≡ option_map (λ entry. entry.object)
+            (find (λ entry. entry.stamp == stamp) (entries_at self.old directory)) }
+        ensures others { self.new ≡ without_name self.old directory stamp }
+    {
+        let stored = self.slots.object_mut(directory)?;
+        let entry = changes::remove_name(stored, stamp)?;
         self.slots.forget_place(entry.object);
-        true
+        Some(entry.object)
     }
 
     /// Makes an object permanent or temporary; where there is none, nothing changes. Takes no memory.

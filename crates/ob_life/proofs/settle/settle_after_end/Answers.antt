@@ -1,9 +1,9 @@
 -- One object further back has its turn.
 use Rattle.std.proofs.Common.{◌∙◌, ap, sym, subst}
 use Rattle.ob_handles.specs.Counts.{is_listed}
-use Rattle.ob_life.proofs.Judged.{Judged, unheld_left}
+use Rattle.ob_life.proofs.Judged.{Judged, may_left}
 use Rattle.ob_life.proofs.Turns.{had_turn, no_map, map_settled, any_turn, all_turned}
-use Rattle.ob_life.proofs.Walked.{settled_is_orderly}
+use Rattle.ob_life.proofs.Walked.{may_orderly, settled_is_orderly}
 use Rattle.ob_life.proofs.settle.settle_after_end.Goals as goal
 use Rattle.ob_life.proofs.settle.settle_after_end.Goals.{in-Some, in_default}
 
@@ -20,8 +20,8 @@ loop-id-init g c =
 
 pub settle_in_turn-requires-after_bounds : goal.settle_in_turn-requires-after_bounds
 settle_in_turn-requires-after_bounds g c κs within =
-    unheld_left g.T.TypeSet.procedures c.args.space.now (had_turn c.args.space.now (is_listed c.args.touched.now) c.loop-id.bound)
-    c.loop-id.space c.loop-id.invariant g.T.TypeSet.idle c.requires.orderly.unheld
+    may_left g.T.TypeSet.procedures c.args.space.now (had_turn c.args.space.now (is_listed c.args.touched.now) c.loop-id.bound)
+    c.loop-id.space c.loop-id.invariant g.T.TypeSet.idle (may_orderly g.T.TypeSet.idle c.args.space.now c.requires.orderly)
 
 pub loop-id-preserved : goal.loop-id-preserved
 loop-id-preserved g c =

@@ -1,6 +1,5 @@
 -- A text with no separator is cut nowhere.
-use Rattle.std.proofs.Common.{ℕ, List, All, IfNone}
-use Rattle.ob_model.specs.Names.{separator}
+use Rattle.std.proofs.Common.{ℕ, List}
 use Rattle.ob_lookup.specs.Onward.{IsCutAt}
 use Rattle.ob_lookup.proofs.Separators.{not_cut, IfNone-map}
 use Rattle.ob_lookup.proofs.onward.split_start.Goals as goal

@@ -1,7 +1,6 @@
 -- Where no prefix is of a local view, a name more leaves each where it led.
-use Rattle.std.proofs.Common.{sym, subst}
+use Rattle.std.proofs.Common.{subst}
 use Rattle.ob_objects.specs.Store.{IsStore}
-use Rattle.ob_lookup.specs.Cache.{ArePaths}
 use Rattle.ob_lookup.proofs.Changing.{paths_with_name}
 use Rattle.ob_lookup.proofs.cached_store.CachedStore.insert_name.Goals as goal
 

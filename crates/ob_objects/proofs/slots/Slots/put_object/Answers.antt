@@ -16,16 +16,16 @@ returns-in-Ok-None-clause-put g c =
     (λ q. c.in-Ok-None.ensures.updates.0 q) c.args.object refl
     ∙ ap (λ k. insert_entry nat_cmp (objects_in c.args.self.now) k c.args.object) c.id.view_is
 
-pub returns-after-get_mut-clause-put : goal.returns-after-get_mut-clause-put
-returns-after-get_mut-clause-put g c =
-    elim c.match-get_mut.branch [
+pub returns-after-slot_mut-clause-put : goal.returns-after-slot_mut-clause-put
+returns-after-slot_mut-clause-put g c =
+    elim c.match-slot_mut.branch [
       | in-Some w ↦
-          let raw = sym c.get_mut.ensures.value ∙ ap option_copied_mut w.in-Some.is in
+          let raw = sym c.slot_mut.ensures.value ∙ ap option_copied_mut w.in-Some.is in
           ap objects_in w.self-is
-          ∙ seen_stays (λ (slot : Slot _ _). slot.object) c.insert.new.self.entries _ c.id.inside.0 (Some _)
-          (written c.insert.new.self _ c.id.inside.0 w.in-Some.slot.now _ raw (c.get_mut.follows.holds _)) (ap (option_and_then (λ (slot : Slot _ _). slot.object)) (sym raw))
+          ∙ seen_stays (λ (slot : Slot _ _). slot.object) c.insert.new.self.entries _ c.args.id (Some _)
+          (written c.insert.new.self.entries _ c.args.id w.in-Some.slot.now _ raw (c.slot_mut.follows.holds _)) (ap (option_and_then (λ (slot : Slot _ _). slot.object)) (sym raw))
           ∙ put
-      | in_default w ↦ ap objects_in w.self-is ∙ ap (λ m. parts (λ (slot : Slot _ _). slot.object) (by_id m.entries)) c.get_mut.follows.holds-at-none ∙ put
+      | in_default w ↦ ap objects_in w.self-is ∙ ap (λ m. parts (λ (slot : Slot _ _). slot.object) (by_id m.entries)) c.slot_mut.follows.holds-at-none ∙ put
     ]
   where
     put : parts (λ (slot : Slot _ _). slot.object) (by_id c.insert.new.self.entries) ≡ insert_entry nat_cmp (objects_in c.args.self.now) c.args.id c.args.object
