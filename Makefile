@@ -1,20 +1,19 @@
-# make try    runs examples/first.ntns, or the script that SCRIPT names, without proofs: in a minute or two
-# make run    the same by the proved program; the first build proves every crate, which takes 25 minutes to an hour
-# make test   the gate: every proof, every test, the records of what was refused, and runs of the program
-# make wrong  tries the wrong bodies that no record covers; those of one crate with CRATE=name, all anew with ALL=1
-# make definitions  the same for the turned definitions, which the laws and examples must refuse
-# make random plays COMMANDS random commands, 1,000,000 if nothing is said, beside a plain model; the 60 seconds of a test allow some 5,000,000
-# make times  the gate again, with the processor seconds of each crate, which gate/seconds.txt keeps
+# make try     runs examples/first.ntns, or the script that SCRIPT names, without proofs: in a minute or two
+# make run     the same by the proved program; the first build proves every crate below it, with a line a crate
+# make test    the gate: every proof, every test, and runs of the program and of the library
+# make wrong   tries the wrong bodies, each of which a contract or a test must refuse; those of one crate with CRATE=name
+# make definitions  the same for the turned definitions, which a law, an example or a function must refuse
+# make random  plays COMMANDS random commands, 1,000,000 by default, beside a plain model; the 60 seconds of a test allow some 5,000,000
 # make hostile refuses each request for memory of longer scripts in turn, or of the script that SCRIPT names, as the gate does of short ones
-# make bench  times the built program on generated scripts and journals, steps of threads that share a namespace, and operations of a core, also by calls from C; it fails nothing
-# make lib    the static library for C and C++: out/libntns.a, out/ntns.h and out/ntns.pc; the first build proves every crate below it
-# make install puts these below PREFIX, /usr/local if nothing is said, and that below DESTDIR
+# make bench   times the built program and the library, and fails nothing
+# make lib     the static library for C and C++: out/libntns.a, out/ntns.h and out/ntns.pc; the first build proves every crate below it
+# make install puts these below PREFIX, /usr/local by default, and that below DESTDIR
 
 SCRIPT ?= examples/first.ntns
 COMMANDS ?= 1000000
 PREFIX ?= /usr/local
 
-.PHONY: try run test wrong definitions random times bench hostile build lib install
+.PHONY: try run test wrong definitions random bench hostile build lib install
 
 try:
 	@echo "make try: compiled without proofs, which takes a minute or two; nothing of it is proved" >&2
@@ -27,22 +26,19 @@ test:
 	gate/test.sh
 
 wrong:
-	gate/wrong_bodies.py $(if $(ALL),--all) $(CRATE)
+	gate/wrong.py $(CRATE)
 
 definitions:
-	gate/definitions.py $(if $(ALL),--all) $(CRATE)
+	gate/wrong.py --definitions $(CRATE)
 
 random:
-	cd crates/ob_random_tests && COMMANDS=$(COMMANDS) ../../gate/quick_rt.py test
-
-times:
-	gate/times.py --keep gate/test.sh
+	cd crates/ob_random_tests && COMMANDS=$(COMMANDS) rt test
 
 build:
-	@gate/program_of.py ntns
+	@gate/build.py ntns
 
 bench: build lib
-	@gate/program_of.py callers cores
+	@gate/build.py callers cores
 	bench/lines.py crates/ntns/out/ntns
 	bench/instructions.py crates/ntns/out/ntns
 	bench/journal.py crates/ntns/out/ntns

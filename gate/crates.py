@@ -1,5 +1,4 @@
-"""The crates of the repository: which there are, what each stands on, and folders in which checks of them can be done
-side by side, over the work that earlier checks kept in the work tree."""
+"""The crates of the repository, and copies of them in which `rt` works beside the work tree."""
 
 import os
 import re
@@ -9,12 +8,8 @@ from pathlib import Path
 
 ROOT = Path(__file__).resolve().parent.parent
 
-# `rt` of kits before rattle-kit-13f takes minutes to begin a check of the highest crates
-QUICK_RT = str(ROOT / "gate" / "quick_rt.py")
-
-# what stands in a crate's folder and no check reads, and where its checks keep their work
+# the folders of a crate that no check reads, and the one in which `rt` keeps its work
 EDITS = ("must-fail", "wrong", "definitions")
-KEPT_WORK = "incremental"
 MADE = "out"
 
 
@@ -31,19 +26,9 @@ def listed():
 
 @cache
 def with_dependencies(crate):
-    """The crate and the crates of the repository that it stands on, all the way down."""
-    found, left = set(), [crate]
-    while left:
-        name = left.pop()
-        if name in listed() and name not in found:
-            found.add(name)
-            left += listed()[name]
-    return frozenset(found)
-
-
-def below(crate):
-    """The crates of the repository that a crate stands on, all the way down."""
-    return with_dependencies(crate) - {crate}
+    """The crate and all crates of the repository below it."""
+    below = (with_dependencies(name) for name in listed()[crate] if name in listed())
+    return frozenset({crate}).union(*below)
 
 
 def folder_of(crate):
@@ -56,14 +41,7 @@ def is_program(crate):
     return (folder_of(crate) / "src" / "main.rt").is_file()
 
 
-@cache
-def is_static(crate):
-    """Whether a crate is a static library."""
-    lines = (ROOT / "crates.txt").read_text().splitlines()
-    return any(line.partition(":")[0].split()[:2] == [crate, "staticlib"] for line in lines)
-
-
-def put_link(source, target):
+def link(source, target):
     """Gives a file a second name, or copies it where the two folders lie on different disks."""
     try:
         os.link(source, target)
@@ -71,36 +49,18 @@ def put_link(source, target):
         shutil.copy2(source, target)
 
 
-def begin_repository(crates, folder):
-    """Begins a repository of these crates alone."""
+def copied(names, folder, with_work=()):
+    """Makes a repository of these crates alone, without their edits. Only the crates of `with_work` come with what earlier checks kept. The files are links."""
     (folder / "crates").mkdir(parents=True)
     shutil.copy(ROOT / "HANDLES", folder / "HANDLES")
     lines = (ROOT / "crates.txt").read_text().splitlines()
-    kept = [line for line in lines if re.split(r"[\s:]", line)[0] in crates]
-    (folder / "crates.txt").write_text("\n".join(kept) + "\n")
-
-
-def workshop(crate, folder):
-    """Begins a folder in which one check of a crate is done, over what is made and kept in the work tree; gives its home.
-
-    Checks can be done side by side so, where `rt` has a crate and all below it checked by one at a time. The files are
-    links: a check puts new ones in their place, and writes into none that a proof is read from.
-    """
-    needed = with_dependencies(crate)
-    begin_repository(needed, folder)
-    for name in needed:
-        skipped = shutil.ignore_patterns(*EDITS, *([] if name == crate else [KEPT_WORK]))
-        shutil.copytree(folder_of(name), folder / "crates" / name, ignore=skipped, copy_function=put_link)
-    return folder / "crates" / crate
+    (folder / "crates.txt").write_text("".join(f"{line}\n" for line in lines if re.split(r"[\s:]", line)[0] in names))
+    for name in names:
+        left_out = shutil.ignore_patterns(*EDITS, *([] if name in with_work else [MADE]))
+        shutil.copytree(folder_of(name), folder / "crates" / name, ignore=left_out, copy_function=link)
 
 
 def rewrite(path, text):
     """Puts a file of its own in the place of a link."""
     path.unlink()
     path.write_text(text)
-
-
-def bring_back(crate, home):
-    """Brings what a check made and kept into the work tree, in place of what was there."""
-    shutil.rmtree(folder_of(crate) / MADE, ignore_errors=True)
-    shutil.move(home / MADE, folder_of(crate) / MADE)

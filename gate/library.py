@@ -16,8 +16,8 @@ import sys
 import tempfile
 from pathlib import Path
 
-import program_of
-from crates import MADE, ROOT, folder_of
+import build
+from crates import ROOT
 
 CRATE = "ob_c"
 OUT = ROOT / "out"
@@ -66,10 +66,10 @@ def merge(archives, source, made):
 
 def make(prefix):
     """Makes the three files; whether that was possible."""
-    if not any(way(CRATE) for way in (program_of.is_built, program_of.take, program_of.make)):
+    if not build.is_built(CRATE) and not build.build(CRATE):
         return False
     OUT.mkdir(exist_ok=True)
-    if not merge([folder_of(CRATE) / MADE / program_of.name_of(CRATE), kit() / OF_KIT], ROOT / "lib" / "ntns.c", ARCHIVE):
+    if not merge([build.built(CRATE)[0], kit() / OF_KIT], ROOT / "lib" / "ntns.c", ARCHIVE):
         return False
     shutil.copyfile(INCLUDE / "ntns.h", HEADER)
     PACKAGE.write_text(DESCRIPTION.format(prefix=prefix))

@@ -1,6 +1,6 @@
 #!/bin/sh
-# The gate: its own tools and the records of what was refused, beside `rt ci`; then the edits that have no record yet; and then, beside one another, runs of
-# the built program, runs of it that are refused memory, and the library for C. Each ends in a line 'N passed, M failed'; the last line here is their sum.
+# The gate: `rt ci`, the checks of edits and of the gate's own tools, and then, beside one another, runs of the built program, runs of it that are refused
+# memory, and the library for C. Each part ends in a line 'N passed, M failed'; the last line here is their sum.
 # usage: gate/test.sh      at the top of the repository
 set -u
 logs=$(mktemp -d)
@@ -15,7 +15,7 @@ run() {
     echo $? > "$logs/$name.status"
 }
 
-# adds what the last line of a part counts; a part that ended without such a line has failed
+# adds what the last line of a part counts; a part without such a line has failed
 tally() {
     name=$1
     counts=$(tail -n 1 "$logs/$name" | sed -n 's/^\([0-9][0-9]*\) passed, \([0-9][0-9]*\) failed$/\1 \2/p')
@@ -43,28 +43,20 @@ gather() {
     done
 }
 
-run selftest gate/selftest.py > "$logs/selftest" &
-run records gate/records.py > "$logs/records" &
-sum=$(gate/marks.py)
-part ci gate/quick_rt.py ci
-# so that the library for C is built over what was proved just now
-gate/marks.py "$sum"
-gather selftest records
-# what has no record is tried here; a record that is made so belongs to what is committed next
-for folder in wrong definitions; do
-    crates=$(gate/records.py --lacking "$folder")
-    tool=gate/$(test "$folder" = wrong && echo wrong_bodies || echo definitions).py
-    if [ -n "$crates" ]; then part "$folder" "$tool" $crates; fi
-done
+part edits gate/wrong.py --applies
+part selftest gate/selftest.py
+before=$(gate/build.py --before)
+part ci rt ci
+gate/build.py --after "$before"
 run program gate/program.py crates/ntns/out/ntns > "$logs/program" &
 run cases gate/cases.py crates/ntns/out/ntns crates/cores/out/cores crates/callers/out/callers > "$logs/cases" &
 run refusals gate/refusals.py crates/ntns/out/ntns --steps crates/cores/out/cores --steps crates/callers/out/callers > "$logs/refusals" &
 part c gate/c.py
 gather program cases refusals
 
-# a run is long, and only its end may be on record: what failed is named once more there
+# a run is long, and only its end may be on record: the lines of what failed are repeated there
 if [ "$failed" -ne 0 ]; then
-    cat "$logs"/selftest "$logs"/records "$logs"/ci "$logs"/wrong "$logs"/definitions "$logs"/program "$logs"/cases "$logs"/refusals "$logs"/c 2> /dev/null | grep -E '(^|[^0-9])error|[Ff]ailed|FAILED|NOT REFUSED|not proved|refused:' | tail -n 100
+    cat "$logs"/edits "$logs"/selftest "$logs"/ci "$logs"/program "$logs"/cases "$logs"/refusals "$logs"/c 2> /dev/null | grep -E '(^|[^0-9])error|[Ff]ailed|FAILED|not proved|NOT PROVED|refused:' | tail -n 100
 fi
 echo "$passed passed, $failed failed"
 [ "$failed" -eq 0 ]
