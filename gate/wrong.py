@@ -1,9 +1,9 @@
 #!/usr/bin/env python3
 """Tries the wrong bodies in crates/NAME/wrong/ and the turned definitions in crates/NAME/definitions/: each must be refused.
 
-A wrong body, FUNCTION-what_it_does.edit, turns one function, whose own contract must refuse it. One `rt check` of a crate gives a verdict for each function, so
-the wrong bodies of a crate are tried in one check, and those that it leaves open in a second, which proves again only what they change. A wrong body counts as
-refused if a goal of its own function, or of a closure in it, is not proved. It does not count
+A wrong body, FUNCTION-what_it_does.edit, turns one function, whose own contract must refuse it. One `rt check` gives a verdict for each function that it looks at, so
+the wrong bodies of a crate are tried in one check of their functions alone, and those that it leaves open in a second. A wrong body counts as refused if a goal of its
+own function, or of a closure in it, is not proved. It does not count
 - if the function is not proved only because it calls another turned function: it is tried again without the others;
 - if an answer of its proof no longer fits: it is tried again without that answer.
 With a line `refusal: CODE` the compiler must refuse it, by errors of that code alone. With a line `fails: TEST` a test must fail, for which the crates are compiled
@@ -138,7 +138,7 @@ class Bench:
             texts[file] = with_edits((folder_of(self.crate) / file).read_text(), [it.edit for it in tries if it.edit.file == file])
         for it in tries:
             texts.update(it.without)
-        return self.check(texts)
+        return self.check(texts, *only(it.edit.function for it in tries))
 
     def wrong(self, edits):
         """Tries wrong bodies; gives the fault of each by name, empty where it was refused, and the number of checks."""
@@ -192,13 +192,18 @@ class Bench:
         functions = functions_named(self.crate, path.stem.split("-")[0])
         if not functions:
             return "no function of the crate has the name with which it begins"
-        output = self.check({file: turned}, *(word for it in functions for word in ("--only", it.path)))
+        output = self.check({file: turned}, *only(functions))
         if re.search(rf"^(?:\./)?{re.escape(file)}:\d+:\d+: error", output, re.M):
             return "the turned text can't be read"
         own = [verdict for name, verdict in verdicts(output).items() if any(it.owns(name) for it in functions)]
         if not own:
             return f"the check gives no verdict: {(output.splitlines() or ['rt printed nothing'])[-1]}"
         return f"{functions[0].path} is proved with it" if all(it.is_proved for it in own) else ""
+
+
+def only(functions):
+    """The words by which a check looks at these functions alone."""
+    return [word for it in functions for word in ("--only", it.path)]
 
 
 def one_of_each(tries):
