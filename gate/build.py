@@ -1,7 +1,7 @@
 #!/usr/bin/env python3
 """Proves a program or a static library with all crates below it, and builds it, with a line a crate.
 
-It runs `rt ci` as the kit ships it, in a copy of these crates alone, and then `rt lib` for a static library, for which `rt ci` makes no archive. What was built goes
+It runs `rt ci` in a copy of these crates alone, and then `rt lib` for a static library, for which `rt ci` makes no archive. What was built goes
 to crates/NAME/out/, and is not built again while its files and the kit stay the same. The lines of the prover go to out/build.log.
 
     gate/build.py NAME..             NAME: a program or a static library of crates.txt
@@ -15,8 +15,6 @@ before that run, and only in a copy of the crates. The exit status is 0 if all w
 
 import argparse
 import hashlib
-import importlib.machinery
-import importlib.util
 import re
 import shutil
 import subprocess
@@ -25,7 +23,8 @@ import tempfile
 import time
 from pathlib import Path
 
-from crates import EDITS, MADE, ROOT, copied, folder_of, is_program, listed, with_dependencies
+import rt
+from crates import EDITS, MADE, ROOT, RT, copied, folder_of, is_program, listed, with_dependencies
 
 LOG = ROOT / MADE / "build.log"
 
@@ -76,10 +75,7 @@ def has_fresh_libraries():
 def stamp(folder):
     """Writes the stamps of the libraries in a copy, all of them of one run; without them `rt lib` proves what it needs itself."""
     try:
-        loader = importlib.machinery.SourceFileLoader("rt", str(Path(shutil.which("rt")).resolve()))
-        rt = importlib.util.module_from_spec(importlib.util.spec_from_loader("rt", loader))
-        loader.exec_module(rt)
-        for crate in rt.rtlib.crates_below(str(folder)):
+        for crate in rt.loaded().rtlib.crates_below(str(folder)):
             place = Path(crate.folder) / MADE / "rlib"
             if place.is_dir():
                 (place / "stamp").write_text(crate.stamp())
@@ -91,7 +87,7 @@ def run(words, folder, log, count=0):
     """Runs `rt`, prints a line for each crate that is proved, with the minutes so far, and returns the lines of a run that failed."""
     begun, done, lines = time.monotonic(), 0, []
     how = {"stdin": subprocess.DEVNULL, "stdout": subprocess.PIPE, "stderr": subprocess.STDOUT, "text": True, "errors": "replace"}
-    with subprocess.Popen(["rt", *words], cwd=folder, **how) as ran:
+    with subprocess.Popen([RT, *words], cwd=folder, **how) as ran:
         for line in ran.stdout:
             log.write(line)
             lines.append(line.rstrip("\n"))

@@ -29,7 +29,7 @@ from concurrent.futures import ThreadPoolExecutor
 from dataclasses import dataclass, field
 from pathlib import Path
 
-from crates import ROOT, copied, folder_of, is_program, listed, rewrite, with_dependencies
+from crates import ROOT, RT, copied, folder_of, is_program, listed, rewrite, with_dependencies
 from edits import Edit, Unfit, definition_of, functions_named, read_edit, with_edits
 
 WRONG, DEFINITIONS = "wrong", "definitions"
@@ -111,7 +111,7 @@ class Try:
 
 def rt(words, home):
     """What `rt` prints in a crate's folder."""
-    ran = subprocess.run(["rt", *words], cwd=home, stdin=subprocess.DEVNULL, stdout=subprocess.PIPE, stderr=subprocess.STDOUT, text=True, errors="replace", check=False)
+    ran = subprocess.run([RT, *words], cwd=home, stdin=subprocess.DEVNULL, stdout=subprocess.PIPE, stderr=subprocess.STDOUT, text=True, errors="replace", check=False)
     return ran.stdout
 
 
@@ -231,7 +231,7 @@ def test_fault(edit, folder):
     copied({*with_dependencies(crate), *with_dependencies(edit.crate)}, folder)
     for file, text in edit.files.items():
         rewrite(folder / "crates" / edit.crate / file, text)
-    words = ["rt", "try", *([] if is_program(crate) else ["--test"])]
+    words = [RT, "try", *([] if is_program(crate) else ["--test"])]
     given = script if script.is_file() else folder_of(crate) / "stdin"
     with (given if given.is_file() else Path(os.devnull)).open() as stream:
         ran = subprocess.run(words, cwd=folder / "crates" / crate, stdin=stream, capture_output=True, text=True, errors="replace", check=False)
