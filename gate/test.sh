@@ -49,8 +49,8 @@ before=$(gate/build.py --before)
 part ci gate/rt.py ci
 gate/build.py --after "$before"
 run program gate/program.py crates/ntns/out/ntns > "$logs/program" &
-run cases gate/cases.py crates/ntns/out/ntns crates/cores/out/cores crates/callers/out/callers > "$logs/cases" &
-run refusals gate/refusals.py crates/ntns/out/ntns --steps crates/cores/out/cores --steps crates/callers/out/callers > "$logs/refusals" &
+run cases gate/cases.py crates/ntns/out/ntns crates/callers/out/callers > "$logs/cases" &
+run refusals gate/refusals.py crates/ntns/out/ntns --steps crates/callers/out/callers > "$logs/refusals" &
 part c gate/c.py
 gather program cases refusals
 
