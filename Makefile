@@ -42,12 +42,12 @@ build:
 	@gate/program_of.py ntns
 
 bench: build lib
-	@gate/program_of.py callers cores
+	@gate/program_of.py callers
 	bench/lines.py crates/ntns/out/ntns
 	bench/instructions.py crates/ntns/out/ntns
 	bench/journal.py crates/ntns/out/ntns
 	bench/threads.py crates/callers/out/callers
-	bench/calls.py crates/cores/out/cores 100000
+	bench/calls.py 100000
 
 hostile: build
 	gate/refusals.py crates/ntns/out/ntns $(if $(filter command environment,$(firstword $(origin SCRIPT))),$(SCRIPT),--long)

@@ -28,7 +28,30 @@ def inherited(number):
     return "".join(f'p1 dir "\\I{it}" I =i{it}\n' for it in range(number))
 
 
-# what a row shows, what stands before its lines, and these; a name is three deep
+# sixteen directories, one in another but for the last two, which are in the same, and an event in each of these: one pair by names of a letter, one by names of
+# eight, of which fifteen are more than a prefix has room for in itself
+LETTERS = (*"abcdefghijklmno", "p")
+WORDS = tuple(f"Name{it:04}" for it in range(16))
+
+
+def deep(names):
+    """Such directories and events, whose handles but for the last are closed."""
+    paths = ["\\" + "\\".join(names[: it + 1]) for it in range(15)] + ["\\" + "\\".join((*names[:14], names[15]))]
+    made = "".join(f'p1 dir "{path}" P =d\np1 close d\n' for path in paths)
+    return made + "".join(f'p1 make Event "{path}\\E" P "" =e\np1 close e\n' for path in paths[14:])
+
+
+def opened(*paths):
+    """Opens of these names, each closed behind it."""
+    return "".join(f'p1 open any "{path}" - =e\np1 close e\n' for path in paths)
+
+
+def both(names):
+    """The names of both events."""
+    return ("\\" + "\\".join((*names[:15], "E")), "\\" + "\\".join((*names[:14], names[15], "E")))
+
+
+# what a row shows, what stands before its lines, and these; a name is three deep where nothing else is said
 LINES = (
     ("open and close", DEEP, 'p1 open any "\\A\\B\\C" - =d\np1 close d\n'),
     ("a miss", DEEP, 'p1 open any "\\A\\B\\X" - =d\n'),
@@ -37,6 +60,8 @@ LINES = (
     ("a child of ten handles, and its exit", inherited(10), "p1 new inherit =q\nq exit\n"),
     ("a page of 100 entries", entries(100), "p1 list m 65535 first\n"),
     ("a comment", DEEP, "# a comment\n"),
+    ("open and close two events sixteen names deep", deep(LETTERS), opened(*both(LETTERS))),
+    ("the same of names of eight letters", deep(WORDS), opened(*both(WORDS))),
 )
 
 
@@ -61,6 +86,12 @@ def count(program, script):
     return int(found[1])
 
 
+def of_lines(program, before, lines):
+    """The instructions that lines take behind these."""
+    once, twice = (count(program, before + lines * times) for times in (TIMES, 2 * TIMES))
+    return (twice - once) / TIMES
+
+
 def main():
     if len(sys.argv) not in (2, 3):
         sys.exit("usage: bench/instructions.py PROGRAM [MANY]")
@@ -69,8 +100,7 @@ def main():
         return
     many = int(sys.argv[2]) if sys.argv[2:] else 20_000
     for shows, before, lines in (*LINES, *beside(10), *beside(many)):
-        once, twice = (count(sys.argv[1], before + lines * times) for times in (TIMES, 2 * TIMES))
-        print(f"{shows}: {(twice - once) / TIMES:,.0f} instructions", flush=True)
+        print(f"{shows}: {of_lines(sys.argv[1], before, lines):,.0f} instructions", flush=True)
 
 
 if __name__ == "__main__":

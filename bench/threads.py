@@ -8,6 +8,7 @@ out. On one name most makes and opens of several callers are refused, and refusa
 refused ends it.
 """
 
+import re
 import subprocess
 import sys
 import time
@@ -24,7 +25,7 @@ def seconds(program, words):
         before = time.perf_counter()
         printed = subprocess.run([program, *words], check=True, capture_output=True, text=True).stdout
         took.append(time.perf_counter() - before)
-        if not printed.endswith(" entries\n"):
+        if not re.search(r", entries [0-9]+\n$", printed):
             sys.exit(f"{' '.join(words)}: {printed}")
     return min(took)
 

@@ -1,6 +1,6 @@
 /*
- * Times operations of a namespace by calls from C, those that `cores` times in Rattle: `bench ROUNDS` makes so many rounds of each, in a namespace of
- * its own, and prints how many are made a second. A round before these isn't timed. Each call has to be answered as it should be.
+ * Times operations of a namespace by calls from C: `bench ROUNDS` makes so many rounds of each, in a namespace of its own, and prints how many are made a
+ * second. A round before these isn't timed. Each call has to be answered as it should be; the exit status is 1 where one wasn't.
  *
  *     cc -std=c11 -O2 -I out clients/bench.c out/libntns.a
  */
@@ -15,6 +15,7 @@
 enum ask {
 	END,
 	DIRECTORY, /* to make a directory */
+	NESTED,    /* to make a permanent directory of each front of a name that ends before a backslash, and of the name, where there is none yet */
 	EVENT,     /* to make an event */
 	NUMBERED,  /* to make a permanent event, under a name that ends with the number of the round in five digits */
 	DEVICE,    /* to make a device */
@@ -38,19 +39,25 @@ struct asked {
 /* What is asked for in turn, so many times over. */
 struct rounds {
 	uint32_t times;
-	struct asked asks[4];
+	struct asked asks[6];
 };
 
 /* What a round of an operation does, what is made before, and what a round asks for. */
 struct operation {
 	const char *name;
 	struct rounds before[4];
-	struct asked round[4];
+	struct asked round[6];
 };
 
 #define MANY { 20000, { { NUMBERED, "\\Many\\E", 0 }, { CLOSE, NULL, 0 } } }
 #define FEW { 100, { { NUMBERED, "\\Many\\E", 0 }, { CLOSE, NULL, 0 } } }
 #define ONE(ask, name, attributes) { 1, { { ask, name, attributes } } }
+
+/* Fifteen directories, one in another, the last of which has a neighbour, and an event in each of these two. */
+#define LETTERS "\\a\\b\\c\\d\\e\\f\\g\\h\\i\\j\\k\\l\\m\\n"
+#define WORDS "\\Device00\\Harddisk\\Volume01\\Sessions\\BaseName\\Objects0\\Restrict\\Windows0\\Stations\\Service0\\DosNames\\Global00\\KnownDll\\Security"
+#define DEEP(front) ONE(NESTED, front "\\Userdata", 0), ONE(NESTED, front "\\Machines", 0), ONE(EVENT, front "\\Userdata\\E", 0), ONE(EVENT, front "\\Machines\\E", 0)
+#define BOTH(front) { OPEN, front "\\Userdata\\E", 0 }, { CLOSE, NULL, 0 }, { OPEN, front "\\Machines\\E", 0 }, { CLOSE, NULL, 0 }
 
 static const struct operation operations[] = {
 	{ "open and close a directory three components deep",
@@ -92,6 +99,9 @@ static const struct operation operations[] = {
 	{ "list a page of 100 entries",
 	  { ONE(DIRECTORY, "\\Many", 0), FEW, ONE(OPEN, "\\Many", 0) },
 	  { { PAGE, NULL, 0 } } },
+	{ "open and close two events sixteen components deep, most of a letter", { DEEP(LETTERS) }, { BOTH(LETTERS) } },
+	{ "open and close two events sixteen components deep, most of eight letters", { DEEP(WORDS) }, { BOTH(WORDS) } },
+	{ "the same, and create and close an event elsewhere", { DEEP(WORDS) }, { BOTH(WORDS), { EVENT, "\\E", 0 }, { CLOSE, NULL, 0 } } },
 };
 
 /* A namespace, with the handle and the child that were given last. */
@@ -127,6 +137,21 @@ static ntns_status make(struct hand *hand, const char *name, uint32_t attributes
 	return ntns_create_object(&hand->ns, 1, 0, name, strlen(name), attributes, type, 1, &hand->handle);
 }
 
+/* Makes the directories of a name that are not there yet. */
+static bool nest(struct hand *hand, const char *name)
+{
+	bool is_well = true;
+
+	for (size_t length = 1; is_well && name[length - 1]; length++) {
+		if (name[length] && name[length] != '\\')
+			continue;
+		ntns_status status = ntns_create_directory(&hand->ns, 1, 0, name, length, NTNS_OBJ_PERMANENT | NTNS_OBJ_OPENIF, &hand->handle);
+		is_well = status == NTNS_STATUS_SUCCESS || status == NTNS_STATUS_OBJECT_NAME_EXISTS;
+		is_well = is_well && ntns_close_handle(&hand->ns, 1, hand->handle) == NTNS_STATUS_SUCCESS;
+	}
+	return is_well;
+}
+
 /* Asks for it, in a round of this number; whether it was answered as it should be. */
 static bool is_answered(struct hand *hand, const struct asked *asked, uint32_t number)
 {
@@ -136,6 +161,8 @@ static bool is_answered(struct hand *hand, const struct asked *asked, uint32_t n
 	switch (asked->ask) {
 	case DIRECTORY:
 		return ntns_create_directory(&hand->ns, 1, 0, name, strlen(name), asked->attributes, &hand->handle) == NTNS_STATUS_SUCCESS;
+	case NESTED:
+		return nest(hand, name);
 	case EVENT:
 		return make(hand, name, asked->attributes, NTNS_TYPE_EVENT) == NTNS_STATUS_SUCCESS;
 	case NUMBERED:
@@ -172,7 +199,7 @@ static bool are_made(struct hand *hand, const struct asked *asks, uint32_t times
 	bool is_well = true;
 
 	for (uint32_t number = 0; is_well && number < times; number++)
-		for (int place = 0; is_well && place < 4 && asks[place].ask != END; place++)
+		for (int place = 0; is_well && place < 6 && asks[place].ask != END; place++)
 			is_well = is_answered(hand, &asks[place], number);
 	return is_well;
 }
@@ -185,8 +212,8 @@ static double now(void)
 	return (double)time.tv_sec + (double)time.tv_nsec / 1e9;
 }
 
-/* Times an operation, and prints its rate. */
-static void time_it(const struct operation *operation, uint32_t times)
+/* Times an operation, and prints its rate; whether all was answered as it should be. */
+static bool time_it(const struct operation *operation, uint32_t times)
 {
 	struct hand hand = { NTNS_CLOSED, 0, 0 };
 	bool is_well = ntns_open(&hand.ns) == NTNS_STATUS_SUCCESS;
@@ -203,6 +230,7 @@ static void time_it(const struct operation *operation, uint32_t times)
 		printf("%s: a call was refused\n", operation->name);
 	fflush(stdout);
 	ntns_close(&hand.ns);
+	return is_well;
 }
 
 int main(int count, char **words)
@@ -213,7 +241,8 @@ int main(int count, char **words)
 		printf("bench ROUNDS\n");
 		return 2;
 	}
+	bool is_well = true;
 	for (size_t place = 0; place < sizeof operations / sizeof *operations; place++)
-		time_it(&operations[place], (uint32_t)times);
-	return 0;
+		is_well = time_it(&operations[place], (uint32_t)times) && is_well;
+	return !is_well;
 }

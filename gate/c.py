@@ -3,7 +3,8 @@
 
 - The header stands alone in C11 and in C++17, and the archive has what the header declares; of a caller's program it needs nothing but memory.
 - The program of README.md's section 'From C', in both languages, prints what stands there.
-- The clients of `clients/`: worked cases, odd arguments, and each request for memory refused in turn; where valgrind is there, also under it: no error, no leak.
+- The clients of `clients/`: worked cases, odd arguments, and each request for memory refused in turn; where valgrind is there, also under it: no error, no leak. What
+  `clients/bench.c` times, each operation once.
 - Each wrong library of `clients/wrong.c` fails a client.
 - What `make install` puts into a folder serves a program.
 
@@ -167,6 +168,10 @@ class Bench:
             raise Fault("\n".join([f"it ended with {ended.returncode}", *told[:20]]))
         return counted[0]
 
+    def timed(self):
+        """The operations that `clients/bench.c` times, each once."""
+        run([self.made("bench", [CLIENTS / "bench.c"]), "1"])
+
     def wrong(self, macro, call, name):
         """A wrong library, which a client has to tell, and so to its end."""
         sources, wrapped = MADE_OF[name]
@@ -202,6 +207,7 @@ def parts(is_built):
     yield "worked cases", lambda bench: bench.client("cases")
     yield "odd arguments", lambda bench: bench.client("hostile")
     yield "each request for memory refused in turn", lambda bench: bench.client("refusals")
+    yield "what is timed is answered as it should be", Bench.timed
     if shutil.which(VALGRIND[0]):
         yield "README.md's program under valgrind", lambda bench: bench.shown(C, *VALGRIND)
         yield "worked cases under valgrind", lambda bench: bench.client("cases", *VALGRIND)

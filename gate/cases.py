@@ -9,7 +9,6 @@
 - `objects.txt`: such scripts of what makes an object, and of names behind devices and keys.
 - `requests.txt`: a script whose journal shows each form of a line as a step: the line, then the steps that it makes, each with its reply.
 - `workers.txt`: scripts with workers, with `/` for the end of a line: how many seats the journal has, or which line is none.
-- `operations.txt`: what `cores time` times, each operation once.
 - `journals.txt`: what the check of a journal says. Under a line `# NAME`, a row is a verdict and, behind ` | `, the text; lines with `>` stand before it, a text
   behind `(` or `)` before or behind each text of the rows. `^41` is the byte 0x41, `^41*20;` twenty of them.
 - `worked/`: worked cases, a file a subject, which its first line tells. A case is a line `== WHAT IT SHOWS`, then its script, which stands on standard input, or a
@@ -17,17 +16,21 @@
   else on standard output, with nothing on the other. `<<a*3>>` is `aaa`, `<<{}*3>>` is `123`, `<<successes*3>>` says of the lines 1 to 3 that they succeed;
   `<<` at the end of a line, with `*0>>` at the beginning of the next, takes that end away. Words name the files of `FILES`, and `two`, which isn't there.
 
-Of two other programs, where they are named, it makes each operation of `cores`, once, sees how much memory it takes for many directories, and has `PROGRAM` accept
-each journal that `callers` writes, of what its callers do together, at once and without memory.
+Then it sees how much memory many directories take, and, where valgrind is there, that an open asks the cache of prefixes: one of a deep name takes not many more
+instructions than one of a short name. Of the program `callers`, where it is named, `PROGRAM` has to accept each journal that it writes, of what its callers do together,
+at once and without memory.
 
-    gate/cases.py PROGRAM [CORES CALLERS]
+    gate/cases.py PROGRAM [CALLERS]
 
 The last line is 'N passed, M failed'. The exit status is 0 where none failed, else 1.
 """
 
 import contextlib
+import itertools
 import os
 import re
+import shutil
+import string
 import subprocess
 import sys
 import tempfile
@@ -39,10 +42,18 @@ from pathlib import Path
 import journal_lines
 import lookups as searched
 
-CASES = Path(__file__).resolve().parent.parent / "cases"
+ROOT = Path(__file__).resolve().parent.parent
+CASES = ROOT / "cases"
+sys.path.append(str(ROOT / "bench"))
 
-# so many permanent directories in one, without handles, take at most so many bytes each, the program's own among them; and more than an entry, or the run wasn't seen
+import instructions  # noqa: E402  (of bench/)
+
+# so many permanent directories in one, without handles, take at most so many bytes each, the program's own among them and the script's not; and more than an entry, or
+# the run wasn't seen
 MANY, LEAST_EACH, MOST_EACH = 500_000, 48, 250
+
+# an open and a close of a name of sixteen components takes at most so many times the instructions of one of two components, as long; where the cache is never asked, 1.5 and 1.6 times
+MOST_TIMES = 1.3
 
 # the status of the program behind a verdict
 REFUSED, ACCEPTED = 3, 0
@@ -213,37 +224,65 @@ def worked_case(subject, case):
     return Run(f"{subject}: {shows}", unfolded(script), int(status), output, tuple(words[1:]), errors)
 
 
-def fault_of_operations(program):
-    """What is wrong with a run of the program `cores` that makes each operation once, or nothing."""
-    ran = subprocess.run([program, "time", "0"], capture_output=True, timeout=300, check=False)
-    wanted = "".join(f"{row}: 0 a second\n" for row in rows_of("operations.txt")).encode()
-    return "" if (ran.returncode, ran.stdout, ran.stderr) == (0, wanted, b"") else f"cases: operations: it left {str((ran.returncode, ran.stdout, ran.stderr))[:2000]}"
+def threads():
+    """Runs of scripts with workers whose journals are the same each time, since one thread asks at a time."""
+    found = b'{"journal":1,"seats":2}\n' + b"".join(
+        b'{"n":%d,"reply":{"handle":%d,"status":0},"seat":%d,"step":{"flags":0,"name":"\\\\W","op":"%s","proc":1,"root":null}}\n' % it
+        for it in ((1, 4, 1, b"dir"), (2, 8, 0, b"opendir"))
+    )
+    yield Run("a thread finds what another made before it ended", b'thread\np1 dir "\\W" - =w\njoin\np1 opendir "\\W" - =v\n', 0, found, ("threads", "FILE"))
 
 
-def memory_of(program, number):
-    """The most KiB that a run of the program `cores` was seen to hold that makes so many directories, looked at until it ends, and what it left."""
+def many_directories():
+    """A script that makes so many permanent directories in one, and holds no handle to them."""
+    names = itertools.islice(itertools.product(string.ascii_lowercase + string.digits, repeat=4), MANY)
+    return 'p1 dir "\\M" - =m\n' + "".join(f'p1 dir m:"{"".join(name)}" P =d\np1 close d\n' for name in names)
+
+
+def memory_of(program, script, folder):
+    """The most bytes that a run of a script was seen to hold, looked at until it ends; its status, and how many of its lines succeeded."""
     most = 0
-    with subprocess.Popen([program, "hold", str(number)], stdout=subprocess.PIPE) as ran:
-        while ran.poll() is None:
-            # (one that has just ended holds nothing)
-            with contextlib.suppress(OSError):
-                found = re.search(r"VmHWM:\s+(\d+)", Path(f"/proc/{ran.pid}/status").read_text())
-                most = max(most, int(found[1]) if found else 0)
-            time.sleep(0.002)
-        return most, (ran.returncode, ran.stdout.read())
+    with tempfile.NamedTemporaryFile("w", dir=folder) as file, tempfile.TemporaryFile(dir=folder) as output:
+        file.write(script)
+        file.flush()
+        with subprocess.Popen([program, "run", file.name], stdout=output) as ran:
+            while ran.poll() is None:
+                # (one that has just ended holds nothing)
+                with contextlib.suppress(OSError):
+                    found = re.search(r"VmHWM:\s+(\d+)", Path(f"/proc/{ran.pid}/status").read_text())
+                    most = max(most, int(found[1]) * 1024 if found else 0)
+                time.sleep(0.002)
+        output.seek(0)
+        return most, ran.returncode, sum(line.endswith(b": SUCCESS\n") for line in output)
 
 
-def fault_of_memory(program):
+def fault_of_memory(program, folder):
     """What is wrong with the memory of many directories, or nothing."""
-    many, left = memory_of(program, MANY)
-    each = many * 1024 / MANY
+    script = many_directories()
+    most, status, succeeded = memory_of(program, script, folder)
+    each = (most - len(script)) / MANY
     print(f"cases: {MANY} directories take {each:.0f} bytes each")
-    return "" if left == (0, b"each directory was made\n") and LEAST_EACH <= each <= MOST_EACH else f"cases: memory: it left {left} and {each:.0f} bytes a directory"
+    is_right = (status, succeeded) == (0, 2 * MANY + 1) and LEAST_EACH <= each <= MOST_EACH
+    return "" if is_right else f"cases: memory: {succeeded} lines succeeded, it ended in {status}, and a directory takes {each:.0f} bytes"
+
+
+def faults_of_cache(program):
+    """What is wrong with the instructions of an open of a deep name, or nothing."""
+    if not shutil.which("valgrind"):
+        print("cases: cache: there is no valgrind here")
+        return
+    for names in (instructions.LETTERS, instructions.WORDS):
+        deep = instructions.both(names)[0]
+        folder = "\\" + "x" * (len(deep) - 3)
+        before = instructions.deep(names) + f'p1 dir "{folder}" P =d\np1 close d\np1 make Event "{folder}\\E" P "" =e\np1 close e\n'
+        of_deep, of_flat = (instructions.of_lines(program, before, instructions.opened(path)) for path in (deep, f"{folder}\\E"))
+        print(f"cases: an open and a close of a name of {len(deep)} bytes and 16 components: {of_deep:,.0f} instructions, {of_deep / of_flat:.2f} times those of 2 components")
+        yield "" if of_deep <= MOST_TIMES * of_flat else f"cases: cache: an open of a deep name takes {of_deep / of_flat:.2f} times as many instructions"
 
 
 def faults_of_callers(callers, program):
     """What is wrong with the journals that `callers` writes."""
-    for words, count in (((), 16), (("mix",), 1)):
+    for words, count in (((), 28), (("mix",), 1)):
         ran = subprocess.run([callers, *words], capture_output=True, timeout=300, check=False)
         _, written = journal_lines.parted(ran.stdout)
         yield "" if (ran.returncode, len(written)) == (0, count) else f"cases: callers: it ends in {ran.returncode} with {len(written)} journals"
@@ -264,24 +303,28 @@ def fault_of(run, program, folder):
 
 
 def main():
-    if len(sys.argv) not in (2, 4):
-        sys.exit("usage: gate/cases.py PROGRAM [CORES CALLERS]")
+    if len(sys.argv) not in (2, 3):
+        sys.exit("usage: gate/cases.py PROGRAM [CALLERS]")
     program = str(Path(sys.argv[1]).resolve())
+    callers = str(Path(sys.argv[2]).resolve()) if sys.argv[2:] else ""
     passed = failed = 0
+
+    def tell(name, told, what):
+        """Counts what was told, and prints it."""
+        nonlocal passed, failed
+        faults = [fault for fault in told if fault]
+        passed, failed = passed + len(told) - len(faults), failed + len(faults)
+        print(f"cases: {name}: {len(told)} {what} ... {'ok' if not faults else f'{len(faults)} failed'}", *faults[:20], sep="\n", flush=True)
+
     with tempfile.TemporaryDirectory(prefix="ntns-cases-") as folder, ThreadPoolExecutor(len(os.sched_getaffinity(0))) as pool:
         for name, text in FILES.items():
             (Path(folder) / name).write_bytes(text)
-        for table in (lines, scripts, lookups, objects, requests, workers, journals, worked):
-            runs = list(table())
-            faults = [fault for fault in pool.map(lambda run: fault_of(run, program, folder), runs) if fault]
-            passed, failed = passed + len(runs) - len(faults), failed + len(faults)
-            print(f"cases: {table.__name__}: {len(runs)} runs ... {'ok' if not faults else f'{len(faults)} failed'}", *faults[:20], sep="\n", flush=True)
-    if sys.argv[2:]:
-        cores, callers = (str(Path(it).resolve()) for it in sys.argv[2:])
-        for name, told in (("operations", [fault_of_operations(cores)]), ("memory", [fault_of_memory(cores)]), ("callers", list(faults_of_callers(callers, program)))):
-            faults = [fault for fault in told if fault]
-            passed, failed = passed + len(told) - len(faults), failed + len(faults)
-            print(f"cases: {name}: {len(told)} checks ... {'ok' if not faults else f'{len(faults)} failed'}", *faults[:20], sep="\n", flush=True)
+        for table in (lines, scripts, lookups, objects, requests, workers, threads, journals, worked):
+            tell(table.__name__, list(pool.map(lambda run: fault_of(run, program, folder), list(table()))), "runs")
+        tell("memory", [fault_of_memory(program, folder)], "checks")
+    tell("cache", list(faults_of_cache(program)), "checks")
+    if callers:
+        tell("callers", list(faults_of_callers(callers, program)), "checks")
     print(f"{passed} passed, {failed} failed")
     return 1 if failed else 0
 

@@ -12,14 +12,13 @@ A run that finds no memory ends as the whole run, or with `N: want of memory` be
 `ntns: want of memory` and no output. A parse that finds none ends nothing: its line replies NO_MEMORY, and the run goes on as that of the script
 in which the open there is refused, or given up. A run whose read fails writes nothing; one whose write fails leaves a beginning of the output.
 
-A program that `--steps` names makes steps of a namespace, a line each, where its word is `refused`, and the Nth alone where N stands behind that, and tells
-whether anything changed where one was refused memory: `cores` makes steps of a core, and `callers` steps of one that four callers share. It is run with each
-request of each step refused in turn: each line then has to say that nothing had changed, and what it says without. Where a journal stands behind a line, it has to be
-accepted. How many requests each step makes has to be what `hostile/` has in the text of the program's name, so that one that creeps into an open, or into a
-close, is seen.
+The program that `--steps` names, `callers`, makes steps under the lock of a namespace that four callers share, a line each, where its word is `refused`, and the
+Nth alone where N stands behind that, and says whether anything changed where one was refused memory. It is run with each request of each step refused in turn: each
+line then has to say that nothing had changed, and then what it says without, with the same journal, which `PROGRAM` has to accept. How many requests each step
+makes has to be what `hostile/callers.txt` says, so that one that creeps into an open, or into a close, is seen.
 
-    gate/refusals.py PROGRAM [--steps STEPS]* [--long] [SCRIPT..]      --long: longer scripts, and the scripts that are named, in place of the gate's cases
-    gate/refusals.py PROGRAM [--steps STEPS]* --renew                  writes these texts anew
+    gate/refusals.py PROGRAM [--steps STEPS] [--long] [SCRIPT..]      --long: longer scripts, and the scripts that are named, in place of the gate's cases
+    gate/refusals.py PROGRAM --steps STEPS --renew                    writes that text anew
 
 The last line is 'N passed, M failed'. The exit status is 0 where none failed, else 1.
 """
@@ -78,6 +77,24 @@ p1 end y
 p1 begin Key "\K\S" - =y
 p1 drop y
 p1 end y
+p1 make Event "\X" - "x" =no
+p1 make Event "\X" O "x" =no
+p1 make Device none - ";" =no
+p1 make Mutant "\X" - "1" =x1
+p1 open Mutant "\X" - =no
+p1 make Key "\Q" - "L>\Q\L;M>\A\L\E;N>\No" =q1
+p1 open Key "\Q\L" - =no
+p1 open Event "\Q\M" - =q2
+p1 open Event "\Q\N" - =no
+p1 open Event "\D\x" - =no
+p1 make Device "\T" - "x" =t1
+p1 begin File "\T\x" - =z
+p1 close t1
+p1 end z
+p1 new plain =w
+w begin File "\D\x" - =z
+w end z
+w exit
 p1 name h
 p1 name e+3
 p1 target l
@@ -433,10 +450,10 @@ WRITES = 4
 
 
 def requests_of(whole):
-    """A line for each step: how many requests it makes, its name, and what it is told, but for the sum of the picture behind it."""
-    lines = journal_lines.parted(whole.output)[0].decode().splitlines()[:-1]
+    """A line for each step: how many requests it makes, its name, and how it came, without the numbers behind that."""
+    lines = [line.partition(", entries ")[0] for line in journal_lines.parted(whole.output)[0].decode().splitlines()[:-1]]
     counts = whole.asked[1::WRITES][: len(lines)]
-    return [f"{count:2} {line.rpartition(' ')[0]}" for count, line in zip(counts, lines, strict=True)]
+    return [f"{count:2} {line}" for count, line in zip(counts, lines, strict=True)]
 
 
 def kept_of(bench):
@@ -464,10 +481,12 @@ def faults_of_steps(bench, program):
     *lines, end = journal_lines.parted(whole.output)[0].splitlines()
     for place, line in enumerate(lines):
         count, refused = whole.asked[1 + WRITES * place], 0
+        _, journal = journal_lines.parted(bench.whole((REFUSED_STEPS, str(place + 1)), b"").output)
         for number in range(1, count + 1):
             left = bench.run((REFUSED_STEPS, str(place + 1)), b"", REFUSE_BEHIND=1, REFUSE_REQUEST=number)
             fault, is_refused = fault_of_step(line, end, left, program)
             refused += is_refused
+            fault = fault or ("" if journal_lines.parted(left.output)[1] == journal else "its journal is another one")
             yield fault and f"refused request {number}: {fault}"
         yield "" if refused or not count else f"{line.decode()}: it was never refused"
 
@@ -483,11 +502,11 @@ def tried_steps(bench, program):
 
 
 def main():
-    words = argparse.ArgumentParser(usage="gate/refusals.py PROGRAM [--steps STEPS]* [--renew] [--long] [SCRIPT..]")
+    words = argparse.ArgumentParser(usage="gate/refusals.py PROGRAM [--steps STEPS] [--renew] [--long] [SCRIPT..]")
     words.add_argument("program", type=Path)
     words.add_argument("scripts", type=Path, nargs="*")
     words.add_argument("--long", action="store_true")
-    words.add_argument("--steps", type=Path, action="append", default=[])
+    words.add_argument("--steps", type=Path)
     words.add_argument("--renew", action="store_true")
     asked = words.parse_args()
     passed = failed = 0
@@ -497,10 +516,9 @@ def main():
         if fault:
             print(f"refusals: {fault}\n0 passed, 1 failed")
             return 1
-        steps = [Bench(str(path.resolve()), folder) for path in asked.steps]
+        steps = Bench(str(asked.steps.resolve()), folder) if asked.steps else None
         if asked.renew:
-            for made in steps:
-                kept_of(made).write_text("\n".join(requests_of(made.whole((REFUSED_STEPS,), b""))) + "\n")
+            kept_of(steps).write_text("\n".join(requests_of(steps.whole((REFUSED_STEPS,), b""))) + "\n")
             return 0
         (bench.folder / "workers").write_bytes(WORKERS)
         found, files = cases(bench.run(("threads", "workers"), b"").output)
@@ -510,7 +528,7 @@ def main():
             found = [Case(shows, (), script) for shows, script in longer().items() if asked.long]
             found += [Case(str(path), (), path.read_bytes()) for path in asked.scripts]
         with ThreadPoolExecutor(len(os.sched_getaffinity(0))) as pool:
-            played = [pool.submit(tried_steps, made, bench.program) for made in steps]
+            played = [pool.submit(tried_steps, steps, bench.program)] if steps else []
             played += [pool.submit(tried, bench, case) for case in found]
             for good, bad, line in (it.result() for it in played):
                 passed, failed = passed + good, failed + bad

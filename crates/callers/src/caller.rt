@@ -1,77 +1,16 @@
-//! Callers: what each asks of a namespace that they share, by its pass.
+//! A caller: what it asks of a namespace that it shares, by its pass.
 
+use crate::asked::{Asked, What, command_of};
 use ob_base::{Fault, Handle, Proc, Status};
-use ob_core::{Bytes, Command, Given, HandleTable, Place, Reply};
-use ob_device::DeviceKind;
+use ob_core::{Command, Given, Reply, SlabTable};
+use ob_device::{DeviceKind, DeviceSet};
 use ob_shared::{Gate, Pass, Shared};
-use ob_types::TypeSet;
-use std::alloc::{AllocError, Global};
+use std::alloc::Global;
 use std::sync::Wait;
 use std::sync::ledger::Ledger;
 
-/// What a caller asks for, of a name that is told beside it or of a handle.
-#[derive(Clone, Copy)]
-pub(crate) enum Asked {
-    /// To make a directory.
-    Make,
-    /// To open a directory.
-    Open,
-    /// To make a device, which has the file `x`.
-    Device,
-    /// To open a file.
-    File,
-    /// To be told the path of a handle's object.
-    Name(Handle),
-    /// To close a handle.
-    Close(Handle),
-}
-
-/// The command by which it is asked for.
-pub(crate) fn command_of(
-    alloc: Global,
-    asked: Asked,
-    name: &[u8],
-) -> Result<Command<DeviceKind>, AllocError> {
-    match asked {
-        Asked::Make => Ok(Command::CreateDirectory {
-            place: place_of(alloc, name)?,
-            attrs: 0,
-        }),
-        Asked::Open => Ok(Command::OpenDirectory {
-            root: None,
-            name: Bytes::from_slice(alloc, name)?,
-            attrs: 0,
-        }),
-        Asked::Device => device_of(alloc, name),
-        Asked::File => Ok(Command::OpenObject {
-            root: None,
-            name: Bytes::from_slice(alloc, name)?,
-            attrs: 0,
-            want: Some(DeviceKind::File),
-        }),
-        Asked::Name(handle) => Ok(Command::QueryName { handle }),
-        Asked::Close(handle) => Ok(Command::Close { handle }),
-    }
-}
-
-/// The place of an absolute name.
-fn place_of(alloc: Global, name: &[u8]) -> Result<Place, AllocError> {
-    Ok(Place::At {
-        root: None,
-        name: Bytes::from_slice(alloc, name)?,
-    })
-}
-
-/// The command that makes a device, which has the file `x`.
-fn device_of(alloc: Global, name: &[u8]) -> Result<Command<DeviceKind>, AllocError> {
-    let args = Bytes::from_slice(alloc, b"x")?;
-    Ok(Command::CreateObject {
-        place: place_of(alloc, name)?,
-        attrs: 0,
-        kind: DeviceKind::Device,
-        args,
-    })
-}
+/// A shared namespace with devices.
+pub(crate) type Devices<L> = Shared<DeviceSet, SlabTable, L>;
 
 /// A gate that is passed at once.
 #[derive(Drop)]
@@ -81,30 +20,16 @@ impl Gate for NoGate {
     fn between(&self) {}
 }
 
-/// A caller with its pass, which it has but while it makes a step.
+/// A caller with its pass, which it has except while it makes a step.
 #[derive(Drop)]
 pub(crate) struct Caller<L: Ledger> {
-    alloc: Global,
-    pass: Option<Pass<DeviceKind, L>>,
+    pub(crate) pass: Option<Pass<DeviceKind, L>>,
 }
 
-/// The status of a reply, and the handle that was given, or 0; none where a step had a fault.
+/// The status of a reply, and the handle that it gives, or 0; none where a step had a fault.
 pub(crate) type Answer = Option<(Status, Handle)>;
 
 impl<L: Ledger> Caller<L> {
-    /// The caller that has this pass.
-    pub(crate) fn new(alloc: Global, pass: Pass<DeviceKind, L>) -> Caller<L> {
-        Caller {
-            alloc,
-            pass: Some(pass),
-        }
-    }
-
-    /// Its pass.
-    pub(crate) fn into_pass(self) -> Option<Pass<DeviceKind, L>> {
-        self.pass
-    }
-
     /// Its seat.
     pub(crate) fn seat(&self) -> u32 {
         match &self.pass {
@@ -113,19 +38,11 @@ impl<L: Ledger> Caller<L> {
         }
     }
 
-    /// How many receipts its pass has.
-    pub(crate) fn receipts(&self) -> usize {
-        match &self.pass {
-            Some(pass) => pass.count(),
-            None => 0,
-        }
-    }
-
     /// Runs a command of process 1 to its reply, through a gate.
-    pub(crate) fn run<R: Wait, T: TypeSet<Kind = DeviceKind>, H: HandleTable, G: Gate>(
+    fn run<R: Wait, G: Gate>(
         &mut self,
         rt: &R,
-        space: &Shared<T, H, L>,
+        space: &Devices<L>,
         command: &Command<DeviceKind>,
         gate: &G,
     ) -> Result<Reply, Fault> {
@@ -138,15 +55,15 @@ impl<L: Ledger> Caller<L> {
     }
 
     /// Asks through a gate.
-    pub(crate) fn ask_through<R: Wait, T: TypeSet<Kind = DeviceKind>, H: HandleTable, G: Gate>(
+    pub(crate) fn ask_through<R: Wait, G: Gate>(
         &mut self,
         rt: &R,
-        space: &Shared<T, H, L>,
-        asked: Asked,
-        name: &[u8],
+        alloc: Global,
+        space: &Devices<L>,
+        (asked, name): (Asked, &[u8]),
         gate: &G,
     ) -> Answer {
-        let Ok(command) = command_of(self.alloc, asked, name) else {
+        let Ok(command) = command_of(alloc, asked, name) else {
             return None;
         };
         match self.run(rt, space, &command, gate) {
@@ -156,14 +73,30 @@ impl<L: Ledger> Caller<L> {
     }
 
     /// Asks with no gate.
-    pub(crate) fn ask<R: Wait, T: TypeSet<Kind = DeviceKind>, H: HandleTable>(
+    pub(crate) fn ask<R: Wait>(
         &mut self,
         rt: &R,
-        space: &Shared<T, H, L>,
+        alloc: Global,
+        space: &Devices<L>,
         asked: Asked,
         name: &[u8],
     ) -> Answer {
-        self.ask_through(rt, space, asked, name, &NoGate)
+        self.ask_through(rt, alloc, space, (asked, name), &NoGate)
+    }
+
+    /// Creates a directory, opens it, and closes both handles; whether both were closed, and none where a step had a fault.
+    pub(crate) fn round<R: Wait>(
+        &mut self,
+        rt: &R,
+        alloc: Global,
+        space: &Devices<L>,
+        name: &[u8],
+    ) -> Option<bool> {
+        let (_, made) = self.ask(rt, alloc, space, Asked::Create(What::Directory), name)?;
+        let (_, opened) = self.ask(rt, alloc, space, Asked::Open(What::Directory), name)?;
+        let (closed, _) = self.ask(rt, alloc, space, Asked::Close(opened), b"")?;
+        let (gone, _) = self.ask(rt, alloc, space, Asked::Close(made), b"")?;
+        Some(closed == Status::Success && gone == Status::Success)
     }
 }
 
@@ -173,23 +106,4 @@ fn handle_of(reply: &Reply) -> Handle {
         Given::Handle(handle) => *handle,
         _ => Handle(0),
     }
-}
-
-/// Makes a directory, opens it, and closes both handles; whether all of it was done, and nothing where a step had a fault.
-pub(crate) fn round<R: Wait, T: TypeSet<Kind = DeviceKind>, H: HandleTable, L: Ledger>(
-    rt: &R,
-    space: &Shared<T, H, L>,
-    caller: &mut Caller<L>,
-    name: &[u8],
-) -> Option<bool> {
-    let (_, made) = caller.ask(rt, space, Asked::Make, name)?;
-    let (_, opened) = caller.ask(rt, space, Asked::Open, name)?;
-    let (closed, _) = caller.ask(rt, space, Asked::Close(opened), b"")?;
-    let (gone, _) = caller.ask(rt, space, Asked::Close(made), b"")?;
-    Some(closed == Status::Success && gone == Status::Success)
-}
-
-/// The name of a caller's own directory.
-pub(crate) fn own_name(seat: u32) -> [u8; 2] {
-    [b'\\', b'A' + (seat % 26) as u8]
 }

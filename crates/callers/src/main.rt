@@ -3,11 +3,10 @@
 //! `callers` tells what callers do together, and then what comes of steps, as `callers refused` does. Behind each stands the journal of its namespace,
 //! which `ntns replay` accepts.
 //!
-//! `callers refused` makes steps of namespaces that four callers share, each in one of its own, a line each with the journal behind it, and
-//! `callers refused N` the Nth alone. A library that refuses its requests for memory in turn is to be preloaded. Where a step is refused memory, its
-//! caller's pass has to have the receipts that it had, and besides at most those of an open that was begun, and given up or answered NO_MEMORY; then the
-//! step is made again, and has to be answered as without the refusal. The last line, and the status, tell whether each was so. The requests of a step are
-//! those between the first write of its line and the second.
+//! `callers refused` makes steps under the lock of four seats, each in a namespace of its own, a line each with the journal behind it, and `callers refused N` the
+//! Nth alone. A library that refuses its requests for memory in turn is to be preloaded. Where a step is refused memory, namespace, journal and pass have to be
+//! as before; then the step is made again. The last line, and the status, tell whether each was so. The requests of a step are those between the first write of
+//! its line and the second.
 //!
 //! `callers mix` writes the journal of four callers who make 20,000 steps at once, and nothing else.
 //!
@@ -15,18 +14,17 @@
 //! handles; the directory has the caller's own name, or one name for all.
 #![tactic(auto)]
 
+mod asked;
 mod caller;
-mod journals;
-mod plans;
 mod rows;
-mod steps;
+mod scenes;
 mod threads;
-mod told;
 mod under;
+mod written;
 
-use crate::plans::Plan;
+use crate::scenes::{Scene, are_made, are_told, of_rounds};
 use crate::threads::Rounds;
-use crate::told::{tell_entries, tell_journal, tell_scenes, tell_steps};
+use crate::under::are_tried;
 use std::alloc::Global;
 use std::io::Write;
 use std::process::ExitCode;
@@ -42,10 +40,8 @@ enum Task {
     Tell,
     /// Steps are made, or the one at this place.
     Refused(Option<usize>),
-    /// The journal of callers who mix their steps is written.
-    Mix,
-    /// So many callers make rounds.
-    Rounds(u32, Rounds),
+    /// Callers make rounds.
+    Rounds(Scene),
 }
 
 /// A number that is written out.
@@ -59,17 +55,25 @@ fn task_of(words: &[String]) -> Option<Task> {
         return Some(Task::Tell);
     };
     let first = number_of(words.get(2));
-    let count = number_of(words.get(3)).unwrap_or(0);
     let is_own = what.as_str() == "own";
-    let rounds = Rounds {
-        on_its_own: is_own,
-        on_one: !is_own,
-        count,
-    };
     match what.as_str() {
         "refused" => Some(Task::Refused(first.map(|place| place as usize))),
-        "mix" => Some(Task::Mix),
-        "own" | "one" => Some(Task::Rounds(first?, rounds)),
+        "mix" => {
+            let rounds = Rounds {
+                on_its_own: true,
+                on_one: true,
+                count: 625,
+            };
+            Some(Task::Rounds(of_rounds(4, rounds, true)))
+        }
+        "own" | "one" => {
+            let rounds = Rounds {
+                on_its_own: is_own,
+                on_one: !is_own,
+                count: number_of(words.get(3)).unwrap_or(0),
+            };
+            Some(Task::Rounds(of_rounds(first?, rounds, false)))
+        }
         _ => None,
     }
 }
@@ -83,17 +87,11 @@ fn is_done<R: Threads + Wait + Clock + Sync, W: Write>(
 ) -> bool {
     match task {
         Task::Tell => {
-            let are_made = tell_scenes(rt, writer, alloc);
-            tell_steps(rt, writer, alloc, None) && are_made
+            let are_told = are_told(rt, writer, alloc);
+            are_tried(writer, alloc, None) && are_told
         }
-        Task::Refused(place) => tell_steps(rt, writer, alloc, place),
-        Task::Mix => tell_journal(rt, writer, alloc, Plan::Mix),
-        Task::Rounds(callers, rounds) => tell_entries(
-            rt,
-            writer,
-            alloc,
-            Plan::Rounds(callers, rounds),
-        ),
+        Task::Refused(place) => are_tried(writer, alloc, place),
+        Task::Rounds(scene) => are_made(rt, writer, alloc, &scene),
     }
 }
 

@@ -1,48 +1,82 @@
 //! Callers on threads of their own.
 
-use crate::caller::{Answer, Asked, Caller, NoGate, own_name, round};
+use crate::asked::{Asked, What};
+use crate::caller::{Caller, Devices, NoGate};
 use ob_base::{Handle, Status};
-use ob_core::SlabTable;
-use ob_device::{DeviceKind, DeviceSet};
-use ob_shared::{Gate, Pass, Shared};
+use ob_device::DeviceKind;
+use ob_shared::{Gate, Pass};
 use std::alloc::{AllocError, Global};
 use std::sync::Wait;
 use std::sync::atomic::AtomicBool;
 use std::sync::atomic::Ordering::SeqCst;
 use std::sync::ledger::Ledger;
 use std::thread;
-use std::thread::{Threads, join};
+use std::thread::Threads;
 use std::time::{Clock, Duration};
 
-/// A namespace with devices.
-pub(crate) type Devices<L> = Shared<DeviceSet, SlabTable, L>;
+/// What each of many callers does so many times over.
+#[derive(Clone, Copy)]
+pub(crate) struct Rounds {
+    /// Whether it makes rounds on a name of its own.
+    pub(crate) on_its_own: bool,
+    /// Whether it makes rounds on a name that all callers share. What is answered there depends on the others.
+    pub(crate) on_one: bool,
+    /// How many times over.
+    pub(crate) count: u32,
+}
 
-/// A caller that came back, with what it was answered last.
-pub(crate) type Back<L> = (Caller<L>, Answer);
+/// What callers do.
+#[derive(Clone, Copy)]
+pub(crate) enum Deed {
+    /// Seat 0 opens a file of a device, and waits in its gate until seat 1 was answered.
+    Meet,
+    /// The caller of this seat makes eleven steps, an open by parse among them; the others do nothing.
+    Work(u32),
+    /// Each makes rounds.
+    Rounds(Rounds),
+}
 
-/// How far two callers have come.
+/// What callers do, and how far two of them have come.
 #[derive(Drop)]
-struct Signals {
-    /// The one has entered its gate.
+pub(crate) struct Play {
+    deed: Deed,
+    /// Seat 0 has entered its gate.
     entered: AtomicBool,
-    /// The other was answered.
+    /// Seat 1 was answered.
     answered: AtomicBool,
     /// The gate was left before that.
     hurried: AtomicBool,
+}
+
+impl Play {
+    /// A play that has not begun.
+    pub(crate) fn new(deed: Deed) -> Play {
+        Play {
+            deed,
+            entered: AtomicBool::new(false),
+            answered: AtomicBool::new(false),
+            hurried: AtomicBool::new(false),
+        }
+    }
+
+    /// Whether a gate was left too early.
+    pub(crate) fn is_hurried(&self) -> bool {
+        self.hurried.load(SeqCst)
+    }
 }
 
 /// A gate that is left once the other caller was answered.
 #[derive(Drop)]
 struct UntilAnswered<'a, R> {
     rt: &'a R,
-    signals: &'a Signals,
+    play: &'a Play,
 }
 
 impl<R: Clock> Gate for UntilAnswered<'_, R> {
     fn between(&self) {
-        self.signals.entered.store(true, SeqCst);
-        if !is_given(self.rt, &self.signals.answered) {
-            self.signals.hurried.store(true, SeqCst);
+        self.play.entered.store(true, SeqCst);
+        if !is_given(self.rt, &self.play.answered) {
+            self.play.hurried.store(true, SeqCst);
         }
     }
 }
@@ -58,130 +92,109 @@ fn is_given<R: Clock>(rt: &R, signal: &AtomicBool) -> bool {
     false
 }
 
-/// Makes a device and opens a file of it, and waits in the gate of that until the other caller was answered.
+/// Creates a device and opens a file of it, and waits in the gate of that until the other caller was answered.
 fn open_slowly<R: Wait + Clock, L: Ledger>(
     rt: &R,
     alloc: Global,
     space: &Devices<L>,
-    pass: Pass<DeviceKind, L>,
-    signals: &Signals,
-) -> Back<L> {
-    let mut caller = Caller::new(alloc, pass);
-    caller.ask(rt, space, Asked::Device, b"\\Device\\D");
-    let gate = UntilAnswered { rt, signals };
-    let opened = caller.ask_through(rt, space, Asked::File, b"\\Device\\D\\x", &gate);
-    (caller, opened)
+    caller: &mut Caller<L>,
+    play: &Play,
+) {
+    let device = Asked::Create(What::Device);
+    caller.ask_through(rt, alloc, space, (device, b"\\Device\\D"), &NoGate);
+    let file = Asked::Open(What::Device);
+    let gate = UntilAnswered { rt, play };
+    caller.ask_through(rt, alloc, space, (file, b"\\Device\\D\\x"), &gate);
 }
 
-/// Makes another device and asks for its path, once the other caller has entered its gate.
+/// Creates another device and asks for its path, once the other caller has entered its gate.
 fn make_meanwhile<R: Wait + Clock, L: Ledger>(
     rt: &R,
     alloc: Global,
     space: &Devices<L>,
-    pass: Pass<DeviceKind, L>,
-    signals: &Signals,
-) -> Back<L> {
-    let mut caller = Caller::new(alloc, pass);
-    if !is_given(rt, &signals.entered) {
-        return (caller, None);
+    caller: &mut Caller<L>,
+    play: &Play,
+) {
+    if is_given(rt, &play.entered) {
+        let made = caller.ask(
+            rt,
+            alloc,
+            space,
+            Asked::Create(What::Device),
+            b"\\Device\\E",
+        );
+        let (_, handle) = made.unwrap_or((Status::Success, Handle(0)));
+        caller.ask(rt, alloc, space, Asked::Name(handle), b"");
+        play.answered.store(true, SeqCst);
     }
-    let made = caller.ask(rt, space, Asked::Device, b"\\Device\\E");
-    let (_, handle) = made.unwrap_or((Status::Success, Handle(0)));
-    let named = caller.ask(rt, space, Asked::Name(handle), b"");
-    signals.answered.store(true, SeqCst);
-    (caller, named)
 }
 
-/// What both callers are answered, each on a thread of its own, and whether the one was in its gate until the other was answered.
-pub(crate) fn beside<R: Threads + Wait + Clock + Sync, L: Ledger + Send + Sync>(
-    rt: &R,
-    alloc: Global,
-    space: &Devices<L>,
-    one: Pass<DeviceKind, L>,
-    other: Pass<DeviceKind, L>,
-) -> (Back<L>, Back<L>, bool) {
-    let signals = Signals {
-        entered: AtomicBool::new(false),
-        answered: AtomicBool::new(false),
-        hurried: AtomicBool::new(false),
-    };
-    let signals = &signals;
-    let (one, other) = join(
+/// Creates a device and opens a file of it by a parse, and makes two rounds.
+fn work<R: Wait, L: Ledger>(rt: &R, alloc: Global, space: &Devices<L>, caller: &mut Caller<L>) {
+    caller.ask(
         rt,
-        move || open_slowly(rt, alloc, space, one, signals),
-        move || make_meanwhile(rt, alloc, space, other, signals),
+        alloc,
+        space,
+        Asked::Create(What::Device),
+        b"\\Device\\D",
     );
-    (one, other, !signals.hurried.load(SeqCst))
+    caller.ask(
+        rt,
+        alloc,
+        space,
+        Asked::Open(What::Device),
+        b"\\Device\\D\\x",
+    );
+    for _ in 0..2 {
+        caller.round(rt, alloc, space, b"\\A");
+    }
 }
 
-/// Makes a directory, or opens it.
-fn make_or_open<R: Wait, L: Ledger>(
-    rt: &R,
-    alloc: Global,
-    space: &Devices<L>,
-    pass: Pass<DeviceKind, L>,
-    is_maker: bool,
-) -> Back<L> {
-    let mut caller = Caller::new(alloc, pass);
-    let asked = if is_maker { Asked::Make } else { Asked::Open };
-    let answer = caller.ask(rt, space, asked, b"\\W");
-    (caller, answer)
-}
-
-/// Makes a directory, or opens it, on a thread that ends then.
-pub(crate) fn on_a_thread<R: Threads + Wait + Sync, L: Ledger + Send + Sync>(
-    rt: &R,
-    alloc: Global,
-    space: &Devices<L>,
-    pass: Pass<DeviceKind, L>,
-    is_maker: bool,
-) -> Back<L> {
-    let asked = move || make_or_open(rt, alloc, space, pass, is_maker);
-    join(rt, asked, || ()).0
-}
-
-/// What each of many callers does.
-#[derive(Clone, Copy)]
-pub(crate) struct Rounds {
-    /// Whether it makes rounds on a name of its own.
-    pub(crate) on_its_own: bool,
-    /// Whether it makes rounds on a name that all callers share. What is answered there depends on the others.
-    pub(crate) on_one: bool,
-    /// How many times over.
-    pub(crate) count: u32,
-}
-
-/// Makes rounds of a caller; it stops at a fault, so that receipts are missing then.
+/// Makes rounds; it stops at a fault, so that entries are missing then.
 fn make_rounds<R: Wait, L: Ledger>(
     rt: &R,
     alloc: Global,
     space: &Devices<L>,
-    pass: Pass<DeviceKind, L>,
-    rounds: &Rounds,
-) -> Caller<L> {
-    let mut caller = Caller::new(alloc, pass);
-    let own = own_name(caller.seat());
+    caller: &mut Caller<L>,
+    rounds: Rounds,
+) {
+    let own = [b'\\', b'A' + (caller.seat() % 26) as u8];
     for _ in 0..rounds.count {
-        let is_well = !rounds.on_its_own || round(rt, space, &mut caller, &own) == Some(true);
-        let is_made = !rounds.on_one || round(rt, space, &mut caller, b"\\S").is_some();
+        let is_well = !rounds.on_its_own || caller.round(rt, alloc, space, &own) == Some(true);
+        let is_made = !rounds.on_one || caller.round(rt, alloc, space, b"\\S").is_some();
         if !is_well || !is_made {
-            return caller;
+            return;
         }
+    }
+}
+
+/// Does what the caller of this pass does.
+fn act<R: Wait + Clock, L: Ledger>(
+    rt: &R,
+    alloc: Global,
+    space: &Devices<L>,
+    pass: Pass<DeviceKind, L>,
+    play: &Play,
+) -> Caller<L> {
+    let mut caller = Caller { pass: Some(pass) };
+    let seat = caller.seat();
+    match play.deed {
+        Deed::Meet if seat == 0 => open_slowly(rt, alloc, space, &mut caller, play),
+        Deed::Meet => make_meanwhile(rt, alloc, space, &mut caller, play),
+        Deed::Work(maker) if seat == maker => work(rt, alloc, space, &mut caller),
+        Deed::Work(_) => {}
+        Deed::Rounds(rounds) => make_rounds(rt, alloc, space, &mut caller, rounds),
     }
     caller
 }
 
-/// Has each pass make its rounds on a thread of its own.
-pub(crate) fn at_once<R: Threads + Wait + Sync, L: Ledger + Send + Sync>(
+/// Has the caller of each pass act on a thread of its own.
+pub(crate) fn at_once<R: Threads + Wait + Clock + Sync, L: Ledger + Send + Sync>(
     rt: &R,
     alloc: Global,
     space: &Devices<L>,
     passes: Vec<Pass<DeviceKind, L>>,
-    rounds: &Rounds,
+    play: &Play,
 ) -> Result<Vec<Caller<L>>, AllocError> {
-    thread::map_vec(
-        rt,
-        passes,
-        &|pass| make_rounds(rt, alloc, space, pass, rounds),
-    )
+    thread::map_vec(rt, passes, &|pass| act(rt, alloc, space, pass, play))
 }
