@@ -52,7 +52,7 @@ import instructions  # noqa: E402  (of bench/)
 # the run wasn't seen
 MANY, LEAST_EACH, MOST_EACH = 500_000, 48, 250
 
-# an open and a close of a name of sixteen components takes at most so many times the instructions of one of two components, as long; where the cache is never asked, some 1.8 times
+# an open and a close of a name of sixteen components takes at most so many times the instructions of one of two components, as long; where the cache is never asked, 1.5 and 1.6 times
 MOST_TIMES = 1.3
 
 # the status of the program behind a verdict

@@ -3,7 +3,7 @@
 ghost use Rattle.std.specs.Prelude.{◌≡◌};
 
 use crate::asked::command_of;
-use crate::rows::{BEFORE, Deed, ROWS};
+use crate::rows::{BEFORE, How, ROWS};
 use crate::written::{mark, put_journal, put_numbers};
 use ob_base::{Proc, Status};
 use ob_core::{Command, SlabTable};
@@ -36,7 +36,7 @@ enum Came {
 }
 
 /// What is seen of the namespace and a pass.
-const SEEN: [&'static str; 7] = [
+const NAMES: [&'static str; 7] = [
     "entries",
     "reserved places",
     "objects",
@@ -51,7 +51,7 @@ type Numbers = [u64; 7];
 
 /// What a row's step came to at last, what was seen then, and whether nothing had changed where it was refused before.
 #[derive(Clone, Copy)]
-struct Tried {
+struct Trial {
     came: Came,
     numbers: Numbers,
     is_unchanged: bool,
@@ -158,12 +158,12 @@ fn bring<L: Ledger, W: Write>(
     locked: &mut Locked<L>,
     pass: &mut Pass<DeviceKind, L>,
     parsed: Parsed<DeviceSet>,
-) -> Tried {
+) -> Trial {
     let before = seen(locked, pass);
     let parsed = match resumed(alloc, locked, pass, parsed) {
         Ok(came) => {
             mark(writer, " .. ");
-            return Tried {
+            return Trial {
                 came,
                 numbers: seen(locked, pass),
                 is_unchanged: true,
@@ -181,7 +181,7 @@ fn bring<L: Ledger, W: Write>(
         }
     };
     mark_unchanged(writer, is_unchanged);
-    Tried {
+    Trial {
         came,
         numbers: seen(locked, pass),
         is_unchanged,
@@ -197,12 +197,12 @@ fn ask<L: Ledger, W: Write>(
     other: &mut Pass<DeviceKind, L>,
     process: Proc,
     command: &Command<DeviceKind>,
-) -> Tried {
+) -> Trial {
     let before = seen(locked, pass);
     let (came, numbers) = asked(alloc, locked, pass, other, process, command);
     if came != Came::Refused {
         mark(writer, " .. ");
-        return Tried {
+        return Trial {
             came,
             numbers,
             is_unchanged: true,
@@ -212,7 +212,7 @@ fn ask<L: Ledger, W: Write>(
     let is_unchanged = numbers == before;
     let (came, numbers) = asked(alloc, locked, pass, other, process, command);
     mark_unchanged(writer, is_unchanged);
-    Tried {
+    Trial {
         came,
         numbers,
         is_unchanged,
@@ -226,31 +226,20 @@ fn tried<L: Ledger, W: Write>(
     locked: &mut Locked<L>,
     pass: &mut Pass<DeviceKind, L>,
     other: &mut Pass<DeviceKind, L>,
-    (name, process, deed): (&str, Proc, Deed),
+    (name, how): (&str, How),
+    process: Proc,
     command: &Command<DeviceKind>,
-) -> Option<Tried> {
-    match deed {
-        Deed::Ask(_, _) => {
+) -> Option<Trial> {
+    match how {
+        How::Ask => {
             mark(writer, name);
             Some(ask(writer, alloc, locked, pass, other, process, command))
         }
-        Deed::Bring(_, _) => {
+        How::Bring => {
             let parsed = begun(alloc, locked, other, process, command)?;
             mark(writer, name);
             Some(bring(writer, alloc, locked, pass, parsed))
         }
-    }
-}
-
-/// The command of a row: that which is asked, or that of the open which another began.
-fn command_in(alloc: Global, deed: Deed) -> Option<Command<DeviceKind>> {
-    let (asked, name) = match deed {
-        Deed::Ask(asked, name) => (asked, name),
-        Deed::Bring(asked, name) => (asked, name),
-    };
-    match command_of(alloc, asked, name) {
-        Ok(command) => Some(command),
-        Err(_) => None,
     }
 }
 
@@ -262,11 +251,11 @@ fn is_ready<L: Ledger>(
     other: &mut Pass<DeviceKind, L>,
 ) -> bool {
     for row in BEFORE.iter() {
-        let (_, seat, process, deed) = *row;
+        let (_, seat, process, _, what, path) = *row;
         let Some(pass) = passes.get_mut(seat) else {
             return false;
         };
-        let Some(command) = command_in(alloc, deed) else {
+        let Ok(command) = command_of(alloc, what, path) else {
             return false;
         };
         let (came, _) = asked(alloc, locked, pass, other, process, &command);
@@ -282,7 +271,7 @@ fn is_ready<L: Ledger>(
 fn tell<W: Write>(
     writer: &mut W,
     alloc: Global,
-    tried: &Tried,
+    tried: &Trial,
     journal: &[Entry<DeviceKind>],
 ) -> Result<(), AllocError> {
     let word = match tried.came {
@@ -291,7 +280,7 @@ fn tell<W: Write>(
         Came::Refused => "REFUSED AGAIN",
     };
     let mut text = format!(in alloc; "{word}")?;
-    put_numbers(&mut text, &SEEN, &tried.numbers)?;
+    put_numbers(&mut text, &NAMES, &tried.numbers)?;
     let mut lines = Vec::new(alloc);
     lines.push(b'\n')?;
     put_journal(alloc, &mut lines, SEATS, journal)?;
@@ -308,7 +297,7 @@ fn is_played<L: Ledger, W: Write>(
     passes: &mut [Pass<DeviceKind, L>],
     place: usize,
 ) -> Option<bool> {
-    let (name, seat, process, deed) = *ROWS.get(place)?;
+    let (name, seat, process, how, what, path) = *ROWS.get(place)?;
     let Some((other, passes)) = passes.split_last_mut() else {
         return None;
     };
@@ -318,7 +307,7 @@ fn is_played<L: Ledger, W: Write>(
     let Some(pass) = passes.get_mut(seat) else {
         return None;
     };
-    let Some(command) = command_in(alloc, deed) else {
+    let Ok(command) = command_of(alloc, what, path) else {
         return None;
     };
     let tried = tried(
@@ -327,7 +316,8 @@ fn is_played<L: Ledger, W: Write>(
         locked,
         pass,
         other,
-        (name, process, deed),
+        (name, how),
+        process,
         &command,
     );
     // (by a call, since the drop of a command is long, and would be proved here on each way out)
