@@ -16,6 +16,6 @@ pub map_vec-requires-sync-F : goal.map_vec-requires-sync-F
 map_vec-requires-sync-F g c κs within =
     let L = param 1 g.row.L in
     let l = g.L.Ledger in
-    let s = captures_sync (ShrRef static _ (param 0 g.row.R) ∷ ShrRef static [] heap_row.the_row ∷ ShrRef static _ (space L l) ∷ ShrRef static [] plays.the_row ∷ [])
+    let s = captures_sync (ShrRef static _ (param 0 g.row.R) ∷ ShrRef static [] heap_row.the_row ∷ ShrRef static _ (space L l) ∷ ShrRef static _ plays.the_row ∷ [])
     (shr_sync _ _ _ c.type_bounds.sync-R, (shr_sync _ _ _ heap.the_sync, (shr_sync _ _ _ (space_sync L l), (shr_sync _ _ _ plays_lent.the_sync, tt)))) in
     record { shared = s.shared }
