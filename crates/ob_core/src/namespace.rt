@@ -30,7 +30,7 @@ use ob_drains::{Drains, what_is_taken_is_unnoticed};
 use ob_handles::HandleTable;
 use ob_lookup::{Cache, CachedStore};
 use ob_model::{Command, Held};
-use ob_opens::{Started, abandon, resume};
+use ob_opens::{Started, abandon, is_awaited, resume};
 use ob_processes::{PendingOpens, Processes};
 use ob_space::{Space, held_of, opening_store};
 use ob_types::{Brought, Parsed, TypeSet};
@@ -176,6 +176,13 @@ impl<T: TypeSet, H: HandleTable> Core<T, H> {
         ensures stranger { result ≡ false → self.new ≡ self.old }
     {
         abandon(&mut self.space, brought)
+    }
+
+    /// Whether an open waits for this parse, as `abandon` says: else it is a stranger's. Source: this profile.
+    pub fn awaits(&self, brought: &Brought<T>) -> bool
+        ensures { IsTrue result ↔ IsAwaited T.procedures self.now (asked_of (end_of brought.now)) }
+    {
+        is_awaited(&self.space, brought)
     }
 
     /// How many reparses are left to a pending open, from 0 to 32; none where no open is pending under this ticket. Takes

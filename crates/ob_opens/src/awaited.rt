@@ -14,11 +14,8 @@ use ob_space::Space;
 use ob_types::{Brought, TypeSet};
 
 /// Whether an open waits for a parse: one is pending under its ticket, over its rest, and the object that it pins
-/// has a face that is found the same.
-pub(crate) fn is_awaited<T: TypeSet, H: HandleTable>(
-    space: &Space<T, H>,
-    brought: &Brought<T>,
-) -> bool
+/// has a face that is found the same. Else the parse is a stranger's. (this profile)
+pub fn is_awaited<T: TypeSet, H: HandleTable>(space: &Space<T, H>, brought: &Brought<T>) -> bool
     ensures exact { IsTrue result
         ↔ IsAwaited T.procedures space.now (asked_of (end_of brought.now)) }
     ensures taken { IsTrue result

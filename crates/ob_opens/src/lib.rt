@@ -28,6 +28,7 @@ mod started;
 mod unpin;
 
 pub use abandoning::abandon;
+pub use awaited::is_awaited;
 pub use open::{open_name, type_wanted};
 pub use resuming::resume;
 pub use started::Started;
