@@ -1,5 +1,5 @@
--- The lines of a journal, version 1: a header, and a line for each entry, each a compact JSON object with its keys in rising
--- order, and LF.
+-- The lines of a journal, version 2: for each segment a header, and a line for each entry, each a compact JSON object with its
+-- keys in rising order, and LF.
 --
 -- Sources: RFC 8259 for JSON, as `serde_json` writes it without blanks; the keys, and the form of texts, are this profile.
 use Rattle.std.specs.Prelude.{ℕ, ◌/◌, ◌%◌, ◌+◌, Bool, ◌&&◌, not, ◌==◌, nat_lt, nat_le, if◌then◌else◌, List, [], ◌∷◌, ◌++◌, Option, None, Some, codes}
@@ -20,6 +20,7 @@ use Rattle.ob_model.specs.declared.reply.Given.TheVariants.{Nothing, Handle, Tex
 use Rattle.ob_model.specs.declared.reply.ParseRun.{ParseRun}
 use Rattle.ob_model.specs.declared.reply.ParseRun.TheVariants.{Unrun, Ran, NoMemory}
 use Rattle.ob_model.specs.Run.{Entry}
+use Rattle.ob_journal.specs.Segments.{Segment}
 
 -- ---- texts
 
@@ -209,12 +210,17 @@ answer_value (Ticket ticket) = object_of ((codes "ticket", number_value ticket) 
 abbrev pub line_of : Data → List ℕ
 line_of value = compact_text value ++ codes "\n"
 
--- the first line, for so many seats
-abbrev pub header_value : ℕ → Data
-header_value seats = object_of ((codes "journal", number_value 1) ∷ (codes "seats", number_value seats) ∷ [])
+-- the header of a segment of a journal of so many seats, with its number and that of its first entry
+abbrev pub header_value : (seats segment first : ℕ) → Data
+header_value seats segment first =
+    object_of (
+    (codes "first", number_value first)
+    ∷ (codes "journal", number_value 2)
+    ∷ (codes "seats", number_value seats)
+    ∷ (codes "segment", number_value segment) ∷ [])
 
-abbrev pub header_line : ℕ → List ℕ
-header_line seats = line_of (header_value seats)
+abbrev pub header_line : (seats segment first : ℕ) → List ℕ
+header_line seats segment first = line_of (header_value seats segment first)
 
 module _ {K : Type 0} (type_name : K → List ℕ) where
   -- the line of an entry
@@ -234,6 +240,11 @@ module _ {K : Type 0} (type_name : K → List ℕ) where
   entry_lines [] = []
   entry_lines (e ∷ es) = entry_line e ++ entry_lines es
 
-  -- a whole journal
-  abbrev pub journal_lines : ℕ → List (Entry K) → List ℕ
-  journal_lines seats entries = header_line seats ++ entry_lines entries
+  -- a segment: its header and its entries
+  abbrev pub segment_lines : ℕ → Segment K → List ℕ
+  segment_lines seats s = header_line seats s.number s.first ++ entry_lines s.entries
+
+  -- a whole journal: all its segments, the open one last
+  abbrev pub journal_lines : ℕ → List (Segment K) → List ℕ
+  journal_lines seats [] = []
+  journal_lines seats (s ∷ ss) = segment_lines seats s ++ journal_lines seats ss

@@ -15,12 +15,18 @@ use ob_types::TypeSet;
 use serde_json::{Map, Value};
 use std::alloc::{AllocError, Global};
 
-/// The first line of a journal of version 1: `{"journal":1,"seats":S}` and LF, where S is the number of seats. A journal has 1
-/// to 1,024 seats, which isn't judged here. The only error is out of memory. (RFC 8259; the keys: this profile)
-pub fn write_header(alloc: Global, seats: u32) -> Result<Vec<u8>, AllocError>
-    ensures { IfOk result (λ line. line.items ≡ header_line seats) }
+/// The header of a segment, in version 2: `{"first":F,"journal":2,"seats":S,"segment":K}` and LF, where S is the number of seats, K
+/// that of the segment, from 1, and F that of its first entry. None of these is judged here: a journal has 1 to 1,024 seats and at
+/// most 4,096 segments. The only error is out of memory. (RFC 8259; the keys: this profile)
+pub fn write_header(
+    alloc: Global,
+    seats: u32,
+    segment: u64,
+    first: u64,
+) -> Result<Vec<u8>, AllocError>
+    ensures { IfOk result (λ line. line.items ≡ header_line seats segment first) }
 {
-    let header = make_header(alloc, seats)?;
+    let header = make_header(alloc, seats, segment, first)?;
     write_value(alloc, &header)
 }
 
@@ -33,12 +39,14 @@ pub fn write_line<T: TypeSet>(alloc: Global, entry: &Entry<T::Kind>) -> Result<V
     write_value(alloc, &value)
 }
 
-// The value of the first line.
-fn make_header(alloc: Global, seats: u32) -> Result<Value, AllocError>
-    ensures { IfOk result (λ header. view header ≡ header_value seats) }
+// The value of a header.
+fn make_header(alloc: Global, seats: u32, segment: u64, first: u64) -> Result<Value, AllocError>
+    ensures { IfOk result (λ header. view header ≡ header_value seats segment first) }
 {
-    let header = with_value(alloc, Map::new(alloc), "journal", Value::from(1u32))?;
+    let header = with_value(alloc, Map::new(alloc), "first", Value::from(first))?;
+    let header = with_value(alloc, header, "journal", Value::from(2u32))?;
     let header = with_value(alloc, header, "seats", Value::from(seats))?;
+    let header = with_value(alloc, header, "segment", Value::from(segment))?;
     Ok(Value::Object(header))
 }
 

@@ -1,10 +1,10 @@
 -- What is written of an entry is read back.
-use Rattle.std.proofs.Common.{◌≡◌, ℕ, ◌^◌, ◌<◌, ◌≤◌, Bool, true, false, cond, nat_lt, bytes_eq, find, List, [], ◌∷◌, ◌++◌, Option, None, Some, option_map, codes, refl, sym, ap, ◌∙◌, subst, arith, lt-ltb, le-leb}
+use Rattle.std.proofs.Common.{◌≡◌, ℕ, ◌^◌, ◌<◌, ◌≤◌, Bool, true, false, cond, nat_lt, bytes_eq, find, List, [], ◌∷◌, Option, None, Some, option_map, codes, refl, sym, ap, ◌∙◌, subst, arith, lt-ltb, le-leb}
 use Rattle.std.specs.List.{AllByRecursion}
 use Rattle.std.proofs.lemmas.List.{append_cancel_right}
 use Rattle.either.specs.declared.Either.TheVariants.{Left, Right}
 use Rattle.json.proofs.Printed.Utf8.{are_ascii}
-use Rattle.serde_json.specs.Data.{Data, unsigned, number, Items}
+use Rattle.serde_json.specs.Data.{Data}
 use Rattle.serde_json.specs.Written.{compact_text}
 use Rattle.ob_base.specs.Status.{code_of}
 use Rattle.ob_model.specs.declared.command.Command.{Command}
@@ -25,10 +25,14 @@ use Rattle.ob_plain.specs.declared.plain.PlainKind.TheVariants as plain
 use Rattle.ob_device.specs.declared.device.DeviceKind.TheVariants as device
 use Rattle.ob_key.specs.declared.key.KeyKind.TheVariants as key_kind
 use Rattle.ob_standard.specs.Standard.{StandardKind, standard}
-use Rattle.ob_journal.specs.Lines.{number_value, text_value, value_or_null, items_of, root_of, name_of, parse_word, kind_value, command_step, step_value, listed_value, reply_value, answer_value, header_value, header_line, entry_value, entry_line}
+use Rattle.ob_journal.specs.Lines.{number_value, text_value, value_or_null, items_of, root_of, name_of, parse_word, kind_value, command_step, step_value, listed_value, reply_value, answer_value, header_value, entry_value}
+use Rattle.ob_reader.specs.declared.header.Header.{Header}
+use Rattle.ob_reader.specs.declared.header.Header.TheVariants.{Segment}
+use Rattle.ob_reader.specs.declared.line.Line.{Line}
+use Rattle.ob_reader.specs.declared.line.SegmentLine.TheVariants as segment_line
 use Rattle.ob_reader.specs.declared.said.Said.TheVariants as said
-use Rattle.ob_reader.specs.Reading.{unescaped, kind_for, root_in, want_in, place_of, each_in, u64_in, place_in, directory_in, link_in, object_in, open_directory_in, open_link_in, open_object_in, duplicate_in, query_in, start_in, resume_in, abandon_in, step_in, type_name_for, type_names, listed_in, handle_or_text_in, process_in, page_in, process_or_page_in, is_page_status, gift_in, done_in, reply_in, line_in, seats_in, line_for, header_for, gift_of, said_of}
-use Rattle.ob_reader.specs.Laws.{AreBytes, IsFitRoot, IsFitPlace, IsFitCommand, IsFitEvent, IsFitListed, IsFitGiven, IsFitAnswer, IsFit, EntryLinesAreRead, HeaderLinesAreRead}
+use Rattle.ob_reader.specs.Reading.{kind_for, root_in, want_in, place_of, each_in, u64_in, place_in, directory_in, link_in, object_in, open_directory_in, open_link_in, open_object_in, duplicate_in, query_in, start_in, resume_in, abandon_in, step_in, type_name_for, type_names, listed_in, handle_or_text_in, process_in, page_in, process_or_page_in, gift_in, done_in, reply_in, has_key, line_in, seats_in, segment_in, header_in, value_for, line_for, header_for, is_header, segment_line_for, gift_of, said_of, line_about}
+use Rattle.ob_reader.specs.Laws.{IsFitRoot, IsFitPlace, IsFitCommand, IsFitEvent, IsFitListed, IsFitGiven, IsFitAnswer, IsFit, EntryLinesAreRead, HeaderLinesAreRead}
 use Rattle.ob_reader.proofs.Escapes.{escaped_read, escaped_ascii}
 use Rattle.ob_reader.proofs.Plain.{IsPlain, ItemsArePlain, plain_read}
 
@@ -211,20 +215,54 @@ unfolding reply_in
 answer_read (Done reply) h = given_read (code_of reply.status) reply.given h.1
 answer_read (Ticket ticket) h = refl
 
-entry_read : (e : Entry StandardKind) → IsFit e → line_in (entry_value standard.type_name e) ≡ Some (record { number = e.number; seat = e.seat; step = e.event; reply = said_of e.answer })
+entry_read : (e : Entry StandardKind) → IsFit e → line_in (entry_value standard.type_name e) ≡ Some (line_about e)
 unfolding line_in
 entry_read e h = rw (step_read e.event h.2, answer_read e.answer h.3) refl
 
 -- ---- the laws
 
+-- a line is the text of this value
+module _ (line : List ℕ) (d : Data) (is : value_for line ≡ Some d) where
+  line_of_value : (found : Line) → line_in d ≡ Some found → line_for line ≡ Some found
+  unfolding line_for
+  line_of_value found says = rw is says
+
+  header_of_value : (found : Header) → header_in d ≡ Some found → header_for line ≡ Some found
+  unfolding header_for
+  header_of_value found says = rw is says
+
+  key_of_value : has_key (codes "journal") d ≡ is_header line
+  unfolding is_header
+  key_of_value = rw is refl
+
+  entry_in_segments : (found : Option Line) → has_key (codes "journal") d ≡ false → line_for line ≡ found → segment_line_for line ≡ segment_line.Entry found
+  unfolding segment_line_for
+  entry_in_segments found lacks says = rw (sym key_of_value ∙ lacks, says) refl
+
+  header_in_segments : (found : Option Header) → has_key (codes "journal") d ≡ true → header_for line ≡ found → segment_line_for line ≡ segment_line.Header found
+  unfolding segment_line_for
+  header_in_segments found has says = rw (sym key_of_value ∙ has, says) refl
+
 pub entry_lines_are_read : EntryLinesAreRead
-unfolding line_for
 entry_lines_are_read e line h written =
-    let same : compact_text (entry_value standard.type_name e) ≡ line = append_cancel_right _ line (codes "\n") written in
-    ap line_for (sym same) ∙ (rw (plain_read (entry_value standard.type_name e) (entry_plain e h)) (entry_read e h))
+    let d = entry_value standard.type_name e in
+    let same : compact_text d ≡ line = append_cancel_right _ line (codes "\n") written in
+    let is : value_for line ≡ Some d = ap value_for (sym same) ∙ plain_read d (entry_plain e h) in
+    let says = line_of_value line d is (line_about e) (entry_read e h) in
+    (says, entry_in_segments line d is (Some (line_about e)) refl says)
+
+header_read : (seats segment first : ℕ) → 1 ≤ seats → seats ≤ 1024 → header_in (header_value seats segment first) ≡ Some (Segment seats segment first)
+unfolding header_in segment_in seats_in
+header_read seats segment first low high = rw (le-leb 1 seats low, le-leb seats 1024 high) refl
+
+header_plain : (seats segment first : ℕ) → seats ≤ 1024 → segment < 2 ^ 64 → first < 2 ^ 64 → IsPlain 5 (header_value seats segment first)
+header_plain seats segment first high k f =
+    (refl, (number_plain 4 first f, (number_plain 4 2 (omega arith), (number_plain 4 seats (omega arith), (number_plain 4 segment k, tt)))))
 
 pub header_lines_are_read : HeaderLinesAreRead
-unfolding header_for seats_in
-header_lines_are_read seats line low high written =
-    let same : compact_text (header_value seats) ≡ line = append_cancel_right _ line (codes "\n") written in
-    ap header_for (sym same) ∙ rw (plain_read (header_value seats) (refl, (number_plain 4 1 (omega arith), (number_plain 4 seats (omega arith), tt))), le-leb 1 seats low, le-leb seats 1024 high) refl
+header_lines_are_read seats segment first line low high k f written =
+    let d = header_value seats segment first in
+    let same : compact_text d ≡ line = append_cancel_right _ line (codes "\n") written in
+    let is : value_for line ≡ Some d = ap value_for (sym same) ∙ plain_read d (header_plain seats segment first high k f) in
+    let says = header_of_value line d is (Segment seats segment first) (header_read seats segment first low high) in
+    (says, header_in_segments line d is (Some (Segment seats segment first)) refl says)

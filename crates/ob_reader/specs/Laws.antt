@@ -19,7 +19,9 @@ use Rattle.ob_model.specs.declared.reply.ParseRun.TheVariants.{Unrun}
 use Rattle.ob_model.specs.Run.{Entry}
 use Rattle.ob_standard.specs.Standard.{StandardKind, standard}
 use Rattle.ob_journal.specs.Lines.{header_line, entry_line}
-use Rattle.ob_reader.specs.Reading.{type_name_for, is_page_status, line_for, header_for, said_of}
+use Rattle.ob_reader.specs.declared.header.Header.TheVariants.{Segment}
+use Rattle.ob_reader.specs.declared.line.SegmentLine.TheVariants as segment_line
+use Rattle.ob_reader.specs.Reading.{type_name_for, is_page_status, line_for, header_for, line_about, segment_line_for}
 
 -- each is a byte
 abbrev pub AreBytes : List ℕ → Type 0
@@ -78,12 +80,16 @@ IsFitAnswer (Ticket ticket) = ticket < 2 ^ 64
 abbrev pub IsFit : Entry StandardKind → Type 0
 IsFit e = (e.number < 2 ^ 64) × (e.seat < 2 ^ 64) × IsFitEvent e.event × IsFitAnswer e.answer
 
--- the line of an entry, without its LF, says the entry
+-- the line of an entry, without its LF, says the entry, in both versions
 abbrev pub EntryLinesAreRead : Type 0
 EntryLinesAreRead =
     (e : Entry StandardKind) (line : List ℕ) → IsFit e → entry_line standard.type_name e ≡ line ++ codes "\n"
-    → line_for line ≡ Some (record { number = e.number; seat = e.seat; step = e.event; reply = said_of e.answer })
+    → (line_for line ≡ Some (line_about e)) × (segment_line_for line ≡ segment_line.Entry (Some (line_about e)))
 
--- the line of a header, without its LF, says how many seats there are
+-- the line of a header, without its LF, says how many seats there are, which segment begins, and the number of its first entry: as line 1,
+-- and as any other
 abbrev pub HeaderLinesAreRead : Type 0
-HeaderLinesAreRead = (seats : ℕ) (line : List ℕ) → 1 ≤ seats → seats ≤ 1024 → header_line seats ≡ line ++ codes "\n" → header_for line ≡ Some seats
+HeaderLinesAreRead =
+    (seats segment first : ℕ) (line : List ℕ) → 1 ≤ seats → seats ≤ 1024 → segment < 2 ^ 64 → first < 2 ^ 64
+    → header_line seats segment first ≡ line ++ codes "\n"
+    → (header_for line ≡ Some (Segment seats segment first)) × (segment_line_for line ≡ segment_line.Header (Some (Segment seats segment first)))

@@ -1,5 +1,5 @@
--- What the lines of a journal say, as far as their form goes: a header how many seats there are, and any other line the number,
--- the seat, the step and the reply of an entry.
+-- What the lines of a journal say, as far as their form goes: a header how many seats there are and, in version 2, which segment begins,
+-- and any other line the number, the seat, the step and the reply of an entry.
 --
 -- Sources: RFC 8259 for JSON, as `serde_json` reads it; the keys, and the form of texts, are this profile.
 use Rattle.std.specs.Prelude.{ℕ, ◌+◌, ◌*◌, ◌^◌, Bool, true, false, not, ◌&&◌, ◌||◌, ◌==◌, nat_lt, nat_le, if◌then◌else◌, List, [], ◌∷◌, map, find, Option, None, Some, is_some, is_none, option_map, option_and_then, codes, bytes_eq}
@@ -26,6 +26,7 @@ use Rattle.ob_model.specs.declared.reply.Given.{Given}
 use Rattle.ob_model.specs.declared.reply.Given.TheVariants as given
 use Rattle.ob_model.specs.declared.reply.ParseRun.{ParseRun}
 use Rattle.ob_model.specs.declared.reply.ParseRun.TheVariants.{Unrun, Ran, NoMemory}
+use Rattle.ob_model.specs.Run.{Entry}
 use Rattle.ob_plain.specs.declared.plain.PlainKind.TheVariants as plain
 use Rattle.ob_device.specs.declared.device.DeviceKind.TheVariants as device
 use Rattle.ob_key.specs.declared.key.KeyKind.TheVariants as key_kind
@@ -34,7 +35,11 @@ use Rattle.ob_journal.specs.declared.words.Operation.{Operation}
 use Rattle.ob_journal.specs.declared.words.Operation.TheVariants as operation
 use Rattle.ob_journal.specs.Lines.{is_itself}
 use Rattle.ob_journal.specs.Words.{operation_for, parse_for}
+use Rattle.ob_reader.specs.declared.header.Header.{Header}
+use Rattle.ob_reader.specs.declared.header.Header.TheVariants.{Whole, Segment}
 use Rattle.ob_reader.specs.declared.line.Line.{Line}
+use Rattle.ob_reader.specs.declared.line.SegmentLine.{SegmentLine}
+use Rattle.ob_reader.specs.declared.line.SegmentLine.TheVariants as segment_line
 use Rattle.ob_reader.specs.declared.said.Gift.{Gift}
 use Rattle.ob_reader.specs.declared.said.Gift.TheVariants.{Nothing, Handle, Text, Process, Page}
 use Rattle.ob_reader.specs.declared.said.Said.{Said}
@@ -368,23 +373,48 @@ line_in d = only_if (has_members 4 d) (do
   reply ← get (codes "reply") d >>= reply_in
   Some (record { number = number; seat = seat; step = step; reply = reply }))
 
--- a header of version 1
+-- how many seats a header says that there are
 unfoldable pub seats_in : Data → Option ℕ
-seats_in d = only_if (has_members 2 d) (do
-  version ← u64_at (codes "journal") d
+seats_in d = do
   seats ← u64_at (codes "seats") d
-  only_if (version == 1 && nat_le 1 seats && nat_le seats 1024) (Some seats))
+  only_if (nat_le 1 seats && nat_le seats 1024) (Some seats)
+
+-- a header of version 1, which has two keys, and one of a segment in version 2, which has four
+unfoldable pub whole_in : Data → Option Header
+whole_in d = do
+  version ← u64_at (codes "journal") d
+  seats ← seats_in d
+  only_if (version == 1) (Some (Whole seats))
+
+unfoldable pub segment_in : Data → Option Header
+segment_in d = only_if (has_members 4 d) (do
+  version ← u64_at (codes "journal") d
+  seats ← seats_in d
+  segment ← u64_at (codes "segment") d
+  first ← u64_at (codes "first") d
+  only_if (version == 2) (Some (Segment seats segment first)))
+
+unfoldable pub header_in : Data → Option Header
+header_in d = if has_members 2 d then whole_in d else segment_in d
 
 -- the value that a line is, without its LF: none where its bytes aren't UTF-8, or no JSON
 unfoldable pub value_for : List ℕ → Option Data
 value_for line = only_if (is_utf8 line) (read line)
 
--- what a line says, without its LF: the entry, or the number of seats
+-- what a line says, without its LF: an entry, or a header of either version
 unfoldable pub line_for : List ℕ → Option Line
 line_for line = value_for line >>= line_in
 
-unfoldable pub header_for : List ℕ → Option ℕ
-header_for line = value_for line >>= seats_in
+unfoldable pub header_for : List ℕ → Option Header
+header_for line = value_for line >>= header_in
+
+-- whether a line is an object with the key `journal`
+unfoldable pub is_header : List ℕ → Bool
+is_header line = option_map_or (has_key (codes "journal")) (value_for line) false
+
+-- what a line of version 2 says, other than the first: one with that key a header, or nothing; any other an entry, or nothing
+unfoldable pub segment_line_for : List ℕ → SegmentLine
+segment_line_for line = if is_header line then segment_line.Header (header_for line) else segment_line.Entry (line_for line)
 
 -- ---- what a line says of an answer
 
@@ -398,3 +428,7 @@ gift_of (given.Page entries context) = Page entries context
 abbrev pub said_of : Answer → Said
 said_of (answer.Done reply) = Done (code_of reply.status) (gift_of reply.given)
 said_of (answer.Ticket ticket) = Ticket ticket
+
+-- what a line says of an entry
+abbrev pub line_about : Entry StandardKind → Line
+line_about e = record { number = e.number; seat = e.seat; step = e.event; reply = said_of e.answer }

@@ -1,11 +1,13 @@
 //! The lines of a journal, read back.
 //!
-//! [`read_header`] tells how many seats a journal has, and [`read_line`] what a line says of an entry: a [`Line`]. Both judge
-//! the form alone: whether the line is JSON, has the keys that it should and no others, and numbers, texts and words of
-//! the form. What a line says of an answer is a [`Said`], which [`is_said`] compares with an answer.
+//! [`read_header`] reads a [`Header`] of either version, and [`read_line`] an entry: a [`Line`]. [`read_segment_line`] reads a line of
+//! a journal of version 2, which is one or the other: a [`SegmentLine`]. They judge the form alone: whether the line is JSON, has the
+//! keys that it should and no others, and numbers, texts and words of the form. What a line says of an answer is a [`Said`], which
+//! [`is_said`] compares with an answer.
 #![tactic(auto)]
 
 mod compare;
+mod header;
 pub mod laws;
 mod line;
 mod members;
@@ -17,6 +19,7 @@ mod texts;
 mod words;
 
 pub use compare::is_said;
-pub use line::Line;
-pub use read::{read_header, read_line};
+pub use header::Header;
+pub use line::{Line, SegmentLine};
+pub use read::{read_header, read_line, read_segment_line};
 pub use said::{Gift, Numbers, Said};

@@ -1,28 +1,23 @@
 -- The value of a new handle is the one choice: where the line's value isn't one that may be chosen, no step has its reply.
-use Rattle.std.proofs.Common.{◌≡◌, ◌∙◌, ℕ, ◌+◌, ◌*◌, ◌<◌, ◌≤◌, ◌==◌, Bool, true, false, ◌&&◌, cond, IsTrue, ◌↔◌, List, [], ◌∷◌, ◌++◌, find, Option, None, Some, IfSome, IfNone, refl, ap, sym, subst, arith, eq-eqb, eqb-true}
+use Rattle.std.proofs.Common.{◌≡◌, ◌∙◌, ℕ, ◌==◌, Bool, true, false, ◌&&◌, cond, IsTrue, ◌↔◌, [], ◌∷◌, ◌++◌, find, Option, None, Some, IfSome, IfNone, refl, ap, sym, subst}
 use Rattle.std.specs.Option.{option_or}
 use Rattle.std.proofs.lemmas.List.Folds.{find-append}
 use Rattle.std.proofs.lemmas.Bool.{ne_eqb}
 use Rattle.ob_model.specs.declared.reply.Answer.{Answer}
 use Rattle.ob_model.specs.declared.reply.Answer.TheVariants as answer
-use Rattle.ob_model.specs.declared.reply.Event.{Event}
-use Rattle.ob_model.specs.declared.reply.Event.TheVariants.{Resume}
 use Rattle.ob_model.specs.declared.reply.Given.{Given}
 use Rattle.ob_model.specs.declared.reply.Given.TheVariants as given
-use Rattle.ob_model.specs.declared.reply.Reply.{Reply}
-use Rattle.ob_model.specs.declared.reply.ParseRun.TheVariants as run
 use Rattle.ob_model.specs.declared.state.Held.{Held}
-use Rattle.ob_model.specs.State.{held_of}
 use Rattle.ob_model.specs.Alike.{handle_given, handle_in}
 use Rattle.ob_model.specs.Closing.{is_handle}
 use Rattle.ob_model.specs.Grants.{IsFreeValue}
 use Rattle.ob_model.specs.Sound.{IsSound}
 use Rattle.ob_model.specs.Step.{Step}
-use Rattle.ob_choices.specs.Choice.{answer_under, given_under, receiver_of, revalued, IsOtherChoice, same, under}
+use Rattle.ob_choices.specs.Choice.{answer_under, given_under, revalued, IsOtherChoice, same, under}
 use Rattle.ob_choices.proofs.ChosenSteps.{step_last, step_under}
 use Rattle.ob_choices.proofs.OneAnswer.{step_has_one_answer}
 use Rattle.ob_core.specs.Reached.{IsJustGiven, IsReached}
-use Rattle.ob_standard.specs.Standard.{StandardKind, standard}
+use Rattle.ob_standard.specs.Standard.{standard}
 use Rattle.ob_standard_core.specs.Machine.{Space}
 use Rattle.ob_reader.specs.declared.line.Line.{Line}
 use Rattle.ob_reader.specs.Reading.{said_of, gift_of}

@@ -1,15 +1,15 @@
 -- A line that is read, that nothing is found wrong with and whose step is made, is played.
-use Rattle.std.proofs.Common.{◌≡◌, ◌∙◌, ℕ, ◌+◌, ◌<◌, ◌≤◌, ◌==◌, Bool, true, false, not, ◌||◌, nat_lt, List, [], ◌∷◌, Option, None, Some, Result, Ok, Err, IfOk, refl, ap, sym, subst, arith, eqb-true}
-use Rattle.std.proofs.lemmas.Bool.{ltb-false, ltb-true}
+use Rattle.std.proofs.Common.{◌≡◌, ◌∙◌, ◌+◌, ◌==◌, Bool, true, false, not, ◌||◌, nat_lt, [], ◌∷◌, None, Result, Ok, Err, IfOk, refl, sym, eqb-true}
+use Rattle.std.proofs.lemmas.Bool.{ltb-true}
 use Rattle.ob_model.specs.declared.reply.Answer.{Answer}
 use Rattle.ob_model.specs.Step.{Step}
 use Rattle.ob_standard.specs.Standard.{standard}
+use Rattle.ob_journal.specs.Segments.{most_entries}
 use Rattle.ob_reader.specs.declared.line.Line.{Line}
-use Rattle.ob_reader.specs.Reading.{line_for, said_of}
-use Rattle.ob_replay.specs.declared.report.Cause.{Cause}
+use Rattle.ob_reader.specs.Reading.{said_of}
 use Rattle.ob_replay.specs.declared.report.Cause.TheVariants as cause
-use Rattle.ob_replay.specs.Journal.{most_entries, line_about, first_cause, lacks_ticket, early_causes}
-use Rattle.ob_replay.specs.Played.{Played, PlaysLine}
+use Rattle.ob_replay.specs.Journal.{early_causes, first_cause, first_of, has_room, lacks_ticket, seats_of}
+use Rattle.ob_replay.specs.Played.{Played, PlaysEntry}
 
 pub ok_weaker : {T E : Type 0} (r : Result T E) (P Q : T → Type 0) → ((x : T) → P x → Q x) → IfOk r P → IfOk r Q
 ok_weaker (Ok x) P Q follows h = follows x h
@@ -22,27 +22,28 @@ none_early true seat ticket e = cc
 none_early false true ticket e = cc
 none_early false false true e = cc
 
-both_no : (a b : Bool) → (not a || b) ≡ false → (a ≡ true) × (b ≡ false)
-both_no true b e = (refl, e)
-both_no false b e = cc
+both_yes : (a b : Bool) → (not a || not b) ≡ false → (a ≡ true) × (b ≡ true)
+both_yes true true e = (refl, refl)
+both_yes true false e = cc
+both_yes false b e = cc
 
 yes_of : (a : Bool) → not a ≡ false → a ≡ true
 yes_of true e = refl
 yes_of false e = cc
 
-module _ (p : Played) (text : List ℕ) (line : Line) (found : Some line ≡ line_for text) (early : first_cause (early_causes p.state p.seats p.count line) ≡ None) where
-  pub is_played : (q : Played)
-      → (a : Answer) × Step standard p.state line.step a q.state × (said_of a ≡ line.reply) × (q.seats ≡ p.seats) × (q.count ≡ p.count + 1) → PlaysLine p text q
-  is_played q (a, step, said, seats, count) =
-      let parts = none_early (not (line.number == p.count + 1) || nat_lt most_entries line.number) (not (nat_lt line.seat p.seats)) (lacks_ticket p.state line.step) early in
-      let turn = both_no (line.number == p.count + 1) (nat_lt most_entries line.number) parts.0 in
+module _ (p : Played) (line : Line) (early : first_cause (early_causes p.state p.position line) ≡ None) where
+  pub entry_is_played : (q : Played)
+      → (a : Answer) × Step standard p.state line.step a q.state × (said_of a ≡ line.reply) × (q.position ≡ record { header = p.position.header; count = line.number }) → PlaysEntry p line q
+  entry_is_played q (a, step, said, there) =
+      let parts = none_early (not (line.number == p.position.count + 1) || not (has_room p.position)) (not (nat_lt line.seat (seats_of p.position.header))) (lacks_ticket p.state line.step) early in
+      let turn = both_yes (line.number == p.position.count + 1) (has_room p.position) parts.0 in
+      let next = eqb-true line.number (p.position.count + 1) turn.0 in
       record {
         entry = record { number = line.number; seat = line.seat; event = line.step; answer = a };
-        told = sym found ∙ (λ i. Some (record { number = line.number; seat = line.seat; step = line.step; reply = sym said i }));
-        next = eqb-true line.number (p.count + 1) turn.0;
-        few = ltb-false most_entries line.number turn.1;
-        seat = ltb-true line.seat p.seats (yes_of (nat_lt line.seat p.seats) parts.1);
+        told = λ i. record { number = line.number; seat = line.seat; step = line.step; reply = sym said i };
+        next = next;
+        room = ltb-true (p.position.count + 1) (first_of p.position.header + most_entries) turn.1;
+        seat = ltb-true line.seat (seats_of p.position.header) (yes_of (nat_lt line.seat (seats_of p.position.header)) parts.1);
         step = step;
-        seats = seats;
-        count = count;
+        position = there ∙ (λ i. record { header = p.position.header; count = next i });
       }

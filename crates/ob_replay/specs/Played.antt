@@ -1,10 +1,8 @@
--- A journal as far as it was played again: the state, the seats and how many entries were played.
+-- A journal as far as it was played again: the state, and the position in the journal.
 --
 -- Source: this profile.
-use Rattle.std.specs.Prelude.{Bool, true, false, ◌≡◌, ℕ, ◌+◌, ◌<◌, ◌≤◌, List, ◌∷◌, ◌++◌, length, Option, None, Some}
-use Rattle.std.specs.Option.{option_and_then}
+use Rattle.std.specs.Prelude.{Bool, true, false, ◌≡◌, ◌⊎◌, ℕ, ◌+◌, ◌<◌, List, ◌∷◌, ◌++◌, length, Option, None, Some}
 use Rattle.ob_model.specs.declared.reply.Answer.{Answer}
-use Rattle.ob_model.specs.declared.reply.Answer.TheVariants as answer
 use Rattle.ob_model.specs.declared.reply.Event.{Event}
 use Rattle.ob_model.specs.declared.reply.Event.TheVariants.{Start, Resume, Abandon}
 use Rattle.ob_model.specs.declared.reply.ParseRun.TheVariants.{Unrun, Ran, NoMemory}
@@ -18,40 +16,48 @@ use Rattle.ob_runner.specs.Repeated.{AreAllKept}
 use Rattle.ob_choices.specs.Choice.{answer_under, receiver_of}
 use Rattle.ob_standard.specs.Standard.{StandardKind, StandardFace, standard}
 use Rattle.ob_standard_core.specs.Machine.{Space}
+use Rattle.ob_journal.specs.Segments.{most_entries}
+use Rattle.ob_reader.specs.declared.header.Header.{Header}
 use Rattle.ob_reader.specs.declared.line.Line.{Line}
+use Rattle.ob_reader.specs.declared.line.SegmentLine.TheVariants as says
 use Rattle.ob_reader.specs.declared.said.Gift.{Gift}
 use Rattle.ob_reader.specs.declared.said.Gift.TheVariants.{Nothing, Handle, Text, Process, Page}
 use Rattle.ob_reader.specs.declared.said.Said.{Said}
 use Rattle.ob_reader.specs.declared.said.Said.TheVariants.{Ticket, Done}
-use Rattle.ob_reader.specs.Reading.{line_for, said_of}
+use Rattle.ob_reader.specs.Reading.{said_of, line_about}
 use Rattle.ob_replay.specs.declared.choice.Choice.{Choice}
+use Rattle.ob_replay.specs.declared.position.Position.{Position}
 use Rattle.ob_replay.specs.declared.report.Cause.{Cause}
 use Rattle.ob_replay.specs.declared.report.CheckFault.{CheckFault}
 use Rattle.ob_replay.specs.declared.report.CheckFault.TheVariants as check
 use Rattle.ob_replay.specs.declared.replay.Stop.{Stop}
 use Rattle.ob_replay.specs.declared.replay.Stop.TheVariants.{Refused, Memory}
-use Rattle.ob_replay.specs.Journal.{most_entries, line_about, AreOfRun, IsNoReply, IsRefusedLine}
+use Rattle.ob_replay.specs.Journal.{after_entry, after_header, first_of, said_after, seats_of, AreOfRun, BeginsSegment, IsRefusedLine}
 
 pub record Played : Type 0 where
   pub state : Space
-  pub seats : ℕ
-  pub count : ℕ
+  pub position : Position
 
 -- what is kept beside a core: the parses of all its pending opens
 pub record IsKeptBeside (s : Space) (parses : List (ToRun StandardFace)) : Type 0 where
   pub awaited : AreAwaited s parses
   pub all : AreAllKept s parses
 
--- a line is played: it tells the next entry, whose step leads from the one state to the other
-pub record PlaysLine (p : Played) (text : List ℕ) (q : Played) : Type 0 where
+-- what a line says is played: it is the next entry, whose step leads from the one state to the other
+pub record PlaysEntry (p : Played) (line : Line) (q : Played) : Type 0 where
   pub entry : Entry StandardKind
-  pub told : line_for text ≡ Some (line_about entry)
-  pub next : entry.number ≡ p.count + 1
-  pub few : entry.number ≤ most_entries
-  pub seat : entry.seat < p.seats
+  pub told : line ≡ line_about entry
+  pub next : entry.number ≡ p.position.count + 1
+  pub room : p.position.count + 1 < first_of p.position.header + most_entries
+  pub seat : entry.seat < seats_of p.position.header
   pub step : Step standard p.state entry.event entry.answer q.state
-  pub seats : q.seats ≡ p.seats
-  pub count : q.count ≡ p.count + 1
+  pub position : q.position ≡ after_entry p.position
+
+-- a line is played: it begins the next segment, or tells the next entry
+abbrev pub PlaysLine : Played → List ℕ → Played → Type 0
+PlaysLine p text q =
+    (BeginsSegment p.position text × (q ≡ record { state = p.state; position = after_header p.position }))
+    ⊎ ((line : Line) × (said_after p.position.header text ≡ says.Entry (Some line)) × PlaysEntry p line q)
 
 -- an open is resumed whose parse was not run
 abbrev pub resumes_unrun : Event StandardKind → Bool
@@ -96,9 +102,9 @@ abbrev pub IfRefused : Stop → (Cause → Type 0) → Type 0
 IfRefused (Refused why) fact = fact why
 IfRefused Memory fact = Unit {0}
 
--- a fault of the check of the lines behind a header, the first of which is line 2
-abbrev pub IsFaultBehind : ℕ → List (List ℕ) → CheckFault → Type 0
-IsFaultBehind seats lines (check.Refused number why) =
-    (before behind : List (List ℕ)) × (line : List ℕ) × (state : Space) × (lines ≡ before ++ line ∷ behind)
-    × AreOfRun seats before state × IsRefusedLine state seats (length before) line why × (number ≡ length before + 2)
-IsFaultBehind seats lines check.Memory = Unit {0}
+-- a fault of the check of the lines after the first, the first of which is line 2
+abbrev pub IsFaultBehind : Header → List (List ℕ) → CheckFault → Type 0
+IsFaultBehind header lines (check.Refused number why) =
+    (before behind : List (List ℕ)) × (line : List ℕ) × (state : Space) × (position : Position) × (lines ≡ before ++ line ∷ behind)
+    × AreOfRun header before state position × IsRefusedLine state position line why × (number ≡ length before + 2)
+IsFaultBehind header lines check.Memory = Unit {0}

@@ -1,9 +1,9 @@
-//! What a refusal of a journal means.
+//! What a refusal of a journal means, and how lines tell entries.
 //!
 //! Each function's contract is a law about the definitions alone, stated in `specs/Journal.antt`. They do nothing when they
 //! run.
 
-ghost use Rattle.ob_replay.specs.Journal.{WhatStopsIsNoRun, WhatStopsIsRefused};
+ghost use Rattle.ob_replay.specs.Journal.{WhatIsToldIsCounted, WhatIsToldIsInSegments, WhatIsToldWholeIsFew, WhatStopsIsNoRun, WhatStopsIsRefused};
 
 use ob_base::codes_tell_statuses;
 
@@ -21,3 +21,16 @@ pub fn what_stops_is_refused()
 {
     codes_tell_statuses();
 }
+
+/// The position after the lines of a journal counts the entries that they tell, in all segments; in version 1 each line after the first tells
+/// one, and there are at most 1,048,576. (this profile)
+pub fn what_is_told_is_counted()
+    ensures counted { WhatIsToldIsCounted }
+    ensures whole { WhatIsToldWholeIsFew }
+{}
+
+/// The entries that a journal of version 2 tells are cut into segments at its headers: each segment except the last has an entry, and none
+/// has more than 1,048,576. (this profile)
+pub fn what_is_told_is_in_segments()
+    ensures { WhatIsToldIsInSegments }
+{}

@@ -1,27 +1,26 @@
 //! A journal that is played again, line by line.
 
-ghost use Rattle.std.specs.Prelude.{◌≡◌, ◌+◌, ◌<◌, false, length, IfErr, IfOk};
+ghost use Rattle.std.specs.Prelude.{◌≡◌, ◌≤◌, false, IfErr, IfOk};
 ghost use Rattle.ob_model.specs.declared.reply.Answer.{Answer};
 ghost use Rattle.ob_model.specs.Opening.{opening};
 ghost use Rattle.ob_model.specs.Step.{Step};
 ghost use Rattle.ob_runner.specs.Repeated.{MayBe};
 ghost use Rattle.ob_standard.specs.Standard.{IsFresh, Standard as StandardSet, standard};
+ghost use Rattle.ob_reader.specs.declared.line.SegmentLine.TheVariants as says;
 ghost use Rattle.ob_reader.specs.Reading.{said_of};
-ghost use Rattle.ob_replay.specs.Journal.{early_causes, first_cause, lacks_ticket as is_lacking, most_entries, IsNoReply, IsRefusedLine};
+ghost use Rattle.ob_replay.specs.Journal.{after_first, after_header, early_causes, first_cause, first_of, lacks_ticket as is_lacking, next_header, report_of, said_after, IsNoReply, IsRefused, IsRefusedLine};
 ghost use Rattle.ob_replay.specs.declared.report.Cause.TheVariants.{Reply};
-ghost use Rattle.ob_replay.specs.Played.{resumes_unrun, IfRefused, IsKeptBeside, PlaysLine};
+ghost use Rattle.ob_replay.specs.Played.{resumes_unrun, IfRefused, IsKeptBeside, PlaysEntry, PlaysLine};
 
 use crate::choice::{choice_of, taken};
+use crate::position::{Position, follows, seats};
 use crate::{Cause, Report};
 use ob_model::{Event, ParseRun};
-use ob_reader::{Line, is_said, read_line};
+use ob_reader::{Header, Line, SegmentLine, is_said, read_line, read_segment_line};
 use ob_standard::StandardKind;
 use ob_standard_core::{StandardCore, StandardWaits};
 use std::alloc::{AllocError, Global};
 use std::marker::Model;
-
-/// The most entries of a journal. (this profile)
-const MOST_ENTRIES: u64 = 1_048_576;
 
 /// Why a line isn't played.
 pub(crate) enum Stop {
@@ -31,67 +30,100 @@ pub(crate) enum Stop {
     Memory,
 }
 
-/// A journal, as far as it was played again: the core that its entries lead to, with the parses of all pending opens, how
-/// many seats there are, and how many entries were played. It can't be let go, since no parse can: it is finished.
+/// A journal, as far as it was played again: the core that its entries lead to, with the parses of all pending opens, and the position
+/// that its lines lead to. It can't be dropped, since no parse can: it is finished.
 pub(crate) struct Replay {
     core: StandardCore,
     waits: StandardWaits,
-    seats: u32,
-    count: usize,
+    position: Position,
 }
 
 impl Model for Replay {
-    ghost use Rattle.ob_replay.specs.Journal.{most_entries};
     ghost use Rattle.ob_replay.specs.Played.{IsKeptBeside, Played};
-    ghost use Rattle.std.specs.Prelude.{◌≤◌};
 
     ghost Value = { Played };
 
-    ghost view = { λ a. record { state = a.core; seats = a.seats; count = a.count } };
+    ghost view = { λ a. record { state = a.core; position = a.position } };
 
-    ghost invariant = { λ a. IsKeptBeside a.core a.waits × (a.count ≤ most_entries) };
+    ghost invariant = { λ a. IsKeptBeside a.core a.waits };
 }
 
 impl Replay {
-    /// A journal of so many seats, of which no entry was played: the opening state. The only fault is out of memory.
-    pub(crate) fn new(alloc: Global, seats: u32) -> Result<Replay, AllocError>
+    /// A journal with this first header, of which no further line was played: the opening state. The only error is out of memory.
+    pub(crate) fn new(alloc: Global, header: Header) -> Result<Replay, AllocError>
         ensures { IfOk result (λ replay. (first : StandardSet) × IsFresh first
-            × (replay ≡ record { state = opening first; seats = seats; count = 0 })) }
+            × (replay ≡ record { state = opening first; position = after_first header })) }
     {
         Ok(Replay {
             core: StandardCore::new(alloc)?,
             waits: StandardWaits::new(alloc),
-            seats,
-            count: 0,
+            position: Position::after_first(header),
         })
     }
 
-    /// Plays a line: its step is made, and leads to the reply that it tells. Where that isn't so the line is refused, and the
-    /// journal is finished.
+    /// Plays a line: it begins the next segment, or its step is made and leads to the reply that it tells. Where that isn't so the
+    /// line is refused, and the journal is finished.
     pub(crate) fn play(self, alloc: Global, text: &[u8]) -> Result<Replay, Stop>
         ensures played { IfOk result (λ next. PlaysLine self text.now next) }
         ensures refused { IfErr result (λ stop.
-            IfRefused stop (IsRefusedLine self.state self.seats self.count text.now)) }
+            IfRefused stop (IsRefusedLine self.state self.position text.now)) }
     {
-        let line = match read_line(alloc, text) {
-            Ok(Some(line)) => line,
-            Ok(None) => return Err(self.stop(Stop::Refused(Cause::Syntax))),
-            Err(_) => return Err(self.stop(Stop::Memory)),
+        match read_after(alloc, self.position.header, text) {
+            Ok(SegmentLine::Header(found)) => self.begin_segment(found),
+            Ok(SegmentLine::Entry(Some(line))) => self.play_entry(alloc, &line),
+            Ok(SegmentLine::Entry(None)) => Err(self.stop(Stop::Refused(Cause::Syntax))),
+            Err(_) => Err(self.stop(Stop::Memory)),
+        }
+    }
+
+    // Begins the next segment, where this is its header.
+    fn begin_segment(self, found: Option<Header>) -> Result<Replay, Stop>
+        ensures begun { IfOk result (λ next. (found ≡ Some (next_header self.position))
+            × (first_of self.position.header ≤ self.position.count)
+            × (next ≡ record {
+              state = self.state;
+              position = after_header self.position;
+            })) }
+        ensures refused { IfErr result (λ stop.
+            IfRefused stop (IsRefused self.state self.position (says.Header found))) }
+    {
+        let Some(position) = self.position.after_header(found) else {
+            return Err(self.stop(Stop::Refused(Cause::Header)));
         };
-        match self.judge(&line) {
+        let Replay {
+            core,
+            waits,
+            position: _,
+        } = self;
+        Ok(Replay {
+            core,
+            waits,
+            position,
+        })
+    }
+
+    // Plays an entry: it is the next one, and its step leads to the reply that the line tells.
+    fn play_entry(self, alloc: Global, line: &Line) -> Result<Replay, Stop>
+        ensures played { IfOk result (λ next. PlaysEntry self line.now next) }
+        ensures refused { IfErr result (λ stop.
+            IfRefused stop (IsRefused self.state self.position (says.Entry (Some line.now)))) }
+    {
+        match self.judge(line) {
             Some(cause) => Err(self.stop(Stop::Refused(cause))),
-            None => self.make(alloc, &line),
+            None => self.make(alloc, line),
         }
     }
 
     // Makes the step of a line that nothing was found wrong with before.
     fn make(self, alloc: Global, line: &Line) -> Result<Replay, Stop>
-        requires room { self.count < most_entries }
         requires pending { is_lacking self.state line.now.step ≡ false }
         ensures made { IfOk result (λ next. (answer : Answer)
             × Step standard self.state line.now.step answer next.state
-            × (said_of answer ≡ line.now.reply) × (next.seats ≡ self.seats)
-            × (next.count ≡ self.count + 1)) }
+            × (said_of answer ≡ line.now.reply)
+            × (next.position ≡ record {
+              header = self.position.header;
+              count = line.now.number;
+            })) }
         ensures refused { IfErr result (λ stop. IfRefused stop (λ why. (why ≡ Reply)
             × IsNoReply self.state line.now)) }
     {
@@ -101,26 +133,27 @@ impl Replay {
         let Replay {
             core,
             waits,
-            seats,
-            count,
+            position: Position { header, count: _ },
         } = self;
         let (core, waits) = make_step(core, waits, alloc, line)?;
         Ok(Replay {
             core,
             waits,
-            seats,
-            count: count + 1,
+            position: Position {
+                header,
+                count: line.number,
+            },
         })
     }
 
     // Why a line is refused before its step is made, if it is.
     fn judge(&self, line: &Line) -> Option<Cause>
         ensures { result
-            ≡ first_cause (early_causes self.now.state self.now.seats self.now.count line.now) }
+            ≡ first_cause (early_causes self.now.state self.now.position line.now) }
     {
-        if line.number != self.count as u64 + 1 || line.number > MOST_ENTRIES {
+        if !follows(line.number, self.position.count) || !self.position.has_room() {
             Some(Cause::Number)
-        } else if line.seat >= u64::from(self.seats) {
+        } else if line.seat >= u64::from(seats(self.position.header)) {
             Some(Cause::Seat)
         } else if self.lacks_ticket(&line.step) {
             Some(Cause::Ticket)
@@ -144,7 +177,7 @@ impl Replay {
         }
     }
 
-    // Gives up what waits, and tells why.
+    // Gives up what waits, and reports why.
     fn stop(self, why: Stop) -> Stop
         ensures { result ≡ why }
     {
@@ -152,29 +185,36 @@ impl Replay {
         why
     }
 
-    /// Gives up what waits, and tells how many entries were played, and what there was behind them.
+    /// Gives up what waits, and reports how many entries were played, and what there was after them.
     pub(crate) fn finish(self) -> Report
-        ensures { result
-            ≡ record {
-              entries = self.count;
-              objects = length self.state.objects;
-              handles = length
-                  self.state.handles;
-            } }
+        ensures { result ≡ report_of self.position self.state }
     {
         let Replay {
             mut core,
             waits,
-            seats: _,
-            count,
+            position,
         } = self;
         let counts = core.counts();
         waits.give_all_up(&mut core);
         Report {
-            entries: count,
+            entries: position.count as usize,
             objects: counts.objects,
             handles: counts.handles,
         }
+    }
+}
+
+// What a line says after such a header: in version 1 no line but the first is a header.
+fn read_after(alloc: Global, header: Header, text: &[u8]) -> Result<SegmentLine, AllocError>
+    ensures { IfOk result (λ found. found ≡ said_after header text.now) }
+{
+    match header {
+        Header::Whole { seats: _ } => Ok(SegmentLine::Entry(read_line(alloc, text)?)),
+        Header::Segment {
+            seats: _,
+            segment: _,
+            first: _,
+        } => read_segment_line(alloc, text),
     }
 }
 

@@ -3,7 +3,7 @@
 /// What is told of a journal that is that of a run. (this profile)
 #[derive(Clone, Copy, PartialEq, Eq, Debug, Drop)]
 pub struct Report {
-    /// How many entries it has: at most 1,048,576.
+    /// How many entries it has, in all segments: at most 1,048,576 in each, and in a journal of version 1.
     pub entries: usize,
     /// How many objects there are at its end: at most 1,048,576.
     pub objects: usize,
@@ -14,13 +14,15 @@ pub struct Report {
 /// Why a line of a journal is refused, in the order in which the causes are judged. (this profile)
 #[derive(Clone, Copy, PartialEq, Eq, Debug, Drop)]
 pub enum Cause {
-    /// The first line is no header of version 1, for 1 to 1,024 seats; or there is no line at all.
+    /// The first line is no header, of version 1 or of segment 1 with entry 1 in version 2, for 1 to 1,024 seats; or there is no line at
+    /// all. In version 2 also a further line with the key `journal` that isn't the header of the next segment, or where the segment
+    /// before has no entry.
     Header,
-    /// The line is no entry of the form that a journal has.
+    /// A further line is no entry of the form that a journal has.
     Syntax,
-    /// The number isn't the next one, or is above 1,048,576.
+    /// The number isn't the next one, or the segment has 1,048,576 entries already. A journal of version 1 is one segment.
     Number,
-    /// The seat isn't below the number of seats that the header tells.
+    /// The seat isn't below the number of seats that the headers say.
     Seat,
     /// No open is pending under the ticket of a resume or an abandon.
     Ticket,
@@ -33,7 +35,7 @@ pub enum Cause {
 pub enum CheckFault {
     /// A line is the first one that is refused.
     Refused {
-        /// Its number, from 1; the header is line 1.
+        /// Its number, from 1; headers count.
         line: usize,
         /// Why.
         cause: Cause,

@@ -2,7 +2,7 @@
 
 ghost use Rattle.std.specs.Prelude.{◌≡◌, ◌≢◌, ◌+◌, ◌<◌, ◌≤◌, false, length, IfOk, IfErr, IsErr, IfSome, IsErrOf};
 ghost use Rattle.ob_streams.specs.Fault.{is_unwritten};
-ghost use Rattle.ob_streams.specs.Reading.{StopsLong, TakesAtMost};
+ghost use Rattle.ob_streams.specs.Reading.{StopsLong, StopsReadingAt, TakesAtMost};
 ghost use Rattle.ob_verdict.specs.Verdict.{WritesPart, WritesVerdict};
 
 use crate::verdict::{Verdict, write_verdict};
@@ -46,6 +46,11 @@ pub fn run_replay<R: Read, W: Write>(
         → IsErr result) }
     ensures long { IfSome (R.remaining reader.old) (λ journal. JOURNAL_LIMIT < length journal →
         IfErr result StopsLong × (W.contents writer.new ≡ W.contents writer.old)) }
+
+    // Out of memory is said only of as many bytes as a journal may have, so one that was read past that is too long.
+    ensures stopped { IfSome (R.remaining reader.old) (λ journal. JOURNAL_LIMIT < length journal →
+        IfErr result (λ fault. StopsReadingAt JOURNAL_LIMIT fault
+        (R.remaining reader.old) (R.remaining reader.new))) }
 
     // However it ends, no more than one byte past the limit is read.
     ensures taken { TakesAtMost (R.remaining reader.old) (R.remaining reader.new)

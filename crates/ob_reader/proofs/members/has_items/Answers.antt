@@ -1,5 +1,5 @@
 -- The items of a list are as many as its entries.
-use Rattle.std.proofs.Common.{◌≡◌, ◌==◌, ℕ, false, length, arith, ap, sym, ◌∙◌}
+use Rattle.std.proofs.Common.{◌≡◌, ◌==◌, false, length, arith, ap, sym, ◌∙◌}
 use Rattle.std.specs.Option.{option_map_or}
 use Rattle.serde_json.specs.Events.{items_len}
 use Rattle.serde_json.proofs.Views.{items_len-items_view}

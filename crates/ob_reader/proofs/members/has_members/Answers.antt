@@ -1,5 +1,5 @@
 -- The members of an object are as many as its entries.
-use Rattle.std.proofs.Common.{◌≡◌, ◌==◌, ℕ, false, ap, sym, ◌∙◌}
+use Rattle.std.proofs.Common.{◌==◌, false, ap, sym, ◌∙◌}
 use Rattle.std.specs.Option.{option_map_or}
 use Rattle.serde_json.specs.Events.{members_len}
 use Rattle.serde_json.proofs.Views.{members_len-members_view}

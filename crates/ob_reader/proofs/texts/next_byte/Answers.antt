@@ -1,5 +1,5 @@
 -- The first byte stands for itself, or is no form.
-use Rattle.std.proofs.Common.{◌≡◌, ℕ, ◌==◌, true, false, ◌∙◌, sym, ap, ne_eqb}
+use Rattle.std.proofs.Common.{◌∙◌, sym, ap, ne_eqb}
 use Rattle.ob_reader.specs.Reading.{unescaped}
 use Rattle.ob_reader.proofs.Unescaped.{itself_first, other_first}
 use Rattle.ob_reader.proofs.texts.next_byte.Goals as goal

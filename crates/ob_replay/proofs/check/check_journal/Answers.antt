@@ -11,8 +11,8 @@ returns-in_default-clause-fault c = subst (IsFault c.args.text.now) (sym c.refus
 
 pub returns-in-Ok-Some-clause-fault : goal.returns-in-Ok-Some-clause-fault
 returns-in-Ok-Some-clause-fault c =
-    err_weaker c.check_lines.result (IsFaultBehind c.in-Ok-Some.seats (lines_of c.in-Some.lines.now)) (IsFault c.args.text.now)
-    (fault_behind c.args.text.now c.in-Some.header.now c.in-Some.lines.now c.in-Some.ensures.found c.in-Ok-Some.seats (sym c.in-Ok-Some.ensures ∙ c.in-Ok-Some.field-0-is)) c.check_lines.ensures.fault
+    err_weaker c.check_lines.result (IsFaultBehind c.in-Ok-Some.header (lines_of c.in-Some.lines.now)) (IsFault c.args.text.now)
+    (fault_behind c.args.text.now c.in-Some.header.now c.in-Some.lines.now c.in-Some.ensures.found c.in-Ok-Some.header (sym c.in-Ok-Some.ensures ∙ c.in-Ok-Some.field-0-is)) c.check_lines.ensures.fault
 
 pub returns-in-Ok-None-clause-fault : goal.returns-in-Ok-None-clause-fault
 returns-in-Ok-None-clause-fault c =

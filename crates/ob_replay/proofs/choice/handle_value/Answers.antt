@@ -1,5 +1,5 @@
 -- A number without a remainder is four times its quarter.
-use Rattle.std.proofs.Common.{ℕ, ◌≡◌, ◌<◌, ◌*◌, ◌/◌, refl, arith}
+use Rattle.std.proofs.Common.{◌≡◌, ◌<◌, ◌*◌, ◌/◌, refl, arith}
 use Rattle.ob_replay.proofs.choice.handle_value.Goals as goal
 
 pub returns-clause-value : goal.returns-clause-value
