@@ -26,4 +26,4 @@ module _ (L : RattleType) (l : Ledger.Ghosts L.Denot) where
   pub space_sync : IsSync space
   space_sync =
       shared_sync devices.the_row table.the_row L kind.the_row face.the_row inner.the_row set.ghosts equal.ghosts handles.ghosts l
-      sets.the_send tables.the_send kinds.the_send faces.the_send inners.the_send faces.the_sync
+      sets.the_send tables.the_send kinds.the_send kinds.the_sync faces.the_send inners.the_send faces.the_sync

@@ -8,7 +8,8 @@
 //! as before; then the step is made again. The last line, and the status, tell whether each was so. The requests of a step are those between the first write of
 //! its line and the second.
 //!
-//! `callers mix` writes the journal of four callers who make 20,000 steps at once, and nothing else.
+//! `callers mix` writes the journal of four callers who make 20,000 steps at once, and nothing else. `callers write` writes that of four, of whom one seals it
+//! 200 times, and writes each segment that it has sealed while the others go on.
 //!
 //! `callers own CALLERS ROUNDS` and `callers one CALLERS ROUNDS` make rounds, to be timed: in each a caller makes a directory, opens it and closes both
 //! handles; the directory has the caller's own name, or one name for all.
@@ -22,8 +23,8 @@ mod threads;
 mod under;
 mod written;
 
-use crate::scenes::{Scene, are_made, are_told, of_rounds};
-use crate::threads::Rounds;
+use crate::scenes::{Scene, are_made, are_told, of_many};
+use crate::threads::{Deed, Rounds};
 use crate::under::are_tried;
 use std::alloc::Global;
 use std::io::Write;
@@ -64,7 +65,15 @@ fn task_of(words: &[String]) -> Option<Task> {
                 on_one: true,
                 count: 625,
             };
-            Some(Task::Rounds(of_rounds(4, rounds, true)))
+            Some(Task::Rounds(of_many(4, Deed::Rounds(rounds), true)))
+        }
+        "write" => {
+            let rounds = Rounds {
+                on_its_own: true,
+                on_one: false,
+                count: 200,
+            };
+            Some(Task::Rounds(of_many(4, Deed::Write(rounds, 4), true)))
         }
         "own" | "one" => {
             let rounds = Rounds {
@@ -72,7 +81,7 @@ fn task_of(words: &[String]) -> Option<Task> {
                 on_one: !is_own,
                 count: number_of(words.get(3)).unwrap_or(0),
             };
-            Some(Task::Rounds(of_rounds(first?, rounds, false)))
+            Some(Task::Rounds(of_many(first?, Deed::Rounds(rounds), false)))
         }
         _ => None,
     }
@@ -102,7 +111,9 @@ fn main(rt: HostRuntime) -> io::Result<ExitCode> {
         return Ok(ExitCode::from(1));
     };
     let Some(task) = task_of(words.as_slice()) else {
-        println!(rt; "callers [refused [STEP] | mix | own CALLERS ROUNDS | one CALLERS ROUNDS]")?;
+        println!(rt;
+            "callers [refused [STEP] | mix | write | own CALLERS ROUNDS | one CALLERS ROUNDS]"
+        )?;
         return Ok(ExitCode::from(1));
     };
     match is_done(&rt, &mut rt.stdout(), alloc, task) {

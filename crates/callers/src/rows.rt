@@ -10,6 +10,8 @@ pub(crate) enum How {
     Ask,
     /// It brings the parse of the open that is asked for, which another began.
     Bring,
+    /// It seals the open segment, after another began the open that is asked for, which waits meanwhile.
+    Seal,
 }
 
 /// A step: its name, the seat that makes it, 0 to 2, the process that asks, how it is made, and what is asked, of a name where one is asked for. Process 2 has no
@@ -42,7 +44,7 @@ pub(crate) const BEFORE: [Row; 6] = [
 ];
 
 /// The steps.
-pub(crate) const ROWS: [Row; 26] = [
+pub(crate) const ROWS: [Row; 27] = [
     (
         "a directory made by the first of four",
         0,
@@ -132,6 +134,14 @@ pub(crate) const ROWS: [Row; 26] = [
         How::Bring,
         FILE,
         b"\\A\\D\\y",
+    ),
+    (
+        "a segment sealed while an open waits",
+        1,
+        ONE,
+        How::Seal,
+        FILE,
+        b"\\A\\D\\x",
     ),
     (
         "a path asked for",

@@ -3,7 +3,7 @@
 ghost use Rattle.std.specs.Prelude.{◌≡◌};
 
 use crate::caller::Caller;
-use crate::threads::{Deed, Play, Rounds, at_once};
+use crate::threads::{Deed, Play, at_once};
 use crate::written::{mark, put_journal, put_numbers};
 use ob_core::SlabTable;
 use ob_device::{DeviceKind, DeviceSet};
@@ -32,7 +32,7 @@ pub(crate) struct Scene {
 type OfTwo = (&'static str, Deed, (bool, bool));
 
 /// The scenes that are the same each time.
-const SCENES: [OfTwo; 6] = [
+const SCENES: [OfTwo; 7] = [
     (
         "another caller is answered while one waits in its gate",
         Deed::Meet,
@@ -55,13 +55,18 @@ const SCENES: [OfTwo; 6] = [
     ),
     ("a close without any pass", Deed::Work(1), (false, false)),
     ("a close with both passes", Deed::Work(1), (true, true)),
+    (
+        "segments sealed while an open waits, and one without entries",
+        Deed::Seal,
+        (true, true),
+    ),
 ];
 
-/// The scene in which so many callers make rounds.
-pub(crate) fn of_rounds(seats: u32, rounds: Rounds, is_written: bool) -> Scene {
+/// The scene in which so many callers do this, and hand over their passes.
+pub(crate) fn of_many(seats: u32, deed: Deed, is_written: bool) -> Scene {
     Scene {
         seats,
-        deed: Deed::Rounds(rounds),
+        deed,
         handed: (true, true),
         is_written,
     }
@@ -78,21 +83,23 @@ struct Seen {
     is_right: bool,
 }
 
-/// The passes of callers that are to be handed over.
+/// The passes of callers that are to be handed over, and all lines that callers have written.
 fn passes_of<L: Ledger>(
     alloc: Global,
     callers: Vec<Caller<L>>,
     handed: (bool, bool),
-) -> Vec<Pass<DeviceKind, L>> {
+) -> (Vec<Pass<DeviceKind, L>>, Vec<u8>) {
     let mut passes = Vec::new(alloc);
+    let mut lines = Vec::new(alloc);
     for caller in callers {
+        let _ = lines.extend_from_slice(caller.lines.as_slice());
         let seat = caller.seat();
         let is_kept = (seat == 0 && !handed.0) || (seat == 1 && !handed.1);
         if let (Some(pass), false) = (caller.pass, is_kept) {
             let _ = passes.push(pass);
         }
     }
-    passes
+    (passes, lines)
 }
 
 /// What is seen at the close of a namespace, which is let go; the lines of its journal are put behind others.
@@ -104,9 +111,11 @@ fn seen_at_close(
 ) -> Seen {
     match ended {
         Ok(ended) => {
-            let entries = ended.journal.len();
+            let (sealed, open) = (ended.sealed.as_slice(), &ended.journal);
+            let before = (open.first as usize).saturating_sub(1);
+            let entries = before.saturating_add(open.entries.len());
             let is_right = !scene.is_written
-                || put_journal(alloc, lines, scene.seats, ended.journal.as_slice()).is_ok();
+                || put_journal(alloc, lines, scene.seats, sealed, open).is_ok();
             // (by a call, since the drop of a namespace is long, and would be proved here anew)
             mem::drop(ended);
             Seen {
@@ -140,12 +149,13 @@ fn see_in<R: Threads + Wait + Clock + Sync, L: Ledger + Send + Sync>(
         return None;
     };
     let play = Play::new(scene.deed);
-    let passes = match at_once(rt, alloc, &space, passes, &play) {
+    let (passes, written) = match at_once(rt, alloc, &space, passes, &play) {
         Ok(callers) => passes_of(alloc, callers, scene.handed),
-        Err(_) => Vec::new(alloc),
+        Err(_) => (Vec::new(alloc), Vec::new(alloc)),
     };
     let mut seen = seen_at_close(alloc, lines, scene, space.close(passes));
-    seen.is_right = seen.is_right && !play.is_hurried();
+    let is_front = lines.as_slice().starts_with(written.as_slice());
+    seen.is_right = seen.is_right && is_front && !play.is_failed();
     Some(seen)
 }
 
@@ -223,7 +233,7 @@ pub(crate) fn are_told<R: Threads + Wait + Clock + Sync, W: Write>(
     are_told
 }
 
-/// Plays a scene of rounds, and writes its journal, or tells how many entries that has; whether it came as it should.
+/// Plays a scene of many callers, and writes its journal, or tells how many entries that has; whether it came as it should.
 pub(crate) fn are_made<R: Threads + Wait + Clock + Sync, W: Write>(
     rt: &R,
     writer: &mut W,

@@ -2,7 +2,7 @@
 
 use crate::asked::{Asked, What};
 use crate::caller::{Caller, Devices, NoGate};
-use ob_base::{Handle, Status};
+use ob_base::{Fault, Handle, Status};
 use ob_device::DeviceKind;
 use ob_shared::{Gate, Pass};
 use std::alloc::{AllocError, Global};
@@ -32,8 +32,12 @@ pub(crate) enum Deed {
     Meet,
     /// The caller of this seat makes eleven steps, an open by parse among them; the others do nothing.
     Work(u32),
+    /// Seat 0 seals the journal while its open waits, after it was resumed, and at once again; the others do nothing.
+    Seal,
     /// Each makes rounds.
     Rounds(Rounds),
+    /// Each of so many makes rounds, and seat 0 seals the journal after each of its own, and writes what was sealed while the others go on.
+    Write(Rounds, u32),
 }
 
 /// What callers do, and how far two of them have come.
@@ -44,8 +48,8 @@ pub(crate) struct Play {
     entered: AtomicBool,
     /// Seat 1 was answered.
     answered: AtomicBool,
-    /// The gate was left before that.
-    hurried: AtomicBool,
+    /// The gate was left before that, or a seal didn't give what it should.
+    failed: AtomicBool,
 }
 
 impl Play {
@@ -55,13 +59,13 @@ impl Play {
             deed,
             entered: AtomicBool::new(false),
             answered: AtomicBool::new(false),
-            hurried: AtomicBool::new(false),
+            failed: AtomicBool::new(false),
         }
     }
 
-    /// Whether a gate was left too early.
-    pub(crate) fn is_hurried(&self) -> bool {
-        self.hurried.load(SeqCst)
+    /// Whether a gate was left too early, or a seal didn't give what it should.
+    pub(crate) fn is_failed(&self) -> bool {
+        self.failed.load(SeqCst)
     }
 }
 
@@ -76,7 +80,7 @@ impl<R: Clock> Gate for UntilAnswered<'_, R> {
     fn between(&self) {
         self.play.entered.store(true, SeqCst);
         if !is_given(self.rt, &self.play.answered) {
-            self.play.hurried.store(true, SeqCst);
+            self.play.failed.store(true, SeqCst);
         }
     }
 }
@@ -150,6 +154,23 @@ fn work<R: Wait, L: Ledger>(rt: &R, alloc: Global, space: &Devices<L>, caller: &
     }
 }
 
+/// Creates a device, begins an open of a file of it, seals the journal, ends the open, and seals it twice.
+fn seal_thrice<R: Wait, L: Ledger>(
+    rt: &R,
+    alloc: Global,
+    space: &Devices<L>,
+    caller: &mut Caller<L>,
+    play: &Play,
+) {
+    let device = Asked::Create(What::Device);
+    caller.ask(rt, alloc, space, device, b"\\Device\\D");
+    let empty = Err(Fault::Refused(Status::InvalidParameter));
+    let seals = caller.seal_around(rt, alloc, space, b"\\Device\\D\\x");
+    if seals != Some([Ok((1, 1, 2)), Ok((2, 3, 1)), empty]) {
+        play.failed.store(true, SeqCst);
+    }
+}
+
 /// Makes rounds; it stops at a fault, so that entries are missing then.
 fn make_rounds<R: Wait, L: Ledger>(
     rt: &R,
@@ -168,6 +189,24 @@ fn make_rounds<R: Wait, L: Ledger>(
     }
 }
 
+/// Makes so many rounds, and after each seals the journal of so many seats, and writes the segment.
+fn write_segments<R: Wait, L: Ledger>(
+    rt: &R,
+    alloc: Global,
+    space: &Devices<L>,
+    caller: &mut Caller<L>,
+    (count, seats): (u32, u32),
+    play: &Play,
+) {
+    for _ in 0..count {
+        let is_made = caller.round(rt, alloc, space, b"\\A") == Some(true);
+        if !is_made || !caller.write_out(rt, alloc, space, seats) {
+            play.failed.store(true, SeqCst);
+            return;
+        }
+    }
+}
+
 /// Does what the caller of this pass does.
 fn act<R: Wait + Clock, L: Ledger>(
     rt: &R,
@@ -176,14 +215,24 @@ fn act<R: Wait + Clock, L: Ledger>(
     pass: Pass<DeviceKind, L>,
     play: &Play,
 ) -> Caller<L> {
-    let mut caller = Caller { pass: Some(pass) };
+    let mut caller = Caller {
+        pass: Some(pass),
+        lines: Vec::new(alloc),
+    };
     let seat = caller.seat();
     match play.deed {
         Deed::Meet if seat == 0 => open_slowly(rt, alloc, space, &mut caller, play),
         Deed::Meet => make_meanwhile(rt, alloc, space, &mut caller, play),
         Deed::Work(maker) if seat == maker => work(rt, alloc, space, &mut caller),
         Deed::Work(_) => {}
-        Deed::Rounds(rounds) => make_rounds(rt, alloc, space, &mut caller, rounds),
+        Deed::Seal if seat == 0 => seal_thrice(rt, alloc, space, &mut caller, play),
+        Deed::Seal => {}
+        Deed::Write(rounds, seats) if seat == 0 => {
+            write_segments(rt, alloc, space, &mut caller, (rounds.count, seats), play);
+        }
+        Deed::Rounds(rounds) | Deed::Write(rounds, _) => {
+            make_rounds(rt, alloc, space, &mut caller, rounds);
+        }
     }
     caller
 }

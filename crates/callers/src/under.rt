@@ -4,13 +4,13 @@ ghost use Rattle.std.specs.Prelude.{◌≡◌};
 
 use crate::asked::command_of;
 use crate::rows::{BEFORE, How, ROWS};
-use crate::written::{mark, put_journal, put_numbers};
+use crate::written::{mark, put_entries, put_numbers};
 use ob_base::{Proc, Status};
 use ob_core::{Command, SlabTable};
 use ob_device::{DeviceKind, DeviceSet};
-use ob_journal::Entry;
 use ob_shared::{
-    Asked as Step, Locked as LockedOf, Parsed, Pass, Pending, Started, open_locked, step,
+    Asked as Step, Journal, Locked as LockedOf, Parsed, Pass, Pending, Started, open_locked,
+    seal_step, step,
 };
 use std::alloc::{AllocError, Global};
 use std::io::Write;
@@ -31,6 +31,8 @@ enum Came {
     Done(Status),
     /// Its open waits for a parse, and is then given up.
     Waits,
+    /// A segment was sealed.
+    Sealed,
     /// It was refused.
     Refused,
 }
@@ -219,6 +221,39 @@ fn ask<L: Ledger, W: Write>(
     }
 }
 
+/// Seals the open segment, again where it is refused, and gives up the open that waits.
+fn seal<L: Ledger, W: Write>(
+    writer: &mut W,
+    alloc: Global,
+    locked: &mut Locked<L>,
+    pass: &mut Pass<DeviceKind, L>,
+    parsed: Parsed<DeviceSet>,
+) -> Trial {
+    let before = seen(locked, pass);
+    let mut is_unchanged = true;
+    let mut is_sealed = seal_step(alloc, locked).is_ok();
+    if is_sealed {
+        mark(writer, " .. ");
+    } else {
+        mark(writer, " .. refused, ");
+        is_unchanged = seen(locked, pass) == before;
+        is_sealed = seal_step(alloc, locked).is_ok();
+        mark_unchanged(writer, is_unchanged);
+    }
+    let numbers = seen(locked, pass);
+    is_given_up(alloc, locked, pass, Pending::Run(parsed));
+    let came = if is_sealed {
+        Came::Sealed
+    } else {
+        Came::Refused
+    };
+    Trial {
+        came,
+        numbers,
+        is_unchanged,
+    }
+}
+
 /// Makes a row's step; none where the open that it ends doesn't wait.
 fn tried<L: Ledger, W: Write>(
     writer: &mut W,
@@ -239,6 +274,11 @@ fn tried<L: Ledger, W: Write>(
             let parsed = begun(alloc, locked, other, process, command)?;
             mark(writer, name);
             Some(bring(writer, alloc, locked, pass, parsed))
+        }
+        How::Seal => {
+            let parsed = begun(alloc, locked, other, process, command)?;
+            mark(writer, name);
+            Some(seal(writer, alloc, locked, pass, parsed))
         }
     }
 }
@@ -272,18 +312,19 @@ fn tell<W: Write>(
     writer: &mut W,
     alloc: Global,
     tried: &Trial,
-    journal: &[Entry<DeviceKind>],
+    journal: (&Journal<DeviceKind>, usize),
 ) -> Result<(), AllocError> {
     let word = match tried.came {
         Came::Done(status) => status.text(),
         Came::Waits => "waits for a parse",
+        Came::Sealed => "sealed",
         Came::Refused => "REFUSED AGAIN",
     };
     let mut text = format!(in alloc; "{word}")?;
     put_numbers(&mut text, &NAMES, &tried.numbers)?;
     let mut lines = Vec::new(alloc);
     lines.push(b'\n')?;
-    put_journal(alloc, &mut lines, SEATS, journal)?;
+    put_entries(alloc, &mut lines, SEATS, journal)?;
     mark(writer, text.as_str());
     let _ = writer.write_all(lines.as_slice());
     Ok(())
@@ -323,7 +364,7 @@ fn is_played<L: Ledger, W: Write>(
     // (by a call, since the drop of a command is long, and would be proved here on each way out)
     mem::drop(command);
     let tried = tried?;
-    match tell(writer, alloc, &tried, locked.journal()) {
+    match tell(writer, alloc, &tried, (locked.journal(), locked.len())) {
         Ok(()) => Some(tried.is_unchanged && tried.came != Came::Refused),
         Err(_) => None,
     }

@@ -40,6 +40,12 @@ none_of : {X : Type 0} (xs : List X) → length xs ≡ 0 → xs ≡ []
 none_of [] e = refl
 none_of (x ∷ xs) e = absurd (omega (arith, e))
 
+-- what is found at a place stands there
+pub place_is : {X : Type 0} (xs : List X) (i : ℕ) (x : X) → slice_get xs i ≡ Some x → x ≡ get_or xs i x
+place_is [] i x found = cc
+place_is {X} (y ∷ ys) zero x found = ap (λ (o : Option X). option_map_or (λ z. z) o x) (sym found)
+place_is (y ∷ ys) (suc i) x found = place_is ys i x found
+
 module _ {X : Type 0} (test : X → Bool) (xs : List X) (i : ℕ) (x : X) (within : i < length xs) (is : x ≡ get_or xs i x) where
   -- what passes of one more, where that passes
   pub one_more : test x ≡ true → filter test (take (i + 1) xs) ≡ filter test (take i xs) ++ x ∷ []
@@ -238,6 +244,25 @@ least_on F F' from other (Some m) least' keeps fails back (low, high) (above, no
     go (inl less) =
         subst (IsLeastWithout F' from) (sym (low less)) (above, (λ n up down. keeps n (λ e. omega (arith, up, less, e)) (none n up down)), (λ h. there (back m h)))
     go (inr more) = subst (IsLeastWithout F' from) (sym (high more)) (lesser more (less_or other m))
+
+-- the least seat without an entry, with one entry more
+module _ {K : Type 0} (journal : List (Entry K)) (i : ℕ) (e : Entry K) (within : i < length journal) (is : e ≡ get_or journal i e) where
+  ends : {X : Type 0} (xs : List X) (x : X) → xs ++ x ∷ [] ≡ [] → ⊥
+  ends [] x none = cc
+  ends (y ∷ ys) x none = cc
+
+  front : {X : Type 0} (xs ys : List X) → xs ++ ys ≡ [] → xs ≡ []
+  front [] ys none = refl
+  front (x ∷ xs) ys none = cc
+
+  pub least_entry : (from : ℕ) (least least' : Option ℕ) → IsLesser from e.seat least least' → IsLeastWithout (λ seat. entries_of seat (take i journal) ≡ []) from least
+      → IsLeastWithout (λ seat. entries_of seat (take (i + 1) journal) ≡ []) from least'
+  least_entry from least least' lesser so_far =
+      least_on (λ seat. entries_of seat (take i journal) ≡ []) (λ seat. entries_of seat (take (i + 1) journal) ≡ []) from e.seat least least'
+      (λ n other none. none_more (λ x. x.seat == n) journal i e within is (ne_eqb e.seat n (λ same. other (sym same))) ∙ none)
+      (λ none. ends (entries_of e.seat (take i journal)) e (sym (one_more (λ x. x.seat == e.seat) journal i e within is (eq-eqb e.seat e.seat refl)) ∙ none))
+      (λ n none. front (entries_of n (take i journal)) _ (sym (filter_more (λ x. x.seat == n) journal i e within) ∙ none))
+      lesser so_far
 
 -- a pass that comes behind one of the same seat is not the only one
 pub second : {K : Type 0} (seat : ℕ) (passes : List (Passed K)) (i : ℕ) (p : Passed K) (found : Option (Passed K)) → i < length passes → p ≡ get_or passes i p → p.seat ≡ seat

@@ -8,6 +8,7 @@ use Rattle.ob_base.specs.declared.status.Status.TheVariants.{InvalidParameter}
 use Rattle.ob_model.specs.declared.reply.Event.{Event}
 use Rattle.ob_model.specs.declared.reply.Event.TheVariants as event
 use Rattle.ob_model.specs.Procedures.{Procedures}
+use Rattle.ob_segments.specs.Journal.{whole}
 use Rattle.ob_types.specs.Brought.{run_of_end}
 use Rattle.ob_types.specs.Parse.{HasRun, asked_of}
 use Rattle.ob_opens.specs.Waiting.{IsAwaited}
@@ -35,8 +36,8 @@ module _ {K T F I : Type 0} where
   -- What is asked may be made into a step: the pass is no stranger's, of which an abandon makes no test; a start finds its places;
   -- and an open waits for the parse that is brought.
   abbrev pub IsAdmitted : Procedures K T F I → History K T F I → Passed K → Asked T K F I → Type 0
-  IsAdmitted g h p (Start process command) = IsKnown h.journal p.receipts × (IsFull (length h.journal) (places_for h.state.pending) → ⊥)
-  IsAdmitted g h p (Resume parsed) = IsKnown h.journal p.receipts × IsAwaited g h.state (asked_of parsed)
+  IsAdmitted g h p (Start process command) = IsKnown (whole h.journal) p.receipts × (IsFull (length h.journal.unsealed) (places_for h.state.pending) → ⊥)
+  IsAdmitted g h p (Resume parsed) = IsKnown (whole h.journal) p.receipts × IsAwaited g h.state (asked_of parsed)
   IsAdmitted g h p (Abandon pending) = IsAwaited g h.state (asked_of (brought_in pending))
 
   -- Why no step is made: of a start and a resume as is said there; an abandon is a stranger's.

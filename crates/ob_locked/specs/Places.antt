@@ -1,4 +1,4 @@
--- The places of a journal: those that are used, and those that are reserved for the opens that wait.
+-- The places of a journal's open segment: those that are used, and those that are reserved for the opens that wait.
 --
 -- Source: this profile.
 use Rattle.std.specs.Prelude.{ℕ, ◌+◌, List, [], ◌∷◌}
@@ -6,10 +6,6 @@ use Rattle.std.specs.Option.{option_map_or}
 use Rattle.ob_model.specs.declared.state.Pending.{Pending}
 use Rattle.ob_model.specs.PendingOpens.{pending_of}
 use Rattle.ob_model.specs.State.{State}
-
--- the most entries of a journal
-abbrev pub most_entries : ℕ
-most_entries = 1048576
 
 -- the places that a start may come to take: its own, and where its open waits one for each of the 32 reparses that may be
 -- left to it, and one for its end

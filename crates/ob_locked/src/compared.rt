@@ -1,13 +1,16 @@
 //! The receipts of a seat, beside its entries in the journal.
 
-ghost use Rattle.std.specs.Prelude.{◌≡◌, ℕ, ◌↔◌, ◌<◌, IsTrue, IfNone, IfSome, Some, length, option_copied, slice_index};
+ghost use Rattle.std.specs.Prelude.{◌≡◌, ℕ, ◌↔◌, ◌<◌, ◌≤◌, IsTrue, IfNone, IfSome, Some, length, option_copied, slice_get, slice_index};
 ghost use Rattle.std.specs.Option.{option_map_or};
+ghost use Rattle.ob_journal.specs.Segments.{most_entries};
+ghost use Rattle.ob_segments.specs.Journal.{whole};
 ghost use Rattle.ob_locked.specs.Opened.{most_seats};
 ghost use Rattle.ob_locked.specs.Settled.{entries_of, first_number, only, passes_of, IsAbsent, IsFirstDifference, IsOwn, IsToldOf};
 
 use crate::Pass;
 use crate::pass::stands;
 use ob_journal::{Entry, is_same_entry};
+use ob_segments::Journal;
 use ob_types::TypeSet;
 use std::collections::LinkedList;
 use std::sync::ledger::Ledger;
@@ -25,13 +28,28 @@ pub struct Mismatch {
     pub in_pass: u64,
 }
 
+/// The entry at a place of a journal.
+pub(crate) fn entry_at<K>(journal: &Journal<K>, place: usize) -> &Entry<K>
+    requires few { length journal.now.journal.unsealed ≤ most_entries }
+    requires within { place < length (whole journal.now.journal) }
+    ensures { slice_get (whole journal.now.journal) place ≡ Some result.now }
+{
+    journal.is_sealed_in_order();
+    match journal.get(place as u64 + 1) {
+        Some(entry) => entry,
+        None => unreachable!(),
+    }
+}
+
 /// How many entries each seat has.
-pub(crate) fn counts_of<K>(journal: &[Entry<K>]) -> [usize; 1024]
+pub(crate) fn counts_of<K>(journal: &Journal<K>) -> [usize; 1024]
+    requires { length journal.now.journal.unsealed ≤ most_entries }
     ensures { (seat : ℕ) → seat < most_seats → slice_index result seat
-        ≡ length (entries_of seat journal.now) }
+        ≡ length (entries_of seat (whole journal.now.journal)) }
 {
     let mut counts = [0; 1024];
-    for entry in journal {
+    for place in 0..journal.len() {
+        let entry = entry_at(journal, place);
         let seat = entry.seat as usize;
         if seat < counts.len() {
             counts[seat] += 1;
@@ -58,13 +76,14 @@ pub(crate) fn only_pass<K: Copy, L: Ledger>(passes: &[Pass<K, L>], seat: u32) ->
 
 /// Whether the pass of a seat, which has so many entries, is the only one and has them all as its receipts.
 pub(crate) fn is_own<T: TypeSet, L: Ledger>(
-    journal: &[Entry<T::Kind>],
+    journal: &Journal<T::Kind>,
     passes: &[Pass<T::Kind, L>],
     seat: u32,
     count: usize,
 ) -> bool
-    requires { count ≡ length (entries_of seat journal.now) }
-    ensures { IsTrue result ↔ IsOwn journal.now passes.now seat }
+    requires few { length journal.now.journal.unsealed ≤ most_entries }
+    requires count { count ≡ length (entries_of seat (whole journal.now.journal)) }
+    ensures { IsTrue result ↔ IsOwn (whole journal.now.journal) passes.now seat }
 {
     match only_pass(passes, seat) {
         Some(pass) => {
@@ -78,13 +97,13 @@ pub(crate) fn is_own<T: TypeSet, L: Ledger>(
 /// Whether these receipts are seen to be the entries of a seat, of which there are so many: each stands in the journal at its
 /// number, and the numbers rise.
 fn has_all<T: TypeSet>(
-    journal: &[Entry<T::Kind>],
+    journal: &Journal<T::Kind>,
     seat: u32,
     count: usize,
     receipts: &LinkedList<Entry<T::Kind>>,
 ) -> bool
-    requires { count ≡ length (entries_of seat journal.now) }
-    ensures { IsTrue result → receipts.now ≡ entries_of seat journal.now }
+    requires { count ≡ length (entries_of seat (whole journal.now.journal)) }
+    ensures { IsTrue result → receipts.now ≡ entries_of seat (whole journal.now.journal) }
 {
     if receipts.len() != count {
         return false;
@@ -102,16 +121,19 @@ fn has_all<T: TypeSet>(
 
 /// The numbers at the first difference of a seat's entries and these receipts; none where they are the same.
 fn difference<T: TypeSet>(
-    journal: &[Entry<T::Kind>],
+    journal: &Journal<T::Kind>,
     seat: u32,
     receipts: &LinkedList<Entry<T::Kind>>,
 ) -> Option<(u64, u64)>
-    ensures none { IfNone result (receipts.now ≡ entries_of seat journal.now) }
+    requires { length journal.now.journal.unsealed ≤ most_entries }
+    ensures none { IfNone result (receipts.now ≡ entries_of seat (whole journal.now.journal)) }
     ensures some { IfSome result (λ told.
-        IsFirstDifference (entries_of seat journal.now) receipts.now (told.0) (told.1)) }
+        IsFirstDifference (entries_of seat (whole journal.now.journal)) receipts.now (told.0)
+        (told.1)) }
 {
     let mut rest = receipts.iter();
-    for entry in journal {
+    for place in 0..journal.len() {
+        let entry = entry_at(journal, place);
         if entry.seat == seat {
             match rest.next() {
                 Some(receipt) => {
@@ -130,10 +152,12 @@ fn difference<T: TypeSet>(
 }
 
 /// The number of the first entry of a seat, or 0 where it has none.
-fn first_of<K>(journal: &[Entry<K>], seat: u32) -> u64
-    ensures { result ≡ first_number (entries_of seat journal.now) }
+fn first_of<K>(journal: &Journal<K>, seat: u32) -> u64
+    requires { length journal.now.journal.unsealed ≤ most_entries }
+    ensures { result ≡ first_number (entries_of seat (whole journal.now.journal)) }
 {
-    for entry in journal {
+    for place in 0..journal.len() {
+        let entry = entry_at(journal, place);
         if entry.seat == seat {
             return entry.number;
         }
@@ -143,12 +167,13 @@ fn first_of<K>(journal: &[Entry<K>], seat: u32) -> u64
 
 /// What is told of a seat.
 pub(crate) fn told_of<T: TypeSet, L: Ledger>(
-    journal: &[Entry<T::Kind>],
+    journal: &Journal<T::Kind>,
     passes: &[Pass<T::Kind, L>],
     seat: u32,
 ) -> Mismatch
+    requires { length journal.now.journal.unsealed ≤ most_entries }
     ensures seat { result.seat ≡ seat }
-    ensures told { IsToldOf journal.now passes.now result }
+    ensures told { IsToldOf (whole journal.now.journal) passes.now result }
 {
     let (in_journal, in_pass) = match only_pass(passes, seat) {
         Some(pass) => match difference::<T>(journal, seat, pass.receipts()) {

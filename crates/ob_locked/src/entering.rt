@@ -1,8 +1,10 @@
 //! The journal's room for a step, and its entry.
 
-ghost use Rattle.std.specs.Prelude.{◌≡◌, ◌≤◌, ◌<◌, ◌+◌, ◌∷◌, ◌++◌, [], IfOk, IfErr, OnOk, length, vec_len, vec_capacity};
+ghost use Rattle.std.specs.Prelude.{◌≡◌, ◌≤◌, ◌<◌, ◌+◌, ◌^◌, ◌∷◌, ◌++◌, [], IfOk, IfErr, OnOk, length};
+ghost use Rattle.ob_journal.specs.Segments.{most_entries};
+ghost use Rattle.ob_segments.specs.Journal.{whole, with_entry};
 ghost use Rattle.ob_locked.specs.Passed.{IsKnown};
-ghost use Rattle.ob_locked.specs.Places.{most_entries, places_of_start};
+ghost use Rattle.ob_locked.specs.Places.{places_of_start};
 ghost use Rattle.ob_locked.specs.Steps.{IsFull, IsNotAdmitted};
 
 use crate::Pass;
@@ -11,93 +13,75 @@ use crate::pass::is_known;
 use crate::place::ReceiptPlace;
 use ob_base::{Fault, Status};
 use ob_journal::Entry;
+use ob_segments::Journal;
 use ob_types::TypeSet;
-use std::alloc::{AllocError, Global};
-use std::mem;
 use std::sync::ledger::{Book, Ledger};
 
-/// The most entries of a journal.
+/// The most entries of a segment.
 const MOST_ENTRIES: usize = 1_048_576;
 
 /// The places that a start may come to take.
 const PLACES_OF_START: usize = 34;
 
-/// What a start needs, made before it: who writes the entry, the place of its receipt, and that of the step which ends its
-/// open where it waits.
-#[derive(Drop)]
-pub(crate) struct StartRoom<K: Copy> {
-    pub writer: Writer,
-    pub place: ReceiptPlace<K>,
-    pub later: ReceiptPlace<K>,
-}
-
-/// Judges whether a start may be made with this pass, and makes the journal's room for it. The faults are `InvalidParameter`
-/// for a stranger's pass, then `JournalFull` where fewer than 34 places are neither used nor reserved, then out of memory.
+/// Judges whether a start may be made with this pass, and makes room for it in the open segment. The faults are `InvalidParameter`
+/// for a stranger's pass, then `JournalFull` where fewer than 34 of its places are neither used nor reserved, then out of memory. Ok is who writes
+/// the entry.
 pub(crate) fn admit<T: TypeSet, L: Ledger>(
-    journal: &mut Vec<Entry<T::Kind>>,
+    journal: &mut Journal<T::Kind>,
     reserved: usize,
     pass: &Pass<T::Kind, L>,
-    alloc: Global,
-) -> Result<StartRoom<T::Kind>, Fault>
-    requires { vec_len journal.old + reserved ≤ most_entries }
-    ensures items { journal.new.items ≡ journal.old.items }
-    ensures len { vec_len journal.new ≡ vec_len journal.old }
-    ensures capacity { vec_capacity journal.old ≤ vec_capacity journal.new }
+) -> Result<Writer, Fault>
+    requires { length journal.old.journal.unsealed + reserved ≤ most_entries }
+    ensures same { journal.new.journal ≡ journal.old.journal }
+    ensures places { journal.old.places ≤ journal.new.places }
     ensures room { OnOk result
-        (vec_len journal.old + reserved + places_of_start ≤ vec_capacity journal.new) }
-    ensures few { OnOk result (vec_len journal.old + reserved + places_of_start ≤ most_entries) }
-    ensures number { IfOk result (λ room. room.writer.number ≡ vec_len journal.old + 1) }
-    ensures seat { IfOk result (λ room. room.writer.seat ≡ pass.now.seat) }
-    ensures known { OnOk result (IsKnown journal.old.items pass.now.receipts) }
-    ensures spare { OnOk result (IsFull (length journal.old.items) reserved → ⊥) }
+        (length journal.old.journal.unsealed + reserved + places_of_start ≤ journal.new.places) }
+    ensures few { OnOk result
+        (length journal.old.journal.unsealed + reserved + places_of_start ≤ most_entries) }
+    ensures number { IfOk result (λ writer. writer.number
+        ≡ length (whole journal.old.journal) + 1) }
+    ensures seat { IfOk result (λ writer. writer.seat ≡ pass.now.seat) }
+    ensures known { OnOk result (IsKnown (whole journal.old.journal) pass.now.receipts) }
+    ensures spare { OnOk result (IsFull (length journal.old.journal.unsealed) reserved → ⊥) }
     ensures fault { IfErr result (λ fault.
-        IsNotAdmitted journal.old.items reserved pass.now.receipts fault) }
+        IsNotAdmitted journal.old.journal reserved pass.now.receipts fault) }
 {
-    if !is_known::<T, L>(pass, journal.as_slice()) {
+    if !is_known::<T, L>(pass, journal) {
         return Err(Fault::Refused(Status::InvalidParameter));
     }
-    if MOST_ENTRIES - journal.len() - reserved < PLACES_OF_START {
+    if MOST_ENTRIES - journal.open_len() - reserved < PLACES_OF_START {
         return Err(Fault::Refused(Status::JournalFull));
     }
     journal.reserve(reserved + PLACES_OF_START)?;
-    let writer = Writer {
-        number: journal.len() as u64 + 1,
-        seat: pass.seat(),
-    };
-    let (place, later) = two_places(alloc)?;
-    Ok(StartRoom {
-        writer,
-        place,
-        later,
-    })
+    Ok(next_writer(journal, pass.seat()))
 }
 
-/// Two places. The only error is out of memory.
-fn two_places<K: Copy>(alloc: Global) -> Result<(ReceiptPlace<K>, ReceiptPlace<K>), AllocError> {
-    let place = ReceiptPlace::new(alloc)?;
-    match ReceiptPlace::new(alloc) {
-        Ok(later) => Ok((place, later)),
-        Err(refused) => {
-            mem::drop(place);
-            Err(refused)
-        }
+/// Who writes the entry behind these.
+pub(crate) fn next_writer<K>(journal: &Journal<K>, seat: u32) -> Writer
+    requires { length journal.now.journal.unsealed ≤ most_entries }
+    ensures number { result.number ≡ length (whole journal.now.journal) + 1 }
+    ensures seat { result.seat ≡ seat }
+{
+    journal.is_sealed_in_order();
+    Writer {
+        number: journal.len() as u64 + 1,
+        seat,
     }
 }
 
-/// Adds an entry to the journal, which has room for it, and its receipt to the pass. Takes no memory.
+/// Adds an entry to the journal, which has room for it, and its receipt to the pass.
 pub(crate) fn enter<K: Copy, L: Ledger>(
-    journal: &mut Vec<Entry<K>>,
+    journal: &mut Journal<K>,
     book: &mut Book<L>,
     pass: &mut Pass<K, L>,
     place: ReceiptPlace<K>,
     entry: Entry<K>,
     receipt: Entry<K>,
 )
-    requires room { vec_len journal.old < vec_capacity journal.old }
-    requires few { book.old.total ≤ most_entries }
-    ensures journal { journal.new.items ≡ journal.old.items ++ entry ∷ [] }
-    ensures len { vec_len journal.new ≡ vec_len journal.old + 1 }
-    ensures capacity { vec_capacity journal.old ≤ vec_capacity journal.new }
+    requires room { length journal.old.journal.unsealed < journal.old.places }
+    requires few { book.old.total < 2 ^ 61 }
+    ensures journal { journal.new.journal ≡ with_entry journal.old.journal entry }
+    ensures places { journal.old.places ≤ journal.new.places }
     ensures pass { pass.new ≡ record {
       seat = pass.old.seat;
       receipts = pass.old.receipts ++ receipt
@@ -106,5 +90,5 @@ pub(crate) fn enter<K: Copy, L: Ledger>(
     ensures counted { book.new.total ≡ book.old.total + 1 }
 {
     pass.receive(book, place, receipt);
-    mem::drop(journal.push(entry));
+    journal.push(entry);
 }

@@ -6,6 +6,8 @@
 //! parse is run between two steps: a [`Parsing`] is run into a [`Parsed`], or a [`Pending`] open is given up. One ledger counts
 //! the steps: its book lies beside the journal, and each pass has a share of it that counts its receipts.
 //!
+//! [`seal_step`] seals the journal's open [`Segment`], which is shared from then on, and opens an empty one.
+//!
 //! Once all callers have ended [`settle`] tells whether the journal has the receipts of all passes and nothing else, or where they
 //! differ: a [`Mismatch`].
 //!
@@ -19,6 +21,7 @@ mod made;
 mod opened;
 mod pass;
 mod place;
+mod prepared;
 mod rooms;
 mod settled;
 mod started;
@@ -26,8 +29,10 @@ mod steps;
 
 pub use compared::Mismatch;
 pub use locked::Locked;
+pub use ob_segments::{Journal, Segment};
 pub use opened::open_locked;
 pub use pass::Pass;
+pub use prepared::Prepared;
 pub use settled::settle;
 pub use started::{Parsed, Parsing, Pending, Started};
-pub use steps::{Asked, step};
+pub use steps::{Asked, seal_step, start_prepared, step};

@@ -1,6 +1,9 @@
 //! What lies under the lock of a shared namespace, and its one mutator.
 
-ghost use Rattle.std.specs.Prelude.{◌≡◌, ◌↔◌, ◌≤◌, ◌+◌, ◌^◌, [], false, IsTrue, IfOk, IfErr, OnErr, OnOk, length};
+ghost use Rattle.std.specs.Prelude.{◌≡◌, ◌↔◌, ◌≤◌, ◌+◌, ◌^◌, ◌++◌, [], false, IsTrue, IfOk, IfErr, OnErr, OnOk, length, map};
+ghost use Rattle.std.specs.Arc.{arc_value};
+ghost use Rattle.ob_journal.specs.Segments.{joined, most_entries, most_sealed, open_after, AreSealed};
+ghost use Rattle.ob_segments.specs.Journal.{open_segment, whole};
 ghost use Rattle.ob_base.specs.declared.Fault.TheVariants.{Memory};
 ghost use Rattle.ob_model.specs.Opening.{opening};
 ghost use Rattle.ob_model.specs.Run.{Run};
@@ -9,55 +12,56 @@ ghost use Rattle.ob_base.specs.declared.status.Status.TheVariants.{Success};
 ghost use Rattle.ob_model.specs.Refusals.{answers};
 ghost use Rattle.ob_types.specs.Brought.{run_of_end};
 ghost use Rattle.ob_types.specs.Parse.{asked_of};
-ghost use Rattle.ob_opens.specs.Waiting.{IsAwaited, IsParseOf};
+ghost use Rattle.ob_opens.specs.Waiting.{IsAwaited, IsNotTaken, IsParseOf};
 ghost use Rattle.ob_locked.specs.Answers.{answer_in, brought_in, run_in, IfWaits};
 ghost use Rattle.ob_locked.specs.Passed.{IsKnown};
-ghost use Rattle.ob_locked.specs.Places.{most_entries, places_for, places_of};
-ghost use Rattle.ob_locked.specs.Steps.{IsFull, IsMade, IsNotAdmitted, IsNotResumed};
+ghost use Rattle.ob_locked.specs.Places.{places_for, places_of};
+ghost use Rattle.ob_locked.specs.Steps.{sealed_then, IsFull, IsMade, IsNotAdmitted, IsNotResumed, IsNotSealed, MaySeal};
 
-use crate::entering::{StartRoom, admit, enter};
-use crate::made::{Made, Twice, Writer, abandon_core, resume_core, start_core};
+use crate::entering::{admit, enter, next_writer};
+use crate::made::{Made, Twice, abandon_core, resume_core, start_core};
 use crate::pass::is_known;
 use crate::place::ReceiptPlace;
-use crate::{Parsed, Parsing, Pass, Pending, Started};
+use crate::{Parsed, Parsing, Pass, Pending, Prepared, Started};
 use ob_base::{Fault, Proc, Status};
-use ob_core::{Core, HandleTable, Started as CoreStarted};
-use ob_journal::Entry;
+use ob_core::{Brought, Core, HandleTable, Started as CoreStarted};
+use ob_journal::Segment;
 use ob_model::Command;
+use ob_segments::Journal;
 use ob_types::TypeSet;
-use std::alloc::Global;
+use std::alloc::{AllocError, Global};
 use std::marker::Model;
 use std::mem;
 use std::snapshot::Snapshot;
+use std::sync::Arc;
 use std::sync::ledger::{Blank, Book, Ledger, Share};
 
 /// What lies under the lock of a shared namespace: a core, and the journal of its steps. `T` is the set of types, `H` the
 /// handle table of each process, and `L` the ledger by which the steps of all passes are counted.
 ///
-/// Contracts see the set's value at the opening, the journal and the state. Of every value of this type they know that the
-/// journal is a run from the opening state to that state; see [`Locked::is_kept`]. (this profile)
+/// Contracts see the set's value at the opening, the journal with its segments, and the state. Of every value of this type they know
+/// that the journal is a run from the opening state to that state; see [`Locked::is_kept`]. (this profile)
 #[derive(Drop)]
 pub struct Locked<T: TypeSet, H: HandleTable, L: Ledger> {
     core: Core<T, H>,
-    journal: Vec<Entry<T::Kind>>,
+    journal: Journal<T::Kind>,
     reserved: usize,
     book: Book<L>,
     first: Snapshot<T>,
 }
 
 impl<T: TypeSet, H: HandleTable, L: Ledger> Model for Locked<T, H, L> {
-    ghost use Rattle.std.specs.Prelude.{vec_capacity};
     ghost use Rattle.ob_locked.specs.Locked.{History, IsKept};
 
     ghost Value = { History T.Kind T T.Face T.Inner };
 
     ghost view = { λ a.
-        record { first = a.first.value; journal = a.journal.items; state = a.core } };
+        record { first = a.first.value; journal = a.journal.journal; state = a.core } };
 
     ghost invariant = { λ a.
         IsKept T.procedures
-        (record { first = a.first.value; journal = a.journal.items; state = a.core }) a.reserved
-        (vec_capacity a.journal) a.book.total };
+        (record { first = a.first.value; journal = a.journal.journal; state = a.core }) a.reserved
+        a.journal.places a.book.total };
 }
 
 impl<T: TypeSet, H: HandleTable, L: Ledger> Locked<T, H, L> {
@@ -67,7 +71,8 @@ impl<T: TypeSet, H: HandleTable, L: Ledger> Locked<T, H, L> {
         requires name { blank.name ≡ L.name }
         requires parts { blank.parts ≡ L.parts }
         ensures first { IfOk result (λ opened. opened.0.first ≡ types) }
-        ensures journal { IfOk result (λ opened. opened.0.journal ≡ []) }
+        ensures journal { IfOk result (λ opened. opened.0.journal
+            ≡ record { sealed = []; unsealed = [] }) }
         ensures state { IfOk result (λ opened. opened.0.state ≡ opening types) }
         ensures parts { IfOk result (λ opened. opened.1.parts ≡ L.parts) }
         ensures amount { IfOk result (λ opened. opened.1.amount ≡ 0) }
@@ -78,7 +83,7 @@ impl<T: TypeSet, H: HandleTable, L: Ledger> Locked<T, H, L> {
         let (book, all) = blank.open::<L>();
         let locked = Locked {
             core,
-            journal: Vec::new(alloc),
+            journal: Journal::new(alloc),
             reserved: 0,
             book,
             first,
@@ -86,28 +91,32 @@ impl<T: TypeSet, H: HandleTable, L: Ledger> Locked<T, H, L> {
         Ok((locked, all))
     }
 
-    /// The law of what lies under the lock: its journal is a run from the opening state to its state, and the places of the
-    /// journal that are used, with those that opens that wait have reserved, are at most 1,048,576. The call does nothing; a
-    /// caller makes it to have the fact. (this profile)
+    /// The law of what lies under the lock: its journal is a run from the opening state to its state; its sealed segments are in
+    /// order, and at most 4,095; and the places of the open segment that are used, with those that pending opens have reserved, are at
+    /// most 1,048,576. The call does nothing; a caller makes it to have the fact. (this profile)
     pub fn is_kept(&self)
-        ensures run { Run T.procedures self.now.first self.now.journal self.now.state }
-        ensures few { length self.now.journal + places_for self.now.state.pending ≤ most_entries }
+        ensures run { Run T.procedures self.now.first (whole self.now.journal) self.now.state }
+        ensures sealed { AreSealed 1 1 self.now.journal.sealed }
+        ensures few_sealed { length self.now.journal.sealed ≤ most_sealed }
+        ensures few { length self.now.journal.unsealed + places_for self.now.state.pending
+            ≤ most_entries }
     {
+        self.journal.is_sealed_in_order();
         let _core = &self.core;
     }
 
-    /// How many entries the journal has: at most 1,048,576. Takes no memory. (this profile)
+    /// How many entries the journal has, those of all segments. (this profile)
     pub fn len(&self) -> usize
-        ensures { result ≡ length self.now.journal }
+        ensures { result ≡ length (whole self.now.journal) }
     {
         self.journal.len()
     }
 
-    /// The journal: the entries of all steps, in their order. Takes no memory. (this profile)
-    pub fn journal(&self) -> &[Entry<T::Kind>]
-        ensures { result.now ≡ self.now.journal }
+    /// The journal: the entries of all steps, in their order. (this profile)
+    pub fn journal(&self) -> &Journal<T::Kind>
+        ensures { result.now.journal ≡ self.now.journal }
     {
-        self.journal.as_slice()
+        &self.journal
     }
 
     /// The namespace, as the steps of the journal have left it. Takes no memory. (this profile)
@@ -117,10 +126,14 @@ impl<T: TypeSet, H: HandleTable, L: Ledger> Locked<T, H, L> {
         &self.core
     }
 
-    /// The namespace and the journal of its steps. Takes no memory. (this profile)
-    pub fn into_parts(self) -> (Core<T, H>, Vec<Entry<T::Kind>>)
+    /// The namespace, and the segments of its journal: the sealed ones, and the open one. (this profile)
+    pub fn into_parts(self) -> (Core<T, H>, Vec<Arc<Segment<T::Kind>>>, Segment<T::Kind>)
         ensures core { result.0 ≡ self.state }
-        ensures journal { result.1.items ≡ self.journal }
+        ensures sealed { AreSealed 1 1 (map arc_value (result.1.items)) }
+        ensures few { length (result.1.items) ≤ most_sealed }
+        ensures open { result.2 ≡ open_after (map arc_value (result.1.items)) result.2.entries }
+        ensures journal { joined (map arc_value (result.1.items)) ++ result.2.entries
+            ≡ whole self.journal }
     {
         let Locked {
             core,
@@ -129,10 +142,18 @@ impl<T: TypeSet, H: HandleTable, L: Ledger> Locked<T, H, L> {
             book: _,
             first: _,
         } = self;
-        (core, journal)
+        journal.is_sealed_in_order();
+        let count = journal.len();
+        let (sealed, entries) = journal.into_parts();
+        let open = Segment {
+            number: sealed.len() as u64 + 1,
+            first: (count - entries.len()) as u64 + 1,
+            entries,
+        };
+        (core, sealed, open)
     }
 
-    /// How many places of the journal opens that wait have reserved: each one for each reparse that is left to it, and one
+    /// How many places of the open segment pending opens have reserved: each one for each reparse that is left to it, and one
     /// for its end. Takes no memory. (this profile)
     pub fn reserved(&self) -> usize
         ensures { result ≡ places_for self.now.state.pending }
@@ -140,43 +161,56 @@ impl<T: TypeSet, H: HandleTable, L: Ledger> Locked<T, H, L> {
         self.reserved
     }
 
-    /// Starts a command of a process, by a pass: makes one step of the machine under the lock, with its entry and the pass's
+    /// Starts a command of a process, for which this was prepared, by a pass: makes one step of the machine under the lock, with its entry and the pass's
     /// receipt of it.
     ///
     /// The faults, of which each leaves all as it was: `InvalidParameter` where the pass is a stranger's, whose last receipt
-    /// doesn't stand in the journal at its number; `JournalFull` where fewer than 34 places of the journal are neither used nor
-    /// reserved; and `Memory`, where memory was wanted. (this profile)
+    /// doesn't stand in the journal at its number; `JournalFull` where fewer than 34 places of the open segment are neither used
+    /// nor reserved; and `Memory`, where memory was wanted. (this profile)
     pub(crate) fn start(
         &mut self,
         alloc: Global,
         pass: &mut Pass<T::Kind, L>,
         process: Proc,
         command: &Command<T::Kind>,
+        prepared: Result<Prepared<T::Kind>, AllocError>,
     ) -> Result<Started<T>, Fault>
+        requires { IfOk prepared (λ prepared. prepared ≡ command.now) }
         ensures made { IfOk result (λ started.
             IsMade T.procedures self.old pass.old (Start process command.now)
             (answer_in started) self.new pass.new) }
-        ensures admitted { OnOk result (IsKnown self.old.journal pass.old.receipts
-            × (IsFull (length self.old.journal) (places_for self.old.state.pending) → ⊥)) }
+        ensures admitted { OnOk result (IsKnown (whole self.old.journal) pass.old.receipts
+            × (IsFull (length self.old.journal.unsealed)
+            (places_for self.old.state.pending) → ⊥)) }
         ensures waits { IfOk result (λ started. IfWaits started (IsParseOf self.new.state)) }
         ensures unmade { OnErr result ((self.new ≡ self.old) × (pass.new ≡ pass.old)) }
         ensures fault { IfErr result (λ fault.
             IsNotAdmitted self.old.journal
             (places_for self.old.state.pending) pass.old.receipts fault) }
     {
-        let room = admit::<T, L>(&mut self.journal, self.reserved, pass, alloc)?;
-        let made = match start_core(&mut self.core, alloc, room.writer, process, command) {
-            Ok(made) => made,
+        self.journal.is_sealed_in_order();
+        let writer = match admit::<T, L>(&mut self.journal, self.reserved, pass) {
+            Ok(writer) => writer,
             Err(fault) => {
-                mem::drop(room);
+                mem::drop(prepared);
                 return Err(fault);
             }
         };
-        let StartRoom {
-            writer: _,
+        let Prepared {
+            command: copy,
+            again,
             place,
             later,
-        } = room;
+        } = prepared?;
+        let copies = (copy, again);
+        let made = match start_core(&mut self.core, alloc, writer, process, command, copies) {
+            Ok(made) => made,
+            Err(fault) => {
+                mem::drop(place);
+                mem::drop(later);
+                return Err(fault);
+            }
+        };
         let Made {
             started,
             entry,
@@ -216,7 +250,7 @@ impl<T: TypeSet, H: HandleTable, L: Ledger> Locked<T, H, L> {
         ensures made { IfOk result (λ started.
             IsMade T.procedures self.old pass.old (Resume parsed.ticket (run_of_end parsed.outcome))
             (answer_in started) self.new pass.new) }
-        ensures known { OnOk result (IsKnown self.old.journal pass.old.receipts) }
+        ensures known { OnOk result (IsKnown (whole self.old.journal) pass.old.receipts) }
         ensures awaited { IfOk result (λ _.
             IsAwaited T.procedures self.old.state (asked_of parsed)) }
         ensures waits { IfOk result (λ started. IfWaits started (IsParseOf self.new.state)) }
@@ -225,15 +259,16 @@ impl<T: TypeSet, H: HandleTable, L: Ledger> Locked<T, H, L> {
             IsNotResumed T.procedures self.old pass.old (asked_of parsed) (back.0)) }
         ensures back { IfErr result (λ back. back.1 ≡ parsed) }
     {
-        if !is_known::<T, L>(pass, self.journal.as_slice()) {
+        self.journal.is_sealed_in_order();
+        if !is_known::<T, L>(pass, &self.journal) {
             return Err((Fault::Refused(Status::InvalidParameter), parsed));
         }
         let Ok(later) = ReceiptPlace::new(alloc) else {
-            return Err((Fault::Memory, parsed));
+            return Err(self.without_place(parsed));
         };
         let (parsed, place) = parsed.into_parts();
         let left = self.reserved - places_at(&self.core, parsed.ticket());
-        let writer = next_writer(self.journal.as_slice(), pass.seat());
+        let writer = next_writer(&self.journal, pass.seat());
         let made = match resume_core(&mut self.core, writer, parsed) {
             Ok(made) => made,
             Err((fault, back)) => {
@@ -278,9 +313,10 @@ impl<T: TypeSet, H: HandleTable, L: Ledger> Locked<T, H, L> {
             (run_in pending)) (answers Success) self.new pass.new }
         ensures stranger { result ≡ false → (self.new ≡ self.old) × (pass.new ≡ pass.old) }
     {
+        self.journal.is_sealed_in_order();
         let (brought, place) = pending.into_parts();
         let left = self.reserved - places_at(&self.core, brought.ticket());
-        let writer = next_writer(self.journal.as_slice(), pass.seat());
+        let writer = next_writer(&self.journal, pass.seat());
         let twice = match abandon_core(&mut self.core, writer, brought) {
             Some(twice) => twice,
             None => {
@@ -300,17 +336,37 @@ impl<T: TypeSet, H: HandleTable, L: Ledger> Locked<T, H, L> {
         self.reserved = left;
         true
     }
-}
 
-/// Who writes the entry behind these.
-fn next_writer<K>(journal: &[Entry<K>], seat: u32) -> Writer
-    requires { length journal.now ≤ most_entries }
-    ensures number { result.number ≡ length journal.now + 1 }
-    ensures seat { result.seat ≡ seat }
-{
-    Writer {
-        number: journal.len() as u64 + 1,
-        seat,
+    /// Why the parse of an open isn't brought that found no place for a receipt: it is a stranger's, or memory was wanted.
+    fn without_place(&self, parsed: Parsed<T>) -> (Fault, Parsed<T>)
+        ensures fault { IsNotTaken T.procedures self.now.state (asked_of parsed) (result.0) }
+        ensures back { result.1 ≡ parsed }
+    {
+        let (parsed, place) = parsed.into_parts();
+        let brought = Brought::Run(parsed);
+        let fault = if self.core.awaits(&brought) {
+            Fault::Memory
+        } else {
+            Fault::Refused(Status::InvalidParameter)
+        };
+        (fault, Parsed::new(brought.into_parsed(), place))
+    }
+
+    /// Seals the open segment, and opens an empty one that has the memory of all reserved places. The sealed segment is shared: it
+    /// stays in the journal. No entry is added.
+    ///
+    /// The faults, of which each leaves all as it was: `InvalidParameter` where the open segment is empty;
+    /// `InsufficientResources` where 4,095 segments are sealed; and `Memory`, where memory was wanted. (this profile)
+    pub(crate) fn seal(&mut self, alloc: Global) -> Result<Arc<Segment<T::Kind>>, Fault>
+        ensures sealed { OnOk result (self.new ≡ sealed_then self.old) }
+        ensures admitted { OnOk result (MaySeal self.old.journal) }
+        ensures segment { IfOk result (λ segment. arc_value segment
+            ≡ open_segment self.old.journal) }
+        ensures unsealed { OnErr result (self.new ≡ self.old) }
+        ensures fault { IfErr result (λ fault. IsNotSealed self.old.journal fault) }
+    {
+        self.journal.is_sealed_in_order();
+        self.journal.seal(alloc, self.reserved)
     }
 }
 

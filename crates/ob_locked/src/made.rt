@@ -17,7 +17,7 @@ ghost use Rattle.ob_locked.specs.Rooms.{is_plain, wants_memory, values_given, va
 use crate::rooms::{copy_in, values_of};
 use ob_base::{Fault, Handle, Proc, Status};
 use ob_core::{Brought, Core, HandleTable, Parsed, Started};
-use ob_journal::{Entry, copy_command};
+use ob_journal::Entry;
 use ob_model::{Answer, Command, Event, Given, ParseRun, Reply};
 use ob_types::TypeSet;
 use std::alloc::{AllocError, Global};
@@ -49,14 +49,17 @@ fn entry_of<K>(writer: Writer, step: Event<K>, reply: Answer) -> Entry<K>
     }
 }
 
-/// Starts a command, with copies of it and of its reply. The only fault is out of memory, and then the core is as it was.
+/// Starts a command, of which these are copies, with copies of its reply. The only fault is out of memory, and then the core is as it was.
 pub(crate) fn start_core<T: TypeSet, H: HandleTable>(
     core: &mut Core<T, H>,
     alloc: Global,
     writer: Writer,
     process: Proc,
     command: &Command<T::Kind>,
+    copies: (Command<T::Kind>, Command<T::Kind>),
 ) -> Result<Made<T>, Fault>
+    requires copy { copies.0 ≡ command.now }
+    requires again { copies.1 ≡ command.now }
     ensures step { IfOk result (λ made.
         Step T.procedures core.old (Start process command.now) (answer_of made.started) core.new) }
     ensures parse { IfOk result (λ made. IfParsing made.started (IsParseOf core.new)) }
@@ -68,7 +71,7 @@ pub(crate) fn start_core<T: TypeSet, H: HandleTable>(
     ensures err { OnErr result (core.new ≡ core.old) }
     ensures memory { IfErr result (λ fault. fault ≡ Memory) }
 {
-    let asked = asked_twice(core, alloc, process, command)?;
+    let asked = with_rooms(core, alloc, process, command, copies)?;
     core.state_is_sound();
     let started = match core.start(process, command) {
         Ok(started) => started,
@@ -105,32 +108,16 @@ struct Asked<K> {
     room: Vec<Handle>,
 }
 
-/// A copy of a command of a process, with that room.
-fn asked_of<T: TypeSet, H: HandleTable>(
+/// Two copies of a command of a process, each with that room.
+fn with_rooms<T: TypeSet, H: HandleTable>(
     core: &Core<T, H>,
     alloc: Global,
     process: Proc,
     command: &Command<T::Kind>,
-) -> Result<Asked<T::Kind>, AllocError>
-    ensures command { IfOk result (λ asked. asked.command ≡ command.now) }
-    ensures empty { IfOk result (λ asked. asked.room.items ≡ []) }
-    ensures fits { IfOk result (λ asked.
-        values_wanted (table_size core.now process) command.now ≤ vec_capacity asked.room) }
-{
-    let room = Vec::with_capacity(alloc, values_of(core, process, command))?;
-    let command = copy_command(alloc, command)?;
-    Ok(Asked { command, room })
-}
-
-/// The same twice.
-fn asked_twice<T: TypeSet, H: HandleTable>(
-    core: &Core<T, H>,
-    alloc: Global,
-    process: Proc,
-    command: &Command<T::Kind>,
+    copies: (Command<T::Kind>, Command<T::Kind>),
 ) -> Result<(Asked<T::Kind>, Asked<T::Kind>), AllocError>
-    ensures command { IfOk result (λ asked. asked.0.command ≡ command.now) }
-    ensures again { IfOk result (λ asked. asked.1.command ≡ command.now) }
+    ensures command { IfOk result (λ asked. asked.0.command ≡ copies.0) }
+    ensures again { IfOk result (λ asked. asked.1.command ≡ copies.1) }
     ensures empty { IfOk result (λ asked. asked.0.room.items ≡ []) }
     ensures empty_again { IfOk result (λ asked. asked.1.room.items ≡ []) }
     ensures fits { IfOk result (λ asked.
@@ -138,14 +125,24 @@ fn asked_twice<T: TypeSet, H: HandleTable>(
     ensures fits_again { IfOk result (λ asked.
         values_wanted (table_size core.now process) command.now ≤ vec_capacity asked.1.room) }
 {
-    let asked = asked_of(core, alloc, process, command)?;
-    match asked_of(core, alloc, process, command) {
-        Ok(again) => Ok((asked, again)),
+    let count = values_of(core, process, command);
+    let room = Vec::with_capacity(alloc, count)?;
+    let other = match Vec::with_capacity(alloc, count) {
+        Ok(other) => other,
         Err(refused) => {
-            mem::drop(asked);
-            Err(refused)
+            mem::drop(room);
+            mem::drop(copies);
+            return Err(refused);
         }
-    }
+    };
+    let (command, again) = copies;
+    Ok((
+        Asked { command, room },
+        Asked {
+            command: again,
+            room: other,
+        },
+    ))
 }
 
 /// The entry of a start that was replied to. Memory is taken for a text or a page alone.

@@ -32,7 +32,8 @@ pub fn open_locked<T: TypeSet, H: HandleTable, L: Ledger>(
     requires parts { blank.parts ≡ L.parts }
     requires whole { L.parts ≡ most_seats }
     ensures first { IfOk result (λ opened. opened.0.first ≡ types) }
-    ensures journal { IfOk result (λ opened. opened.0.journal ≡ []) }
+    ensures journal { IfOk result (λ opened. opened.0.journal
+        ≡ record { sealed = []; unsealed = [] }) }
     ensures state { IfOk result (λ opened. opened.0.state ≡ opening types) }
     ensures passes { IfOk result (λ opened. opened.1.items ≡ fresh_passes seats) }
     ensures seats { (seats ≡ 0) ⊎ (most_seats < seats) → result ≡ Err (Refused InvalidParameter) }

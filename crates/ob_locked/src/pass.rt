@@ -1,10 +1,12 @@
 //! Passes: who a caller is, and what it was told.
 
 ghost use Rattle.std.specs.Prelude.{◌≡◌, ◌↔◌, ◌<◌, ◌+◌, ◌^◌, [], ◌∷◌, ◌++◌, IsTrue, Some, ◌-◌, length, option_copied, slice_get};
+ghost use Rattle.ob_segments.specs.Journal.{whole};
 ghost use Rattle.ob_locked.specs.Passed.{IsKnown, last_number, last_of};
 
 use crate::place::ReceiptPlace;
 use ob_journal::{Entry, is_same_entry};
+use ob_segments::Journal;
 use ob_types::TypeSet;
 use std::alloc::Global;
 use std::collections::LinkedList;
@@ -101,12 +103,11 @@ impl<K: Copy, L: Ledger> Pass<K, L> {
 }
 
 /// Whether the last receipt of a pass, where it has one, stands in this journal at its number: else the pass is a stranger's.
-/// Takes no memory.
 pub(crate) fn is_known<T: TypeSet, L: Ledger>(
     pass: &Pass<T::Kind, L>,
-    journal: &[Entry<T::Kind>],
+    journal: &Journal<T::Kind>,
 ) -> bool
-    ensures { IsTrue result ↔ IsKnown journal.now pass.now.receipts }
+    ensures { IsTrue result ↔ IsKnown (whole journal.now.journal) pass.now.receipts }
 {
     match pass.last_receipt() {
         Some(receipt) => stands::<T>(journal, receipt),
@@ -115,18 +116,12 @@ pub(crate) fn is_known<T: TypeSet, L: Ledger>(
 }
 
 /// Whether an entry stands in a journal at its number.
-pub(crate) fn stands<T: TypeSet>(journal: &[Entry<T::Kind>], entry: &Entry<T::Kind>) -> bool
-    ensures { IsTrue result ↔ slice_get journal.now (entry.now.number - 1) ≡ Some entry.now }
+pub(crate) fn stands<T: TypeSet>(journal: &Journal<T::Kind>, entry: &Entry<T::Kind>) -> bool
+    ensures { IsTrue result ↔ slice_get (whole journal.now.journal) (entry.now.number - 1)
+        ≡ Some entry.now }
 {
-    match entry_at(journal, entry.number) {
+    match journal.get(entry.number) {
         Some(found) => is_same_entry::<T>(found, entry),
         None => false,
     }
-}
-
-/// The entry of a number in a journal, where it has one; number 0 is taken for 1.
-fn entry_at<K>(journal: &[Entry<K>], number: u64) -> Option<&Entry<K>>
-    ensures { option_copied result ≡ slice_get journal.now (number - 1) }
-{
-    journal.get(number.saturating_sub(1) as usize)
 }

@@ -1,13 +1,15 @@
 //! Whether passes and journal agree once all callers have ended.
 
-ghost use Rattle.std.specs.Prelude.{◌≡◌, ◌≤◌, [], OnOk, IfErr};
+ghost use Rattle.std.specs.Prelude.{◌≡◌, ◌≤◌, [], OnOk, IfErr, length};
+ghost use Rattle.ob_journal.specs.Segments.{most_entries};
+ghost use Rattle.ob_segments.specs.Journal.{whole};
 ghost use Rattle.ob_locked.specs.Opened.{most_seats};
 ghost use Rattle.ob_locked.specs.Settled.{entries_of, passes_of, IsAbsent, IsLeastWithout, IsLesser, IsMismatch, IsSettled};
 
-use crate::compared::{Mismatch, counts_of, is_own, told_of};
+use crate::compared::{Mismatch, counts_of, entry_at, is_own, told_of};
 use crate::{Locked, Pass};
 use ob_core::HandleTable;
-use ob_journal::Entry;
+use ob_segments::Journal;
 use ob_types::TypeSet;
 use std::sync::ledger::Ledger;
 
@@ -21,10 +23,11 @@ pub fn settle<T: TypeSet, H: HandleTable, L: Ledger>(
     passes: &[Pass<T::Kind, L>],
 ) -> Result<(), Mismatch>
     requires { seats ≤ most_seats }
-    ensures ok { OnOk result (IsSettled locked.now.journal passes.now seats) }
+    ensures ok { OnOk result (IsSettled (whole locked.now.journal) passes.now seats) }
     ensures err { IfErr result (λ mismatch.
-        IsMismatch locked.now.journal passes.now seats mismatch) }
+        IsMismatch (whole locked.now.journal) passes.now seats mismatch) }
 {
+    locked.is_kept();
     let journal = locked.journal();
     let counts = counts_of(journal);
     for seat in 0..seats {
@@ -40,11 +43,12 @@ pub fn settle<T: TypeSet, H: HandleTable, L: Ledger>(
 
 /// The least seat from this number on that has an entry or a pass.
 fn least_beyond<T: TypeSet, L: Ledger>(
-    journal: &[Entry<T::Kind>],
+    journal: &Journal<T::Kind>,
     passes: &[Pass<T::Kind, L>],
     seats: u32,
 ) -> Option<u32>
-    ensures { IsLeastWithout (IsAbsent journal.now passes.now) seats result }
+    requires { length journal.now.journal.unsealed ≤ most_entries }
+    ensures { IsLeastWithout (IsAbsent (whole journal.now.journal) passes.now) seats result }
 {
     let with_entry = beyond_in_journal(journal, seats);
     match beyond_in_passes(passes, seats) {
@@ -54,11 +58,14 @@ fn least_beyond<T: TypeSet, L: Ledger>(
 }
 
 /// The least seat from this number on that has an entry.
-fn beyond_in_journal<K>(journal: &[Entry<K>], seats: u32) -> Option<u32>
-    ensures { IsLeastWithout (λ seat. entries_of seat journal.now ≡ []) seats result }
+fn beyond_in_journal<K>(journal: &Journal<K>, seats: u32) -> Option<u32>
+    requires { length journal.now.journal.unsealed ≤ most_entries }
+    ensures { IsLeastWithout (λ seat. entries_of seat (whole journal.now.journal)
+        ≡ []) seats result }
 {
     let mut least = None;
-    for entry in journal {
+    for place in 0..journal.len() {
+        let entry = entry_at(journal, place);
         least = lesser(least, entry.seat, seats);
     }
     least

@@ -21,8 +21,7 @@ use Rattle.std.specs.declared.sync.ledger.Ledger as Ledger
 use Rattle.ob_types.specs.declared.set.TypeSet as TypeSet
 use Rattle.ob_handles.specs.declared.table.HandleTable as HandleTable
 use Rattle.ob_core.proofs.namespace.Core.TheSendSync as core
-use Rattle.ob_journal.proofs.entry.Entry.TheSendSync as entry
-use Rattle.ob_journal.specs.contracts.entry.Entry as entry_row
+use Rattle.ob_segments.proofs.journal.Journal.TheSendSync as journal
 use Rattle.ob_locked.specs.contracts.locked.Locked as locked
 use Rattle.ob_locked.specs.contracts.locked.Locked.TheInside as locked_fields
 use Rattle.ob_shared.specs.contracts.shared.Shared as shared
@@ -33,24 +32,24 @@ snapshot_send : (T : RattleType) → IsSend (snapshot.the_row T)
 snapshot_send T = record { owned = λ d vs. ((λ vss. (tt, ((λ uss. (tt, tt)), tt))), tt); leaving = λ k f vs. tt }
 
 module _ (T H L K F I : RattleType) (t : TypeSet.Ghosts T.Denot K.Denot F.Denot I.Denot) (k : PartialEq.Ghosts K.Denot) (h : HandleTable.Ghosts H.Denot) (l : Ledger.Ghosts L.Denot) where
-  pub locked_send : IsSend T → IsSend H → IsSend K → IsSend F → IsSend I → IsSync F → IsSend (locked.the_row T H L K F I t k h l)
-  locked_send set table kind face inner faces =
+  pub locked_send : IsSend T → IsSend H → IsSend K → IsSync K → IsSend F → IsSend I → IsSync F → IsSend (locked.the_row T H L K F I t k h l)
+  locked_send set table kind kinds face inner faces =
       view_send (locked_fields.the_row T H L K F I t k h l) _ _ _ _
       (recorded_send (locked_fields.the_field T H L K F I t k h l).row _ _ (locked_fields.the_type T H L K F I t k h l).to_one
       (struct_send (shape (locked_fields.the_type T H L K F I t k h l)) (
         core.the_send T H K F I t k h set table kind face inner faces,
         (
-          vec.the_send (entry_row.the_row K) heap_row.the_row allocator.ghosts (entry.the_send K kind) heap.the_send frees,
+          journal.the_send K kind kinds,
           (plain_send _ _ _ _ _, (book.the_send L l, (snapshot_send T, tt))),
         ),
       )))
 
-  pub shared_sync : IsSend T → IsSend H → IsSend K → IsSend F → IsSend I → IsSync F → IsSync (shared.the_row T H L K F I t k h l)
-  shared_sync set table kind face inner faces =
+  pub shared_sync : IsSend T → IsSend H → IsSend K → IsSync K → IsSend F → IsSend I → IsSync F → IsSync (shared.the_row T H L K F I t k h l)
+  shared_sync set table kind kinds face inner faces =
       view_sync (shared_fields.the_row T H L K F I t k h l) _ _ _ _
       (recorded_sync (shared_fields.the_field T H L K F I t k h l).row _ _ (shared_fields.the_type T H L K F I t k h l).to_one
       (struct_sync (shape (shared_fields.the_type T H L K F I t k h l)) (
-        mutex.the_sync (locked.the_row T H L K F I t k h l) (locked_send set table kind face inner faces),
+        mutex.the_sync (locked.the_row T H L K F I t k h l) (locked_send set table kind kinds face inner faces),
         (plain_sync _ _ _ _ _, (heap.the_field_sync, tt)),
       )))
 

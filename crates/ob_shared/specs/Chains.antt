@@ -3,19 +3,18 @@
 -- Source: Windows Internals, Object Manager (parse methods); that other steps may stand between them is this profile.
 use Rattle.std.specs.Prelude.{◌≡◌, ◌⊎◌, ℕ, List, [], ◌∷◌, ◌++◌}
 use Rattle.ob_base.specs.declared.fault.Fault.{Fault}
-use Rattle.ob_base.specs.declared.status.Status.TheVariants.{Success}
 use Rattle.ob_model.specs.declared.reply.Answer.{Answer}
 use Rattle.ob_model.specs.declared.reply.Answer.TheVariants.{Done, Ticket}
 use Rattle.ob_model.specs.declared.reply.Event.{Event}
-use Rattle.ob_model.specs.declared.reply.Event.TheVariants.{Resume, Abandon}
+use Rattle.ob_model.specs.declared.reply.Event.TheVariants.{Resume}
 use Rattle.ob_model.specs.declared.reply.ParseRun.{ParseRun}
 use Rattle.ob_model.specs.declared.reply.Reply.{Reply}
 use Rattle.ob_model.specs.Procedures.{Procedures}
-use Rattle.ob_model.specs.Refusals.{answers}
 use Rattle.ob_model.specs.Run.{Entry}
 use Rattle.ob_locked.specs.declared.started.Started.TheVariants as started
 use Rattle.ob_locked.specs.Passed.{Passed}
-use Rattle.ob_shared.specs.Told.{IsNotStarted, IsTold}
+use Rattle.ob_types.specs.Parse.{HasRun}
+use Rattle.ob_shared.specs.Told.{IsCutOff, IsNotStarted, IsTold}
 
 -- entries that lead from an event to an answer: each but the last is answered by a ticket, and the next one resumes its open
 abbrev pub IsChain : {K : Type 0} → List (Entry K) → Event K → Answer → Type 0
@@ -37,16 +36,13 @@ pub record IsRunToReply {K T F I : Type 0} (g : Procedures K T F I) (p : Passed 
   pub last : Event K
   pub told : IsTold {I = I} g before last (started.Done reply) p'
 
--- It was not: an open waited, whose resume made no step, and was given up, by a step unless it was a stranger's.
-pub record IsGivenUpAt {K : Type 0} (p : Passed K) (event : Event K) (p' : Passed K) : Type 0 where
-  pub ticket : ℕ
+-- It was not: the parse of an open on the way was brought, no step was made of it for this reason, and the open was given up there and then.
+pub record IsGivenUpAt {K T F I : Type 0} (g : Procedures K T F I) (p : Passed K) (event : Event K) (fault : Fault) (p' : Passed K) : Type 0 where
   pub waited : Passed K
-  pub way : IsOnTheWay p event ticket waited
-  pub ended : List (Entry K)
-  pub receipts : p'.receipts ≡ waited.receipts ++ ended
-  pub end : (ended ≡ []) ⊎ ((e : Entry K) × (parse : ParseRun) × (ended ≡ e ∷ []) × (e.event ≡ Abandon ticket parse) × (e.answer ≡ answers Success))
-  pub seat : p'.seat ≡ p.seat
+  pub parsed : HasRun F I
+  pub way : IsOnTheWay p event parsed.ticket waited
+  pub ended : IsCutOff g waited parsed fault p'
 
 -- so no reply is given: the start made no step; or the open was given up
 abbrev pub IsCutShort : {K T F I : Type 0} → Procedures K T F I → Passed K → Event K → Fault → Passed K → Type 0
-IsCutShort g p event fault p' = ((p' ≡ p) × IsNotStarted g p fault) ⊎ IsGivenUpAt p event p'
+IsCutShort g p event fault p' = ((p' ≡ p) × IsNotStarted g p fault) ⊎ IsGivenUpAt g p event fault p'

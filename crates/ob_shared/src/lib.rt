@@ -2,7 +2,8 @@
 //!
 //! [`open_shared`] gives a [`Shared`] and its passes. A caller hands its [`Pass`] to each call and gets it back, with a receipt
 //! of the step that was made: [`Shared::start`] begins a command, [`Shared::resume`] brings the parse that an open waits for,
-//! [`Shared::abandon`] gives such an open up, and [`Shared::open_with`] runs a command to its reply. Each of these takes the lock for
+//! [`Shared::abandon`] gives such an open up, and [`Shared::open_with`] runs a command to its reply. [`Shared::seal`] seals a segment of
+//! the journal, so that it can be written out while others go on. Each of these takes the lock for
 //! one step alone; a parse is run between two steps, with nothing held. Once all callers have ended, [`Shared::close`] gives back
 //! the namespace and the journal, of which each pass has its own steps as receipts.
 //!
@@ -14,7 +15,8 @@ mod to_reply;
 mod under;
 
 pub use ob_locked::{
-    Asked, Locked, Mismatch, Parsed, Parsing, Pass, Pending, Started, open_locked, settle, step,
+    Asked, Journal, Locked, Mismatch, Parsed, Parsing, Pass, Pending, Prepared, Segment, Started,
+    open_locked, seal_step, settle, start_prepared, step,
 };
 pub use shared::{Ended, Shared, open_shared};
 pub use to_reply::Gate;

@@ -1,6 +1,8 @@
 //! The lock, and what is handed back when it is closed.
 
-ghost use Rattle.std.specs.Prelude.{◌≡◌, ◌≤◌, ◌<◌, ◌⊎◌, Err, IfOk, IfErr, OnErr};
+ghost use Rattle.std.specs.Prelude.{◌≡◌, ◌≤◌, ◌<◌, ◌++◌, ◌⊎◌, Err, IfOk, IfErr, OnErr, length, map};
+ghost use Rattle.std.specs.Arc.{arc_value};
+ghost use Rattle.ob_journal.specs.Segments.{joined, most_sealed, open_after, AreSealed};
 ghost use Rattle.ob_base.specs.declared.Fault.TheVariants.{Memory, Refused};
 ghost use Rattle.ob_base.specs.declared.status.Status.TheVariants.{InvalidParameter};
 ghost use Rattle.ob_model.specs.declared.reply.Event.TheVariants.{Start, Resume};
@@ -9,19 +11,20 @@ ghost use Rattle.ob_types.specs.Brought.{run_of_end};
 ghost use Rattle.ob_types.specs.Parse.{asked_of};
 ghost use Rattle.ob_locked.specs.Opened.{fresh_passes, most_seats};
 ghost use Rattle.ob_locked.specs.Settled.{IsSettled};
-ghost use Rattle.ob_shared.specs.Told.{IsGivenUp, IsMismatchOfRun, IsNotBrought, IsNotStarted, IsTold};
+ghost use Rattle.ob_shared.specs.Told.{IsCutOff, IsGivenUp, IsMismatchOfRun, IsNotBrought, IsNotStarted, IsSealed, IsTold, IsUnsealed};
 
-use crate::under::{abandon_under, resume_under, start_under};
+use crate::under::{abandon_under, bring_under, resume_under, seal_under, start_under};
 use ob_base::{Fault, Proc};
 use ob_core::{Core, HandleTable};
-use ob_journal::Entry;
-use ob_locked::{Locked, Mismatch, Parsed, Pass, Pending, Started, open_locked, settle};
+use ob_locked::{
+    Locked, Mismatch, Parsed, Pass, Pending, Prepared, Segment, Started, open_locked, settle,
+};
 use ob_model::Command;
 use ob_types::TypeSet;
 use std::alloc::Global;
 use std::marker::Model;
 use std::sync::ledger::{Blank, Ledger};
-use std::sync::{Mutex, Wait};
+use std::sync::{Arc, Mutex, Wait};
 
 /// A namespace that threads share. `T` is the set of types, `H` the handle table of each process, and `L` the ledger by which the
 /// steps of all passes are counted. It is lent to as many threads as there are; a call waits for the lock, which is held for one
@@ -44,13 +47,16 @@ impl<T: TypeSet, H: HandleTable, L: Ledger> Model for Shared<T, H, L> {
     ghost invariant = { λ a. a.seats ≤ most_seats };
 }
 
-/// What is left of a shared namespace that was closed: the namespace, and the journal of all its steps. (this profile)
+/// What is left of a shared namespace that was closed: the namespace, and the journal of all its steps, which is the sealed segments and the
+/// open one joined in order. (this profile)
 #[derive(Drop)]
 pub struct Ended<T: TypeSet, H: HandleTable> {
     /// The namespace, as the steps of the journal have left it.
     pub core: Core<T, H>,
-    /// The entries of all steps, in their order.
-    pub journal: Vec<Entry<T::Kind>>,
+    /// The sealed segments, in their order: at most 4,095.
+    pub sealed: Vec<Arc<Segment<T::Kind>>>,
+    /// The open segment, which may have no entry.
+    pub journal: Segment<T::Kind>,
 }
 
 /// Opens a namespace in the opening state for so many seats, 1 to 1,024, with a pass for each seat, at the place of its number.
@@ -98,7 +104,7 @@ impl<T: TypeSet, H: HandleTable, L: Ledger> Shared<T, H, L> {
     ///
     /// The faults, of which each leaves the namespace and the pass as they were: `InvalidParameter` where the pass is a
     /// stranger's, whose last receipt doesn't stand in the journal at its number; `JournalFull` where fewer than 34 places of the
-    /// journal are neither used nor reserved; and `Memory`, where memory was wanted. (this profile)
+    /// open segment are neither used nor reserved; and `Memory`, where memory was wanted. (this profile)
     pub fn start<R: Wait>(
         &self,
         rt: &R,
@@ -112,8 +118,17 @@ impl<T: TypeSet, H: HandleTable, L: Ledger> Shared<T, H, L> {
         ensures fault { IfErr (result.1) (λ fault. IsNotStarted T.procedures pass fault) }
     {
         let mut pass = pass;
+        // (before the lock is taken, which is so held for the step alone)
+        let prepared = Prepared::new(self.alloc, command);
         let mut locked = self.lock.lock(rt);
-        let started = start_under(self.alloc, &mut locked, &mut pass, process, command);
+        let started = start_under(
+            self.alloc,
+            &mut locked,
+            &mut pass,
+            process,
+            command,
+            prepared,
+        );
         (pass, started)
     }
 
@@ -158,14 +173,62 @@ impl<T: TypeSet, H: HandleTable, L: Ledger> Shared<T, H, L> {
         pass
     }
 
+    /// Brings a parse to the open that waits for it, by a pass, as [`Shared::resume`]; where no step is made by that, the open is given up
+    /// under the same lock, as by [`Shared::abandon`], so that it doesn't wait any longer: after `Memory` by a step, of which the pass has
+    /// the receipt; after `InvalidParameter` by a step where the open waited for this parse, and else nothing has changed. (this profile)
+    pub fn bring<R: Wait>(
+        &self,
+        rt: &R,
+        pass: Pass<T::Kind, L>,
+        parsed: Parsed<T>,
+    ) -> (Pass<T::Kind, L>, Result<Started<T>, Fault>)
+        ensures told { IfOk (result.1) (λ started.
+            IsTold T.procedures pass (Resume parsed.ticket (run_of_end parsed.outcome)) started
+            (result.0)) }
+        ensures cut_off { IfErr (result.1) (λ fault.
+            IsCutOff T.procedures pass parsed fault (result.0)) }
+    {
+        let mut pass = pass;
+        let mut locked = self.lock.lock(rt);
+        let brought = bring_under(self.alloc, &mut locked, &mut pass, parsed);
+        (pass, brought)
+    }
+
+    /// Seals the open segment of the journal, and gives it: an empty one is open then, which has the memory of all reserved places. The
+    /// sealed segment stays in the journal, and is shared, so it can be written out while others make steps. A seal is no step: there is
+    /// no entry, and the pass comes back as it is, untested.
+    ///
+    /// The faults, of which each leaves all as it was: `InvalidParameter` where the open segment is empty; `InsufficientResources` where
+    /// 4,095 segments are sealed; and `Memory`, where memory was wanted. (this profile)
+    pub fn seal<R: Wait>(
+        &self,
+        rt: &R,
+        pass: Pass<T::Kind, L>,
+    ) -> (Pass<T::Kind, L>, Result<Arc<Segment<T::Kind>>, Fault>)
+        ensures pass { result.0 ≡ pass }
+        ensures sealed { IfOk (result.1) (λ segment. IsSealed T.procedures (arc_value segment)) }
+        ensures fault { IfErr (result.1) (λ fault. IsUnsealed T.procedures fault) }
+    {
+        let mut locked = self.lock.lock(rt);
+        let sealed = seal_under(self.alloc, &mut locked);
+        (pass, sealed)
+    }
+
     /// Closes the namespace, with the passes of all seats. Ok gives it back with its journal, which is a run to the namespace's state,
-    /// and has the receipts of each pass, each once and in their order, and no other entries. Else it tells where passes
+    /// and has the receipts of each pass, each once and in their order, and no other entries. Else it says where passes
     /// and journal differ, and hands nothing back: a pass is missing, or isn't the only one of its seat, or has other receipts than
     /// the journal has entries of its seat. Takes no memory and no lock. (this profile)
     pub fn close(self, passes: Vec<Pass<T::Kind, L>>) -> Result<Ended<T, H>, Mismatch>
         ensures run { IfOk result (λ ended. (first : T)
-            × Run T.procedures first ended.journal.items ended.core) }
-        ensures settled { IfOk result (λ ended. IsSettled ended.journal.items passes.items self) }
+            × Run T.procedures first (joined (map arc_value ended.sealed.items)
+            ++ ended.journal.entries) ended.core) }
+        ensures sealed { IfOk result (λ ended. AreSealed 1 1 (map arc_value ended.sealed.items)) }
+        ensures few { IfOk result (λ ended. length ended.sealed.items ≤ most_sealed) }
+        ensures open { IfOk result (λ ended. ended.journal
+            ≡ open_after (map arc_value ended.sealed.items) ended.journal.entries) }
+        ensures settled { IfOk result (λ ended.
+            IsSettled (joined (map arc_value ended.sealed.items)
+            ++ ended.journal.entries) passes.items self) }
         ensures mismatch { IfErr result (λ mismatch.
             IsMismatchOfRun T.procedures passes.items self mismatch) }
     {
@@ -178,8 +241,12 @@ impl<T: TypeSet, H: HandleTable, L: Ledger> Shared<T, H, L> {
         locked.is_kept();
         match settle(&locked, seats, passes.as_slice()) {
             Ok(()) => {
-                let (core, journal) = locked.into_parts();
-                Ok(Ended { core, journal })
+                let (core, sealed, journal) = locked.into_parts();
+                Ok(Ended {
+                    core,
+                    sealed,
+                    journal,
+                })
             }
             Err(mismatch) => Err(mismatch),
         }

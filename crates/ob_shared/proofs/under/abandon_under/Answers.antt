@@ -8,16 +8,16 @@ use Rattle.ob_shared.proofs.under.abandon_under.Goals as goal
 
 pub returns-in-Ok-Done : goal.returns-in-Ok-Done
 returns-in-Ok-Done g c =
-    let made = c.in-Ok-Done.ensures.made in (
-      c.args.locked.now,
-      c.is_kept.ensures.run,
-      inl (
-        c.in-Ok-Done.ensures.admitted,
-        c.step.new.locked,
-        subst (λ a. IsMade g.T.TypeSet.procedures c.args.locked.now c.args.pass.now (Abandon (brought_in c.args.pending).ticket (run_in c.args.pending)) a c.step.new.locked c.step.new.pass) (abandon_succeeds g.T.TypeSet.procedures c.args.locked.now.state c.step.new.locked.state _ _ _ made.step) made,
-      ),
-    )
+    let made = c.in-Ok-Done.ensures.made in
+    let after =
+    inl (
+      c.in-Ok-Done.ensures.admitted,
+      c.step.new.locked,
+      subst (λ a. IsMade g.T.TypeSet.procedures c.args.locked.now c.args.pass.now (Abandon (brought_in c.args.pending).ticket (run_in c.args.pending)) a c.step.new.locked c.step.new.pass) (abandon_succeeds g.T.TypeSet.procedures c.args.locked.now.state c.step.new.locked.state _ _ _ made.step) made,
+    ) in
+    record { given_up = (c.args.locked.now, c.is_kept.ensures.run, after); after = after }
 
 pub returns-in-Err-default-None : goal.returns-in-Err-default-None
 returns-in-Err-default-None g c =
-    (c.args.locked.now, c.is_kept.ensures.run, inr (c.in-Err-default-None.ensures.fault.1, c.in-Err-default-None.ensures.unmade.1))
+    let after = inr (c.in-Err-default-None.ensures.fault.1, c.in-Err-default-None.ensures.unmade.1) in
+    record { given_up = (c.args.locked.now, c.is_kept.ensures.run, after); after = after }

@@ -1,0 +1,83 @@
+//! What a start needs beside the namespace.
+
+ghost use Rattle.std.specs.Prelude.{◌≡◌, IfOk};
+
+use crate::place::ReceiptPlace;
+use ob_journal::copy_command;
+use ob_model::Command;
+use std::alloc::{AllocError, Global};
+use std::marker::Model;
+use std::mem;
+
+/// What a start of a command needs beside the namespace, made before it, so that a lock is held for the step alone: two copies of the command,
+/// for the journal and for the receipt, and the places of two receipts. Contracts see the command. (this profile)
+#[derive(Drop)]
+pub struct Prepared<K: Copy> {
+    pub(crate) command: Command<K>,
+    pub(crate) again: Command<K>,
+    pub(crate) place: ReceiptPlace<K>,
+    pub(crate) later: ReceiptPlace<K>,
+}
+
+impl<K: Copy> Model for Prepared<K> {
+    ghost use Rattle.std.specs.Prelude.{◌≡◌};
+    ghost use Rattle.ob_model.specs.declared.command.Command as commands;
+
+    ghost Value = { commands.Command K };
+
+    ghost view = { λ p. p.command };
+
+    ghost invariant = { λ p. p.again ≡ p.command };
+}
+
+impl<K: Copy> Prepared<K> {
+    /// What the start of this command needs. The only error is out of memory. (this profile)
+    pub fn new(alloc: Global, command: &Command<K>) -> Result<Prepared<K>, AllocError>
+        ensures { IfOk result (λ prepared. prepared ≡ command.now) }
+    {
+        let (command, again) = two_copies(alloc, command)?;
+        match two_places(alloc) {
+            Ok((place, later)) => Ok(Prepared {
+                command,
+                again,
+                place,
+                later,
+            }),
+            Err(refused) => {
+                mem::drop(command);
+                mem::drop(again);
+                Err(refused)
+            }
+        }
+    }
+}
+
+/// Two copies. The only error is out of memory.
+fn two_copies<K: Copy>(
+    alloc: Global,
+    command: &Command<K>,
+) -> Result<(Command<K>, Command<K>), AllocError>
+    ensures copy { IfOk result (λ copies. copies.0 ≡ command.now) }
+    ensures again { IfOk result (λ copies. copies.1 ≡ command.now) }
+{
+    let copy = copy_command(alloc, command)?;
+    match copy_command(alloc, command) {
+        Ok(again) => Ok((copy, again)),
+        Err(refused) => {
+            mem::drop(copy);
+            Err(refused)
+        }
+    }
+}
+
+/// Two places. The only error is out of memory.
+fn two_places<K: Copy>(alloc: Global) -> Result<(ReceiptPlace<K>, ReceiptPlace<K>), AllocError> {
+    let place = ReceiptPlace::new(alloc)?;
+    match ReceiptPlace::new(alloc) {
+        Ok(later) => Ok((place, later)),
+        Err(refused) => {
+            mem::drop(place);
+            Err(refused)
+        }
+    }
+}

@@ -1,0 +1,10 @@
+-- The resume made no step, and the open was given up under the same lock.
+use Rattle.std.proofs.Common.{◌∙◌, sym}
+use Rattle.ob_shared.proofs.Chained.{cut_off}
+use Rattle.ob_shared.proofs.under.bring_under.Goals as goal
+
+pub returns-in-Err-default-Some-clause-cut_off : goal.returns-in-Err-default-Some-clause-cut_off
+returns-in-Err-default-Some-clause-cut_off g c =
+    let refused = c.in-Err-default-Some.ensures in
+    cut_off g.T.TypeSet.procedures c.args.locked.now c.is_kept.ensures.run c.step.new.locked c.args.pass.now c.step.new.pass c.abandon_under.new.pass c.args.parsed c.in-Err-default-Some.parsed c.in-Err-default-Some.fault
+    refused.fault refused.unmade.0 refused.unmade.1 (sym c.in-Err-default-Some.field-0-1-is ∙ refused.back) c.abandon_under.ensures.after
