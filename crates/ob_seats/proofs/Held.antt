@@ -1,11 +1,14 @@
 -- What a seat keeps of its opens that wait, while one begins to wait and another ends.
-use Rattle.std.proofs.Common.{◌≡◌, ◌≢◌, ◌∙◌, ℕ, ◌<◌, ◌==◌, true, List, [], ◌∷◌, ◌++◌, ◌⊎◌, inl, inr, All, ap, refl, sym, subst, arith}
-use Rattle.std.proofs.lemmas.List.Elements.{All-nil}
+use Rattle.std.proofs.Common.{◌≡◌, ◌≢◌, ◌∙◌, ℕ, ◌<◌, ◌==◌, Bool, true, false, ◌||◌, eqb-true, List, [], ◌∷◌, ◌++◌, ◌⊎◌, inl, inr, All, ap, refl, sym, subst, arith}
+use Rattle.std.proofs.lemmas.List.Elements.{All-nil, All-cons, All-head, All-tail}
 use Rattle.ob_effects.specs.Waiting.{IsUnderWord}
 use Rattle.std.specs.List.{list_any}
 use Rattle.ob_requests.specs.Words.{Words, first_words, with_ticket}
 use Rattle.ob_effects.proofs.Tickets.{IsWordOf, IsSet, is_set, its_number, bytes_same, cleared_listed, cleared_apart, begun_listed, begun_apart}
-use Rattle.ob_seats.specs.Kept.{AreHeld, for_worker, without}
+use Rattle.ob_seats.specs.Kept.{AreHeld, IsNext, for_worker, without}
+use Rattle.ob_seats.specs.Stopped.{IsNewTicket, IsNotKept}
+use Rattle.ob_seats.specs.declared.stop.Stop.{Stop}
+use Rattle.ob_seats.specs.declared.stop.Stop.TheVariants.{Memory, Refused}
 
 module _ (words : Words) (process : ℕ) (word : List ℕ) where
   abbrev Cleared : Words
@@ -78,3 +81,37 @@ none_held words tickets first none = subst (AreHeld words.tickets) (sym none) (s
 
 pub none_under : (was words : Words) (tickets : List ℕ) → words ≡ for_worker was → tickets ≡ [] → AreHeld words.tickets tickets
 none_under was words tickets same none = subst (AreHeld words.tickets) (sym none) (subst (λ (w : Words). AreHeld w.tickets []) (sym same) none_waits)
+
+-- ---- a ticket that may be kept, of the tickets and of the words under which they are
+
+-- a ticket that is among tickets is below what is above them all
+below_all : (tickets : List ℕ) (n k : ℕ) → All (λ j. j < n) tickets → list_any (λ j. j == k) tickets ≡ true → k < n
+below_all [] n k below there = cc
+below_all (t ∷ tickets) n k below there = go (t == k) refl there (below_all tickets n k (All-tail (λ j. j < n) t tickets below))
+  where
+    go : (is : Bool) → t == k ≡ is → (is || list_any (λ j. j == k) tickets) ≡ true → (list_any (λ j. j == k) tickets ≡ true → k < n) → k < n
+    go true same there on = omega (arith, eqb-true t k same, All-head (λ j. j < n) t tickets below)
+    go false same there on = on there
+
+-- and so are all tickets that are under words
+under_below : (under : ℕ → List ℕ → ℕ) (tickets : List ℕ) (n : ℕ) → All (IsUnderWord under) tickets → ((process : ℕ) (word : List ℕ) → under process word < n)
+    → All (λ j. j < n) tickets
+under_below under [] n held below = All-nil (λ j. j < n)
+under_below under (t ∷ tickets) n held below =
+    let (some, (process, word, is)) = All-head (IsUnderWord under) t tickets held in
+    All-cons (λ j. j < n) t tickets (omega (arith, is, below process word)) (under_below under tickets n (All-tail (IsUnderWord under) t tickets held) below)
+
+module _ (words : Words) (tickets : List ℕ) (held : AreHeld words.tickets tickets) (n : ℕ) where
+  new_from_next : IsNext tickets n → IsNewTicket words n
+  new_from_next (some, below) process word = elim (held.listed.all process word) as (λ x. words.tickets process word < n) [
+    | inl none ↦ omega (arith, none, some)
+    | inr there ↦ below_all tickets n (words.tickets process word) below there
+  ]
+
+  next_from_new : IsNewTicket words n → IsNext tickets n
+  next_from_new new = ((λ none. absurd (omega (arith, none, new 0 []))), under_below words.tickets tickets n held.listed.held new)
+
+  -- why the parse of a ticket isn't kept
+  pub not_kept : (why : Stop) → ((why ≡ Memory) × IsNext tickets n) ⊎ ((why ≡ Refused) × (¬ IsNext tickets n)) → IsNotKept words n why
+  not_kept why (inl (memory, next)) = inl (memory, new_from_next next)
+  not_kept why (inr (refused, not)) = inr (refused, λ new. not (next_from_new new))

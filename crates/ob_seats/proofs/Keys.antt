@@ -1,5 +1,5 @@
 -- Parses that a map keeps under their tickets: what is found, what is left, and what comes last.
-use Rattle.std.proofs.Common.{◌≡◌, ◌∙◌, ℕ, ◌<◌, ◌==◌, Bool, true, false, not, cond, List, [], ◌∷◌, ◌++◌, filter, Some, None, All, refl, ap, sym, subst, eqb-true, arith, ◌||◌}
+use Rattle.std.proofs.Common.{◌≡◌, ◌≢◌, ◌∙◌, ℕ, ◌<◌, ◌==◌, Bool, true, false, not, cond, List, [], ◌∷◌, ◌++◌, filter, Some, None, All, refl, ap, sym, subst, eqb-true, arith, ◌||◌}
 use Rattle.std.proofs.lemmas.Bool.{ne_eqb}
 use Rattle.std.proofs.lemmas.List.{map-append}
 use Rattle.std.proofs.lemmas.List.Elements.{All-nil, All-cons, All-head, All-tail, All-push}
@@ -10,7 +10,7 @@ use Rattle.std.specs.List.Sorted.{IsStrictlySortedBy}
 use Rattle.std.specs.Map.{keys_of, lookup, remove_entry}
 use Rattle.std.specs.Ordering.{nat_cmp}
 use Rattle.ob_model.proofs.Ids.{Differ-from_rising, is_at-id, insert_entry-last, remove_entry-id}
-use Rattle.ob_seats.specs.Kept.{AreKept, without}
+use Rattle.ob_seats.specs.Kept.{AreKept, IsNext, without}
 
 module _ {P : Type 0} (ticket_of : P → ℕ) where
   abbrev Own : ℕ × P → Type 0
@@ -105,3 +105,7 @@ module _ {P : Type 0} (ticket_of : P → ℕ) where
           go : (b : Bool) → b ≡ false → cond b (Some y.1) (lookup (is_at (nat_cmp n)) es) ≡ Some other → (lookup (is_at (nat_cmp n)) es ≡ Some other → ⊥) → ⊥
           go true is e on = cc
           go false is e on = on e
+
+-- a ticket that was tested may be kept
+pub is_next : (now : List ℕ) (tested n : ℕ) → tested ≡ n → tested ≢ 0 → All (λ k. k < tested) now → IsNext now n
+is_next now tested n same some below = subst (IsNext now) same (some, below)

@@ -1,5 +1,5 @@
 -- What holds where all went well.
-use Rattle.std.proofs.Common.{◌≡◌, ◌≢◌, ℕ, not, true, false, Result, Ok, Err, OnOk, IfOk, List, [], ◌∷◌, ◌++◌, ap, refl, eq-eqb}
+use Rattle.std.proofs.Common.{◌≡◌, ◌≢◌, ℕ, not, true, false, Result, Ok, Err, OnOk, OnErr, IfOk, IfErr, List, [], ◌∷◌, ◌++◌, ap, refl, eq-eqb}
 use Rattle.std.proofs.lemmas.Bool.{ne_eqb}
 use Rattle.ob_requests.specs.Words.{Words}
 use Rattle.ob_effects.specs.Waiting.{is_waiting}
@@ -37,3 +37,14 @@ waits_not words process word none = ap not (eq-eqb (words.tickets process word) 
 pub if_ok : {X E : Type 0} (A P : X → Type 0) (r : Result X E) → ((x : X) → A x → P x) → IfOk r A → IfOk r P
 if_ok A P (Ok x) on a = on x a
 if_ok A P (Err e) on a = tt
+
+-- so does one of what went wrong
+pub if_err : {X E : Type 0} (A P : E → Type 0) (r : Result X E) → ((e : E) → A e → P e) → IfErr r A → IfErr r P
+if_err A P (Ok x) on a = tt
+if_err A P (Err e) on a = on e a
+
+-- and three facts of what went wrong
+pub if_all_err : {X E : Type 0} (A : E → Type 0) (B C : Type 0) (P : E → Type 0) (r : Result X E) → ((e : E) → A e → B → C → P e)
+    → IfErr r A → OnErr r B → OnErr r C → IfErr r P
+if_all_err A B C P (Ok x) on a b c = tt
+if_all_err A B C P (Err e) on a b c = on e a b c

@@ -1,7 +1,7 @@
 -- What a seat keeps between its lines.
 --
 -- Source: this profile.
-use Rattle.std.specs.Prelude.{◌≡◌, ℕ, ◌==◌, not, List, filter, All}
+use Rattle.std.specs.Prelude.{◌≡◌, ◌≢◌, ◌<◌, ℕ, ◌==◌, not, List, filter, All}
 use Rattle.std.specs.List.Sorted.{IsStrictlySortedBy}
 use Rattle.std.specs.Map.{keys_of}
 use Rattle.std.specs.Ordering.{nat_cmp}
@@ -18,6 +18,10 @@ pub record AreHeld (under : ℕ → List ℕ → ℕ) (tickets : List ℕ) : Typ
 pub record AreKept {P : Type 0} (ticket_of : P → ℕ) (entries : List (ℕ × P)) : Type 0 where
   pub rising : IsStrictlySortedBy nat_cmp (keys_of entries)
   pub own : All (λ e. ticket_of e.1 ≡ e.0) entries
+
+-- a ticket that may be kept after these: it isn't 0, and above them all
+abbrev pub IsNext : List ℕ → ℕ → Type 0
+IsNext tickets n = (n ≢ 0) × All (λ k. k < n) tickets
 
 -- tickets without one of them
 abbrev pub without : ℕ → List ℕ → List ℕ

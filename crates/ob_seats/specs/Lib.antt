@@ -1,3 +1,4 @@
 pub mod Received
 pub mod Played
 pub mod Kept
+pub mod Stopped

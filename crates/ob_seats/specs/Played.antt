@@ -14,8 +14,10 @@ use Rattle.ob_lines.specs.declared.form.Form.{Form}
 use Rattle.ob_lines.specs.declared.form.Form.TheVariants.{Nothing, Stat, Asks, Waits}
 use Rattle.ob_lines.specs.declared.pending.PendingForm.{PendingForm}
 use Rattle.ob_lines.specs.declared.request.Request.{Request}
-use Rattle.ob_lines.specs.Grammar.{IsLine}
+use Rattle.ob_worker_lines.specs.declared.form.SeatForm.{SeatForm}
+use Rattle.ob_worker_lines.specs.declared.form.SeatForm.TheVariants.{Seal, Line}
 use Rattle.ob_worker_lines.specs.Cuts.{Lines}
+use Rattle.ob_worker_lines.specs.Forms.{IsLineOfSeat}
 use Rattle.ob_requests.specs.Commands.{IsCommand, words_after}
 use Rattle.ob_requests.specs.Words.{Words}
 use Rattle.ob_effects.specs.Effects.{MakesStep}
@@ -46,18 +48,23 @@ IsWaitPlayed pending process words entries words' =
     ((text : List ℕ) × (told_instead pending (is_waiting words process (word_of pending)) ≡ Some text) × (entries ≡ []) × (words' ≡ words))
     ⊎ (MakesStep pending process words × (e : Entry StandardKind) × (entries ≡ e ∷ []) × IsStepPlayed pending process words e words')
 
--- a line of this form is played; `stat` does nothing
-abbrev pub IsLinePlayed : Form (List ℕ) → Words → Entries → Words → Type 0
-IsLinePlayed Nothing words entries words' = (entries ≡ []) × (words' ≡ words)
-IsLinePlayed Stat words entries words' = (entries ≡ []) × (words' ≡ words)
-IsLinePlayed (Asks process request) words entries words' = IsRequestPlayed request (words.processes process) words entries words'
-IsLinePlayed (Waits process pending) words entries words' = IsWaitPlayed pending (words.processes process) words entries words'
+-- a line of this form of a script without workers is played; `stat` does nothing
+abbrev pub IsScriptLinePlayed : Form (List ℕ) → Words → Entries → Words → Type 0
+IsScriptLinePlayed Nothing words entries words' = (entries ≡ []) × (words' ≡ words)
+IsScriptLinePlayed Stat words entries words' = (entries ≡ []) × (words' ≡ words)
+IsScriptLinePlayed (Asks process request) words entries words' = IsRequestPlayed request (words.processes process) words entries words'
+IsScriptLinePlayed (Waits process pending) words entries words' = IsWaitPlayed pending (words.processes process) words entries words'
+
+-- a line of this form of a seat is played; `seal` makes no step, and changes no variable
+abbrev pub IsLinePlayed : SeatForm (List ℕ) → Words → Entries → Words → Type 0
+IsLinePlayed Seal words entries words' = (entries ≡ []) × (words' ≡ words)
+IsLinePlayed (Line form) words entries words' = IsScriptLinePlayed form words entries words'
 
 -- lines are played one after another
 abbrev pub ArePlayed : Lines → Words → Entries → Words → Type 0
 ArePlayed [] words entries words' = (entries ≡ []) × (words' ≡ words)
 ArePlayed (line ∷ lines) words entries words' =
-    (form : Form (List ℕ)) × IsLine line form × (front back : Entries) × (between : Words) × (entries ≡ front ++ back)
+    (form : SeatForm (List ℕ)) × IsLineOfSeat line form × (front back : Entries) × (between : Words) × (entries ≡ front ++ back)
     × IsLinePlayed form words front between × ArePlayed lines between back words'
 
 -- all opens that wait under words are given up by these entries, by rising tickets, and their parses aren't run

@@ -1,6 +1,6 @@
 //! Requests of a seat's processes: each is run to its reply, which changes the words.
 
-ghost use Rattle.std.specs.Prelude.{◌≡◌, ◌++◌, IfOk, OnOk, ℕ};
+ghost use Rattle.std.specs.Prelude.{◌≡◌, ◌++◌, IfOk, IfErr, OnOk, ℕ};
 ghost use Rattle.ob_model.specs.declared.reply.Event.TheVariants.{Start, Resume};
 ghost use Rattle.ob_model.specs.declared.reply.ParseRun.{ParseRun};
 ghost use Rattle.ob_runner.specs.Completes.{HasRun};
@@ -11,6 +11,7 @@ ghost use Rattle.ob_requests.specs.Room.{HasRoomFor};
 ghost use Rattle.ob_requests.specs.Tables.{words_in};
 ghost use Rattle.ob_seats.specs.Received.{Entries};
 ghost use Rattle.ob_seats.specs.Played.{IsRequestPlayed, IsRunBy};
+ghost use Rattle.ob_seats.specs.Stopped.{IsBrokenOff, IsEventBrokenOff, IsRequestBegun, IsStopAt};
 
 use crate::callers::{Begun, Callers};
 use crate::changes::keep_reply;
@@ -37,6 +38,10 @@ pub(crate) fn answer<R: Wait, C: Callers>(
         ++ entries)
         × IsRequestPlayed (request_seen request.entry) process (words_in words.old) entries
         (words_in words.new)) }
+    ensures begun { IfErr (result.1) (λ why. (entries : Entries) × (C.receipts (result.0)
+        ≡ C.receipts pass ++ entries)
+        × IsRequestBegun (C.gives_fault (result.0)) (request_seen request.entry) process
+        (words_in words.old) entries why (words_in words.new)) }
     ensures seat { C.seat_of (result.0) ≡ C.seat_of pass }
     ensures tickets { (words_in words.new).tickets ≡ (words_in words.old).tickets }
 {
@@ -84,6 +89,9 @@ fn run<R: Wait, C: Callers>(
 ) -> (C::Pass, Result<Reply, Stop>)
     ensures ran { IfOk (result.1) (λ reply. (entries : Entries) × (C.receipts (result.0)
         ≡ C.receipts pass ++ entries) × IsRunBy (Start process command.now) entries reply) }
+    ensures broken { IfErr (result.1) (λ why. (entries : Entries) × (C.receipts (result.0)
+        ≡ C.receipts pass ++ entries) × IsEventBrokenOff (Start process command.now) entries
+        × IsStopAt (C.gives_fault (result.0)) why) }
     ensures seat { C.seat_of (result.0) ≡ C.seat_of pass }
 {
     let (pass, begun) = callers.start(pass, process, command);
@@ -105,6 +113,9 @@ fn bring<R: Wait, C: Callers>(
         ≡ C.receipts pass ++ entries)
         × (parse : ParseRun) × HasRun parse
         × IsRunBy (Resume (C.ticket_of parsing) parse) entries reply) }
+    ensures broken { IfErr (result.1) (λ why. (entries : Entries) × (C.receipts (result.0)
+        ≡ C.receipts pass ++ entries) × IsBrokenOff (C.ticket_of parsing) entries
+        × IsStopAt (C.gives_fault (result.0)) why) }
     ensures seat { C.seat_of (result.0) ≡ C.seat_of pass }
 {
     let mut pass = pass;

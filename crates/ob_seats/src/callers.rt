@@ -1,6 +1,7 @@
 //! A shared namespace, as a seat sees it.
 
-ghost use Rattle.std.specs.Prelude.{◌≡◌, ◌⊎◌, ℕ, true, false, IfOk, OnErr};
+ghost use Rattle.std.specs.Prelude.{◌≡◌, ◌⊎◌, ℕ, true, false, IfOk, IfErr, OnErr};
+ghost use Rattle.ob_base.specs.declared.fault.Fault.{Fault};
 ghost use Rattle.ob_base.specs.declared.status.Status.TheVariants.{Success};
 ghost use Rattle.ob_model.specs.declared.reply.Event.TheVariants.{Start, Resume, Abandon};
 ghost use Rattle.ob_model.specs.declared.reply.ParseRun.{ParseRun};
@@ -39,6 +40,9 @@ pub trait Callers {
     /// The ticket of a parse.
     ghost ticket_of: { Self.Parsing → ℕ };
 
+    /// What is known of the fault that a call answers, by the pass that it hands back.
+    ghost gives_fault: { Self.Pass → Fault → Type 0 };
+
     /// The ticket of the open that waits for a parse.
     fn ticket(parsing: &Self::Parsing) -> u64
         ensures { result ≡ ticket_of parsing.now };
@@ -54,7 +58,8 @@ pub trait Callers {
         ensures told { IfOk (result.1) (λ begun.
             IsReceived (receipts pass) (Start process command.now) (answer_of ticket_of begun)
             (receipts (result.0))) }
-        ensures unmade { OnErr (result.1) (receipts (result.0) ≡ receipts pass) };
+        ensures unmade { OnErr (result.1) (receipts (result.0) ≡ receipts pass) }
+        ensures fault { IfErr (result.1) (λ fault. gives_fault (result.0) fault) };
 
     /// Runs the parse that an open waits for, with nothing held, and brings it. At a fault no step was made by it, and the open is
     /// given up, so that it doesn't wait any longer.
@@ -70,7 +75,8 @@ pub trait Callers {
         ensures given_up { OnErr (result.1) ((receipts (result.0) ≡ receipts pass)
             ⊎ ((parse : ParseRun)
             × IsReceived (receipts pass) (Abandon (ticket_of parsing) parse) (answers Success)
-            (receipts (result.0)))) };
+            (receipts (result.0)))) }
+        ensures fault { IfErr (result.1) (λ fault. gives_fault (result.0) fault) };
 
     /// Gives an open up whose parse wasn't run, and tells whether that was a step: it was none where the parse is a stranger's, which is let
     /// go. Takes no memory.
@@ -80,4 +86,10 @@ pub trait Callers {
             → IsReceived (receipts pass) (Abandon (ticket_of parsing) Unrun) (answers Success)
             (receipts (result.0)) }
         ensures unmade { result.1 ≡ false → receipts (result.0) ≡ receipts pass };
+
+    /// Seals the open segment of the journal, and returns whether a segment was sealed: none is where the open segment is empty, where as many
+    /// segments are sealed as may be, and where there is no memory. It makes no step.
+    fn seal(&self, pass: Self::Pass) -> (Self::Pass, bool)
+        ensures seat { seat_of (result.0) ≡ seat_of pass }
+        ensures unmade { receipts (result.0) ≡ receipts pass };
 }

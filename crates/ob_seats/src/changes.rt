@@ -1,13 +1,14 @@
 //! What a reply changes of the words.
 
-ghost use Rattle.std.specs.Prelude.{◌≡◌, true, OnOk, IfOk, List, ℕ};
+ghost use Rattle.std.specs.Prelude.{◌≡◌, true, Bool, OnErr, OnOk, IfOk, List, ℕ};
 ghost use Rattle.std.specs.BTreeSet.{contains};
 ghost use Rattle.std.specs.Ordering.{nat_cmp};
+ghost use Rattle.ob_lines.specs.declared.change.Change.TheVariants.{SetsProcess};
 ghost use Rattle.ob_lines.specs.Changes.{change_seen};
-ghost use Rattle.ob_requests.specs.Commands.{changed, with_own_words};
+ghost use Rattle.ob_requests.specs.Commands.{changed, given_process, with_own_words};
 ghost use Rattle.ob_requests.specs.Room.{HasRoomFor};
 ghost use Rattle.ob_requests.specs.Tables.{words_in, value_in, CanBegin, DifferInValues};
-ghost use Rattle.ob_requests.specs.Words.{handed_on, is_among};
+ghost use Rattle.ob_requests.specs.Words.{handed_on, is_among, with_process};
 
 use ob_base::{Handle, Proc};
 use ob_lines::Change;
@@ -26,6 +27,10 @@ pub(crate) fn keep_reply(
     requires room { HasRoomFor words.old process (change_seen change) }
     ensures changed { OnOk result (words_in words.new
         ≡ changed (change_seen change.entry) process reply.now (words_in words.old)) }
+    ensures kept { OnErr result ((child : List ℕ) × (inherit : Bool)
+        × (change_seen change.entry ≡ SetsProcess child inherit)
+        × (words_in words.new
+        ≡ with_process (words_in words.old) child (given_process (reply.now.given)))) }
     ensures tickets { (words_in words.new).tickets ≡ (words_in words.old).tickets }
 {
     words.apply(process, change, reply);
@@ -49,6 +54,7 @@ fn begin_child(
 ) -> Result<(), AllocError>
     ensures begun { OnOk result (words_in words.new
         ≡ with_own_words (words_in words.old) parent inherit given.now) }
+    ensures unchanged { OnErr result (words_in words.new ≡ words_in words.old) }
     ensures tickets { (words_in words.new).tickets ≡ (words_in words.old).tickets }
 {
     match given {

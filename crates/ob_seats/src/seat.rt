@@ -4,10 +4,18 @@ ghost use Rattle.std.specs.Prelude.{◌≡◌, ◌+◌, ◌≤◌, ◌<◌, ◌^
 ghost use Rattle.ob_lines.specs.Grammar.{FormHasTexts, form_seen};
 ghost use Rattle.ob_requests.specs.Tables.{words_in};
 ghost use Rattle.ob_requests.specs.Words.{first_words};
-ghost use Rattle.ob_worker_lines.specs.Cuts.{AreScriptLines};
+ghost use Rattle.ob_worker_lines.specs.Cuts.{AreSeatLines};
+ghost use Rattle.ob_worker_lines.specs.Forms.{SeatFormHasTexts, seat_form_seen};
 ghost use Rattle.ob_worker_lines.specs.Parts.{lines_in};
 ghost use Rattle.ob_seats.specs.Received.{Entries};
-ghost use Rattle.ob_seats.specs.Played.{AreGivenUp, ArePlayed, IsLinePlayed, IsSeatPlayed};
+ghost use Rattle.ob_seats.specs.Played.{AreGivenUp, ArePlayed, IsLinePlayed, IsScriptLinePlayed, IsSeatPlayed};
+ghost use Rattle.ob_seats.specs.Stopped.{
+  AreLetGo,
+  IsLineBegun,
+  IsPartStopped,
+  IsScriptLineBegun,
+  IsSeatStopped,
+};
 ghost use Rattle.ob_seats.specs.Kept.{AreHeld, for_worker};
 
 use crate::asking::answer;
@@ -16,9 +24,9 @@ use crate::copies::words_for_worker;
 use crate::stop::{Stop, Stopped};
 use crate::waiting::carry_on;
 use crate::waits::SeatWaits;
-use ob_lines::{Form, read_line};
+use ob_lines::Form;
 use ob_requests::Words;
-use ob_worker_lines::Part;
+use ob_worker_lines::{Part, SeatForm, read_seat_line};
 use std::alloc::{AllocError, Global};
 use std::sync::Wait;
 
@@ -66,7 +74,8 @@ impl<C: Callers> Seat<C> {
     /// Runs the lines of a part, one after another, by a pass, which comes back with the receipts of their steps. Ok gives the number behind
     /// that of the last line.
     ///
-    /// The fault tells the first line that could not be run to its end, and why; the lines before it were run. (this profile)
+    /// The fault says which line could not be run to its end, and why. The lines before it were played, and of its own steps a beginning. Where a call
+    /// answered a fault, that is the reason; an open that waited for a parse in this line is abandoned. (this profile)
     pub fn run_part<R: Wait>(
         &mut self,
         rt: &R,
@@ -74,7 +83,7 @@ impl<C: Callers> Seat<C> {
         pass: C::Pass,
         part: Part<'_>,
     ) -> (C::Pass, Result<u64, Stopped>)
-        requires lines { AreScriptLines (lines_in part) }
+        requires lines { AreSeatLines (lines_in part) }
         requires numbers { part.first + length (lines_in part) < 2 ^ 64 }
         requires held { AreHeld (words_in self.old.words).tickets self.old.waits }
         ensures held { AreHeld (words_in self.new.words).tickets self.new.waits }
@@ -86,12 +95,16 @@ impl<C: Callers> Seat<C> {
             ≡ part.entry.first + length (lines_in part.entry)) }
         ensures line { IfErr (result.1) (λ stopped. (part.entry.first ≤ stopped.line)
             × (stopped.line < part.entry.first + length (lines_in part.entry))) }
+        ensures stopped { IfErr (result.1) (λ stopped. (entries : Entries) × (C.receipts (result.0)
+            ≡ C.receipts pass ++ entries)
+            × IsPartStopped (C.gives_fault (result.0)) part.entry.first (lines_in part.entry)
+            (words_in self.old.words) entries stopped (words_in self.new.words)) }
         ensures seat { C.seat_of (result.0) ≡ C.seat_of pass }
     {
         let mut pass = pass;
         let mut rest = part.text;
         let mut number = part.first;
-        while let Some((form, behind)) = read_line(rest) {
+        while let Some((form, behind)) = read_seat_line(rest) {
             let Some(form) = form else {
                 unreachable!();
             };
@@ -106,8 +119,38 @@ impl<C: Callers> Seat<C> {
         (pass, Ok(number))
     }
 
-    /// Does what a line of this form says; `stat` does nothing.
+    /// Does what a line of this form says. A seal that is refused, or that finds no memory, does nothing.
     fn perform<R: Wait>(
+        &mut self,
+        rt: &R,
+        callers: &C,
+        pass: C::Pass,
+        form: SeatForm<&[u8]>,
+    ) -> (C::Pass, Result<(), Stop>)
+        requires texts { SeatFormHasTexts (seat_form_seen form) }
+        requires held { AreHeld (words_in self.old.words).tickets self.old.waits }
+        ensures held { AreHeld (words_in self.new.words).tickets self.new.waits }
+        ensures played { OnOk (result.1) ((entries : Entries) × (C.receipts (result.0)
+            ≡ C.receipts pass ++ entries)
+            × IsLinePlayed (seat_form_seen form.entry) (words_in self.old.words) entries
+            (words_in self.new.words)) }
+        ensures begun { IfErr (result.1) (λ why. (entries : Entries) × (C.receipts (result.0)
+            ≡ C.receipts pass ++ entries)
+            × IsLineBegun (C.gives_fault (result.0)) (seat_form_seen form.entry)
+            (words_in self.old.words) entries why (words_in self.new.words)) }
+        ensures seat { C.seat_of (result.0) ≡ C.seat_of pass }
+    {
+        match form {
+            SeatForm::Seal => {
+                let (pass, _is_sealed) = callers.seal(pass);
+                (pass, Ok(()))
+            }
+            SeatForm::Line(form) => self.perform_script_line(rt, callers, pass, form),
+        }
+    }
+
+    /// Does what a line of this form of a script without workers says; `stat` does nothing.
+    fn perform_script_line<R: Wait>(
         &mut self,
         rt: &R,
         callers: &C,
@@ -119,8 +162,12 @@ impl<C: Callers> Seat<C> {
         ensures held { AreHeld (words_in self.new.words).tickets self.new.waits }
         ensures played { OnOk (result.1) ((entries : Entries) × (C.receipts (result.0)
             ≡ C.receipts pass ++ entries)
-            × IsLinePlayed (form_seen form.entry) (words_in self.old.words) entries
+            × IsScriptLinePlayed (form_seen form.entry) (words_in self.old.words) entries
             (words_in self.new.words)) }
+        ensures begun { IfErr (result.1) (λ why. (entries : Entries) × (C.receipts (result.0)
+            ≡ C.receipts pass ++ entries)
+            × IsScriptLineBegun (C.gives_fault (result.0)) (form_seen form.entry)
+            (words_in self.old.words) entries why (words_in self.new.words)) }
         ensures seat { C.seat_of (result.0) ≡ C.seat_of pass }
     {
         match form {
@@ -144,12 +191,14 @@ impl<C: Callers> Seat<C> {
         }
     }
 
-    /// Ends the seat: all opens that wait are given up, by rising tickets, and their parses aren't run. It tells whether each was given up by a step, as
+    /// Ends the seat: all opens that wait are given up, by rising tickets, and their parses aren't run. It returns whether each was given up by a step, as
     /// it is unless a parse is a stranger's. Takes no memory. (this profile)
     pub fn end(self, callers: &C, pass: C::Pass) -> (C::Pass, bool)
         requires held { AreHeld (words_in self.words).tickets self.waits }
         ensures given_up { result.1 ≡ true → (entries : Entries) × (C.receipts (result.0)
             ≡ C.receipts pass ++ entries) × AreGivenUp (words_in self.words) entries }
+        ensures let_go { (entries : Entries) × (C.receipts (result.0) ≡ C.receipts pass ++ entries)
+            × AreLetGo (words_in self.words) entries }
         ensures seat { C.seat_of (result.0) ≡ C.seat_of pass }
     {
         let Seat {
@@ -170,8 +219,8 @@ impl<C: Callers> Seat<C> {
 
 /// Runs the lines of a part, and ends the seat: a whole run of a worker, or of what is left of a seat's lines. Ok is the run of all its lines.
 ///
-/// The fault tells the first line that could not be run to its end, and why; where all lines were run and what waited was not given up by a
-/// step, the line behind the last. (this profile)
+/// The fault is that of [`Seat::run_part`]; where all lines were run and an open that waited is a stranger's, it names the line after the last. What
+/// waited is given up at either end. (this profile)
 pub fn run_seat<R: Wait, C: Callers>(
     rt: &R,
     callers: &C,
@@ -179,7 +228,7 @@ pub fn run_seat<R: Wait, C: Callers>(
     pass: C::Pass,
     part: Part<'_>,
 ) -> (C::Pass, Result<(), Stopped>)
-    requires lines { AreScriptLines (lines_in part) }
+    requires lines { AreSeatLines (lines_in part) }
     requires numbers { part.first + length (lines_in part) < 2 ^ 64 }
     requires held { AreHeld (words_in seat.words).tickets seat.waits }
     ensures played { OnOk (result.1) ((entries : Entries) × (C.receipts (result.0) ≡ C.receipts pass
@@ -187,6 +236,10 @@ pub fn run_seat<R: Wait, C: Callers>(
         × IsSeatPlayed (lines_in part.entry) (words_in seat.words) entries) }
     ensures line { IfErr (result.1) (λ stopped. (part.entry.first ≤ stopped.line)
         × (stopped.line ≤ part.entry.first + length (lines_in part.entry))) }
+    ensures stopped { IfErr (result.1) (λ stopped. (entries : Entries) × (C.receipts (result.0)
+        ≡ C.receipts pass ++ entries)
+        × IsSeatStopped (λ fault. (last : C.Pass) × C.gives_fault last fault)
+        part.entry.first (lines_in part.entry) (words_in seat.words) entries stopped) }
     ensures seat { C.seat_of (result.0) ≡ C.seat_of pass }
 {
     let mut seat = seat;

@@ -1,5 +1,8 @@
 //! Why a seat stops before the end of its lines.
 
+ghost use Rattle.std.specs.Prelude.{◌≡◌};
+ghost use Rattle.ob_seats.specs.Stopped.{stop_of};
+
 use ob_base::Fault;
 
 /// Why a seat stops. (this profile)
@@ -21,8 +24,9 @@ pub struct Stopped {
     pub why: Stop,
 }
 
+/// A seat stops for memory where a call finds none, and else since a step was refused.
 impl From<Fault> for Stop {
-    ghost from_gives = { λ fault stop. Unit {0} };
+    ghost from_gives = { λ fault stop. stop ≡ stop_of fault };
 
     fn from(fault: Fault) -> Stop {
         match fault {

@@ -1,6 +1,6 @@
 //! Opens of a seat that wait under its words.
 
-ghost use Rattle.std.specs.Prelude.{◌≡◌, ◌≢◌, ◌∷◌, ◌++◌, [], ℕ, IfOk, OnOk};
+ghost use Rattle.std.specs.Prelude.{◌≡◌, ◌≢◌, ◌∷◌, ◌++◌, [], ℕ, IfOk, IfErr, OnErr, OnOk};
 ghost use Rattle.ob_model.specs.declared.reply.Answer.TheVariants.{Done};
 ghost use Rattle.ob_model.specs.Run.{Entry};
 ghost use Rattle.ob_standard.specs.Standard.{StandardKind as StandardKinds};
@@ -14,6 +14,7 @@ ghost use Rattle.ob_requests.specs.Words.{with_ticket};
 ghost use Rattle.ob_effects.specs.Waiting.{words_answered};
 ghost use Rattle.ob_seats.specs.Received.{Entries};
 ghost use Rattle.ob_seats.specs.Played.{IsStepPlayed, IsWaitPlayed};
+ghost use Rattle.ob_seats.specs.Stopped.{IsAbandoned, IsNotKept, IsStepBegun, IsWaitBegun};
 ghost use Rattle.ob_seats.specs.Kept.{AreHeld};
 
 use crate::callers::{Begun, Callers};
@@ -45,6 +46,10 @@ pub(crate) fn carry_on<C: Callers>(
         ++ entries)
         × IsWaitPlayed (pending_seen pending.entry) process (words_in words.old) entries
         (words_in words.new)) }
+    ensures begun { IfErr (result.1) (λ why. (entries : Entries) × (C.receipts (result.0)
+        ≡ C.receipts pass ++ entries)
+        × IsWaitBegun (C.gives_fault (result.0)) (pending_seen pending.entry) process
+        (words_in words.old) entries why (words_in words.new)) }
     ensures seat { C.seat_of (result.0) ≡ C.seat_of pass }
 {
     match pending {
@@ -84,6 +89,10 @@ fn begin_under<C: Callers>(
         ++ entries)
         × IsWaitPlayed (Begin (asked.entry.0) (name_seen (asked.entry.1))
         (asked.entry.2) word.now) process (words_in words.old) entries (words_in words.new)) }
+    ensures begun { IfErr (result.1) (λ why. (entries : Entries) × (C.receipts (result.0)
+        ≡ C.receipts pass ++ entries)
+        × IsWaitBegun (C.gives_fault (result.0)) (Begin (asked.entry.0) (name_seen (asked.entry.1)) (asked.entry.2) word.now) process
+        (words_in words.old) entries why (words_in words.new)) }
     ensures seat { C.seat_of (result.0) ≡ C.seat_of pass }
 {
     if words.ticket_of(process, word) != 0 {
@@ -106,6 +115,10 @@ fn end_under<C: Callers>(
     ensures played { OnOk (result.1) ((entries : Entries) × (C.receipts (result.0) ≡ C.receipts pass
         ++ entries)
         × IsWaitPlayed (End word.now) process (words_in words.old) entries (words_in words.new)) }
+    ensures begun { IfErr (result.1) (λ why. (entries : Entries) × (C.receipts (result.0)
+        ≡ C.receipts pass ++ entries)
+        × IsWaitBegun (C.gives_fault (result.0)) (End word.now) process
+        (words_in words.old) entries why (words_in words.new)) }
     ensures seat { C.seat_of (result.0) ≡ C.seat_of pass }
 {
     let ticket = words.ticket_of(process, word);
@@ -129,6 +142,10 @@ fn drop_under<C: Callers>(
     ensures played { OnOk (result.1) ((entries : Entries) × (C.receipts (result.0) ≡ C.receipts pass
         ++ entries)
         × IsWaitPlayed (Drop word.now) process (words_in words.old) entries (words_in words.new)) }
+    ensures begun { IfErr (result.1) (λ why. (entries : Entries) × (C.receipts (result.0)
+        ≡ C.receipts pass ++ entries)
+        × IsWaitBegun (C.gives_fault (result.0)) (Drop word.now) process
+        (words_in words.old) entries why (words_in words.new)) }
     ensures seat { C.seat_of (result.0) ≡ C.seat_of pass }
 {
     let ticket = words.ticket_of(process, word);
@@ -164,6 +181,10 @@ fn begin<C: Callers>(
         ≡ C.receipts pass ++ e ∷ [])
         × IsStepPlayed (Begin (asked.entry.0) (name_seen (asked.entry.1))
         (asked.entry.2) word.now) process (words_in words.old) e (words_in words.new)) }
+    ensures begun { IfErr (result.1) (λ why. (entries : Entries) × (C.receipts (result.0)
+        ≡ C.receipts pass ++ entries)
+        × IsStepBegun (C.gives_fault (result.0)) (Begin (asked.entry.0) (name_seen (asked.entry.1)) (asked.entry.2) word.now) process
+        (words_in words.old) entries why (words_in words.new)) }
     ensures seat { C.seat_of (result.0) ≡ C.seat_of pass }
 {
     match prepare(words, process, asked, word) {
@@ -235,6 +256,12 @@ fn wait<C: Callers>(
     ensures set { OnOk (result.1) (words_in words.new
         ≡ with_ticket (words_in words.old) process word.now (C.ticket_of parsing)) }
     ensures kept { OnOk (result.1) (C.receipts (result.0) ≡ C.receipts pass) }
+    ensures cleared { OnErr (result.1) (words_in words.new
+        ≡ with_ticket (words_in words.old) process word.now 0) }
+    ensures why { IfErr (result.1) (λ why. IsNotKept (with_ticket
+        (words_in words.old) process word.now 0) (C.ticket_of parsing) why) }
+    ensures abandoned { OnErr (result.1) ((entries : Entries) × (C.receipts (result.0)
+        ≡ C.receipts pass ++ entries) × IsAbandoned (C.ticket_of parsing) entries) }
     ensures seat { C.seat_of (result.0) ≡ C.seat_of pass }
 {
     let ticket = C::ticket(&parsing);
@@ -268,6 +295,10 @@ fn end<C: Callers>(
     ensures played { OnOk (result.1) ((e : Entry StandardKinds) × (C.receipts (result.0)
         ≡ C.receipts pass ++ e ∷ [])
         × IsStepPlayed (End word.now) process (words_in words.old) e (words_in words.new)) }
+    ensures begun { IfErr (result.1) (λ why. (entries : Entries) × (C.receipts (result.0)
+        ≡ C.receipts pass ++ entries)
+        × IsStepBegun (C.gives_fault (result.0)) (End word.now) process
+        (words_in words.old) entries why (words_in words.new)) }
     ensures seat { C.seat_of (result.0) ≡ C.seat_of pass }
 {
     match words.room_for_word(process, word) {

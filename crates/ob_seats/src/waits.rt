@@ -1,8 +1,9 @@
 //! The opens of a seat that wait.
 
-ghost use Rattle.std.specs.Prelude.{◌≡◌, ◌≢◌, ◌<◌, ◌==◌, true, [], ◌∷◌, ◌++◌, All, AllPairs, IfErr, IfNone, IfSome, OnErr, OnOk};
+ghost use Rattle.std.specs.Prelude.{◌≡◌, ◌≢◌, ◌<◌, ◌==◌, ◌⊎◌, true, false, [], ◌∷◌, ◌++◌, All, AllPairs, IfErr, IfNone, IfSome, OnErr, OnOk};
 ghost use Rattle.std.specs.List.{list_any};
-ghost use Rattle.ob_seats.specs.Kept.{without};
+ghost use Rattle.ob_seats.specs.Kept.{IsNext, without};
+ghost use Rattle.ob_seats.specs.declared.stop.Stop.TheVariants.{Memory, Refused};
 
 use crate::callers::Callers;
 use crate::stop::Stop;
@@ -46,6 +47,9 @@ impl<C: Callers> SeatWaits<C> {
         ensures some { OnOk result (C.ticket_of parsing ≢ 0) }
         ensures unchanged { OnErr result (self.new ≡ self.old) }
         ensures back { IfErr result (λ back. back.1 ≡ parsing) }
+        ensures why { IfErr result (λ back.
+            ((back.0 ≡ Memory) × IsNext self.old (C.ticket_of parsing))
+            ⊎ ((back.0 ≡ Refused) × (¬ IsNext self.old (C.ticket_of parsing)))) }
     {
         let ticket = C::ticket(&parsing);
         if ticket == 0 || !self.is_above_all(ticket) {
@@ -64,7 +68,8 @@ impl<C: Callers> SeatWaits<C> {
 
     /// Whether a ticket is above those of all that are kept.
     fn is_above_all(&self, ticket: u64) -> bool
-        ensures { result ≡ true → All (λ k. k < ticket) self.now }
+        ensures above { result ≡ true → All (λ k. k < ticket) self.now }
+        ensures below { result ≡ false → ¬ All (λ k. k < ticket) self.now }
     {
         match self.parses.last_key_value() {
             Some((last, _)) => *last < ticket,

@@ -2,7 +2,7 @@
 
 ghost use Rattle.std.specs.Prelude.{◌≡◌, ◌≢◌, ◌+◌, ◌<◌, ◌≤◌, false, [], ◌++◌, ℕ, List, Option, length, vec_capacity, IfOk, IfErr, OnOk, OnErr, IsErr, IfSome, IsErrOf};
 ghost use Rattle.ob_streams.specs.Fault.{is_unwritten};
-ghost use Rattle.ob_streams.specs.Reading.{StopsLong, TakesAtMost};
+ghost use Rattle.ob_streams.specs.Reading.{StopsLong, StopsReading, TakesAtMost};
 ghost use Rattle.ob_shell.specs.Gathering.{Gathers};
 ghost use Rattle.ob_streams.specs.Writing.{AppendsFront};
 ghost use Rattle.ob_shell.specs.Shown.{PlaysTo, PlaysPartTo};
@@ -75,6 +75,11 @@ pub fn run_script<R: Read, W: Write>(
         SCRIPT_LIMIT < length script → IsErr result) }
     ensures long { IfSome (R.remaining reader.old) (λ script. SCRIPT_LIMIT < length script →
         IfErr result StopsLong × (W.contents writer.new ≡ W.contents writer.old)) }
+
+    // Out of memory is said only of as many bytes as a script may have, so one that was read past that is too long.
+    ensures stopped { IfSome (R.remaining reader.old) (λ script. SCRIPT_LIMIT < length script →
+        IfErr result (λ fault. StopsReading fault
+        (R.remaining reader.old) (R.remaining reader.new))) }
 
     // However it ends, no more than one byte past the limit is read.
     ensures taken { TakesAtMost (R.remaining reader.old) (R.remaining reader.new)

@@ -1,12 +1,18 @@
 -- A journal that was written as far as this.
-use Rattle.std.proofs.Common.{◌≡◌, ◌≢◌, ◌∙◌, ℕ, ◌<◌, ◌≤◌, ◌+◌, zero, suc, List, [], ◌∷◌, ◌++◌, map, take, drop, get_or, length, Option, ap, refl, sym, subst, arith, append_assoc, append-nil}
+use Rattle.std.proofs.Common.{◌≡◌, ◌≢◌, ◌∙◌, ℕ, ◌<◌, ◌≤◌, ◌+◌, zero, suc, List, [], ◌∷◌, ◌++◌, map, take, drop, get_or, length, Option, Result, Ok, Err, OnOk, ap, refl, sym, subst, arith, append_assoc, append-nil}
 use Rattle.std.proofs.lemmas.List.{map-append}
+use Rattle.std.specs.Prelude.{IfErr}
 use Rattle.std.specs.Io.KnownBytes.{Appends}
+use Rattle.std.proofs.KnownBytes.{Appends-trans}
 use Rattle.serde_json.specs.Written.{compact_text}
-use Rattle.ob_journal.specs.Lines.{entry_line, entry_lines, entry_value, header_line, journal_lines}
+use Rattle.ob_journal.specs.Lines.{entry_line, entry_lines, entry_value, journal_lines, segment_lines}
+use Rattle.ob_journal.specs.Segments.{Segment}
 use Rattle.ob_model.specs.Run.{Entry}
 use Rattle.ob_standard.specs.Standard.{StandardKind, standard}
+use Rattle.ob_streams.specs.declared.fault.ShellFault.{ShellFault}
+use Rattle.ob_streams.specs.declared.fault.ShellFault.TheVariants as fault
 use Rattle.ob_streams.specs.Writing.{AppendsFront}
+use Rattle.ob_threads.specs.Written.{IsCutOff}
 use Rattle.ob_streams.proofs.Writers.{append-front, front-append}
 
 -- a write failed behind a front
@@ -58,13 +64,12 @@ module _ (es : List (Entry StandardKind)) (i : ℕ) (e : Entry StandardKind) (in
   lines_more =
       ap (entry_lines type_name) (take_more es i e inside is) ∙ (lines_append (take i es) (e ∷ []) ∙ ap (λ l. entry_lines type_name (take i es) ++ l) (append-nil (entry_line type_name e)))
 
-  -- a whole journal, split there
-  pub journal_split : (seats : ℕ) → journal_lines type_name seats es ≡ journal_lines type_name seats (take i es) ++ (entry_line type_name e ++ entry_lines type_name (drop (suc i) es))
-  journal_split seats =
-      ap (λ l. header_line seats ++ l) lines_split ∙ sym (append_assoc (header_line seats) (entry_lines type_name (take i es)) (entry_line type_name e ++ entry_lines type_name (drop (suc i) es)))
+  -- a segment with this header, split there
+  pub segment_split : (header : List ℕ) → header ++ entry_lines type_name es ≡ (header ++ entry_lines type_name (take i es)) ++ (entry_line type_name e ++ entry_lines type_name (drop (suc i) es))
+  segment_split header = ap (λ l. header ++ l) lines_split ∙ sym (append_assoc header (entry_lines type_name (take i es)) (entry_line type_name e ++ entry_lines type_name (drop (suc i) es)))
 
-  pub journal_more : (seats : ℕ) → journal_lines type_name seats (take i es) ++ entry_line type_name e ≡ journal_lines type_name seats (take (i + 1) es)
-  journal_more seats = append_assoc (header_line seats) (entry_lines type_name (take i es)) (entry_line type_name e) ∙ ap (λ l. header_line seats ++ l) (sym lines_more)
+  pub segment_more : (header : List ℕ) → (header ++ entry_lines type_name (take i es)) ++ entry_line type_name e ≡ header ++ entry_lines type_name (take (i + 1) es)
+  segment_more header = append_assoc header (entry_lines type_name (take i es)) (entry_line type_name e) ∙ ap (λ l. header ++ l) (sym lines_more)
 
 take_all : {X : Type 0} (xs : List X) (i : ℕ) → length xs ≤ i → take i xs ≡ xs
 take_all [] zero over = refl
@@ -72,8 +77,44 @@ take_all [] (suc i) over = refl
 take_all (x ∷ xs) zero over = absurd (omega (arith, over))
 take_all (x ∷ xs) (suc i) over = λ j. x ∷ take_all xs i (omega (arith, over)) j
 
-pub all_taken : (es : List (Entry StandardKind)) (i seats : ℕ) → length es ≤ i → journal_lines type_name seats (take i es) ≡ journal_lines type_name seats es
-all_taken es i seats over = ap (journal_lines type_name seats) (take_all es i over)
+pub all_taken : (es : List (Entry StandardKind)) (i : ℕ) (header : List ℕ) → length es ≤ i → header ++ entry_lines type_name (take i es) ≡ header ++ entry_lines type_name es
+all_taken es i header over = ap (λ l. header ++ entry_lines type_name l) (take_all es i over)
+
+-- the lines of segments one after another
+pub journal_append : (seats : ℕ) (xs ys : List (Segment StandardKind)) → journal_lines type_name seats (xs ++ ys) ≡ journal_lines type_name seats xs ++ journal_lines type_name seats ys
+journal_append seats [] ys = refl
+journal_append seats (x ∷ xs) ys =
+    ap (λ l. segment_lines type_name seats x ++ l) (journal_append seats xs ys)
+    ∙ sym (append_assoc (segment_lines type_name seats x) (journal_lines type_name seats xs) (journal_lines type_name seats ys))
+
+module _ (seats : ℕ) (ss : List (Segment StandardKind)) (last : Segment StandardKind) where
+  -- a whole journal, at its open segment
+  pub journal_open : journal_lines type_name seats (ss ++ last ∷ []) ≡ journal_lines type_name seats ss ++ (segment_lines type_name seats last ++ [])
+  journal_open = journal_append seats ss (last ∷ [])
+
+  module _ (i : ℕ) (s : Segment StandardKind) (inside : i < length ss) (is : s ≡ get_or ss i s) where
+    -- at a sealed one
+    pub journal_split : journal_lines type_name seats (ss ++ last ∷ [])
+        ≡ journal_lines type_name seats (take i ss) ++ (segment_lines type_name seats s ++ (journal_lines type_name seats (drop (suc i) ss) ++ journal_lines type_name seats (last ∷ [])))
+    journal_split =
+        journal_append seats ss (last ∷ [])
+        ∙ ap (λ l. l ++ journal_lines type_name seats (last ∷ [])) (ap (journal_lines type_name seats) (split_there ss i s inside is) ∙ journal_append seats (take i ss) (s ∷ drop (suc i) ss))
+        ∙ append_assoc (journal_lines type_name seats (take i ss)) (segment_lines type_name seats s ++ journal_lines type_name seats (drop (suc i) ss)) (journal_lines type_name seats (last ∷ []))
+        ∙ ap (λ l. journal_lines type_name seats (take i ss) ++ l) (append_assoc (segment_lines type_name seats s) (journal_lines type_name seats (drop (suc i) ss)) (journal_lines type_name seats (last ∷ [])))
+
+    pub journal_more : journal_lines type_name seats (take i ss) ++ segment_lines type_name seats s ≡ journal_lines type_name seats (take (i + 1) ss)
+    journal_more =
+        sym (ap (journal_lines type_name seats) (take_more ss i s inside is) ∙ journal_append seats (take i ss) (s ∷ [])
+        ∙ ap (λ l. journal_lines type_name seats (take i ss) ++ l) (append-nil (segment_lines type_name seats s)))
+
+-- a segment was cut off behind others
+pub cut_behind : (fault : ShellFault) (old mid new : Option (List ℕ)) (front piece rest whole : List ℕ) → whole ≡ front ++ (piece ++ rest) → Appends old mid front → IsCutOff fault mid new piece
+    → IsCutOff fault old new whole
+cut_behind (fault.Write unwritten) old mid new front piece rest whole split written cut = cut_by old mid new front piece rest whole split written cut
+cut_behind fault.Memory old mid new front piece rest whole split written cut = cut_by old mid new front piece rest whole split written cut
+cut_behind (fault.Read unread) old mid new front piece rest whole split written cut = absurd cut
+cut_behind fault.TooLong old mid new front piece rest whole split written cut = absurd cut
+cut_behind fault.Mismatch old mid new front piece rest whole split written cut = absurd cut
 
 -- the first of those that are left is put behind the others
 pub removed_first : {J P : Type 0} (of : J → P) (js js' : List J) (ps ps' all : List P) (j : J) → js' ≡ js ++ j ∷ [] → of j ≡ get_or ps 0 (of j) → ps' ≡ take 0 ps ++ drop (0 + 1) ps → 0 < length ps
@@ -92,3 +133,19 @@ pub same_there : {X : Type 0} (xs : List X) (i : ℕ) (d e : X) → i < length x
 same_there [] i d e inside = absurd (omega (arith, inside))
 same_there (x ∷ xs) zero d e inside = refl
 same_there (x ∷ xs) (suc i) d e inside = same_there xs i d e (omega (arith, inside))
+
+-- what stands at a place of a list has its value there
+pub mapped_at : {A B : Type 0} (of : A → B) (xs : List A) (i : ℕ) (x : A) → i < length xs → x ≡ get_or xs i x → of x ≡ get_or (map of xs) i (of x)
+mapped_at of [] i x inside is = absurd (omega (arith, inside))
+mapped_at of (y ∷ ys) zero x inside is = ap of is
+mapped_at of (y ∷ ys) (suc i) x inside is = mapped_at of ys i x (omega (arith, inside)) is
+
+-- the last segment was written, or cut off, behind the others
+module _ (old mid new : Option (List ℕ)) (front piece whole : List ℕ) (split : whole ≡ front ++ (piece ++ [])) (written : Appends old mid front) where
+  pub last_written : {E : Type 0} (r : Result (Unit {0}) E) → OnOk r (Appends mid new piece) → OnOk r (Appends old new whole)
+  last_written (Ok done) more = subst (Appends old new) (sym (split ∙ ap (λ l. front ++ l) (append-nil piece))) (Appends-trans old mid new front piece written more)
+  last_written (Err e) more = tt
+
+  pub last_cut : (r : Result (Unit {0}) ShellFault) → IfErr r (λ f. IsCutOff f mid new piece) → IfErr r (λ f. IsCutOff f old new whole)
+  last_cut (Ok done) cut = tt
+  last_cut (Err f) cut = cut_behind f old mid new front piece [] whole split written cut

@@ -1,15 +1,14 @@
 -- What holds of all workers where the end that is told is that all lines were run.
-use Rattle.std.proofs.Common.{◌≡◌, ◌<◌, ℕ, suc, cond, Bool, true, false, List, [], ◌∷◌, ◌++◌, All, OnOk, IfOk, Result, Ok, Err, get_or, length, refl, arith}
+use Rattle.std.proofs.Common.{◌≡◌, ◌∙◌, ◌<◌, ℕ, suc, cond, Bool, true, false, List, [], ◌∷◌, ◌++◌, All, OnOk, IfOk, Result, Ok, Err, map, get_or, length, ap, refl, arith}
+use Rattle.std.proofs.lemmas.List.{map-append}
 use Rattle.std.proofs.lemmas.List.Elements.{All-push}
+use Rattle.std.proofs.lemmas.List.Sums.{fold_push}
 use Rattle.std.specs.List.{AllZip}
 use Rattle.ob_seats.specs.declared.stop.Stopped.{Stopped}
-use Rattle.ob_threads.specs.Ended.{is_told_first, told_of}
-
-abbrev pub End : Type 0
-End = Result (Unit {0}) Stopped
+use Rattle.ob_threads.specs.Ended.{SeatOutcome, is_told_first, told_in, told_of}
 
 -- where the one told is that all was run, both are
-pub both_done : (one other : End) (P : Type 0) → (one ≡ Ok tt → other ≡ Ok tt → P) → OnOk (told_of one other) P
+pub both_done : (one other : SeatOutcome) (P : Type 0) → (one ≡ Ok tt → other ≡ Ok tt → P) → OnOk (told_of one other) P
 both_done (Ok u) (Ok v) P on = on refl refl
 both_done (Ok u) (Err e) P on = tt
 both_done (Err e) (Ok u) P on = tt
@@ -19,9 +18,13 @@ both_done (Err e) (Err f) P on = go (is_told_first e.why f.why e.line f.line)
     go true = tt
     go false = tt
 
-pub told_more : {W : Type 0} (ended : W → End) (ws : List W) (w : W) (so_far : End) → OnOk so_far (All (λ x. ended x ≡ Ok tt) ws) → OnOk (told_of so_far (ended w)) (All (λ x. ended x ≡ Ok tt) (ws ++ w ∷ []))
+pub told_more : {W : Type 0} (ended : W → SeatOutcome) (ws : List W) (w : W) (so_far : SeatOutcome) → OnOk so_far (All (λ x. ended x ≡ Ok tt) ws) → OnOk (told_of so_far (ended w)) (All (λ x. ended x ≡ Ok tt) (ws ++ w ∷ []))
 told_more ended ws w (Ok u) all = both_done (Ok u) (ended w) (All (λ x. ended x ≡ Ok tt) (ws ++ w ∷ [])) (λ a b. All-push (λ x. ended x ≡ Ok tt) ws w all b)
 told_more ended ws w (Err e) all = both_done (Err e) (ended w) (All (λ x. ended x ≡ Ok tt) (ws ++ w ∷ [])) (λ a b. cc)
+
+-- the end that is told of one more
+pub told_push : {W : Type 0} (ended : W → SeatOutcome) (ws : List W) (w : W) → told_in (map ended (ws ++ w ∷ [])) ≡ told_of (told_in (map ended ws)) (ended w)
+told_push ended ws w = ap told_in (map-append ended ws (w ∷ [])) ∙ fold_push told_of (Ok tt) (map ended ws) (ended w)
 
 -- lists of one length are alike place by place
 pub zipped : {A B : Type 0} (R : A → B → Type 0) (xs : List A) (ys : List B) → length ys ≡ length xs → ((i : ℕ) (a : A) (b : B) → i < length xs → R (get_or xs i a) (get_or ys i b)) → AllZip R xs ys

@@ -52,6 +52,10 @@ kind_send : IsSend kind
 kind_send = eithers.the_send plain_kind.the_row (either.the_row device_kind.the_row key_kind.the_row) plain_kinds.the_send
     (eithers.the_send device_kind.the_row key_kind.the_row device_kinds.the_send key_kinds.the_send)
 
+kind_sync : IsSync kind
+kind_sync = eithers.the_sync plain_kind.the_row (either.the_row device_kind.the_row key_kind.the_row) plain_kinds.the_sync
+    (eithers.the_sync device_kind.the_row key_kind.the_row device_kinds.the_sync key_kinds.the_sync)
+
 face_send : IsSend face
 face_send = eithers.the_send plain_face.the_row (either.the_row device_face.the_row key_face.the_row) plain_faces.the_send
     (eithers.the_send device_face.the_row key_face.the_row device_faces.the_send key_faces.the_send)
@@ -74,6 +78,6 @@ module _ (a : NamedLft) (H L : RattleType) (l : Ledger.Ghosts L.Denot) where
   lent_sync runtime =
       recorded_sync (lent.the_field a H L l).row _ _ (lent.the_type a H L l).to_one
       (struct_sync (shape (lent.the_type a H L l)) (
-        shr_sync _ _ _ (shared_sync standard.the_row table.the_row L kind face inner _ equal handles.ghosts l standards.the_send tables.the_send kind_send face_send inner_send face_sync),
+        shr_sync _ _ _ (shared_sync standard.the_row table.the_row L kind face inner _ equal handles.ghosts l standards.the_send tables.the_send kind_send kind_sync face_send inner_send face_sync),
         (shr_sync _ _ _ runtime, (heap.the_field_sync, tt)),
       ))

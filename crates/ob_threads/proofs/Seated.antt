@@ -1,17 +1,14 @@
 -- What the passes of seats have received, and the entries of their seats in the journal.
-use Rattle.std.proofs.Common.{◌≡◌, ◌∙◌, ◌<◌, ◌≤◌, ◌+◌, ◌==◌, ℕ, zero, suc, cond, Bool, true, false, List, [], ◌∷◌, ◌++◌, All, Some, filter, map, length, ap, refl, sym, subst, arith, append_assoc, eq-eqb}
+use Rattle.std.proofs.Common.{◌≡◌, ◌∙◌, ◌<◌, ◌≤◌, ◌+◌, ◌==◌, ℕ, zero, suc, cond, Bool, true, false, List, [], ◌∷◌, ◌++◌, All, Some, filter, map, ap, refl, sym, subst, arith, append_assoc, eq-eqb}
 use Rattle.std.proofs.lemmas.List.{map-append}
 use Rattle.std.proofs.lemmas.List.Elements.{All-head, All-tail, All-nil, All-cons}
-use Rattle.std.specs.List.{AllZip, range_with_len}
+use Rattle.std.specs.List.{range_with_len}
 use Rattle.ob_standard.specs.Standard.{StandardKind}
 use Rattle.ob_locked.specs.Opened.{fresh_pass}
 use Rattle.ob_locked.specs.Passed.{Passed}
 use Rattle.ob_locked.specs.Settled.{IsSettled, entries_of, passes_of, only}
-use Rattle.ob_seats.specs.Kept.{for_worker}
-use Rattle.ob_seats.specs.Played.{IsSeatPlayed}
 use Rattle.ob_seats.specs.Received.{Entries}
-use Rattle.ob_worker_lines.specs.Cuts.{Lines}
-use Rattle.ob_threads.specs.Played.{ArePasses, ArePlayedBy, IsPlayedOf, entries_from}
+use Rattle.ob_threads.specs.Played.{ArePasses, ArePassesOf, IsJournalOf, SeatsRelation, entries_from}
 
 abbrev pub P : Type 0
 P = Passed StandardKind
@@ -92,20 +89,11 @@ seats_below seats from (suc count) (p ∷ ps) e below =
     let tail : map (λ (q : P). q.seat) ps ≡ range_with_len (from + 1) count = cc in
     All-cons (λ (q : P). q.seat < seats) p ps (omega (arith, head, below)) (seats_below seats (from + 1) count ps tail (omega (arith, below)))
 
--- a journal that is settled with passes that have received what the lines play is what the lines play
-pub settled_played : (before : Lines) (workers : List Lines) (behind : Lines) (journal : Entries) (count seats : ℕ) (passes : List P) → seats ≡ count + 1 → count ≡ length workers → ArePasses count passes
-    → IsSettled journal passes seats → ArePlayedBy before workers behind passes → IsPlayedOf before workers behind journal
-settled_played before workers behind journal count seats passes all_seats same are settled (theirs, own, whole, played) = (
-  record {
-    begun = played.begun;
-    rest = played.rest;
-    words = played.words;
-    whole = sym own_is ∙ played.whole;
-    first = played.first;
-    last = played.last;
-    workers_play = subst (AllZip (λ (l : Lines) (es : Entries). IsSeatPlayed l (for_worker played.words) es) workers) theirs_are played.workers_play;
-  },
-  λ seat above. ((settled seat).1 (subst (λ n. n ≤ seat) (sym all_seats) (subst (λ n. n + 1 ≤ seat) (sym same) above))).1,
+-- what is so with the receipts of passes is so with the entries of a journal that is settled with them
+pub settled_of : (Is : SeatsRelation) (journal : Entries) (count seats : ℕ) (passes : List P) → seats ≡ count + 1 → ArePasses count passes → IsSettled journal passes seats → ArePassesOf Is passes → IsJournalOf Is count journal
+settled_of Is journal count seats passes all_seats are settled (theirs, own, whole, is) = (
+  subst (λ es. Is es (entries_from journal 1 count)) own_is (subst (Is own.receipts) theirs_are is),
+  λ seat above. ((settled seat).1 (subst (λ n. n ≤ seat) (sym all_seats) above)).1,
 )
   where
     parts : (map (λ (p : P). p.seat) theirs ≡ range_with_len 1 count) × (own.seat ≡ 0)
@@ -117,7 +105,7 @@ settled_played before workers behind journal count seats passes all_seats same a
     own_is : own.receipts ≡ entries_of 0 journal
     own_is = received journal seats theirs [] own own_settled (omega (arith, parts.1, all_seats)) ∙ ap (λ s. entries_of s journal) parts.1
 
-    theirs_are : map (λ (p : P). p.receipts) theirs ≡ entries_from journal 1 (length workers)
+    theirs_are : map (λ (p : P). p.receipts) theirs ≡ entries_from journal 1 count
     theirs_are =
         received_all journal seats [] theirs (own ∷ []) own_settled (seats_below seats 1 count theirs parts.0 (omega (arith, all_seats)))
-        ∙ (mapped_seats journal theirs ∙ (ap (map (λ s. entries_of s journal)) parts.0 ∙ ap (λ n. entries_from journal 1 n) same))
+        ∙ (mapped_seats journal theirs ∙ ap (map (λ s. entries_of s journal)) parts.0)

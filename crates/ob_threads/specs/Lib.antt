@@ -2,3 +2,5 @@ pub mod Played
 pub mod Written
 pub mod Worked
 pub mod Ended
+pub mod Run
+pub mod Faults

@@ -23,14 +23,22 @@ pub record IsPlayedBy (before : Lines) (workers : List Lines) (behind : Lines) (
   pub last : IsSeatPlayed behind words rest
   pub workers_play : AllZip (λ lines entries. IsSeatPlayed lines (for_worker words) entries) workers theirs
 
+-- a relation of the entries of seat 0 and those of each worker in order
+abbrev pub SeatsRelation : Type 1
+SeatsRelation = Entries → List Entries → Type 0
+
 -- the entries of each of so many seats, from this one on
 abbrev pub entries_from : Entries → ℕ → ℕ → List Entries
 entries_from journal seat count = map (λ s. entries_of s journal) (range_with_len seat count)
 
--- so it is with the entries of a journal
+-- it relates the entries of a journal, which are those of seat 0 and of so many workers and no others
+abbrev pub IsJournalOf : SeatsRelation → ℕ → Entries → Type 0
+IsJournalOf Is workers journal =
+    Is (entries_of 0 journal) (entries_from journal 1 workers) × ((seat : ℕ) → workers + 1 ≤ seat → entries_of seat journal ≡ [])
+
+-- the entries of a journal are what the lines play
 abbrev pub IsPlayedOf : Lines → List Lines → Lines → Entries → Type 0
-IsPlayedOf before workers behind journal =
-    IsPlayedBy before workers behind (entries_of 0 journal) (entries_from journal 1 (length workers)) × ((seat : ℕ) → length workers + 1 ≤ seat → entries_of seat journal ≡ [])
+IsPlayedOf before workers behind journal = IsJournalOf (IsPlayedBy before workers behind) (length workers) journal
 
 -- A journal is what the lines of a script play: they are cut into those of the seats, each seat's entries are what its lines play, and there
 -- are no other entries.
@@ -46,7 +54,11 @@ pub record IsPlayed (lines : Lines) (journal : Entries) (seats : ℕ) : Type 0 w
 abbrev pub ArePasses : ℕ → List (Passed StandardKind) → Type 0
 ArePasses count passes = map (λ p. p.seat) passes ≡ range_with_len 1 count ++ 0 ∷ []
 
--- and what they have received is what the lines play
+-- it relates what passes have received, those of workers in order and that of seat 0 after them
+abbrev pub ArePassesOf : SeatsRelation → List (Passed StandardKind) → Type 0
+ArePassesOf Is passes =
+    (theirs : List (Passed StandardKind)) × (own : Passed StandardKind) × (passes ≡ theirs ++ own ∷ []) × Is own.receipts (map (λ p. p.receipts) theirs)
+
+-- what passes have received is what the lines play
 abbrev pub ArePlayedBy : Lines → List Lines → Lines → List (Passed StandardKind) → Type 0
-ArePlayedBy before workers behind passes =
-    (theirs : List (Passed StandardKind)) × (own : Passed StandardKind) × (passes ≡ theirs ++ own ∷ []) × IsPlayedBy before workers behind own.receipts (map (λ p. p.receipts) theirs)
+ArePlayedBy before workers behind passes = ArePassesOf (IsPlayedBy before workers behind) passes

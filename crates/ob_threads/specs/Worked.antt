@@ -1,20 +1,26 @@
 -- What becomes of a worker's lines.
 --
 -- Source: this profile.
-use Rattle.std.specs.Prelude.{◌≡◌, ◌<◌, ◌+◌, ◌^◌, ℕ, ◌++◌, length, Result, OnOk}
+use Rattle.std.specs.Prelude.{◌≡◌, ◌<◌, ◌+◌, ◌^◌, ℕ, ◌++◌, length, Ok, Err}
 use Rattle.ob_requests.specs.Words.{Words}
-use Rattle.ob_worker_lines.specs.Cuts.{AreScriptLines, Lines}
+use Rattle.ob_worker_lines.specs.Cuts.{AreSeatLines}
 use Rattle.ob_worker_lines.specs.declared.part.Part.{Part}
 use Rattle.ob_worker_lines.specs.Parts.{lines_in}
-use Rattle.ob_seats.specs.declared.stop.Stopped.{Stopped}
 use Rattle.ob_seats.specs.Played.{IsSeatPlayed}
 use Rattle.ob_seats.specs.Received.{Entries}
+use Rattle.ob_seats.specs.Stopped.{IsSeatStopped, Known}
+use Rattle.ob_threads.specs.Ended.{SeatOutcome}
 
 -- a seat can run this part: its lines are script lines, and have numbers below 2^64
 abbrev pub CanRun : Part → Type 0
-CanRun part = AreScriptLines (lines_in part) × (part.first + length (lines_in part) < 2 ^ 64)
+CanRun part = AreSeatLines (lines_in part) × (part.first + length (lines_in part) < 2 ^ 64)
 
--- a worker, which had these receipts, was run: its seat stays, and where it came to its end it has played its lines
-abbrev pub IsWorked : Lines → Words → (seat seat' : ℕ) → (receipts receipts' : Entries) → Result (Unit {0}) Stopped → Type 0
-IsWorked lines words seat seat' receipts receipts' ended =
-    (seat' ≡ seat) × OnOk ended ((entries : Entries) × (receipts' ≡ receipts ++ entries) × IsSeatPlayed lines words entries)
+-- A seat that runs the lines of a part, beginning with these variables, makes these entries and ends so: it plays them to their end, or stops before.
+abbrev pub IsSeatRun : Known → Part → Words → Entries → SeatOutcome → Type 0
+IsSeatRun known part words entries (Ok done) = IsSeatPlayed (lines_in part) words entries
+IsSeatRun known part words entries (Err stopped) = IsSeatStopped known part.first (lines_in part) words entries stopped
+
+-- a worker, which had these receipts, was run: its seat stays, and the receipts that follow are the entries of its run
+abbrev pub IsWorked : Known → Part → Words → (seat seat' : ℕ) → (receipts receipts' : Entries) → SeatOutcome → Type 0
+IsWorked known part words seat seat' receipts receipts' ended =
+    (seat' ≡ seat) × ((entries : Entries) × (receipts' ≡ receipts ++ entries) × IsSeatRun known part words entries ended)

@@ -1,13 +1,14 @@
 -- What a run of a script with workers writes.
 --
 -- Source: this profile.
-use Rattle.std.specs.Prelude.{◌≡◌, ◌≢◌, ◌<◌, ◌⊎◌, ℕ, false, List, length, Option, Result, IfOk, IfErr, IfSome, IsErr, IsErrOf, codes}
+use Rattle.std.specs.Prelude.{◌≡◌, ◌≢◌, ◌<◌, ◌⊎◌, ℕ, false, List, [], ◌∷◌, ◌++◌, length, Option, Result, Err, IfOk, IfErr, IfSome, IsErr, IsErrOf, codes}
 use Rattle.std.specs.Io.KnownBytes.{Appends}
 use Rattle.ob_journal.specs.Lines.{journal_lines}
 use Rattle.ob_lines.specs.Lines.{lines_of}
 use Rattle.ob_model.specs.Run.{Run}
 use Rattle.ob_output.specs.Printed.{output_line}
-use Rattle.ob_standard.specs.Standard.{Standard, standard}
+use Rattle.ob_journal.specs.Segments.{Segment, AreSealed, joined, open_after}
+use Rattle.ob_standard.specs.Standard.{Standard, StandardKind, standard}
 use Rattle.ob_standard_core.specs.Machine.{Space}
 use Rattle.ob_streams.specs.declared.fault.ShellFault.{ShellFault}
 use Rattle.ob_streams.specs.declared.fault.ShellFault.TheVariants as fault
@@ -15,25 +16,37 @@ use Rattle.ob_streams.specs.declared.reading.TheConstants.{SCRIPT_LIMIT}
 use Rattle.ob_streams.specs.Fault.{is_unwritten}
 use Rattle.ob_streams.specs.Writing.{AppendsFront}
 use Rattle.ob_worker_lines.specs.Cuts.{IsBadLine}
+use Rattle.ob_seats.specs.declared.stop.Stop.{Stop}
+use Rattle.ob_seats.specs.declared.stop.Stop.TheVariants.{Memory, Refused}
 use Rattle.ob_seats.specs.Received.{Entries}
 use Rattle.ob_threads.specs.declared.ends.ThreadsEnding.{ThreadsEnding}
 use Rattle.ob_threads.specs.declared.ends.ThreadsEnding.TheVariants as ending
 use Rattle.ob_threads.specs.Played.{IsPlayed}
+use Rattle.ob_threads.specs.Run.{IsRunTo}
 
--- the journal of a run of the machine, for so many seats
+-- The journal of a run of the machine, written for so many seats: its sealed segments, and the open one behind them.
 pub record IsJournal (seats : ℕ) (journal : Entries) (text : List ℕ) : Type 0 where
   pub first : Standard
   pub state : Space
   pub run : Run standard first journal state
-  pub lines : text ≡ journal_lines standard.type_name seats journal
+  pub sealed : List (Segment StandardKind)
+  pub unsealed : Entries
+  pub order : AreSealed 1 1 sealed
+  pub whole : journal ≡ joined sealed ++ unsealed
+  pub lines : text ≡ journal_lines standard.type_name seats (sealed ++ open_after sealed unsealed ∷ [])
 
--- The output of a script that ended so: the journal of a run, which is what the script plays where all its lines were run; or the one line that
--- tells which line of it is bad.
+-- the journal of a run of a script, of which a stop at this line is told, for this reason
+abbrev pub IsStoppedOutput : List ℕ → Stop → ℕ → List ℕ → Type 0
+IsStoppedOutput script why line text =
+    (seats : ℕ) × (journal : Entries) × IsJournal seats journal text × IsRunTo (lines_of script) journal seats (Err (record { line = line; why = why }))
+
+-- The output of a script that ended so: the journal of its run, which is what the script plays where all its lines were run, and else what its seats ran
+-- before they stopped; or the one line that tells which line of it is bad.
 abbrev pub IsOutput : List ℕ → ThreadsEnding → List ℕ → Type 0
 IsOutput script ending.Done text = (seats : ℕ) × (journal : Entries) × IsJournal seats journal text × IsPlayed (lines_of script) journal seats
 IsOutput script (ending.BadLine number) text = IsBadLine (lines_of script) number × (text ≡ output_line number (codes "not a script line"))
-IsOutput script (ending.NoMemoryAt number) text = (seats : ℕ) × (journal : Entries) × IsJournal seats journal text
-IsOutput script (ending.RefusedAt number) text = (seats : ℕ) × (journal : Entries) × IsJournal seats journal text
+IsOutput script (ending.NoMemoryAt number) text = IsStoppedOutput script Memory number text
+IsOutput script (ending.RefusedAt number) text = IsStoppedOutput script Refused number text
 
 -- it was written
 abbrev pub Writes : Option (List ℕ) → Option (List ℕ) → List ℕ → ThreadsEnding → Type 0

@@ -1,41 +1,65 @@
 //! Writing a journal.
 
-ghost use Rattle.std.specs.Prelude.{OnOk, OnErr, IfErr, codes};
+ghost use Rattle.std.specs.Prelude.{◌∷◌, ◌++◌, [], OnOk, OnErr, IfErr, codes, map};
+ghost use Rattle.std.specs.Arc.{arc_value};
 ghost use Rattle.std.specs.Io.KnownBytes.{Appends};
-ghost use Rattle.ob_journal.specs.Lines.{journal_lines};
+ghost use Rattle.ob_journal.specs.Lines.{journal_lines, segment_lines};
 ghost use Rattle.ob_output.specs.Printed.{output_line};
 ghost use Rattle.ob_standard.specs.Standard.{standard};
 ghost use Rattle.ob_streams.specs.Writing.{AppendsFront};
 ghost use Rattle.ob_threads.specs.Written.{IsCutOff};
 
-use ob_journal::{Entry, write_header, write_line};
+use ob_journal::{Segment, write_header, write_line};
 use ob_output::text_line;
 use ob_standard::{Standard, StandardKind};
 use ob_streams::{ShellFault, Unwritten, write_out};
 use std::alloc::Global;
 use std::io::Write;
+use std::sync::Arc;
 
-/// Writes a journal: its first line, and a line for each entry. The faults are `Write` and `Memory`, behind which a beginning of it stands, and not
-/// all of it.
+/// Writes a journal: its sealed segments, and then the open one. The faults are `Write` and `Memory`, after which a beginning of it was written,
+/// and not all of it.
 pub(crate) fn write_journal<W: Write>(
     alloc: Global,
     writer: &mut W,
     seats: u32,
-    journal: &[Entry<StandardKind>],
+    sealed: &[Arc<Segment<StandardKind>>],
+    last: &Segment<StandardKind>,
 ) -> Result<(), ShellFault>
     ensures written { OnOk result (Appends (W.contents writer.old) (W.contents writer.new)
-        (journal_lines standard.type_name seats journal.now)) }
+        (journal_lines standard.type_name seats (map arc_value sealed.now ++ last.now ∷ []))) }
     ensures cut_off { IfErr result (λ fault.
         IsCutOff fault (W.contents writer.old) (W.contents writer.new)
-        (journal_lines standard.type_name seats journal.now)) }
+        (journal_lines standard.type_name seats (map arc_value sealed.now ++ last.now ∷ []))) }
 {
-    let Ok(header) = write_header(alloc, seats) else {
+    for segment in sealed {
+        if let Err(fault) = write_segment(alloc, &mut *writer, seats, &**segment) {
+            return Err(fault);
+        }
+    }
+    write_segment(alloc, writer, seats, last)
+}
+
+/// Writes a segment: its header, and a line for each entry. The faults are the same, after which a beginning of it was written, and not all of it.
+fn write_segment<W: Write>(
+    alloc: Global,
+    writer: &mut W,
+    seats: u32,
+    segment: &Segment<StandardKind>,
+) -> Result<(), ShellFault>
+    ensures written { OnOk result (Appends (W.contents writer.old) (W.contents writer.new)
+        (segment_lines standard.type_name seats segment.now)) }
+    ensures cut_off { IfErr result (λ fault.
+        IsCutOff fault (W.contents writer.old) (W.contents writer.new)
+        (segment_lines standard.type_name seats segment.now)) }
+{
+    let Ok(header) = write_header(alloc, seats, segment.number, segment.first) else {
         return Err(ShellFault::Memory);
     };
     if let Err(unwritten) = write_out(writer, header.as_slice()) {
         return Err(ShellFault::Write(unwritten));
     }
-    for entry in journal {
+    for entry in segment.entries.as_slice() {
         let Ok(line) = write_line::<Standard>(alloc, entry) else {
             return Err(ShellFault::Memory);
         };

@@ -1,6 +1,7 @@
 //! A shared namespace, lent to the seats of a script.
 
 ghost use Rattle.std.specs.Prelude.{◌≡◌};
+ghost use Rattle.ob_threads.specs.Faults.{IsFaultAt};
 
 use ob_base::{Fault, Proc};
 use ob_model::Command;
@@ -30,6 +31,8 @@ impl<'a, H: Wait, L: Ledger> Callers for Lent<'a, H, L> {
     ghost receipts = { λ pass. pass.receipts };
 
     ghost ticket_of = { λ parsing. parsing.ticket };
+
+    ghost gives_fault = { λ pass fault. IsFaultAt pass fault };
 
     fn ticket(parsing: &Parsing<Standard>) -> u64 {
         parsing.ticket()
@@ -61,14 +64,11 @@ impl<'a, H: Wait, L: Ledger> Callers for Lent<'a, H, L> {
         Result<Begun<Parsing<Standard>>, Fault>,
     ) {
         let parsed = parsing.run(self.alloc);
-        let (pass, resumed) = self.shared.resume(self.rt, pass, parsed);
-        match resumed {
+        let (pass, brought) = self.shared.bring(self.rt, pass, parsed);
+        match brought {
             Ok(Started::Done(reply)) => (pass, Ok(Begun::Replied(reply))),
             Ok(Started::Parsing(next)) => (pass, Ok(Begun::Waits(next))),
-            Err((fault, parsed)) => {
-                let pass = self.shared.abandon(self.rt, pass, Pending::Run(parsed));
-                (pass, Err(fault))
-            }
+            Err(fault) => (pass, Err(fault)),
         }
     }
 
@@ -81,5 +81,10 @@ impl<'a, H: Wait, L: Ledger> Callers for Lent<'a, H, L> {
         let pass = self.shared.abandon(self.rt, pass, Pending::Unrun(parsing));
         let is_made = pass.count() != before;
         (pass, is_made)
+    }
+
+    fn seal(&self, pass: Pass<StandardKind, L>) -> (Pass<StandardKind, L>, bool) {
+        let (pass, sealed) = self.shared.seal(self.rt, pass);
+        (pass, sealed.is_ok())
     }
 }

@@ -1,7 +1,9 @@
 //! The run of a script with workers.
 
-ghost use Rattle.std.specs.Prelude.{◌≡◌, ◌≢◌, false, ◌⊎◌, ◌≤◌, ◌<◌, ◌+◌, IfOk, IfErr, IfSome, IsErr, IsErrOf, OnOk, length, map, All};
+ghost use Rattle.std.specs.Prelude.{◌≡◌, ◌≢◌, false, ◌⊎◌, ◌≤◌, ◌<◌, ◌+◌, ◌++◌, IfOk, IfErr, IfSome, IsErr, IsErrOf, OnOk, length, map, All};
 ghost use Rattle.std.specs.List.{range_with_len};
+ghost use Rattle.std.specs.Arc.{arc_value};
+ghost use Rattle.ob_journal.specs.Segments.{joined, open_after, AreSealed};
 ghost use Rattle.ob_model.specs.Run.{Run};
 ghost use Rattle.ob_standard.specs.Standard.{Standard as StandardSet, standard};
 ghost use Rattle.ob_standard_core.specs.Machine.{Space};
@@ -9,7 +11,9 @@ ghost use Rattle.ob_locked.specs.Opened.{fresh_pass, fresh_passes, most_seats};
 ghost use Rattle.ob_worker_lines.specs.Parts.{IsFault, lines_in};
 ghost use Rattle.ob_lines.specs.Lines.{lines_of};
 ghost use Rattle.ob_streams.specs.Fault.{is_unwritten};
-ghost use Rattle.ob_threads.specs.Played.{ArePasses, ArePlayedBy, IsPlayedOf};
+ghost use Rattle.ob_threads.specs.Faults.{IsFaultAt};
+ghost use Rattle.ob_threads.specs.Played.{ArePasses, ArePassesOf, ArePlayedBy, IsJournalOf, IsPlayedOf};
+ghost use Rattle.ob_threads.specs.Run.{AreRun};
 ghost use Rattle.ob_threads.specs.Worked.{CanRun};
 ghost use Rattle.ob_threads.specs.Written.{Writes, WritesPart};
 
@@ -17,17 +21,16 @@ use crate::ends::{ThreadsEnding, ending_of};
 use crate::journal::{write_bad_line, write_journal};
 use crate::lent::Lent;
 use crate::seats::{Ran, run_seats};
-use ob_journal::Entry;
 use ob_runner::SlabTable;
 use ob_seats::Stopped;
-use ob_shared::{Ended, Pass, Shared, open_shared};
+use ob_shared::{Ended, Pass, Segment, Shared, open_shared};
 use ob_standard::{Standard, StandardKind};
 use ob_streams::{SCRIPT_LIMIT, ShellFault, read_script};
 use ob_worker_lines::{CutFault, WorkerScript, cut};
 use std::alloc::Global;
 use std::io::{Read, Write};
-use std::sync::Wait;
 use std::sync::ledger::{Blank, Ledger};
+use std::sync::{Arc, Wait};
 use std::thread::Threads;
 
 /// Reads a script with workers, runs it over a shared namespace in the opening state, with a thread for each worker, and writes the journal;
@@ -92,9 +95,10 @@ fn run_text<H: Threads + Wait + Sync, L: Ledger + Send + Sync, W: Write>(
 {
     match cut(alloc, script) {
         Ok(parts) => match play::<H, L>(rt, alloc, blank, &parts) {
-            Ok((journal, ended)) => {
-                match write_journal(alloc, writer, seats_of(&parts), journal.as_slice()) {
-                    Ok(()) => Ok(ending_of(ended)),
+            Ok(done) => {
+                let seats = seats_of(&parts);
+                match write_journal(alloc, writer, seats, done.sealed.as_slice(), &done.last) {
+                    Ok(()) => Ok(ending_of(done.ended)),
                     Err(fault) => Err(fault),
                 }
             }
@@ -136,13 +140,21 @@ fn seats_of(parts: &WorkerScript<'_>) -> u32
     parts.workers.len() as u32 + 1
 }
 
-/// Runs a script that was cut, and gives its journal, and the end that is told.
+/// What a run of a script leaves: the segments of its journal, and how it ended.
+#[derive(Drop)]
+struct Finished {
+    sealed: Vec<Arc<Segment<StandardKind>>>,
+    last: Segment<StandardKind>,
+    ended: Result<(), Stopped>,
+}
+
+/// Runs a script that was cut.
 fn play<H: Threads + Wait + Sync, L: Ledger + Send + Sync>(
     rt: &H,
     alloc: Global,
     blank: Blank,
     parts: &WorkerScript<'_>,
-) -> Result<(Vec<Entry<StandardKind>>, Result<(), Stopped>), ShellFault>
+) -> Result<Finished, ShellFault>
     requires name { blank.name ≡ L.name }
     requires parts { blank.parts ≡ L.parts }
     requires whole { L.parts ≡ most_seats }
@@ -150,11 +162,19 @@ fn play<H: Threads + Wait + Sync, L: Ledger + Send + Sync>(
     requires before { CanRun parts.now.before }
     requires workers { All CanRun parts.now.workers.items }
     requires behind { CanRun parts.now.behind }
-    ensures run { IfOk result (λ played. (first : StandardSet) × (state : Space)
-        × Run standard first (played.0.items) state) }
-    ensures played { IfOk result (λ played.
-        OnOk (played.1) (IsPlayedOf (lines_in parts.now.before)
-        (map lines_in parts.now.workers.items) (lines_in parts.now.behind) (played.0.items))) }
+    ensures run { IfOk result (λ done. (first : StandardSet) × (state : Space)
+        × Run standard first (joined (map arc_value done.sealed.items) ++ done.last.entries)
+        state) }
+    ensures sealed { IfOk result (λ done. AreSealed 1 1 (map arc_value done.sealed.items)) }
+    ensures last { IfOk result (λ done. done.last
+        ≡ open_after (map arc_value done.sealed.items) done.last.entries) }
+    ensures played { IfOk result (λ done.
+        OnOk done.ended (IsPlayedOf (lines_in parts.now.before)
+        (map lines_in parts.now.workers.items) (lines_in parts.now.behind)
+        (joined (map arc_value done.sealed.items) ++ done.last.entries))) }
+    ensures stopped { IfOk result (λ done.
+        IsJournalOf (AreRun IsFaultAt parts.now done.ended) (length parts.now.workers.items)
+        (joined (map arc_value done.sealed.items) ++ done.last.entries)) }
     ensures fault { IfErr result (λ fault. (fault ≡ ShellFault.Memory)
         ⊎ (fault ≡ ShellFault.Mismatch)) }
 {
@@ -171,17 +191,25 @@ fn play_shared<H: Threads + Wait + Sync, L: Ledger + Send + Sync>(
     parts: &WorkerScript<'_>,
     shared: Shared<Standard, SlabTable, L>,
     passes: Vec<Pass<StandardKind, L>>,
-) -> Result<(Vec<Entry<StandardKind>>, Result<(), Stopped>), ShellFault>
+) -> Result<Finished, ShellFault>
     requires seats { shared ≡ length parts.now.workers.items + 1 }
     requires passes { passes.items ≡ fresh_passes (length parts.now.workers.items + 1) }
     requires before { CanRun parts.now.before }
     requires workers { All CanRun parts.now.workers.items }
     requires behind { CanRun parts.now.behind }
-    ensures run { IfOk result (λ played. (first : StandardSet) × (state : Space)
-        × Run standard first (played.0.items) state) }
-    ensures played { IfOk result (λ played.
-        OnOk (played.1) (IsPlayedOf (lines_in parts.now.before)
-        (map lines_in parts.now.workers.items) (lines_in parts.now.behind) (played.0.items))) }
+    ensures run { IfOk result (λ done. (first : StandardSet) × (state : Space)
+        × Run standard first (joined (map arc_value done.sealed.items) ++ done.last.entries)
+        state) }
+    ensures sealed { IfOk result (λ done. AreSealed 1 1 (map arc_value done.sealed.items)) }
+    ensures last { IfOk result (λ done. done.last
+        ≡ open_after (map arc_value done.sealed.items) done.last.entries) }
+    ensures played { IfOk result (λ done.
+        OnOk done.ended (IsPlayedOf (lines_in parts.now.before)
+        (map lines_in parts.now.workers.items) (lines_in parts.now.behind)
+        (joined (map arc_value done.sealed.items) ++ done.last.entries))) }
+    ensures stopped { IfOk result (λ done.
+        IsJournalOf (AreRun IsFaultAt parts.now done.ended) (length parts.now.workers.items)
+        (joined (map arc_value done.sealed.items) ++ done.last.entries)) }
     ensures fault { IfErr result (λ fault. (fault ≡ ShellFault.Memory)
         ⊎ (fault ≡ ShellFault.Mismatch)) }
 {
@@ -189,7 +217,17 @@ fn play_shared<H: Threads + Wait + Sync, L: Ledger + Send + Sync>(
     let own = theirs.remove(0);
     match run_lent(&*rt, alloc, parts, &shared, own, theirs) {
         Ok((passes, ended)) => match shared.close(passes) {
-            Ok(Ended { core: _, journal }) => Ok((journal, ended)),
+            Ok(
+                Ended {
+                    core: _,
+                    sealed,
+                    journal,
+                },
+            ) => Ok(Finished {
+                sealed,
+                last: journal,
+                ended,
+            }),
             Err(_) => Err(ShellFault::Mismatch),
         },
         Err(fault) => Err(fault),
@@ -216,6 +254,8 @@ fn run_lent<'a, H: Threads + Wait + Sync, L: Ledger + Send + Sync>(
     ensures played { IfOk result (λ ran.
         OnOk (ran.1) (ArePlayedBy (lines_in parts.now.before) (map lines_in parts.now.workers.items)
         (lines_in parts.now.behind) (ran.0.items))) }
+    ensures stopped { IfOk result (λ ran.
+        ArePassesOf (AreRun IsFaultAt parts.now (ran.1)) (ran.0.items)) }
     ensures fault { IfErr result (λ fault. fault ≡ ShellFault.Memory) }
 {
     let callers = Lent { shared, rt, alloc };

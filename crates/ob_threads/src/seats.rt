@@ -7,6 +7,7 @@ ghost use Rattle.ob_worker_lines.specs.Parts.{lines_in};
 ghost use Rattle.ob_seats.specs.Kept.{AreHeld, for_worker};
 ghost use Rattle.ob_seats.specs.Played.{IsSeatPlayed};
 ghost use Rattle.ob_threads.specs.Played.{IsPlayedBy};
+ghost use Rattle.ob_threads.specs.Run.{AreRun, AreWorkersRun, IsGiven};
 ghost use Rattle.ob_threads.specs.Worked.{CanRun};
 
 use crate::ends::told_of;
@@ -53,6 +54,8 @@ pub fn run_seats<H: Threads + Wait + Sync, C: Callers + Sync>(
         OnOk ran.ended (IsPlayedBy (lines_in script.now.before)
         (map lines_in script.now.workers.items) (lines_in script.now.behind)
         (C.receipts ran.own) (map C.receipts ran.theirs.items))) }
+    ensures run { IfOk result (λ ran. AreRun C.gives_fault script.now ran.ended
+        (C.receipts ran.own) (map C.receipts ran.theirs.items)) }
 {
     let mut seat = Seat::new(alloc)?;
     let (own, begun) = seat.run_part(rt, callers, own, script.before);
@@ -91,6 +94,8 @@ fn run_all<H: Threads + Wait + Sync, C: Callers + Sync>(
         OnOk (ran.1) (AllZip (λ lines entries.
         IsSeatPlayed lines (for_worker (words_in seat.now.words)) entries)
         (map lines_in parts.now) (map C.receipts (ran.0.items)))) }
+    ensures run { IfOk result (λ ran. AreWorkersRun (IsGiven C.gives_fault) parts.now
+        (for_worker (words_in seat.now.words)) (map C.receipts (ran.0.items)) (ran.1)) }
 {
     let jobs = jobs_of(alloc, seat, parts, passes)?;
     let worked = run_workers(rt, callers, jobs)?;

@@ -3,8 +3,9 @@
 ghost use Rattle.std.specs.Prelude.{◌≡◌, [], All, IfOk, OnOk, Ok, map};
 ghost use Rattle.std.specs.List.{AllZip};
 ghost use Rattle.ob_requests.specs.Tables.{words_in};
-ghost use Rattle.ob_worker_lines.specs.Parts.{lines_in};
 ghost use Rattle.ob_seats.specs.Kept.{AreHeld};
+ghost use Rattle.ob_threads.specs.Ended.{told_in};
+ghost use Rattle.ob_threads.specs.Run.{IsGiven};
 ghost use Rattle.ob_threads.specs.Worked.{CanRun, IsWorked};
 
 use crate::ends::told_of;
@@ -41,15 +42,16 @@ pub(crate) fn run_workers<H: Threads + Wait + Sync, C: Callers + Sync>(
     requires words { All (λ job. AreHeld (words_in job.words).tickets []) jobs.items }
     ensures { IfOk result (λ worked.
         AllZip (λ job done.
-        IsWorked (lines_in job.part) (words_in job.words) (C.seat_of job.pass) (C.seat_of done.pass)
-        (C.receipts job.pass) (C.receipts done.pass) done.ended) jobs.entry.items worked.items) }
+        IsWorked (IsGiven C.gives_fault) job.part (words_in job.words) (C.seat_of job.pass)
+        (C.seat_of done.pass) (C.receipts job.pass) (C.receipts done.pass) done.ended)
+        jobs.entry.items worked.items) }
 {
     thread::map_vec(
         rt,
         jobs,
         &|job: Job<'_, C>| -> Worked<C>
             requires { CanRun job.part × AreHeld (words_in job.words).tickets [] }
-            ensures { IsWorked (lines_in job.entry.part) (words_in job.entry.words)
+            ensures { IsWorked (IsGiven C.gives_fault) job.entry.part (words_in job.entry.words)
                 (C.seat_of job.entry.pass) (C.seat_of result.pass) (C.receipts job.entry.pass)
                 (C.receipts result.pass) result.ended }
         { work(rt, callers, job) },
@@ -60,7 +62,7 @@ pub(crate) fn run_workers<H: Threads + Wait + Sync, C: Callers + Sync>(
 fn work<H: Wait, C: Callers>(rt: &H, callers: &C, job: Job<'_, C>) -> Worked<C>
     requires part { CanRun job.part }
     requires words { AreHeld (words_in job.words).tickets [] }
-    ensures { IsWorked (lines_in job.entry.part) (words_in job.entry.words)
+    ensures { IsWorked (IsGiven C.gives_fault) job.entry.part (words_in job.entry.words)
         (C.seat_of job.entry.pass) (C.seat_of result.pass) (C.receipts job.entry.pass)
         (C.receipts result.pass) result.ended }
 {
@@ -78,6 +80,8 @@ pub(crate) fn gather<C: Callers>(
         ≡ map (λ done. done.pass) worked.items) }
     ensures ended { IfOk result (λ gathered.
         OnOk (gathered.1) (All (λ done. done.ended ≡ Ok tt) worked.items)) }
+    ensures told { IfOk result (λ gathered. gathered.1
+        ≡ told_in (map (λ done. done.ended) worked.items)) }
 {
     let mut passes = Vec::new(alloc);
     let mut ended = Ok(());

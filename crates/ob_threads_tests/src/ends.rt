@@ -30,6 +30,8 @@ impl Callers for Refusing {
 
     ghost ticket_of = { λ parsing. parsing };
 
+    ghost gives_fault = { λ pass fault. Unit {0} };
+
     fn ticket(parsing: &u64) -> u64 {
         *parsing
     }
@@ -56,6 +58,10 @@ impl Callers for Refusing {
     }
 
     fn abandon(&self, pass: usize, _parsing: u64) -> (usize, bool) {
+        (pass, false)
+    }
+
+    fn seal(&self, pass: usize) -> (usize, bool) {
         (pass, false)
     }
 }

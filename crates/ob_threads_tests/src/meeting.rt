@@ -1,6 +1,7 @@
 //! Two workers that meet.
 
-ghost use Rattle.std.specs.Prelude.{[]};
+ghost use Rattle.std.specs.Prelude.{◌≡◌, []};
+ghost use Rattle.ob_base.specs.declared.fault.Fault.TheVariants.{Memory};
 
 use ob_base::{Fault, Proc};
 use ob_model::Command;
@@ -17,14 +18,16 @@ use std::thread;
 use std::thread::Threads;
 use std::time::{Clock, Duration};
 
-/// A namespace that finds no memory, and in which a start of seat 1 ends only once one of seat 2 has begun.
+/// A namespace that finds no memory, and in which a start of seat 1 ends only once one of seat 2 has begun, and the reverse.
 #[derive(Drop)]
 struct Meeting<'a, R> {
     rt: &'a R,
+    /// A start of seat 1 has begun.
+    first: AtomicBool,
     /// A start of seat 2 has begun.
-    entered: AtomicBool,
-    /// One of seat 1 has seen that.
-    met: AtomicBool,
+    second: AtomicBool,
+    /// One of them didn't see the other.
+    missed: AtomicBool,
 }
 
 impl<R: Clock> Callers for Meeting<'_, R> {
@@ -38,6 +41,8 @@ impl<R: Clock> Callers for Meeting<'_, R> {
 
     ghost ticket_of = { λ parsing. parsing };
 
+    ghost gives_fault = { λ pass fault. fault ≡ Memory };
+
     fn ticket(parsing: &u64) -> u64 {
         *parsing
     }
@@ -48,11 +53,13 @@ impl<R: Clock> Callers for Meeting<'_, R> {
         _process: Proc,
         _command: &Command<StandardKind>,
     ) -> (u32, Result<Begun<u64>, Fault>) {
-        if pass == 2 {
-            self.entered.store(true, SeqCst);
-        }
-        if pass == 1 && is_given(self.rt, &self.entered) {
-            self.met.store(true, SeqCst);
+        let (own, other) = match pass {
+            1 => (&self.first, &self.second),
+            _ => (&self.second, &self.first),
+        };
+        own.store(true, SeqCst);
+        if !is_given(self.rt, other) {
+            self.missed.store(true, SeqCst);
         }
         (pass, Err(Fault::Memory))
     }
@@ -62,6 +69,10 @@ impl<R: Clock> Callers for Meeting<'_, R> {
     }
 
     fn abandon(&self, pass: u32, _parsing: u64) -> (u32, bool) {
+        (pass, false)
+    }
+
+    fn seal(&self, pass: u32) -> (u32, bool) {
         (pass, false)
     }
 }
@@ -81,8 +92,9 @@ fn is_given<R: Clock>(rt: &R, signal: &AtomicBool) -> bool {
 fn have_met<R: Threads + Wait + Clock + Sync>(rt: &R, alloc: Global) -> Result<bool, Fail> {
     let meeting = Meeting {
         rt,
-        entered: AtomicBool::new(false),
-        met: AtomicBool::new(false),
+        first: AtomicBool::new(false),
+        second: AtomicBool::new(false),
+        missed: AtomicBool::new(false),
     };
     let Ok(parts) = cut(alloc, b"thread\np1 exit\nthread\np1 exit\n") else {
         return Err(Fail::new("it was told otherwise"));
@@ -98,7 +110,7 @@ fn have_met<R: Threads + Wait + Clock + Sync>(rt: &R, alloc: Global) -> Result<b
     };
     let (line, why) = (2, Stop::Memory);
     let is_told = ran.ended == Err(Stopped { line, why });
-    Ok(is_told && ran.own == 0 && ran.theirs.len() == 2 && meeting.met.load(SeqCst))
+    Ok(is_told && ran.own == 0 && ran.theirs.len() == 2 && !meeting.missed.load(SeqCst))
 }
 
 #[test]

@@ -1,11 +1,11 @@
 -- Lines are cut in one way.
 use Rattle.std.proofs.Common.{◌≡◌, inl, inr, List, [], ◌∷◌, ◌++◌, drop, refl, sym, ap, subst, ◌∙◌, append_assoc, append-nil}
 use Rattle.std.specs.List.{AllByRecursion}
-use Rattle.ob_worker_lines.specs.Cuts.{Lines, join_line, AreScriptLines, IsStopped, worker_lines, IsEnd, IsCut, ScriptsHaveOneCut}
+use Rattle.ob_worker_lines.specs.Cuts.{Lines, join_line, AreSeatLines, IsStopped, worker_lines, IsEnd, IsCut, ScriptsHaveOneCut}
 use Rattle.ob_worker_lines.proofs.Apart.{IsPast, end_stopped, end_past, workers_stopped}
 
--- lines of a script without workers, and what stops them, are told apart
-pub parts_alike : (a b s t : Lines) → AreScriptLines a → AreScriptLines b → IsStopped s → IsStopped t → a ++ s ≡ b ++ t → (a ≡ b) × (s ≡ t)
+-- lines of a seat, and what stops them, are told apart
+pub parts_alike : (a b s t : Lines) → AreSeatLines a → AreSeatLines b → IsStopped s → IsStopped t → a ++ s ≡ b ++ t → (a ≡ b) × (s ≡ t)
 parts_alike [] [] s t la lb ss st e = (refl, e)
 parts_alike [] (y ∷ b) s t la lb ss st e = absurd (subst IsStopped e ss lb.0)
 parts_alike (x ∷ a) [] s t la lb ss st e = absurd (subst IsStopped (sym e) st la.0)
@@ -19,7 +19,7 @@ same_lists : (v u : Lines) (vs ws : List Lines) → v ≡ u → vs ≡ ws → v 
 same_lists v u vs ws e f = cc
 
 -- the lines of workers, up to what begins with no `thread`, are those of the same workers as far as these go
-pub workers_alike : (us vs : List Lines) (s t : Lines) → AllByRecursion AreScriptLines us → AllByRecursion AreScriptLines vs → IsStopped s → IsStopped t → IsPast t
+pub workers_alike : (us vs : List Lines) (s t : Lines) → AllByRecursion AreSeatLines us → AllByRecursion AreSeatLines vs → IsStopped s → IsStopped t → IsPast t
     → worker_lines us ++ s ≡ worker_lines vs ++ t → (more : List Lines) × (vs ≡ us ++ more) × (s ≡ worker_lines more ++ t)
 workers_alike [] vs s t lu lv ss st past e = (vs, refl, e)
 workers_alike (u ∷ us) [] s t lu lv ss st past e = absurd (subst IsPast (sym e) past refl)
@@ -45,7 +45,7 @@ pub record GoesOn (before : Lines) (workers : List Lines) (s before' : Lines) (w
   pub rest_is : s ≡ worker_lines more ++ end
 
 pub cut_goes_on : (before : Lines) (workers : List Lines) (s lines before' : Lines) (workers' : List Lines) (behind' : Lines)
-    → AreScriptLines before → AllByRecursion AreScriptLines workers → IsStopped s → lines ≡ before ++ worker_lines workers ++ s
+    → AreSeatLines before → AllByRecursion AreSeatLines workers → IsStopped s → lines ≡ before ++ worker_lines workers ++ s
     → IsCut lines before' workers' behind' → GoesOn before workers s before' workers' behind'
 cut_goes_on before workers s lines before' workers' behind' lb lw ss e cut =
     let both : before ++ (worker_lines workers ++ s) ≡ before' ++ (worker_lines workers' ++ cut.end) =

@@ -1,14 +1,14 @@
 -- Lines that stand in a wrong place: behind the lines of workers, and behind `join`.
 use Rattle.std.proofs.Common.{◌≡◌, ◌≢◌, ℕ, ◌+◌, ◌<◌, ◌≤◌, inl, inr, List, [], ◌∷◌, ◌++◌, length, drop, refl, sym, ap, subst, ◌∙◌, append_assoc, append-nil, length-append, arith}
 use Rattle.std.specs.List.{AllByRecursion}
-use Rattle.ob_worker_lines.specs.Cuts.{Lines, thread_line, join_line, most_workers, IsScriptLine, AreScriptLines, worker_lines, IsEnd, IsCut, CanBeCut, IsBadLine, ScriptsHaveOneBadLine}
-use Rattle.ob_worker_lines.proofs.Apart.{thread_no_script_line, join_no_script_line, join_no_thread}
+use Rattle.ob_worker_lines.specs.Cuts.{Lines, thread_line, join_line, most_workers, IsSeatLine, AreSeatLines, worker_lines, IsEnd, IsCut, CanBeCut, IsBadLine, ScriptsHaveOneBadLine}
+use Rattle.ob_worker_lines.proofs.Apart.{thread_no_seat_line, join_no_seat_line, join_no_thread}
 use Rattle.ob_worker_lines.proofs.Alike.{GoesOn, cut_goes_on, none_more}
 
 -- the lines of seat 0 and of workers, with what follows them
 pub record IsFront (before : Lines) (workers : List Lines) : Type 0 where
-  pub before_lines : AreScriptLines before
-  pub workers_lines : AllByRecursion AreScriptLines workers
+  pub before_lines : AreSeatLines before
+  pub workers_lines : AllByRecursion AreSeatLines workers
   pub few : length workers ≤ most_workers
 
 -- they are cut, alone and with `join` and lines behind it
@@ -23,7 +23,7 @@ front_cut before workers f = record {
   few = f.few;
 }
 
-pub joined_cut : (before : Lines) (workers : List Lines) (behind : Lines) → IsFront before workers → workers ≢ [] → AreScriptLines behind
+pub joined_cut : (before : Lines) (workers : List Lines) (behind : Lines) → IsFront before workers → workers ≢ [] → AreSeatLines behind
     → IsCut (before ++ worker_lines workers ++ join_line ∷ behind) before workers behind
 joined_cut before workers behind f some l = record {
   end = join_line ∷ behind;
@@ -49,8 +49,8 @@ follows_join before workers line rest before' workers' behind' no_thread on = go
 
 -- a line behind the workers that is no line of any script, or a `join` with no worker before it
 pub bad_behind_workers : (before : Lines) (workers : List Lines) (line : List ℕ) (rest lines : Lines) (number : ℕ) → IsFront before workers → lines ≡ before ++ worker_lines workers ++ line ∷ rest
-    → ¬ IsScriptLine line → ¬ (line ≡ thread_line) → (line ≡ join_line → workers ≡ []) → number ≡ length (before ++ worker_lines workers) + 1 → IsBadLine lines number
-bad_behind_workers before workers line rest lines number f e no_script no_thread alone is = record {
+    → ¬ IsSeatLine line → ¬ (line ≡ thread_line) → (line ≡ join_line → workers ≡ []) → number ≡ length (before ++ worker_lines workers) + 1 → IsBadLine lines number
+bad_behind_workers before workers line rest lines number f e no_seat no_thread alone is = record {
   good = before ++ worker_lines workers;
   line = line;
   rest = rest;
@@ -62,7 +62,7 @@ bad_behind_workers before workers line rest lines number f e no_script no_thread
   where
     wrong : (more : Lines) → ¬ CanBeCut (before ++ worker_lines workers ++ line ∷ more)
     wrong more (before', behind', workers', cut) =
-        let on = cut_goes_on before workers (line ∷ more) (before ++ worker_lines workers ++ line ∷ more) before' workers' behind' f.before_lines f.workers_lines no_script refl cut in
+        let on = cut_goes_on before workers (line ∷ more) (before ++ worker_lines workers ++ line ∷ more) before' workers' behind' f.before_lines f.workers_lines no_seat refl cut in
         let joined = follows_join before workers line more before' workers' behind' no_thread on in
         let here : line ≡ join_line = cc in joined.1 (joined.0 ∙ alone here)
 
@@ -89,18 +89,18 @@ bad_thread before workers rest lines number f e full is = record {
 
     wrong : (more : Lines) → ¬ CanBeCut (before ++ worker_lines workers ++ thread_line ∷ more)
     wrong more (before', behind', workers', cut) =
-        let on = cut_goes_on before workers (thread_line ∷ more) (before ++ worker_lines workers ++ thread_line ∷ more) before' workers' behind' f.before_lines f.workers_lines thread_no_script_line refl cut in
+        let on = cut_goes_on before workers (thread_line ∷ more) (before ++ worker_lines workers ++ thread_line ∷ more) before' workers' behind' f.before_lines f.workers_lines thread_no_seat_line refl cut in
         too_many more on.end behind' workers' on.more cut.few on.workers_are on.joined on.rest_is
 
--- a line behind `join` that is no line of a script without workers
-script_line_among : (good : Lines) (line : List ℕ) (more : Lines) → AreScriptLines (good ++ line ∷ more) → IsScriptLine line
-script_line_among [] line more l = l.0
-script_line_among (first ∷ good) line more l = script_line_among good line more l.1
+-- a line behind `join` that is no line of a seat
+seat_line_among : (good : Lines) (line : List ℕ) (more : Lines) → AreSeatLines (good ++ line ∷ more) → IsSeatLine line
+seat_line_among [] line more l = l.0
+seat_line_among (first ∷ good) line more l = seat_line_among good line more l.1
 
 pub bad_behind_join : (before : Lines) (workers : List Lines) (good : Lines) (line : List ℕ) (rest lines : Lines) (number : ℕ) → IsFront before workers → workers ≢ []
-    → lines ≡ before ++ worker_lines workers ++ (join_line ∷ good ++ line ∷ rest) → AreScriptLines good → ¬ IsScriptLine line
+    → lines ≡ before ++ worker_lines workers ++ (join_line ∷ good ++ line ∷ rest) → AreSeatLines good → ¬ IsSeatLine line
     → number ≡ length (before ++ worker_lines workers) + 1 + 1 + length good → IsBadLine lines number
-bad_behind_join before workers good line rest lines number f some e l no_script is = record {
+bad_behind_join before workers good line rest lines number f some e l no_seat is = record {
   good = before ++ worker_lines workers ++ join_line ∷ good;
   line = line;
   rest = rest;
@@ -116,11 +116,11 @@ bad_behind_join before workers good line rest lines number f some e l no_script 
     wrong : (more : Lines) → ¬ CanBeCut (before ++ worker_lines workers ++ join_line ∷ good ++ line ∷ more)
     wrong more (before', behind', workers', cut) =
         let s : Lines = join_line ∷ good ++ line ∷ more in
-        let on = cut_goes_on before workers s (before ++ worker_lines workers ++ join_line ∷ good ++ line ∷ more) before' workers' behind' f.before_lines f.workers_lines join_no_script_line
+        let on = cut_goes_on before workers s (before ++ worker_lines workers ++ join_line ∷ good ++ line ∷ more) before' workers' behind' f.before_lines f.workers_lines join_no_seat_line
         (append_assoc (before ++ worker_lines workers) (join_line ∷ good) (line ∷ more)) cut in
         let joined = follows_join before workers join_line (good ++ line ∷ more) before' workers' behind' join_no_thread on in
         let behind : good ++ line ∷ more ≡ behind' = ap (drop 1) joined.2 in
-        no_script (script_line_among good line more (subst AreScriptLines (sym behind) cut.behind_lines))
+        no_seat (seat_line_among good line more (subst AreSeatLines (sym behind) cut.behind_lines))
 
 -- of two places in a list the later one stands behind the earlier one and its element
 placed_behind : (a b : Lines) (x y : List ℕ) (s t : Lines) → a ++ x ∷ s ≡ b ++ y ∷ t → length a < length b → (more : Lines) × (b ≡ a ++ x ∷ more)

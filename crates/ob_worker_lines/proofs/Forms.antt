@@ -1,10 +1,30 @@
--- A text of lines of a script without workers has a reading.
-use Rattle.std.proofs.Common.{◌≡◌, ℕ, Bool, true, false, cond, eqb, List, [], ◌∷◌, map, Some, refl, sym, ap, ◌∙◌}
-use Rattle.ob_lines.specs.declared.form.Form.{Form}
+-- A text of lines of a seat has a reading.
+use Rattle.std.proofs.Common.{◌≡◌, inl, inr, ℕ, Bool, true, false, cond, eqb, List, [], ◌∷◌, map, Some, refl, sym, ap, subst, ◌∙◌}
+use Rattle.ob_lines.specs.Grammar.{IsLine}
 use Rattle.ob_lines.specs.Lines.{line_end, lines_of, onto_first_line}
-use Rattle.ob_lines.specs.Script.{BeginsWithForms}
-use Rattle.ob_worker_lines.specs.Cuts.{Lines, AreScriptLines}
+use Rattle.ob_lines.proofs.Formed.{line_alike}
+use Rattle.ob_worker_lines.specs.declared.form.SeatForm.{SeatForm}
+use Rattle.ob_worker_lines.specs.declared.form.SeatForm.TheVariants.{Seal, Line}
+use Rattle.ob_worker_lines.specs.Cuts.{Lines, IsSeatLine, AreSeatLines}
+use Rattle.ob_worker_lines.specs.Forms.{BeginsWithSeatForms, IsLineOfSeat, SeatLinesHaveOneForm}
 use Rattle.ob_worker_lines.specs.Parts.{LinesAreRead}
+use Rattle.ob_worker_lines.proofs.Apart.{seal_no_script_line}
+
+-- a line of a seat has a form, and what has one is a line of a seat
+pub form_of_seat : (line : List ℕ) → IsSeatLine line → (form : SeatForm (List ℕ)) × IsLineOfSeat line form
+form_of_seat line (inl (form, is)) = (Line form, is)
+form_of_seat line (inr is) = (Seal, is)
+
+pub seat_line_of : (line : List ℕ) (form : SeatForm (List ℕ)) → IsLineOfSeat line form → IsSeatLine line
+seat_line_of line Seal is = inr is
+seat_line_of line (Line form) is = inl (form, is)
+
+-- it has no two
+pub seat_line_alike : SeatLinesHaveOneForm
+seat_line_alike line Seal Seal is is' = refl
+seat_line_alike line Seal (Line form) is is' = absurd (seal_no_script_line (form, subst (λ l. IsLine l form) is is'))
+seat_line_alike line (Line form) Seal is is' = absurd (seal_no_script_line (form, subst (λ l. IsLine l form) is' is))
+seat_line_alike line (Line a) (Line b) is is' = ap Line (line_alike line a b is is')
 
 -- bytes with no line are none
 no_lines : (bytes : List ℕ) → lines_of bytes ≡ [] → bytes ≡ []
@@ -31,12 +51,13 @@ lines_behind (b ∷ bytes) line lines e = go (eqb b line_end) (lines_of bytes) r
         let more = later first found f in
         (more.0, more.1 ∙ same)
 
-reads : (lines : Lines) (text : List ℕ) → lines_of text ≡ lines → AreScriptLines lines → (forms : List (Form (List ℕ))) × BeginsWithForms text (map Some forms) []
+reads : (lines : Lines) (text : List ℕ) → lines_of text ≡ lines → AreSeatLines lines → (forms : List (SeatForm (List ℕ))) × BeginsWithSeatForms text (map Some forms) []
 reads [] text e l = ([], no_lines text e)
-reads (line ∷ lines) text e ((form, is), l) =
-    let behind = lines_behind text line lines e in
-    let more = reads lines behind.0 behind.1 l in
-    (form ∷ more.0, (behind.0, (line, e ∙ ap (λ ls. line ∷ ls) (sym behind.1), is), more.1))
+reads (line ∷ lines) text e (own, l) =
+    let form = form_of_seat line own in
+    let later = lines_behind text line lines e in
+    let more = reads lines later.0 later.1 l in
+    (form.0 ∷ more.0, (later.0, (line, e ∙ ap (λ ls. line ∷ ls) (sym later.1), form.1), more.1))
 
 pub lines_are_read : LinesAreRead
 lines_are_read text l = reads (lines_of text) text refl l

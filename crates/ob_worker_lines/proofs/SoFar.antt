@@ -7,7 +7,7 @@ use Rattle.std.specs.List.{AllByRecursion, All}
 use Rattle.ob_lines.specs.Lines.{lines_of}
 use Rattle.ob_worker_lines.specs.declared.part.Part.{Part}
 use Rattle.ob_worker_lines.specs.declared.part.Taken.{Taken}
-use Rattle.ob_worker_lines.specs.Cuts.{Lines, thread_line, join_line, most_workers, AreScriptLines, IsStopped, worker_lines, IsBadLine}
+use Rattle.ob_worker_lines.specs.Cuts.{Lines, thread_line, join_line, most_workers, AreSeatLines, IsStopped, worker_lines, IsBadLine}
 use Rattle.ob_worker_lines.specs.Parts.{lines_in, WorkersAreNumbered, IsBehind, IsMisplaced, IsRunnable}
 use Rattle.ob_worker_lines.proofs.Whole.{some_line, length-lines_of}
 use Rattle.ob_worker_lines.proofs.Bad.{IsFront, bad_behind_workers, bad_thread, bad_behind_join}
@@ -15,7 +15,7 @@ use Rattle.ob_worker_lines.proofs.Bad.{IsFront, bad_behind_workers, bad_thread, 
 -- a part that was read of a script, where its first line has a number
 pub record IsTaken (script : List ℕ) (number : ℕ) (taken : Taken) : Type 0 where
   pub whole : lines_of script ≡ lines_in taken.part ++ lines_of taken.rest.now
-  pub own : AreScriptLines (lines_in taken.part)
+  pub own : AreSeatLines (lines_in taken.part)
   pub stopped : IsStopped (lines_of taken.rest.now)
   pub begins : taken.part.first ≡ number
   pub ends : taken.number ≡ number + length (lines_in taken.part)
@@ -52,7 +52,7 @@ worker_lines-push [] lines = append-nil (thread_line ∷ lines)
 worker_lines-push (first ∷ workers) lines =
     ap (λ ls. (thread_line ∷ first) ++ ls) (worker_lines-push workers lines) ∙ sym (append_assoc (thread_line ∷ first) (worker_lines workers) (thread_line ∷ lines))
 
-all_push : (workers : List Lines) (lines : Lines) → AllByRecursion AreScriptLines workers → AreScriptLines lines → AllByRecursion AreScriptLines (workers ++ lines ∷ [])
+all_push : (workers : List Lines) (lines : Lines) → AllByRecursion AreSeatLines workers → AreSeatLines lines → AllByRecursion AreSeatLines (workers ++ lines ∷ [])
 all_push [] lines l own = (own, tt)
 all_push (first ∷ workers) lines l own = (l.0, all_push workers lines l.1 own)
 
@@ -82,7 +82,7 @@ read_worker script before workers rest number behind taken read e shorter t not_
       ∙ ap (λ ls. ls ++ lines_of taken.rest.now) (sym (front-push before workers taken.part))));
   front = record {
     before_lines = read.front.before_lines;
-    workers_lines = subst (AllByRecursion AreScriptLines) (sym (map-append lines_in workers (taken.part ∷ []))) (all_push (map lines_in workers) (lines_in taken.part) read.front.workers_lines t.own);
+    workers_lines = subst (AllByRecursion AreSeatLines) (sym (map-append lines_in workers (taken.part ∷ []))) (all_push (map lines_in workers) (lines_in taken.part) read.front.workers_lines t.own);
     few = omega (arith, not_full, read.front.few, length-map workers lines_in, length-map (workers ++ taken.part ∷ []) lines_in, length-append workers (taken.part ∷ []));
   };
   stopped = t.stopped;
@@ -124,9 +124,9 @@ misplaced_bad script before workers rest number has_workers bad read no_thread t
     (λ t. no_thread more (e ∙ ap (λ (l : List ℕ). l ∷ more) t))
     (λ j. ap (map lines_in) (tells.none (alone j)))
     (is ∙ read.number_is)
-misplaced_bad script before workers rest number has_workers bad read no_thread tells (inr (good, line, more, has, e, l, no_script, is)) =
+misplaced_bad script before workers rest number has_workers bad read no_thread tells (inr (good, line, more, has, e, l, no_seat, is)) =
     bad_behind_join (lines_in before) (map lines_in workers) good line more (lines_of script) bad read.front (mapped_some workers (tells.some has))
-    (read.whole ∙ ap (λ ls. front_lines before workers ++ ls) e) l no_script
+    (read.whole ∙ ap (λ ls. front_lines before workers ++ ls) e) l no_seat
     (omega (arith, is, read.number_is))
 
 -- a line behind what follows the workers is misplaced: the first there, and the first that stops what stands behind `join`
@@ -159,12 +159,12 @@ behind_numbered script before workers rest number has_workers part read (inl (e,
 behind_numbered script before workers rest number has_workers part read (inr (has, e, l, is)) =
     omega (arith, is, read.number_is, ap length e, ap length read.whole, length-append (front_lines before workers) (lines_of rest))
 
-behind_own : (has_workers : Bool) (lines : Lines) (number : ℕ) (part : Part) → IsBehind has_workers lines number part → AreScriptLines (lines_in part)
-behind_own has_workers lines number part (inl (e, none, is)) = subst AreScriptLines (sym none) tt
+behind_own : (has_workers : Bool) (lines : Lines) (number : ℕ) (part : Part) → IsBehind has_workers lines number part → AreSeatLines (lines_in part)
+behind_own has_workers lines number part (inl (e, none, is)) = subst AreSeatLines (sym none) tt
 behind_own has_workers lines number part (inr (has, e, l, is)) = l
 
 -- each part can be run
-workers_runnable : (size number : ℕ) (workers : List Part) → AllByRecursion AreScriptLines (map lines_in workers) → WorkersAreNumbered number workers
+workers_runnable : (size number : ℕ) (workers : List Part) → AllByRecursion AreSeatLines (map lines_in workers) → WorkersAreNumbered number workers
     → number + length (worker_lines (map lines_in workers)) ≤ size + 1 → AllByRecursion (IsRunnable size) workers
 workers_runnable size number [] l n bound = tt
 workers_runnable size number (first ∷ workers) l n bound =

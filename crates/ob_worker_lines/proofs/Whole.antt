@@ -4,8 +4,8 @@ use Rattle.std.proofs.lemmas.List.{take_at}
 use Rattle.ob_parts.specs.Text.{Lacks}
 use Rattle.ob_lines.specs.Lines.{line_end, lines_of, onto_first_line}
 use Rattle.ob_lines.proofs.Lined.{lines_of-line, lines_of-whole}
-use Rattle.ob_worker_lines.specs.Cuts.{Lines, IsScriptLine, AreScriptLines}
-use Rattle.ob_worker_lines.specs.Parts.{IsFirstLine, IsScriptLineBefore}
+use Rattle.ob_worker_lines.specs.Cuts.{Lines, IsSeatLine, AreSeatLines}
+use Rattle.ob_worker_lines.specs.Parts.{IsFirstLine, IsSeatLineBefore}
 
 -- a script has no more lines than bytes
 pub length-lines_of : (bytes : List ℕ) → length (lines_of bytes) ≤ length bytes
@@ -50,18 +50,18 @@ whole_more text line whole lacks = (here, λ more. behind more)
         ∙ (sym (append_assoc (lines_of text) (line ∷ []) (lines_of more))
         ∙ ap (λ ls. ls ++ lines_of more) (sym here))))
 
--- what was read of a script from its front, all of it lines of a script without workers, numbered from the first on
+-- what was read of a script from its front, all of it lines of a seat, numbered from the first on
 pub record IsReadPart (script rest : List ℕ) (first number : ℕ) : Type 0 where
   pub text : List ℕ
   pub cut : script ≡ text ++ rest
-  pub lines : AreScriptLines (lines_of text)
+  pub lines : AreSeatLines (lines_of text)
   pub counted : number ≡ first + length (lines_of text)
   pub whole : (IsWhole text) ⊎ (rest ≡ [])
 
 pub part_begun : (script : List ℕ) (first : ℕ) → IsReadPart script script first first
 part_begun script first = record { text = []; cut = refl; lines = tt; counted = omega arith; whole = inl (λ more. refl) }
 
-all_more : (lines : Lines) (line : List ℕ) → AreScriptLines lines → IsScriptLine line → AreScriptLines (lines ++ line ∷ [])
+all_more : (lines : Lines) (line : List ℕ) → AreSeatLines lines → IsSeatLine line → AreSeatLines (lines ++ line ∷ [])
 all_more [] line l is = (is, tt)
 all_more (first ∷ lines) line l is = (l.0, all_more lines line l.1 is)
 
@@ -69,7 +69,7 @@ no_line_of_none : (line rest : List ℕ) → [] ≡ line ++ line_end ∷ rest �
 no_line_of_none [] rest e = cc
 no_line_of_none (b ∷ line) rest e = cc
 
-pub part_more : (script rest behind : List ℕ) (first number : ℕ) → IsReadPart script rest first number → IsScriptLineBefore rest behind
+pub part_more : (script rest behind : List ℕ) (first number : ℕ) → IsReadPart script rest first number → IsSeatLineBefore rest behind
     → IsReadPart script behind first (number + 1)
 part_more script rest behind first number read (line, is_first, is) = go read.whole is_first.ends
   where
@@ -81,7 +81,7 @@ part_more script rest behind first number read (line, is_first, is) = go read.wh
         record {
           text = read.text ++ (line ++ line_end ∷ []);
           cut = read.cut ∙ (ap (λ bs. read.text ++ bs) (e ∙ sym (append_assoc line (line_end ∷ []) behind)) ∙ sym (append_assoc read.text (line ++ line_end ∷ []) behind));
-          lines = subst AreScriptLines (sym more.0) (all_more (lines_of read.text) line read.lines is);
+          lines = subst AreSeatLines (sym more.0) (all_more (lines_of read.text) line read.lines is);
           counted = omega (arith, read.counted, ap length more.0, length-append (lines_of read.text) (line ∷ []));
           whole = inl more.1;
         }
@@ -91,7 +91,7 @@ part_more script rest behind first number read (line, is_first, is) = go read.wh
         record {
           text = read.text ++ line;
           cut = read.cut ∙ (ap (λ bs. read.text ++ bs) e ∙ (sym (append-nil (read.text ++ line)) ∙ ap (λ bs. (read.text ++ line) ++ bs) (sym nothing)));
-          lines = subst AreScriptLines (sym one) (all_more (lines_of read.text) line read.lines is);
+          lines = subst AreSeatLines (sym one) (all_more (lines_of read.text) line read.lines is);
           counted = omega (arith, read.counted, ap length one, length-append (lines_of read.text) (line ∷ []));
           whole = inr nothing;
         }

@@ -18,6 +18,10 @@ thread_line = codes "thread"
 abbrev pub join_line : List ℕ
 join_line = codes "join"
 
+-- the line that seals the open segment of the journal
+abbrev pub seal_line : List ℕ
+seal_line = codes "seal"
+
 -- the most workers that a script may have
 abbrev pub most_workers : ℕ
 most_workers = 63
@@ -26,14 +30,18 @@ most_workers = 63
 abbrev pub IsScriptLine : List ℕ → Type 0
 IsScriptLine line = (form : Form (List ℕ)) × IsLine line form
 
--- and so is each of these lines
-abbrev pub AreScriptLines : Lines → Type 0
-AreScriptLines lines = AllByRecursion IsScriptLine lines
+-- the line is a line of a seat: one of a script without workers, or the line `seal`
+abbrev pub IsSeatLine : List ℕ → Type 0
+IsSeatLine line = IsScriptLine line ⊎ (line ≡ seal_line)
 
--- the first of these lines, where there is one, is no line of a script without workers
+-- and so is each of these lines
+abbrev pub AreSeatLines : Lines → Type 0
+AreSeatLines lines = AllByRecursion IsSeatLine lines
+
+-- the first of these lines, where there is one, is no line of a seat
 abbrev pub IsStopped : Lines → Type 0
 IsStopped [] = Unit {0}
-IsStopped (line ∷ lines) = ¬ IsScriptLine line
+IsStopped (line ∷ lines) = ¬ IsSeatLine line
 
 -- the lines that workers take in a script: for each a line `thread`, and its own behind it
 abbrev pub worker_lines : List Lines → Lines
@@ -46,14 +54,14 @@ IsEnd workers behind end = ((end ≡ []) × (behind ≡ [])) ⊎ ((workers ≢ [
 
 -- The lines are cut into those of seat 0 before the workers, those of each worker, and those of seat 0 behind them: one
 -- after another they are all the lines, with `thread` before those of each worker, and `join`, where it stands,
--- before the last. Each is a line of a script without workers, and there are no more workers than there may be.
+-- before the last. Each is a line of a seat, and there are no more workers than there may be.
 pub record IsCut (lines before : Lines) (workers : List Lines) (behind : Lines) : Type 0 where
   pub end : Lines
   pub joined : IsEnd workers behind end
   pub whole : lines ≡ before ++ worker_lines workers ++ end
-  pub before_lines : AreScriptLines before
-  pub workers_lines : AllByRecursion AreScriptLines workers
-  pub behind_lines : AreScriptLines behind
+  pub before_lines : AreSeatLines before
+  pub workers_lines : AllByRecursion AreSeatLines workers
+  pub behind_lines : AreSeatLines behind
   pub few : length workers ≤ most_workers
 
 -- the lines are those of a script with workers

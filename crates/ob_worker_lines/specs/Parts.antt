@@ -3,14 +3,14 @@
 -- Source: this profile.
 use Rattle.std.specs.Prelude.{◌≡◌, ◌≢◌, ◌⊎◌, ℕ, ◌+◌, ◌≤◌, Bool, true, false, List, [], ◌∷◌, ◌++◌, length, map, Some, All}
 use Rattle.ob_parts.specs.Text.{Lacks}
-use Rattle.ob_lines.specs.declared.form.Form.{Form}
 use Rattle.ob_lines.specs.Lines.{line_end, lines_of}
-use Rattle.ob_lines.specs.Script.{BeginsWithForms}
+use Rattle.ob_worker_lines.specs.declared.form.SeatForm.{SeatForm}
 use Rattle.ob_worker_lines.specs.declared.part.Part.{Part}
 use Rattle.ob_worker_lines.specs.declared.script.CutFault.{CutFault}
 use Rattle.ob_worker_lines.specs.declared.script.CutFault.TheVariants.{BadLine, Memory}
 use Rattle.ob_worker_lines.specs.declared.script.WorkerScript.{WorkerScript}
-use Rattle.ob_worker_lines.specs.Cuts.{Lines, join_line, IsScriptLine, AreScriptLines, IsBadLine}
+use Rattle.ob_worker_lines.specs.Cuts.{Lines, join_line, IsSeatLine, AreSeatLines, IsBadLine}
+use Rattle.ob_worker_lines.specs.Forms.{BeginsWithSeatForms}
 
 -- the lines of a part
 abbrev pub lines_in : Part → Lines
@@ -28,10 +28,10 @@ pub record AreNumbered (lines : Lines) (cut : WorkerScript) : Type 0 where
   pub workers : WorkersAreNumbered (1 + length (lines_in cut.before)) cut.workers.items
   pub behind : cut.behind.first + length (lines_in cut.behind) ≡ length lines + 1
 
--- what each part of a script of so many bytes has for who runs it: it has lines of a script without workers alone, and no
+-- what each part of a script of so many bytes has for who runs it: each of its lines is a line of a seat, and no
 -- line's number is above that of the bytes
 abbrev pub IsRunnable : ℕ → Part → Type 0
-IsRunnable size part = AreScriptLines (lines_in part) × (part.first + length (lines_in part) ≤ size + 1)
+IsRunnable size part = AreSeatLines (lines_in part) × (part.first + length (lines_in part) ≤ size + 1)
 
 abbrev pub AreRunnable : ℕ → WorkerScript → Type 0
 AreRunnable size cut = IsRunnable size cut.before × All (IsRunnable size) cut.workers.items × IsRunnable size cut.behind
@@ -41,31 +41,31 @@ abbrev pub IsFault : Lines → CutFault → Type 0
 IsFault lines (BadLine number) = IsBadLine lines number
 IsFault lines Memory = Unit {0}
 
--- a text of lines of a script without workers has a reading, with a form for each line
+-- a text of lines of a seat has a reading, with a form for each line
 abbrev pub LinesAreRead : Type 0
 LinesAreRead =
-    (text : List ℕ) → AreScriptLines (lines_of text) → (forms : List (Form (List ℕ))) × BeginsWithForms text (map Some forms) []
+    (text : List ℕ) → AreSeatLines (lines_of text) → (forms : List (SeatForm (List ℕ))) × BeginsWithSeatForms text (map Some forms) []
 
 -- the first line ends at its LF, or at the end of the bytes; then it has a byte
 pub record IsFirstLine (bytes line rest : List ℕ) : Type 0 where
   pub lacks : Lacks line_end line
   pub ends : (bytes ≡ line ++ line_end ∷ rest) ⊎ ((bytes ≡ line) × (rest ≡ []) × (line ≢ []))
 
--- the first line is a line of a script without workers, and the rest stands behind it
-abbrev pub IsScriptLineBefore : List ℕ → List ℕ → Type 0
-IsScriptLineBefore bytes rest = (line : List ℕ) × IsFirstLine bytes line rest × IsScriptLine line
+-- the first line is a line of a seat, and the rest stands behind it
+abbrev pub IsSeatLineBefore : List ℕ → List ℕ → Type 0
+IsSeatLineBefore bytes rest = (line : List ℕ) × IsFirstLine bytes line rest × IsSeatLine line
 
 -- what follows the lines of the workers is this part: at the end an empty one, else one behind `join`. What follows
 -- begins with the line of this number.
 abbrev pub IsBehind : Bool → Lines → ℕ → Part → Type 0
 IsBehind has_workers lines number part =
     ((lines ≡ []) × (lines_in part ≡ []) × (part.first ≡ number))
-    ⊎ ((has_workers ≡ true) × (lines ≡ join_line ∷ lines_in part) × AreScriptLines (lines_in part) × (part.first ≡ number + 1))
+    ⊎ ((has_workers ≡ true) × (lines ≡ join_line ∷ lines_in part) × AreSeatLines (lines_in part) × (part.first ≡ number + 1))
 
 -- the line stands in a wrong place behind the lines of the workers: it is the first there, and no `join` that may stand
--- there; or it stands behind `join` and is no line of a script without workers
+-- there; or it stands behind `join` and is no line of a seat
 abbrev pub IsMisplaced : Bool → Lines → ℕ → ℕ → Type 0
 IsMisplaced has_workers lines number bad =
     ((line : List ℕ) × (rest : Lines) × (lines ≡ line ∷ rest) × (line ≡ join_line → has_workers ≡ false) × (bad ≡ number))
     ⊎ ((good : Lines) × (line : List ℕ) × (rest : Lines) × (has_workers ≡ true) × (lines ≡ join_line ∷ good ++ line ∷ rest)
-    × AreScriptLines good × (¬ IsScriptLine line) × (bad ≡ number + 1 + length good))
+    × AreSeatLines good × (¬ IsSeatLine line) × (bad ≡ number + 1 + length good))

@@ -1,15 +1,18 @@
 //! Scripts with workers: their lines, cut into the lines of each seat.
 //!
-//! In such a script the lines `thread` and `join` may stand beside those of a script without workers. What
+//! In such a script the lines `thread`, `join` and `seal` may stand beside those of a script without workers. What
 //! stands before the first `thread` and behind `join` is seat 0's; each `thread` begins the lines of one
-//! worker. A script is cut whole, before any line of it runs, or it is told which line is the first that
-//! stands in no such script. Nothing here knows what the lines do. docs/script.md has the language.
+//! worker; `seal` is a line of the seat among whose lines it stands. A script is cut whole, before any line of it
+//! runs, or it is told which line is the first that stands in no such script. Nothing here knows what the lines do.
+//! docs/script.md has the language.
 #![tactic(auto)]
 
+mod form;
 mod line;
 mod part;
 mod script;
 
+pub use form::{SeatForm, read_seat_line, seat_lines_have_one_form};
 pub use part::Part;
 pub use script::{
     CutFault, MOST_WORKERS, WorkerScript, cut, lines_of_parts_are_read, scripts_have_one_cut,

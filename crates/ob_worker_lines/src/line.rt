@@ -2,20 +2,20 @@
 
 ghost use Rattle.std.specs.Prelude.{◌≡◌, ◌≢◌, ◌<◌, ◌∷◌, [], List, length, IfSome, IfNone};
 ghost use Rattle.ob_lines.specs.Lines.{lines_of};
-ghost use Rattle.ob_worker_lines.specs.Parts.{IsFirstLine, IsScriptLineBefore};
+ghost use Rattle.ob_worker_lines.specs.Parts.{IsFirstLine, IsSeatLineBefore};
 ghost use Rattle.ob_worker_lines.specs.Cuts.{Lines, IsStopped};
 
-use ob_lines::form_of;
+use crate::form::seat_form_of;
 use ob_parts::split_at;
 
-// What stands behind the first line, where this is a line of a script without workers.
-pub fn behind_script_line(bytes: &[u8]) -> Option<&[u8]>
-    ensures found { IfSome result (λ rest. IsScriptLineBefore bytes.now rest.now) }
+// What stands behind the first line, where this is a line of a seat.
+pub fn behind_seat_line(bytes: &[u8]) -> Option<&[u8]>
+    ensures found { IfSome result (λ rest. IsSeatLineBefore bytes.now rest.now) }
     ensures shorter { IfSome result (λ rest. length rest.now < length bytes.now) }
     ensures none { IfNone result (IsStopped (lines_of bytes.now)) }
 {
     let (line, rest) = first_line(bytes)?;
-    match form_of(line) {
+    match seat_form_of(line) {
         Some(_) => Some(rest),
         None => None,
     }

@@ -2,13 +2,13 @@
 
 ghost use Rattle.std.specs.Prelude.{◌≡◌, ◌+◌, ◌≤◌, ◌<◌, ◌^◌, ◌++◌, length};
 ghost use Rattle.ob_lines.specs.Lines.{lines_of};
-ghost use Rattle.ob_worker_lines.specs.Cuts.{AreScriptLines, IsStopped};
+ghost use Rattle.ob_worker_lines.specs.Cuts.{AreSeatLines, IsStopped};
 ghost use Rattle.ob_worker_lines.specs.Parts.{lines_in};
 
-use crate::line::behind_script_line;
+use crate::line::behind_seat_line;
 
-/// Lines of a script that one seat runs, all of them lines of a script without workers. Read one after
-/// another by `ob_lines::read_line`, they have the numbers from `first` on. (this profile)
+/// Lines of a script that one seat runs, each of them a line of a seat. Read one after
+/// another by [`read_seat_line`](crate::read_seat_line), they have the numbers from `first` on. (this profile)
 #[derive(Clone, Copy, Debug)]
 pub struct Part<'a> {
     /// The lines, as they stand in the script: whole lines, of which the last may lack its LF.
@@ -23,18 +23,18 @@ pub struct Part<'a> {
 pub struct Taken<'a> {
     // The lines that were read.
     pub part: Part<'a>,
-    // The lines behind them, the first of which, where there is one, is no line of a script without workers.
+    // The lines behind them, the first of which, where there is one, is no line of a seat.
     pub rest: &'a [u8],
     // The number of the first of these.
     pub number: u64,
 }
 
-// The first lines, as far as they are lines of a script without workers. The first of all has the number that
+// The first lines, as far as they are lines of a seat. The first of all has the number that
 // is given.
 pub fn take_part(script: &[u8], first: u64) -> Taken<'_>
     requires { first + length script.now < 2 ^ 64 }
     ensures lines { lines_of script.now ≡ lines_in result.part ++ lines_of result.rest.now }
-    ensures script_lines { AreScriptLines (lines_in result.part) }
+    ensures seat_lines { AreSeatLines (lines_in result.part) }
     ensures stopped { IsStopped (lines_of result.rest.now) }
     ensures first { result.part.first ≡ first }
     ensures number { result.number ≡ first + length (lines_in result.part) }
@@ -42,7 +42,7 @@ pub fn take_part(script: &[u8], first: u64) -> Taken<'_>
 {
     let mut rest = script;
     let mut number = first;
-    while let Some(behind) = behind_script_line(rest) {
+    while let Some(behind) = behind_seat_line(rest) {
         rest = behind;
         number += 1;
     }

@@ -120,7 +120,7 @@ pub fn scripts_have_one_cut()
     ensures bad { ScriptsHaveOneBadLine }
 {}
 
-/// The law that a text of lines of a script without workers, as that of each part, has a reading: forms of
+/// The law that a text of lines of a seat, as that of each part, has a reading: forms of
 /// all its lines, with no line that has none. The call does nothing; a caller makes it to have the fact.
 pub fn lines_of_parts_are_read()
     ensures { LinesAreRead }

@@ -1,5 +1,5 @@
 -- The open begins with the words as they were before room was made.
-use Rattle.std.proofs.Common.{◌∙◌, IfOk, ap, sym, subst}
+use Rattle.std.proofs.Common.{◌∙◌, IfOk, ap, inr, sym, subst}
 use Rattle.ob_model.specs.declared.reply.Answer.TheVariants.{Done}
 use Rattle.ob_model.specs.declared.reply.Event.TheVariants.{Start}
 use Rattle.ob_requests.specs.Tables.{words_in}
@@ -7,8 +7,10 @@ use Rattle.ob_requests.specs.Words.{Words, with_ticket}
 use Rattle.ob_effects.specs.Waiting.{words_answered}
 use Rattle.ob_seats.specs.Kept.{AreHeld}
 use Rattle.ob_seats.specs.Received.{IsReceived, answer_of}
+use Rattle.ob_seats.specs.Stopped.{IsNotKept}
+use Rattle.ob_seats.proofs.Chained.{step_not_kept}
 use Rattle.ob_seats.proofs.Held.{held_freed}
-use Rattle.ob_seats.proofs.Told.{both_ok}
+use Rattle.ob_seats.proofs.Told.{both_ok, if_all_err}
 use Rattle.ob_seats.proofs.waiting.begin.Goals as goal
 
 pub returns-in-Ok-Replied-clause-held : goal.returns-in-Ok-Replied-clause-held
@@ -55,3 +57,17 @@ returns-in-Ok-Waits-clause-played g c =
       ),
     ))
     c.wait.ensures.set c.wait.ensures.kept
+
+pub returns-in-Ok-Waits-clause-begun : goal.returns-in-Ok-Waits-clause-begun
+returns-in-Ok-Waits-clause-begun g c =
+    let cleared : Words → Words = λ w. with_ticket w c.args.process c.args.word.now 0 in
+    let n = g.C.Callers.ticket_of c.in-Ok-Waits.parsing in
+    let told = subst (λ r. IfOk r (λ begun. IsReceived (g.C.Callers.receipts c.args.pass) (Start c.args.process c.in-Ok.command) (answer_of g.C.Callers.ticket_of begun) (g.C.Callers.receipts c.start-pass.result.0)))
+    c.in-Ok-Waits.is c.start-pass.ensures.told in
+    let answered = told.3 ∙ ap (answer_of g.C.Callers.ticket_of) c.in-Ok-Waits.field-0-is in
+    if_all_err _ _ _ _ c.wait.result.1
+    (λ why not is abandoned.
+    let step = step_not_kept (g.C.Callers.receipts c.args.pass) (g.C.Callers.receipts c.start-pass.result.0) (g.C.Callers.receipts c.wait.result.0) (Start c.args.process c.in-Ok.command) n why
+    (cleared (words_in c.args.words.now)) (told.0, told.1, told.2, answered) (subst (λ (w : Words). IsNotKept (cleared w) n why) c.in-Ok.ensures.same not) abandoned in
+    (step.0, step.1, inr (c.in-Ok.command, c.in-Ok.ensures.command, step.2, is ∙ ap cleared c.in-Ok.ensures.same)))
+    c.wait.ensures.why c.wait.ensures.cleared c.wait.ensures.abandoned

@@ -49,3 +49,14 @@ returns-then-is_made-clause-played g c =
         ),
       ),
     )
+
+pub returns-else-is_made-clause-begun : goal.returns-else-is_made-clause-begun
+returns-else-is_made-clause-begun g c =
+    let was = words_in c.args.words.now in (
+      [],
+      c.abandon-pass.ensures.unmade c.if-is_made.false ∙ adds_none _,
+      (
+        ap (λ b. if b then None else Some (codes "NO PENDING")) (waits was c.args.process c.args.word.now (λ none. c.if-ticket-eq0.false (c.ticket_of-ticket.ensures ∙ none))),
+        (refl, refl, c.give_up.ensures ∙ ap (λ (w : Words). with_word w c.args.process c.args.word.now 0) c.clear_ticket.ensures),
+      ),
+    )

@@ -1,9 +1,11 @@
--- What was written so far.
-use Rattle.std.proofs.Common.{take}
+-- The segments so far were written.
+use Rattle.std.proofs.Common.{map, take}
+use Rattle.std.specs.Arc.{arc_value}
 use Rattle.std.specs.Io.KnownBytes.{Appends}
 use Rattle.ob_journal.specs.Lines.{journal_lines}
 use Rattle.ob_standard.specs.Standard.{standard}
 use Rattle.ob_threads.proofs.journal.write_journal.Given as goal
 
-abbrev pub invariant-loop-entry : goal.invariant-loop-entry
-invariant-loop-entry g l = Appends (g.W.Write.contents l.fn.writer) (g.W.Write.contents l.writer) (journal_lines standard.type_name l.seats (take l.entry-index l.journal))
+abbrev pub invariant-loop-segment : goal.invariant-loop-segment
+invariant-loop-segment g l =
+    Appends (g.W.Write.contents l.fn.writer) (g.W.Write.contents l.writer) (journal_lines standard.type_name l.seats (take l.segment-index (map arc_value l.sealed)))

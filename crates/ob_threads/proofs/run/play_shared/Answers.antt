@@ -1,13 +1,18 @@
 -- The first pass is that of seat 0, and the others are the workers'; the journal is what the lines play.
-use Rattle.std.proofs.Common.{◌≡◌, ◌∙◌, ℕ, suc, ◌+◌, List, ◌∷◌, map, length, ap, sym, arith}
+use Rattle.std.proofs.Common.{◌≡◌, ◌∙◌, ℕ, suc, ◌+◌, List, ◌∷◌, ◌++◌, map, length, ap, sym, subst, arith}
 use Rattle.std.proofs.lemmas.List.{length-map}
 use Rattle.std.proofs.lemmas.List.FromFn.{length-map-range_with_len}
 use Rattle.std.specs.List.{range_with_len, slice_index_or, remove}
+use Rattle.std.specs.Arc.{arc_value}
+use Rattle.ob_journal.specs.Segments.{joined}
 use Rattle.ob_locked.specs.Opened.{fresh_pass, fresh_passes}
 use Rattle.ob_locked.specs.Passed.{Passed}
 use Rattle.ob_worker_lines.specs.Parts.{lines_in}
+use Rattle.ob_threads.specs.Faults.{IsFaultAt}
+use Rattle.ob_threads.specs.Played.{IsJournalOf, IsPlayedBy}
+use Rattle.ob_threads.specs.Run.{AreRun}
 use Rattle.ob_threads.proofs.Gathered.{then_done}
-use Rattle.ob_threads.proofs.Seated.{settled_played}
+use Rattle.ob_threads.proofs.Seated.{settled_of}
 use Rattle.ob_threads.proofs.run.play_shared.Goals as goal
 
 first_and_others : {K : Type 0} (workers : ℕ) (passes : List (Passed K)) → passes ≡ fresh_passes (workers + 1) → passes ≡ fresh_pass 0 ∷ map fresh_pass (range_with_len 1 workers)
@@ -38,6 +43,14 @@ pub returns-in-Ok-close-clause-played : goal.returns-in-Ok-close-clause-played
 returns-in-Ok-close-clause-played g c =
     let parts = c.args.parts.now in
     then_done _ _ c.in-Ok.ended
-    (settled_played (lines_in parts.before) (map lines_in parts.workers.items) (lines_in parts.behind) c.in-Ok-close.field-0.journal.items (length parts.workers.items) c.args.shared c.in-Ok.passes.items c.requires.seats
-    (sym (length-map parts.workers.items lines_in)) c.in-Ok.ensures.passes c.in-Ok-close.ensures.settled)
+    (λ played. let is = IsPlayedBy (lines_in parts.before) (map lines_in parts.workers.items) (lines_in parts.behind) in
+    let journal = joined (map arc_value c.in-Ok-close.field-0.sealed.items) ++ c.in-Ok-close.field-0.journal.entries in
+    subst (λ n. IsJournalOf is n journal) (sym (length-map parts.workers.items lines_in))
+    (settled_of is journal (length parts.workers.items) c.args.shared c.in-Ok.passes.items c.requires.seats c.in-Ok.ensures.passes c.in-Ok-close.ensures.settled played))
     c.in-Ok.ensures.played
+
+pub returns-in-Ok-close-clause-stopped : goal.returns-in-Ok-close-clause-stopped
+returns-in-Ok-close-clause-stopped g c =
+    let parts = c.args.parts.now in
+    settled_of (AreRun IsFaultAt parts c.in-Ok.ended) (joined (map arc_value c.in-Ok-close.field-0.sealed.items) ++ c.in-Ok-close.field-0.journal.entries) (length parts.workers.items) c.args.shared c.in-Ok.passes.items c.requires.seats
+    c.in-Ok.ensures.passes c.in-Ok-close.ensures.settled c.in-Ok.ensures.stopped

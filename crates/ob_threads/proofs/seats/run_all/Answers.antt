@@ -7,9 +7,10 @@ use Rattle.ob_worker_lines.specs.Parts.{lines_in}
 use Rattle.ob_seats.specs.Kept.{for_worker}
 use Rattle.ob_seats.specs.Played.{IsSeatPlayed}
 use Rattle.ob_seats.specs.Received.{Entries}
+use Rattle.ob_threads.specs.Run.{AreWorkersRun, IsGiven}
 use Rattle.ob_threads.specs.Worked.{CanRun}
 use Rattle.ob_threads.proofs.Gathered.{if_both, if_then, then_done}
-use Rattle.ob_threads.proofs.WorkersPlay.{mapped, all_of_map, seats_stay, all_play}
+use Rattle.ob_threads.proofs.WorkersPlay.{mapped, all_of_map, are_run, seats_stay, all_play}
 use Rattle.ob_threads.proofs.seats.run_all.Goals as goal
 
 pub run_workers-requires-clause-parts : goal.run_workers-requires-clause-parts
@@ -20,7 +21,7 @@ returns-clause-seats g c =
     let seat_of = g.C.Callers.seat_of in
     if_then _ _ c.gather.result
     (λ ran passes. ap (map seat_of) passes ∙ (mapped seat_of (λ done. done.pass) c.in_ok-worked.worked.items
-    ∙ (seats_stay (λ job. lines_in job.part) (λ job. words_in job.words) (λ job. seat_of job.pass) (λ job. g.C.Callers.receipts job.pass) (λ done. seat_of done.pass) (λ done. g.C.Callers.receipts done.pass) (λ done. done.ended)
+    ∙ (seats_stay (IsGiven g.C.Callers.gives_fault) (λ job. job.part) (λ job. words_in job.words) (λ job. seat_of job.pass) (λ job. g.C.Callers.receipts job.pass) (λ done. seat_of done.pass) (λ done. g.C.Callers.receipts done.pass) (λ done. done.ended)
     c.in_ok-jobs.jobs.items c.in_ok-worked.worked.items c.in_ok-worked.ensures
     ∙ (sym (mapped seat_of (λ job. job.pass) c.in_ok-jobs.jobs.items) ∙ ap (map seat_of) c.in_ok-jobs.ensures.passes))))
     c.gather.ensures.passes
@@ -35,7 +36,19 @@ returns-clause-played g c =
     (λ done.
     subst (λ ls. AllZip (λ (l : Lines) (es : Entries). IsSeatPlayed l words es) ls (map receipts ran.0.items)) (sym (mapped lines_in (λ job. job.part) c.in_ok-jobs.jobs.items) ∙ ap (map lines_in) c.in_ok-jobs.ensures.parts)
     (subst (λ rs. AllZip (λ (l : Lines) (es : Entries). IsSeatPlayed l words es) (map (λ job. lines_in job.part) c.in_ok-jobs.jobs.items) rs) (sym (ap (map receipts) passes ∙ mapped receipts (λ done. done.pass) c.in_ok-worked.worked.items))
-    (all_play (λ job. lines_in job.part) (λ job. words_in job.words) (λ job. g.C.Callers.seat_of job.pass) (λ job. receipts job.pass) (λ done. g.C.Callers.seat_of done.pass) (λ done. receipts done.pass) (λ done. done.ended) words
+    (all_play (IsGiven g.C.Callers.gives_fault) (λ job. job.part) (λ job. words_in job.words) (λ job. g.C.Callers.seat_of job.pass) (λ job. receipts job.pass) (λ done. g.C.Callers.seat_of done.pass) (λ done. receipts done.pass) (λ done. done.ended) words
     c.in_ok-jobs.jobs.items c.in_ok-worked.worked.items c.in_ok-worked.ensures done fresh c.in_ok-jobs.ensures.words)))
     ended)
     c.gather.ensures.passes c.gather.ensures.ended
+
+pub returns-clause-run : goal.returns-clause-run
+returns-clause-run g c =
+    let receipts = g.C.Callers.receipts in
+    let words = for_worker (words_in c.args.seat.now.words) in
+    let known = IsGiven g.C.Callers.gives_fault in
+    let fresh = all_of_map (λ pass. receipts pass ≡ []) (λ job. job.pass) c.in_ok-jobs.jobs.items (subst (All (λ pass. receipts pass ≡ [])) (sym c.in_ok-jobs.ensures.passes) c.requires.fresh) in
+    if_both _ _ _ c.gather.result
+    (λ ran passes told. subst (λ ps. AreWorkersRun known ps words (map receipts ran.0.items) ran.1) c.in_ok-jobs.ensures.parts
+    (are_run known (λ job. job.part) (λ job. words_in job.words) (λ job. g.C.Callers.seat_of job.pass) (λ job. receipts job.pass) (λ done. g.C.Callers.seat_of done.pass) (λ done. receipts done.pass) (λ done. done.ended) words
+    c.in_ok-jobs.jobs.items c.in_ok-worked.worked.items (map receipts ran.0.items) ran.1 c.in_ok-worked.ensures fresh c.in_ok-jobs.ensures.words (ap (map receipts) passes ∙ mapped receipts (λ done. done.pass) c.in_ok-worked.worked.items) told))
+    c.gather.ensures.passes c.gather.ensures.told

@@ -1,6 +1,7 @@
 -- Seat 0 plays its lines before and behind the workers, and the workers theirs.
-use Rattle.std.proofs.Common.{◌≡◌, ◌∙◌, ◌++◌, OnOk, map, ap, sym, subst}
+use Rattle.std.proofs.Common.{◌≡◌, ◌∙◌, ◌++◌, [], IfErr, OnOk, inl, inr, map, ap, refl, sym, subst}
 use Rattle.std.specs.List.{AllZip}
+use Rattle.ob_base.specs.declared.fault.Fault.{Fault}
 use Rattle.ob_requests.specs.Tables.{words_in}
 use Rattle.ob_requests.specs.Words.{Words}
 use Rattle.ob_worker_lines.specs.Cuts.{Lines}
@@ -8,8 +9,11 @@ use Rattle.ob_worker_lines.specs.Parts.{lines_in}
 use Rattle.ob_seats.specs.Kept.{for_worker}
 use Rattle.ob_seats.specs.Played.{ArePlayed, IsSeatPlayed}
 use Rattle.ob_seats.specs.Received.{Entries}
+use Rattle.ob_seats.specs.Stopped.{IsPartStopped}
 use Rattle.ob_threads.specs.Played.{IsPlayedBy}
+use Rattle.ob_threads.specs.Run.{AreWorkersRun, IsGiven}
 use Rattle.ob_threads.proofs.Gathered.{both_done}
+use Rattle.ob_threads.proofs.WorkersPlay.{map_of_all, seat_runs}
 use Rattle.ob_threads.proofs.seats.run_seats.Goals as goal
 
 pub returns-in-Ok-clause-played : goal.returns-in-Ok-clause-played
@@ -32,3 +36,50 @@ returns-in-Ok-clause-played g c =
       last = last.2;
       workers_play = subst (λ ps. AllZip (λ (l : Lines) (es : Entries). IsSeatPlayed l (for_worker words) es) (map lines_in ps) (map receipts c.in-Ok.theirs.items)) c.as_slice.ensures.value workers;
     }))
+
+pub returns-in-Ok-clause-run : goal.returns-in-Ok-clause-run
+returns-in-Ok-clause-run g c =
+    let receipts = g.C.Callers.receipts in
+    let known = IsGiven g.C.Callers.gives_fault in
+    let script = c.args.script.now in
+    let words = words_in c.run_part-own.new.self.words in
+    let begun = subst (λ r. OnOk r ((entries : Entries) × (receipts c.run_part-own.result.0 ≡ receipts c.args.own ++ entries) × ArePlayed (lines_in script.before) (words_in c.in_ok-seat.seat.words) entries words))
+    c.in_default.is c.run_part-own.ensures.played in
+    let last = seat_runs known script.behind words (receipts c.run_part-own.result.0) (receipts c.run_seat-own.result.0) c.run_seat-own.result.1 c.run_seat-own.ensures.played c.run_seat-own.ensures.stopped in
+    inr (record {
+      begun = begun.0;
+      rest = last.0;
+      words = words;
+      their_end = c.in-Ok.ended;
+      own_end = c.run_seat-own.result.1;
+      whole = last.1 ∙ ap (λ es. es ++ last.0) (begun.1 ∙ ap (λ es. es ++ begun.0) c.requires.own);
+      first = subst (λ (w : Words). ArePlayed (lines_in script.before) w begun.0 words) c.in_ok-seat.ensures.first begun.2;
+      workers_run = subst (λ ps. AreWorkersRun known ps (for_worker words) (map receipts c.in-Ok.theirs.items) c.in-Ok.ended) c.as_slice.ensures.value c.in-Ok.ensures.run;
+      last = last.2;
+      told = c.told_of-ended.ensures;
+    })
+
+pub returns-in-Err-clause-run : goal.returns-in-Err-clause-run
+returns-in-Err-clause-run g c =
+    let receipts = g.C.Callers.receipts in
+    let pass = c.run_part-own.result.0 in
+    let known = λ (fault : Fault). g.C.Callers.gives_fault pass fault in
+    let before = c.args.script.now.before in
+    let words = words_in c.run_part-own.new.self.words in
+    let begun = subst (λ r. IfErr r (λ stopped. (entries : Entries) × (receipts pass ≡ receipts c.args.own ++ entries)
+    × IsPartStopped known before.first (lines_in before) (words_in c.in_ok-seat.seat.words) entries stopped words)) c.in-Err.is c.run_part-own.ensures.stopped in
+    let ended = c.end-own.ensures.let_go in
+    inl (
+      c.in-Err.stopped,
+      refl,
+      record {
+        begun = begun.0;
+        given_up = ended.0;
+        left = words;
+        last = pass;
+        whole = ended.1 ∙ ap (λ es. es ++ ended.0) (begun.1 ∙ ap (λ es. es ++ begun.0) c.requires.own);
+        stops = subst (λ (w : Words). IsPartStopped known before.first (lines_in before) w begun.0 c.in-Err.stopped words) c.in_ok-seat.ensures.first begun.2;
+        let_go = ended.2;
+        idle = map_of_all (λ (es : Entries). es ≡ []) receipts c.args.theirs.items c.requires.theirs;
+      },
+    )

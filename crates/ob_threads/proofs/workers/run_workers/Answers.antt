@@ -4,8 +4,8 @@ use mir.Syntax.{of_param}
 use denote.Param.Send.{Quiet-if}
 use Rattle.std.specs.Vec.{vec_len}
 use Rattle.ob_requests.specs.Tables.{words_in}
-use Rattle.ob_worker_lines.specs.Parts.{lines_in}
 use Rattle.ob_seats.specs.Kept.{AreHeld}
+use Rattle.ob_threads.specs.Run.{IsGiven}
 use Rattle.ob_threads.specs.Worked.{CanRun, IsWorked}
 use Rattle.ob_threads.proofs.Gathered.{if_both, zipped}
 use Rattle.ob_threads.proofs.workers.run_workers.Goals as goal
@@ -23,9 +23,9 @@ map_vec-requires-after_bounds g c κs within = λ i x inside is. (
 pub returns : goal.returns
 returns g c =
     if_both (λ v. vec_len v ≡ vec_len c.args.jobs) _ _ c.map_vec.result
-    (λ worked len each. zipped (λ job done. IsWorked (lines_in job.part) (words_in job.words) (g.C.Callers.seat_of job.pass) (g.C.Callers.seat_of done.pass) (g.C.Callers.receipts job.pass) (g.C.Callers.receipts done.pass) done.ended)
+    (λ worked len each. zipped (λ job done. IsWorked (IsGiven (λ pass fault. g.C.Callers.gives_fault pass fault)) job.part (words_in job.words) (g.C.Callers.seat_of job.pass) (g.C.Callers.seat_of done.pass) (g.C.Callers.receipts job.pass) (g.C.Callers.receipts done.pass) done.ended)
     c.args.jobs.items worked.items (sym worked.ok.0 ∙ (len ∙ c.args.jobs.ok.0))
     (λ i a b inside. let given = (each i b inside).1 in
-    subst (λ job. IsWorked (lines_in job.part) (words_in job.words) (g.C.Callers.seat_of job.pass) (g.C.Callers.seat_of (get_or worked.items i b).pass) (g.C.Callers.receipts job.pass)
+    subst (λ job. IsWorked (IsGiven (λ pass fault. g.C.Callers.gives_fault pass fault)) job.part (words_in job.words) (g.C.Callers.seat_of job.pass) (g.C.Callers.seat_of (get_or worked.items i b).pass) (g.C.Callers.receipts job.pass)
     (g.C.Callers.receipts (get_or worked.items i b).pass) (get_or worked.items i b).ended) (sym (given.job_is a)) given.call.met))
     c.map_vec.ensures.len c.map_vec.ensures.each

@@ -14,7 +14,7 @@ pub loop-lines-preserved : goal.loop-lines-preserved
 loop-lines-preserved c =
     let e = c.take_part-worker.ensures in
     let taken : IsTaken c.in-Some.lines.now (c.loop-lines.number + 1) c.take_part-worker.result =
-    record { whole = e.lines; own = e.script_lines; stopped = e.stopped; begins = e.first; ends = e.number; bound = e.bound } in
+    record { whole = e.lines; own = e.seat_lines; stopped = e.stopped; begins = e.first; ends = e.number; bound = e.bound } in
     let not_full : length c.loop-lines.workers.items ≢ most_workers = omega (arith, c.loop-lines.workers.ok.0) in
     let pushed : c.push.new.self.items ≡ c.loop-lines.workers.items ++ c.take_part-worker.result.part ∷ [] = search (rules, common_steps) in
     let P : List Part → Type 0 = λ ws. IsReadTo c.args.script.now c.take_part-start.result.part ws c.take_part-worker.result.rest.now c.take_part-worker.result.number in

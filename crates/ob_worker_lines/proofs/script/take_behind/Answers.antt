@@ -11,7 +11,7 @@ pub returns-else-is_empty-2-clause-misplaced : goal.returns-else-is_empty-2-clau
 returns-else-is_empty-2-clause-misplaced c =
     let e = c.take_part-last.ensures in
     let taken : IsTaken _ _ c.take_part-last.result =
-    record { whole = e.lines; own = e.script_lines; stopped = e.stopped; begins = e.first; ends = e.number; bound = e.bound } in
+    record { whole = e.lines; own = e.seat_lines; stopped = e.stopped; begins = e.first; ends = e.number; bound = e.bound } in
     let P : Bool → Type 0 = λ has. IsMisplaced has (lines_of c.args.rest.now) c.args.number c.take_part-last.result.number in
     subst P (sym c.if-has_workers.true)
     (later_misplaced c.args.rest.now c.in-Some.lines.now c.args.number c.take_part-last.result c.in-Some.ensures.found taken (eqb-false _ 0 (sym c.is_empty-in-Some.ensures ∙ c.if-is_empty-2.false)))

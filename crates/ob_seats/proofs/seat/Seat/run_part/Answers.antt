@@ -1,17 +1,23 @@
--- One line more was played.
+-- One line more is played.
 use Rattle.std.proofs.Common.{◌≡◌, ◌∙◌, ◌++◌, OnOk, subst}
-use Rattle.ob_lines.specs.Grammar.{form_seen}
-use Rattle.ob_lines.specs.Script.{BeginsWithLine, found_seen}
+use Rattle.ob_worker_lines.specs.Forms.{BeginsWithSeatLine, seat_form_seen, seat_found_seen}
 use Rattle.ob_requests.specs.Tables.{words_in}
 use Rattle.ob_seats.specs.Received.{Entries}
 use Rattle.ob_seats.specs.Played.{IsLinePlayed}
-use Rattle.ob_seats.proofs.Playing.{plays_more}
+use Rattle.ob_seats.proofs.Playing.{has_form, plays_more}
 use Rattle.ob_seats.proofs.seat.Seat.run_part.Goals as goal
+
+-- each line of a seat has a form
+pub unreachable-requires : goal.unreachable-requires
+unreachable-requires g c =
+    has_form c.args.part.text.now c.args.part.first (words_in c.args.self.now.words) (g.C.Callers.receipts c.args.pass) c.loop-form.rest.now c.loop-form.number (words_in c.loop-form.self.words)
+    (g.C.Callers.receipts c.loop-form.pass) c.loop-form.invariant.0 c.in-Some.behind.now
+    (subst (λ f. BeginsWithSeatLine c.loop-form.rest.now (seat_found_seen f) c.in-Some.behind.now) c.in_default-form.is c.in-Some.ensures.found)
 
 pub loop-form-preserved : goal.loop-form-preserved
 loop-form-preserved g c =
-    let form = form_seen c.in-Some-form.form in
-    let begins = subst (λ f. BeginsWithLine c.loop-form.rest.now (found_seen f) c.in-Some.behind.now) c.in-Some-form.is c.in-Some.ensures.found in
+    let form = seat_form_seen c.in-Some-form.form in
+    let begins = subst (λ f. BeginsWithSeatLine c.loop-form.rest.now (seat_found_seen f) c.in-Some.behind.now) c.in-Some-form.is c.in-Some.ensures.found in
     let told = subst (λ r. OnOk r ((entries : Entries) × (g.C.Callers.receipts c.perform-back.result.0 ≡ g.C.Callers.receipts c.loop-form.pass ++ entries)
     × IsLinePlayed form (words_in c.loop-form.self.words) entries (words_in c.perform-back.new.self.words))) c.in_default-done.is c.perform-back.ensures.played in (
       plays_more c.args.part.text.now c.args.part.first (words_in c.args.self.now.words) (g.C.Callers.receipts c.args.pass) c.loop-form.rest.now c.loop-form.number (words_in c.loop-form.self.words)

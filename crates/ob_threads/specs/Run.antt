@@ -1,0 +1,70 @@
+-- Runs of a script with workers, to the end of its lines or to where seats stop: the entries of each seat, and the end that is told.
+--
+-- Source: this profile.
+use Rattle.std.specs.Prelude.{◌≡◌, ◌⊎◌, ◌+◌, ℕ, List, [], ◌++◌, length, map, All, Err}
+use Rattle.std.specs.List.{AllZip}
+use Rattle.ob_base.specs.declared.fault.Fault.{Fault}
+use Rattle.ob_requests.specs.Words.{Words, first_words}
+use Rattle.ob_worker_lines.specs.declared.part.Part.{Part}
+use Rattle.ob_worker_lines.specs.declared.script.WorkerScript.{WorkerScript}
+use Rattle.ob_worker_lines.specs.Cuts.{IsCut, Lines}
+use Rattle.ob_worker_lines.specs.Parts.{AreNumbered, lines_in}
+use Rattle.ob_seats.specs.declared.stop.Stopped.{Stopped}
+use Rattle.ob_seats.specs.Kept.{for_worker}
+use Rattle.ob_seats.specs.Played.{ArePlayed}
+use Rattle.ob_seats.specs.Received.{Entries}
+use Rattle.ob_seats.specs.Stopped.{AreLetGo, IsPartStopped, Known}
+use Rattle.ob_threads.specs.Ended.{SeatOutcome, told_in, told_of}
+use Rattle.ob_threads.specs.Faults.{IsFaultAt}
+use Rattle.ob_threads.specs.Played.{IsJournalOf, SeatsRelation}
+use Rattle.ob_threads.specs.Worked.{IsSeatRun}
+
+-- some call answered this fault and handed this pass back
+abbrev pub IsGiven : {P : Type 0} → (P → Known) → Known
+IsGiven gives fault = (last : _) × gives last fault
+
+-- Each worker runs its part, beginning with these variables, by its own entries to its own end. One of these ends is told of them all.
+pub record AreWorkersRun (known : Fault → Type 0) (parts : List Part) (words : Words) (theirs : List Entries) (ended : SeatOutcome) : Type 0 where
+  pub runs : List (Entries × SeatOutcome)
+  pub each : AllZip (λ part run. IsSeatRun known part words run.0 run.1) parts runs
+  pub theirs_are : theirs ≡ map (λ run. run.0) runs
+  pub told : ended ≡ told_in (map (λ run. run.1) runs)
+
+-- Seat 0 stops at one of its lines before the workers, with this pass handed back last, and then its opens that wait are given up. No worker makes a step.
+pub record AreNotBegun {P : Type 0} (gives : P → Fault → Type 0) (before : Part) (own : Entries) (theirs : List Entries) (stopped : Stopped) : Type 0 where
+  pub begun : Entries
+  pub given_up : Entries
+  pub left : Words
+  pub last : P
+  pub whole : own ≡ begun ++ given_up
+  pub stops : IsPartStopped (gives last) before.first (lines_in before) first_words begun stopped left
+  pub let_go : AreLetGo left given_up
+  pub idle : All (λ entries. entries ≡ []) theirs
+
+-- Seat 0 plays its lines before the workers. Each worker runs its own, beginning with the variables that seat 0 then has, and seat 0 goes on with the lines
+-- after the workers. Of the ends of both one is told.
+pub record AreBegun (known : Fault → Type 0) (script : WorkerScript) (own : Entries) (theirs : List Entries) (ended : SeatOutcome) : Type 0 where
+  pub begun : Entries
+  pub rest : Entries
+  pub words : Words
+  pub their_end : SeatOutcome
+  pub own_end : SeatOutcome
+  pub whole : own ≡ begun ++ rest
+  pub first : ArePlayed (lines_in script.before) first_words begun words
+  pub workers_run : AreWorkersRun known script.workers.items (for_worker words) theirs their_end
+  pub last : IsSeatRun known script.behind words rest own_end
+  pub told : ended ≡ told_of their_end own_end
+
+-- A script that was cut is run and this end is told of it: seat 0 stops before the workers, or all seats run.
+abbrev pub AreRun : {P : Type 0} → (P → Known) → WorkerScript → SeatOutcome → SeatsRelation
+AreRun gives script ended own theirs =
+    ((stopped : Stopped) × (ended ≡ Err stopped) × AreNotBegun gives script.before own theirs stopped) ⊎ AreBegun (IsGiven gives) script own theirs ended
+
+-- A journal is that of a run of a script, of which this end is told: its lines are cut into numbered parts for the seats, each seat's entries are those of
+-- its run, and there are no other entries.
+pub record IsRunTo (lines : Lines) (journal : Entries) (seats : ℕ) (ended : SeatOutcome) : Type 0 where
+  pub script : WorkerScript
+  pub cut : IsCut lines (lines_in script.before) (map lines_in script.workers.items) (lines_in script.behind)
+  pub numbers : AreNumbered lines script
+  pub seated : seats ≡ length script.workers.items + 1
+  pub run : IsJournalOf (AreRun IsFaultAt script ended) (length script.workers.items) journal
