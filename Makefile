@@ -32,7 +32,7 @@ definitions:
 	gate/wrong.py --definitions $(CRATE)
 
 random:
-	cd crates/ob_random_tests && COMMANDS=$(COMMANDS) ../../gate/rt.py test
+	cd crates/ob_random_tests && COMMANDS=$(COMMANDS) rt test
 
 build:
 	@gate/build.py ntns

@@ -72,7 +72,7 @@ def main():
     program = sys.argv[1]
     with tempfile.TemporaryDirectory(prefix="ntns-bench-") as folder:
         empty = Path(folder) / "empty"
-        empty.write_bytes(b'{"journal":1,"seats":1}\n')
+        empty.write_bytes(b'{"first":1,"journal":2,"seats":1,"segment":1}\n')
         _, least_memory, _ = run([program, "replay", str(empty)])
         for shows, (there, line, entries) in SCRIPTS.items():
             took = {}

@@ -1,20 +1,23 @@
 #!/usr/bin/env python3
 """Proves a program or a static library with all crates below it, and builds it, with a line a crate.
 
-It runs `rt ci` in a copy of these crates alone, and then `rt lib` for a static library, for which `rt ci` makes no archive. What was built goes
-to crates/NAME/out/, and is not built again while its files and the kit stay the same. The lines of the prover go to out/build.log.
+It runs `rt ci` in a copy of these crates alone, and then `rt lib` for a static library, for which `rt ci` makes no archive. The result is in
+crates/NAME/out/, and is not built again while its files and the kit stay the same. The lines of the prover are in out/build.log.
 
     gate/build.py NAME..             NAME: a program or a static library of crates.txt
     gate/build.py --before           prints the sum of all files, before a `rt ci` in the work tree
     gate/build.py --after SUM        notes what that `rt ci` has built, if no file has changed since
 
-After the second, an archive is built over the libraries which that `rt ci` left in the work tree, so they are not proved twice. `rt` uses a library only with a stamp,
-the sum of its files, which `rt ci` doesn't write because libraries of other runs may stand beside its own. They are used only if no library stood there
+After the last, an archive is built over the libraries which that `rt ci` left in the work tree, so they are not proved twice. `rt` uses a library only with a
+stamp, the sum of its files, which `rt ci` doesn't write because libraries of other runs may be beside its own. They are used only if no library was there
 before that run, and only in a copy of the crates. The exit status is 0 if all was proved, else 1.
 """
 
 import argparse
 import hashlib
+import importlib.machinery
+import importlib.util
+import os
 import re
 import shutil
 import subprocess
@@ -23,7 +26,6 @@ import tempfile
 import time
 from pathlib import Path
 
-import rt
 from crates import EDITS, MADE, ROOT, RT, copied, folder_of, is_program, listed, with_dependencies
 
 LOG = ROOT / MADE / "build.log"
@@ -62,20 +64,23 @@ def is_built(name):
     return made.is_file() and stamp.is_file() and stamp.read_text() == sum_of(with_dependencies(name))
 
 
-def libraries(root):
-    """The folders of the libraries that are built below this root."""
-    return sorted(root.glob(f"crates/*/{MADE}/rlib"))
+def libraries():
+    """The folders of the libraries in the work tree."""
+    return list(ROOT.glob(f"crates/*/{MADE}/rlib"))
 
 
 def has_fresh_libraries():
     """Whether the libraries in the work tree are those of one `rt ci` over today's files."""
-    return PROVED.is_file() and PROVED.read_text() == sum_of(listed()) and not any((it / "stamp").exists() for it in libraries(ROOT))
+    return PROVED.is_file() and PROVED.read_text() == sum_of(listed()) and not any((it / "stamp").exists() for it in libraries())
 
 
 def stamp(folder):
-    """Writes the stamps of the libraries in a copy, all of them of one run; without them `rt lib` proves what it needs itself."""
+    """Writes the stamps of the libraries in a copy, all of them of one run, by `rt` as a module; without them `rt lib` proves what it needs itself."""
     try:
-        for crate in rt.loaded().rtlib.crates_below(str(folder)):
+        loader = importlib.machinery.SourceFileLoader("rt", os.path.realpath(shutil.which("rt")))
+        kit = importlib.util.module_from_spec(importlib.util.spec_from_loader("rt", loader))
+        loader.exec_module(kit)
+        for crate in kit.rtlib.crates_below(str(folder)):
             place = Path(crate.folder) / MADE / "rlib"
             if place.is_dir():
                 (place / "stamp").write_text(crate.stamp())
@@ -91,8 +96,7 @@ def run(words, folder, log, count=0):
         for line in ran.stdout:
             log.write(line)
             lines.append(line.rstrip("\n"))
-            found = DONE.match(lines[-1])
-            if found:
+            if found := DONE.match(lines[-1]):
                 done += 1
                 say(f"{done} of {count} proved: {found[1]}, {(time.monotonic() - begun) / 60:.1f} min")
     return lines if ran.returncode else []
@@ -142,7 +146,7 @@ def main():
     parser.add_argument("--after", metavar="SUM")
     words = parser.parse_args()
     if words.before:
-        print(sum_of(listed()), "" if libraries(ROOT) else "alone")
+        print(sum_of(listed()), "" if libraries() else "alone")
     if words.after:
         note(words.after)
     return 0 if all(is_built(name) or build(name) for name in words.names) else 1

@@ -1,16 +1,14 @@
 #!/usr/bin/env python3
 """Builds the static library for C, and programs in C and C++ that link it, and runs these.
 
-- The header stands alone in C11 and in C++17, and the archive has what the header declares; of a caller's program it needs nothing but memory.
-- The program of README.md's section 'From C', in both languages, prints what stands there.
-- The clients of `clients/`: worked cases, odd arguments, and each request for memory refused in turn; where valgrind is there, also under it: no error, no leak. What
-  `clients/bench.c` times, each operation once.
+- The header alone compiles in C11 and in C++17, and the archive has what the header declares; of a caller's program it needs nothing but memory.
+- The program of README.md's section 'From C', in both languages, prints what is shown there.
+- The clients of `clients/`: worked cases, odd arguments, and each request for memory refused in turn; where valgrind is there, also under it: no error, no
+  leak. `clients/bench.c`, with each operation once.
 - Each wrong library of `clients/wrong.c` fails a client.
 - What `make install` puts into a folder serves a program.
 
     gate/c.py [ARCHIVE]      ARCHIVE: a library to be tried in place of the one that is built
-
-The last line is 'N passed, M failed'. The exit status is 0 where none failed, else 1.
 """
 
 import os
@@ -24,13 +22,13 @@ from pathlib import Path
 
 import library
 from crates import ROOT
+from runs import Count
 
-CLIENTS = ROOT / "clients"
+CLIENTS, INCLUDE = ROOT / "clients", ("-I", str(library.INCLUDE))
 C = (os.environ.get("CC", "cc"), "-std=c11")
 CXX = (os.environ.get("CXX", "c++"), "-x", "c++", "-std=c++17")
 FLAGS = ("-O1", "-g", "-Wall", "-Wextra", "-Werror")
 VALGRIND = ("valgrind", "--quiet", "--leak-check=full", "--show-leak-kinds=all", "--errors-for-leak-kinds=all", "--error-exitcode=9")
-SECONDS = 1800
 
 # where the library says that it is installed
 PREFIX = "/usr/local"
@@ -38,61 +36,43 @@ PREFIX = "/usr/local"
 # what of the C library the archive may refer to
 NEEDED = {"malloc", "realloc", "free", "memcpy", "memmove", "memset", "memcmp", "bcmp"}
 
-# the calls whose requests for memory a client hands to functions of its own
-OF_MEMORY = ("malloc", "calloc", "realloc", "free")
-
-# the clients, with what they are made of and which calls are handed to their own functions
+# the clients: their sources, and the calls that they hand to functions of their own
 MADE_OF = {
     "cases": (("cases.c", "play.c"), ()),
     "hostile": (("hostile.c",), ()),
-    "refusals": (("refusals.c", "play.c"), OF_MEMORY),
+    "refusals": (("refusals.c", "play.c"), ("malloc", "calloc", "realloc", "free")),
 }
 
-# the wrong libraries of clients/wrong.c: what each does, its macro, its call, and the client that has to tell it
-WRONG = [
-    ("a handle that isn't told", "HANDLE_IS_NOT_TOLD", "ntns_open_directory", "cases"),
-    ("a handle that is told where none is given", "HANDLE_IS_TOLD_OF_A_REFUSAL", "ntns_open_directory", "cases"),
-    ("a status that is another", "STATUS_IS_ANOTHER", "ntns_open_directory", "cases"),
-    ("a close that leaves the struct open", "CLOSE_LEAVES_IT_OPEN", "ntns_close", "cases"),
-    ("a close that frees nothing", "CLOSE_FREES_NOTHING", "ntns_close", "refusals"),
-    ("an open of what is open", "OPENS_AGAIN", "ntns_open", "hostile"),
-    ("a close of a handle that closes none", "NOTHING_IS_CLOSED", "ntns_close_handle", "cases"),
-    ("a deleted object that is told twice", "DELETED_IS_TOLD_TWICE", "ntns_next_deleted", "cases"),
-    ("a deleted object that is never told", "DELETED_IS_NEVER_TOLD", "ntns_next_deleted", "cases"),
-    ("a query that writes past the room", "WRITES_PAST_THE_ROOM", "ntns_query_name", "cases"),
-    ("a query that writes where room is missing", "WRITES_WHERE_ROOM_IS_MISSING", "ntns_query_link", "cases"),
-    ("a parse that loses a byte of the rest", "LOSES_A_BYTE", "ntns_query_file", "cases"),
-    ("a context that moves where room is missing", "CONTEXT_MOVES_WHERE_ROOM_IS_MISSING", "ntns_next_entry", "cases"),
-    ("a page that loses an entry", "PAGE_LOSES_AN_ENTRY", "ntns_next_page", "cases"),
-    ("a page that is the first again", "PAGE_IS_THE_FIRST", "ntns_next_page", "cases"),
-    ("an object with another word", "ANOTHER_WORD", "ntns_create_object", "cases"),
-    ("a create that is refused memory and done", "REFUSED_MEMORY_AND_DONE", "ntns_create_directory", "refusals"),
-    ("a query that loses memory", "LOSES_MEMORY", "ntns_query_name", "refusals"),
-]
-
-
-# the last line of a client
-COUNTED = re.compile(r"([0-9]+) passed, ([0-9]+) failed")
+# the client that a wrong library of clients/wrong.c fails, if it is another than `cases`, by the library's macro
+FAILS = {"OPENS_AGAIN": "hostile", "CLOSE_FREES_NOTHING": "refusals", "REFUSED_MEMORY_AND_DONE": "refusals", "LOSES_MEMORY": "refusals"}
 
 
 class Fault(Exception):
     """What is wrong."""
 
 
-def run(words, **how):
-    """Runs a command; what it printed. It is a fault where it can't be run, or ends with another status than 0."""
+def ended(words, **how):
+    """How a command ended."""
     try:
-        ended = subprocess.run(words, capture_output=True, text=True, errors="replace", timeout=SECONDS, check=False, stdin=subprocess.DEVNULL, **how)
+        return subprocess.run(words, capture_output=True, text=True, errors="replace", timeout=1800, check=False, stdin=subprocess.DEVNULL, **how)
     except (OSError, subprocess.TimeoutExpired) as error:
         raise Fault(str(error)) from error
-    if ended.returncode:
-        raise Fault(f"{Path(words[0]).name} ended with {ended.returncode}: {(ended.stderr + ended.stdout)[-1500:]}")
-    return ended.stdout
 
 
-def last_of(output):
-    """The last line of what was printed."""
-    return output.splitlines()[-1] if output else ""
+def run(words, **how):
+    """What a command printed, which has to end with status 0."""
+    ran = ended(words, **how)
+    if ran.returncode:
+        raise Fault(f"{Path(words[0]).name} ended with {ran.returncode}: {(ran.stderr + ran.stdout)[-1500:]}")
+    return ran.stdout
+
+
+def checked(words):
+    """The status of a client, how many of its checks passed and failed by its last line, and the lines of what isn't well."""
+    ran = ended(words)
+    lines = [*ran.stderr.splitlines(), *ran.stdout.splitlines()]
+    counted = re.fullmatch(r"(\d+) passed, (\d+) failed", lines[-1] if ran.stdout else "")
+    return ran.returncode, *(map(int, counted.groups()) if counted else (0, 0)), [line for line in lines if not line.endswith(" ok")]
 
 
 def shown_in(readme):
@@ -117,6 +97,11 @@ def names_in(table):
     return defined, {name for kind, name in rows if kind in "Uw"} - defined
 
 
+def wrong_libraries(source):
+    """The wrong libraries that a source has: the macro of each, and its call."""
+    return re.findall(r"^#(?:el)?if defined (\w+)$.*?^INSTEAD\([^,]*, (\w+)", source, re.MULTILINE | re.DOTALL)
+
+
 class Bench:
     """A folder in which programs are made and run."""
 
@@ -128,7 +113,7 @@ class Bench:
         objects = []
         for source in sources:
             objects.append(str(self.folder / f"{name}-{source.stem}.o"))
-            run([*language, *FLAGS, *flags, "-I", str(library.INCLUDE), "-c", str(source), "-o", objects[-1]])
+            run([*language, *FLAGS, *flags, *INCLUDE, "-c", str(source), "-o", objects[-1]])
         program = str(self.folder / name)
         run([language[0], *objects, str(self.archive), *(f"-Wl,--wrap={call}" for call in wrapped), "-o", program])
         return program
@@ -137,16 +122,14 @@ class Bench:
         """The header alone, twice."""
         source = self.folder / "header.c"
         source.write_text("#include <ntns.h>\n#include <ntns.h>\n")
-        run([*language, *FLAGS, "-pedantic", "-fsyntax-only", "-I", str(library.INCLUDE), str(source)])
+        run([*language, *FLAGS, "-pedantic", "-fsyntax-only", *INCLUDE, str(source)])
 
     def symbols(self):
         """What the archive defines and needs."""
         declared = declared_in((library.INCLUDE / "ntns.h").read_text())
         defined, needed = names_in(run([os.environ.get("NM", "nm"), str(self.archive)]))
-        if declared - defined:
-            raise Fault(f"the archive lacks {sorted(declared - defined)}")
-        if needed - NEEDED:
-            raise Fault(f"the archive needs {sorted(needed - NEEDED)}")
+        if declared - defined or needed - NEEDED:
+            raise Fault(f"the archive lacks {sorted(declared - defined)}, and needs {sorted(needed - NEEDED)}")
 
     def shown(self, language, *before):
         """The program that README.md shows."""
@@ -158,41 +141,36 @@ class Bench:
             raise Fault(f"it printed {output!r}")
 
     def client(self, name, *before):
-        """A client, perhaps under another program; its last line."""
+        """A client, perhaps under another program."""
         sources, wrapped = MADE_OF[name]
-        program = self.made(name, [CLIENTS / source for source in sources], wrapped=wrapped)
-        ended = subprocess.run([*before, program], capture_output=True, text=True, errors="replace", timeout=SECONDS, check=False)
-        counted = COUNTED.fullmatch(last_of(ended.stdout))
-        if ended.returncode or not counted or counted[1] == "0" or counted[2] != "0":
-            told = [line for line in (ended.stdout + ended.stderr).splitlines() if not line.endswith(" ok")]
-            raise Fault("\n".join([f"it ended with {ended.returncode}", *told[:20]]))
-        return counted[0]
+        status, passed, failed, lines = checked([*before, self.made(name, [CLIENTS / source for source in sources], wrapped=wrapped)])
+        if status or not passed or failed:
+            raise Fault("\n".join([f"it ended with {status}", *lines[:20]]))
 
     def timed(self):
         """The operations that `clients/bench.c` times, each once."""
         run([self.made("bench", [CLIENTS / "bench.c"]), "1"])
 
-    def wrong(self, macro, call, name):
-        """A wrong library, which a client has to tell, and so to its end."""
-        sources, wrapped = MADE_OF[name]
+    def wrong(self, macro, call):
+        """A wrong library, which fails a client, and yet lets it come to its end."""
+        sources, wrapped = MADE_OF[FAILS.get(macro, "cases")]
         program = self.made(macro, [CLIENTS / source for source in ("wrong.c", *sources)], f"-D{macro}", wrapped=(*wrapped, call))
-        ended = subprocess.run([program], stdout=subprocess.PIPE, text=True, errors="replace", timeout=SECONDS, check=False)
-        counted = COUNTED.fullmatch(last_of(ended.stdout))
-        if ended.returncode != 1 or not counted or counted[2] == "0":
-            raise Fault(f"{name} ended with {ended.returncode} and {last_of(ended.stdout)!r}")
-        return counted[0]
+        status, passed, failed, _ = checked([program])
+        if status != 1 or not failed:
+            raise Fault(f"the client ended with {status}: {passed} passed, {failed} failed")
 
     def installed(self):
         """What `make install` leaves, by which the program that README.md shows is made and run."""
         place = self.folder / "root"
         run(["make", "-s", "install", f"PREFIX={PREFIX}", f"DESTDIR={place}"], cwd=ROOT)
         package = (place / f"{PREFIX[1:]}/lib/pkgconfig/ntns.pc").read_text()
-        said = dict(re.findall(r"^(\w+)[=:] *(.*)$", package.replace(PREFIX, f"{place}{PREFIX}"), re.MULTILINE))
-        words = {name: re.sub(r"\$\{(\w+)\}", lambda it: said[it[1]].replace("${prefix}", said["prefix"]), said[name]).split() for name in ("Cflags", "Libs")}
+        says = dict(re.findall(r"^(\w+)[=:] *(.*)$", package.replace(PREFIX, f"{place}{PREFIX}"), re.MULTILINE))
+        folders = {f"${{{name}}}": says[name].replace("${prefix}", says["prefix"]) for name in ("includedir", "libdir")}
+        flags, libraries = (re.sub(r"\$\{\w+\}", lambda it: folders[it[0]], says[name]).split() for name in ("Cflags", "Libs"))
         text, prints = shown_in((ROOT / "README.md").read_text())
-        (self.folder / "installed.c").write_text(text)
-        program = str(self.folder / "installed")
-        run([*C, *FLAGS, *words["Cflags"], str(self.folder / "installed.c"), *words["Libs"], "-o", program])
+        source, program = self.folder / "installed.c", str(self.folder / "installed")
+        source.write_text(text)
+        run([*C, *FLAGS, *flags, str(source), *libraries, "-o", program])
         if run([program]) != prints:
             raise Fault("the program printed another thing")
 
@@ -213,39 +191,32 @@ def parts(is_built):
         yield "worked cases under valgrind", lambda bench: bench.client("cases", *VALGRIND)
         yield "odd arguments under valgrind", lambda bench: bench.client("hostile", *VALGRIND)
         yield "each request for memory refused in turn, under valgrind", lambda bench: bench.client("refusals", *VALGRIND)
-    for does, macro, call, name in WRONG:
-        yield f"a wrong library is told: {does}", lambda bench, macro=macro, call=call, name=name: bench.wrong(macro, call, name)
+    for macro, call in wrong_libraries((CLIENTS / "wrong.c").read_text()):
+        yield f"a wrong library fails a client: {macro}", lambda bench, macro=macro, call=call: bench.wrong(macro, call)
     if is_built:
         yield "what is installed serves a program", Bench.installed
 
 
-def outcome(folder, archive, part):
-    """Whether a part passes, on a bench in a new folder, and what it tells."""
+def fault_of(part, folder, archive):
+    """What is wrong with a part, on a bench in a new folder."""
     try:
-        return True, part(Bench(Path(tempfile.mkdtemp(dir=folder)), archive))
-    except (Fault, subprocess.TimeoutExpired) as fault:
-        return False, fault
+        part(Bench(Path(tempfile.mkdtemp(dir=folder)), archive))
+    except Fault as fault:
+        return str(fault)
+    return ""
 
 
 def main():
     if len(sys.argv) > 2:
         sys.exit("usage: gate/c.py [ARCHIVE]")
-    if len(sys.argv) == 1 and not library.make(PREFIX):
-        print("c: error: the library is not built")
-        print("0 passed, 1 failed")
-        return 1
-    passed = failed = 0
-    archive = Path(sys.argv[1]).resolve() if len(sys.argv) == 2 else library.ARCHIVE
+    is_built = len(sys.argv) == 1
+    if is_built and not library.make(PREFIX):
+        sys.exit("c: error: the library is not built\n0 passed, 1 failed")
+    archive, count = library.ARCHIVE if is_built else Path(sys.argv[1]).resolve(), Count("c")
     with tempfile.TemporaryDirectory(prefix="ntns-c-") as folder, ThreadPoolExecutor(os.cpu_count()) as pool:
-        tried = [(shows, pool.submit(outcome, folder, archive, part)) for shows, part in parts(len(sys.argv) == 1)]
-        for shows, awaited in tried:
-            has_passed, told = awaited.result()
-            passed += has_passed
-            failed += not has_passed
-            said = (f"ok ({told})" if told else "ok") if has_passed else f"failed: {told}"
-            print(f"c: {shows} ... {said}", flush=True)
-    print(f"{passed} passed, {failed} failed")
-    return 1 if failed else 0
+        for shows, fault in [(shows, pool.submit(fault_of, part, folder, archive)) for shows, part in parts(is_built)]:
+            count.add(shows, [fault.result()])
+    return count.end()
 
 
 if __name__ == "__main__":

@@ -7,7 +7,7 @@ from functools import cache
 from pathlib import Path
 
 ROOT = Path(__file__).resolve().parent.parent
-RT = str(ROOT / "gate" / "rt.py")
+RT = "rt"
 
 # the folders of a crate that no check reads, and the one in which `rt` keeps its work
 EDITS = ("must-fail", "wrong", "definitions")

@@ -7,6 +7,8 @@ from pathlib import Path
 
 from crates import folder_of
 
+WRONG, DEFINITIONS = "wrong", "definitions"
+
 
 class Unfit(Exception):
     """An edit that can't be tried."""
@@ -14,7 +16,7 @@ class Unfit(Exception):
 
 @dataclass(frozen=True)
 class Function:
-    """A function of a source file: its path as `rt check` prints it, and where its text and its body lie."""
+    """A function of a source file: its path as `rt check` prints it, and where it starts, its body opens, and both end."""
 
     path: str
     start: int
@@ -30,31 +32,36 @@ class Function:
         parent, _, name = self.path.rpartition("::")
         return path == self.path or path.startswith(f"{parent}::fn::{name}::")
 
+    def parts(self, text):
+        """What is around the function, its statement, and its body, without their layout."""
+        return [part.split() for part in (text[: self.start] + text[self.end :], text[self.start : self.opens], text[self.opens : self.end])]
+
 
 @dataclass(frozen=True)
 class Edit:
-    """A wrong body: the files that it changes, with their new texts, and the function that it turns, with the text in its place."""
+    """A wrong body or a turned definition: the files that it changes, with their new texts, and the functions whose check must refuse it."""
 
     crate: str
     name: str
     files: dict
-    function: Function  # none if a test is to tell it
-    turned: str
-    refusal: str  # the code of the compiler's error that refuses it before any proof, if that is what does
-    fails: str  # the test that fails with it, if no contract refuses it
+    functions: list  # the one that is turned, or all of the name
+    turned: str = ""  # the new text of the one that is turned
+    refusal: str = ""  # the code of the compiler's error that refuses it before any proof, if that is what does
+    fails: str = ""  # the test that fails with it, if no contract refuses it
 
     @property
     def file(self):
         return next(iter(self.files))
 
+    @property
+    def function(self):
+        return self.functions[0]
+
 
 def blanked(text):
     """The text of a source file with comments, strings and characters blanked, so that braces can be counted."""
-    pattern = re.compile(
-        r'//[^\n]*|/\*.*?\*/|b?"(?:\\.|[^"\\])*"|b?\'(?:\\(?:x[0-9a-fA-F]{2}|u\{[0-9a-fA-F]+\}|.)|[^\'\\])\'',
-        re.S,
-    )
-    return pattern.sub(lambda match: re.sub(r"[^\n]", " ", match.group()), text)
+    pattern = r'//[^\n]*|/\*.*?\*/|b?"(?:\\.|[^"\\])*"|b?\'(?:\\(?:x[0-9a-fA-F]{2}|u\{[0-9a-fA-F]+\}|.)|[^\'\\])\''
+    return re.sub(pattern, lambda match: re.sub(r"[^\n]", " ", match[0]), text, flags=re.S)
 
 
 @cache
@@ -62,7 +69,7 @@ def braces(plain):
     """Where each brace of a blanked text that opens is closed."""
     found, opened = {}, []
     for match in re.finditer(r"[{}]", plain):
-        if match.group() == "{":
+        if match[0] == "{":
             opened.append(match.start())
         elif opened:
             found[opened.pop()] = match.start()
@@ -73,191 +80,161 @@ def braces(plain):
 
 def type_name(text):
     """The name of a type without its path, its references and its parameters; the prover calls the error of `io` by both names."""
-    text = re.sub(r"<.*", "", text.strip(), flags=re.S).replace("io::Error", "IoError")
-    return text.lstrip("&").strip().split("::")[-1].split()[-1]
+    return re.sub(r"<.*", "", text.strip(), flags=re.S).replace("io::Error", "IoError").lstrip("&").strip().split("::")[-1].split()[-1]
 
 
 def trait_name(text):
-    """The name of a trait with those of its parameters behind it."""
+    """The name of a trait, then those of its parameters."""
     name, _, parameters = text.strip().partition("<")
     return type_name(name) + "".join(type_name(it) for it in parameters.removesuffix(">").split(",") if it.strip())
 
 
 def owner_of(header):
-    """How an `impl` stands in the path of its functions: the type, and the trait behind it."""
-    header = header.split(" where ")[0].strip()
-    depth, cut = 0, None
-    if header.startswith("<"):
-        for place, mark in enumerate(header):
-            depth += (mark == "<") - (mark == ">" and header[place - 1] != "-")
-            if depth == 0:
-                header = header[place + 1 :].strip()
-                break
-    depth = 0
-    for match in re.finditer(r"[<>]|\bfor\b", header):
-        word = match.group()
-        if word == "<":
-            depth += 1
-        elif word == ">":
-            depth -= 1
-        elif depth == 0:
-            cut = match
-            break
-    if cut is None:
-        return type_name(header)
-    return type_name(header[cut.end() :]) + trait_name(header[: cut.start()])
+    """How an `impl` appears in the path of its functions: the type, then the trait."""
+    header = header.split(" where ")[0].replace("->", "  ").strip()
+    plain, was = header, ""
+    while plain != was:
+        plain, was = re.sub(r"<[^<>]*>", lambda match: "." * len(match[0]), plain), plain
+    parameters = re.match(r"\.*", plain).end()
+    of_type = re.search(r"\bfor\b", plain)
+    return type_name(header[of_type.end() :]) + trait_name(header[parameters : of_type.start()]) if of_type else type_name(header[parameters:])
 
 
 def module_of(file):
     """The module that a source file is."""
-    parts = Path(file).with_suffix("").parts[1:]
-    return [part for part in parts if part not in ("lib", "main", "mod")]
+    return [part for part in Path(file).with_suffix("").parts[1:] if part not in ("lib", "main", "mod")]
+
+
+def sources_of(crate):
+    """The source files of a crate, with their texts."""
+    home = folder_of(crate)
+    return [(str(path.relative_to(home)), path.read_text()) for path in sorted((home / "src").rglob("*.rt"))]
 
 
 @cache
 def homes(crate):
     """The modules of a crate that declare its types, by the types' names."""
     found = {}
-    for path in sorted((folder_of(crate) / "src").rglob("*.rt")):
-        module = module_of(path.relative_to(folder_of(crate)))
-        for match in re.finditer(r"\b(?:struct|enum)\s+(\w+)", blanked(path.read_text())):
-            found.setdefault(match.group(1), module)
+    for file, text in sources_of(crate):
+        for name in re.findall(r"\b(?:struct|enum)\s+(\w+)", blanked(text)):
+            found.setdefault(name, module_of(file))
     return found
 
 
 def body_of(plain, place):
     """Where the body of a function opens that is named before `place`; none for a declaration.
 
-    Clauses stand in braces too, behind `requires` or `ensures` and perhaps a name, and the type of an array has a semicolon.
+    Clauses are in braces too, after `requires` or `ensures` and perhaps a name, and the type of an array has a semicolon.
     """
-    while True:
-        match = re.compile(r"\[[^\[\]]*\]|[{;]").search(plain, place)
-        if match is None or match.group() == ";":
-            return None
-        if match.group() != "{":
+    while match := re.compile(r"\[[^\[\]]*\]|[{;]").search(plain, place):
+        if match[0] == ";":
+            break
+        if match[0] != "{":
             place = match.end()
-            continue
-        before = plain[max(0, match.start() - 200) : match.start()].rstrip()
-        if not re.search(r"\b(?:requires|ensures\*?|ghost)(?:\s+\w+)?(?:\s*=)?$", before):
+        elif re.search(r"\b(?:requires|ensures\*?|ghost)(?:\s+\w+)?(?:\s*=)?$", plain[max(0, match.start() - 200) : match.start()].rstrip()):
+            place = braces(plain)[match.start()] + 1
+        else:
             return match.start()
-        place = braces(plain)[match.start()] + 1
+    return None
 
 
 @cache
 def functions_of(crate, file, text):
-    """The functions with a body of a source file. A type's own functions have the path of the module that declares it,
-    wherever they stand; those of a trait have that of their file."""
-    module = module_of(file)
-    plain = blanked(text)
+    """The functions with a body of a source file. The path of a type's own function has the module that declares the type; that of a trait's has the file's."""
+    module, plain = module_of(file), blanked(text)
     blocks = []
     for match in re.finditer(r"\b(?:impl\b([^{;]*)|mod\s+(\w+)\s*|trait\s+(\w+)[^{;]*)\{", plain):
-        name = owner_of(match.group(1)) if match.group(1) is not None else match.group(2) or match.group(3)
-        open_at = match.end() - 1
-        home = homes(crate).get(name, module) if match.group(1) is not None else module
-        blocks.append((open_at, braces(plain)[open_at], name, home))
+        name = match[2] or match[3] or owner_of(match[1])
+        home = module if match[1] is None else homes(crate).get(name, module)
+        blocks.append((match.end() - 1, braces(plain)[match.end() - 1], name, home))
     found = []
     for match in re.finditer(r"\bfn\s+(\w+)", plain):
-        open_at = body_of(plain, match.end())
-        if open_at is None:
-            continue
-        around = [(name, home) for start, end, name, home in blocks if start < match.start() < end]
-        home = around[-1][1] if around else module
-        path = "::".join([crate, *home, *(name for name, _ in around), match.group(1)])
-        found.append(Function(path, match.start(), open_at, braces(plain)[open_at] + 1))
+        opens = body_of(plain, match.end())
+        if opens is not None:
+            around = [(name, home) for start, end, name, home in blocks if start < match.start() < end]
+            home = around[-1][1] if around else module
+            path = "::".join([crate, *home, *(name for name, _ in around), match[1]])
+            found.append(Function(path, match.start(), opens, braces(plain)[opens] + 1))
     return found
 
 
 def functions_named(crate, name):
     """The functions of a crate that have this name."""
-    home = folder_of(crate)
-    files = [path.relative_to(home) for path in sorted((home / "src").rglob("*.rt"))]
-    found = [it for file in files for it in functions_of(crate, str(file), (home / file).read_text())]
-    return [it for it in found if it.name == name]
+    found = [it for file, text in sources_of(crate) for it in functions_of(crate, file, text) if it.name == name]
+    if not found:
+        raise Unfit(f"the crate has no function {name}")
+    return found
 
 
 def read_lines(path):
-    """What an edit says in lines `refusal` and `fails`, by these names, and its texts: each a file, an old text and the new one."""
-    told, file, texts = {}, None, []
+    """What an edit says in its lines `refusal` and `fails`, by these names, and its texts: each a file, an old text and the new one."""
+    says, texts = {"file": None}, []
     for line in path.read_text().splitlines():
         key, _, value = line.partition(":")
         value = value.removeprefix(" ")
-        if key == "file":
-            file = value.strip()
-        elif key in ("refusal", "fails"):
-            told[key] = value.strip()
+        if key in ("file", "refusal", "fails"):
+            says[key] = value.strip()
         elif key == "old":
-            texts.append([file, value, None])
+            texts.append([says["file"], value, None])
         elif key == "new" and texts:
             texts[-1][2] = value
         elif line.strip():
             raise Unfit(f"a line that is no part of an edit: {line}")
     if not texts or any(None in text for text in texts):
         raise Unfit("no file, or an old text without a new one")
-    return told, texts
+    return says, texts
 
 
 def turned_files(crate, texts):
-    """The files that an edit changes, each with its text and that text turned."""
+    """The files that an edit changes, with their new texts."""
     found = {}
     for file, old, new in texts:
         source = folder_of(crate) / file
         if file.split("/")[0] not in ("src", "specs") or not source.is_file():
             raise Unfit(f"{file} is no file of the crate's src/ or specs/")
-        text, turned = found.get(file) or (source.read_text(),) * 2
-        if turned.count(old) != 1:
-            raise Unfit(f"the text '{old}' is in {file} {turned.count(old)} times, and not once")
-        found[file] = text, turned.replace(old, new)
+        text = found.get(file) or source.read_text()
+        if text.count(old) != 1:
+            raise Unfit(f"the text '{old}' is in {file} {text.count(old)} times, and not once")
+        found[file] = text.replace(old, new)
     return found
 
 
-def definition_of(crate, path):
-    """The one file that a turned definition changes, and its turned text."""
-    found = turned_files(crate, read_lines(path)[1])
-    if len(found) != 1:
-        raise Unfit("it turns several files")
-    return next((file, turned) for file, (_, turned) in found.items())
-
-
 def read_edit(crate, path):
-    """A wrong body. Its name begins with that of the function it turns, the only one unless a test is to tell it."""
-    told, texts = read_lines(path)
-    found, name = turned_files(crate, texts), path.stem.split("-")[0]
-    if "fails" in told:
-        if not functions_named(crate, name):
-            raise Unfit(f"the crate has no function {name}")
-        return Edit(crate, path.stem, {file: turned for file, (_, turned) in found.items()}, None, "", "", told["fails"])
-    if len(found) != 1 or not texts[0][0].startswith("src/"):
+    """An edit. Its name begins with that of the one function that a wrong body turns, or of functions that refuse a turned definition or that a test is of."""
+    says, texts = read_lines(path)
+    files, name = turned_files(crate, texts), path.stem.split("-")[0]
+    if path.parent.name == DEFINITIONS:
+        if len(files) != 1:
+            raise Unfit("it turns several files")
+        return Edit(crate, path.stem, files, functions_named(crate, name))
+    if "fails" in says:
+        return Edit(crate, path.stem, files, functions_named(crate, name), fails=says["fails"])
+    (file, turned), *others = files.items()
+    if others or not file.startswith("src/"):
         raise Unfit("it turns several files, or none of src/")
-    file, (text, turned) = next(iter(found.items()))
-    old, new = turned_function(functions_of(crate, file, text), functions_of(crate, file, turned), text, turned)
-    if text[old.start : old.opens].split() != turned[new.start : new.opens].split():
-        raise Unfit(f"it turns what {old.path} states, and not its body alone")
+    text = (folder_of(crate) / file).read_text()
+    old, new = turned_function(crate, file, text, turned)
     if name != old.name:
         raise Unfit(f"it is named for {name} and turns {old.path}")
-    return Edit(crate, path.stem, {file: turned}, old, turned[new.start : new.end], told.get("refusal", ""), "")
+    return Edit(crate, path.stem, files, [old], turned[new.start : new.end], says.get("refusal", ""))
 
 
-def turned_function(before, after, text, turned):
-    """The one function that differs in two texts of a file, as it is in each."""
+def turned_function(crate, file, text, turned):
+    """The one function whose body alone differs in two texts of a file, as it is in each."""
+    before, after = functions_of(crate, file, text), functions_of(crate, file, turned)
     if [function.path for function in before] != [function.path for function in after]:
         raise Unfit("it takes a function away, or brings one")
-    pairs = [(old, new) for old, new in zip(before, after) if not same(text, old, turned, new)]
+    pairs = [(old, new) for old, new in zip(before, after) if old.parts(text)[1:] != new.parts(turned)[1:]]
     if not pairs:
-        raise Unfit("it lies in no function")
-    old, new = max(pairs, key=lambda pair: pair[0].start)
-    if any(other.end < old.start or old.end < other.start for other, _ in pairs) or not around_same(text, old, turned, new):
-        raise Unfit("it lies in no one function")
+        raise Unfit("it is in no function")
+    # the last one is in the others, if it is in any
+    old, new = pairs[-1]
+    (around, statement, _), (around_new, statement_new, _) = old.parts(text), new.parts(turned)
+    if around != around_new:
+        raise Unfit("it is in no one function")
+    if statement != statement_new:
+        raise Unfit(f"it turns what {old.path} states, and not its body alone")
     return old, new
-
-
-def same(text, old, turned, new):
-    """Whether a function's text is the same in both files, except for its layout."""
-    return text[old.start : old.end].split() == turned[new.start : new.end].split()
-
-
-def around_same(text, old, turned, new):
-    """Whether what stands around a function is the same in both files, except for its layout."""
-    return (text[: old.start] + text[old.end :]).split() == (turned[: new.start] + turned[new.end :]).split()
 
 
 def with_edits(text, edits):

@@ -1,12 +1,12 @@
 #!/usr/bin/env python3
 """Makes what a program in C or C++ links: out/libntns.a, out/ntns.h and out/ntns.pc.
 
-The archive is that of the crate `ob_c`, which is proved and built where it isn't yet, with `lib/ntns.c`, and with the part of the kit in C that asks for
-memory: one archive, so that a caller names no other. It wants a C compiler ($CC, or cc) and ar ($AR).
+The archive is that of the crate `ob_c`, proved and built if it isn't yet, with `lib/ntns.c` and the part of the kit in C that asks for memory: one archive,
+so that a caller names no other. It wants a C compiler ($CC, or cc) and ar ($AR).
 
-    gate/library.py [PREFIX]      PREFIX: where it is to be installed, which out/ntns.pc says; /usr/local if nothing is said
+    gate/library.py [PREFIX]      PREFIX: where it is to be installed, which out/ntns.pc says; /usr/local by default
 
-The exit status is 0 where all is made, else 1.
+The exit status is 0 if all is made, else 1.
 """
 
 import os
@@ -20,48 +20,27 @@ import build
 from crates import ROOT
 
 CRATE = "ob_c"
-OUT = ROOT / "out"
-ARCHIVE, HEADER, PACKAGE = OUT / "libntns.a", OUT / "ntns.h", OUT / "ntns.pc"
-INCLUDE = ROOT / "include"
-
-COMPILE = ("-std=c11", "-O2", "-Wall", "-Wextra", "-Werror", "-fPIC", "-I", str(INCLUDE))
-
-# what of the kit a caller in C links too
-OF_KIT = Path("c") / "liblibc_c.a"
-
-DESCRIPTION = """\
-prefix={prefix}
-includedir=${{prefix}}/include
-libdir=${{prefix}}/lib
-
-Name: ntns
-Description: The naming half of the NT object manager, in memory
-Version: 1
-Cflags: -I${{includedir}}
-Libs: -L${{libdir}} -lntns
-"""
+OUT, INCLUDE, LIB = ROOT / "out", ROOT / "include", ROOT / "lib"
+ARCHIVE = OUT / "libntns.a"
+COMPILE = (os.environ.get("CC", "cc"), "-std=c11", "-O2", "-Wall", "-Wextra", "-Werror", "-fPIC", "-I", str(INCLUDE))
 
 
-def kit():
-    """The kit's folder, which holds the page that `rt doc` names."""
+def archive_of_kit():
+    """The kit's archive in C, in the folder with the page that `rt doc` names."""
     page = subprocess.run(["rt", "doc"], stdout=subprocess.PIPE, text=True, check=True).stdout.split()[0]
-    return Path(page).parent
+    return Path(page).parent / "c" / "liblibc_c.a"
 
 
 def merge(archives, source, made):
-    """Makes one archive of several and of a source in C; whether that was possible."""
-    with tempfile.TemporaryDirectory(prefix="archive-") as folder:
-        room = Path(folder)
-        for number, archive in enumerate(archives):
-            shutil.copy2(archive, room / f"part{number}.a")
-        script = ["create whole.a", *(f"addlib part{number}.a" for number in range(len(archives))), "addmod ntns.o", "save", "end"]
-        compiler, archiver = os.environ.get("CC", "cc"), os.environ.get("AR", "ar")
-        if subprocess.run([compiler, *COMPILE, "-c", str(source), "-o", "ntns.o"], cwd=room, check=False).returncode:
-            return False
-        if subprocess.run([archiver, "-M"], cwd=room, input="\n".join(script) + "\n", text=True, check=False).returncode:
-            return False
-        shutil.move(room / "whole.a", made)
-        return True
+    """Makes one archive of several and of a source in C."""
+    with tempfile.TemporaryDirectory(prefix="archive-") as room:
+        parts = [f"part{number}.a" for number in range(len(archives))]
+        for archive, part in zip(archives, parts):
+            shutil.copy2(archive, Path(room) / part)
+        subprocess.run([*COMPILE, "-c", str(source), "-o", "ntns.o"], cwd=room, check=True)
+        script = ["create whole.a", *(f"addlib {part}" for part in parts), "addmod ntns.o", "save", "end"]
+        subprocess.run([os.environ.get("AR", "ar"), "-M"], cwd=room, input="\n".join(script) + "\n", text=True, check=True)
+        shutil.move(Path(room) / "whole.a", made)
 
 
 def make(prefix):
@@ -69,10 +48,12 @@ def make(prefix):
     if not build.is_built(CRATE) and not build.build(CRATE):
         return False
     OUT.mkdir(exist_ok=True)
-    if not merge([build.built(CRATE)[0], kit() / OF_KIT], ROOT / "lib" / "ntns.c", ARCHIVE):
+    try:
+        merge([build.built(CRATE)[0], archive_of_kit()], LIB / "ntns.c", ARCHIVE)
+    except subprocess.CalledProcessError:
         return False
-    shutil.copyfile(INCLUDE / "ntns.h", HEADER)
-    PACKAGE.write_text(DESCRIPTION.format(prefix=prefix))
+    shutil.copyfile(INCLUDE / "ntns.h", OUT / "ntns.h")
+    (OUT / "ntns.pc").write_text((LIB / "ntns.pc.in").read_text().replace("@PREFIX@", prefix))
     return True
 
 

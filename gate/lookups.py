@@ -1,8 +1,8 @@
 """Names in many small namespaces, each with what a plain search over flat rows ends with: scripts for `gate/cases.py`.
 
-A namespace has, beside the opening state's objects, a link `\\b` to `\\GLOBAL??` and up to four objects with names of one letter, each in the root or in the directory
-that came last. The last of these directories is the caller's device map. In each, names are opened, opened without case, opened as links, and made. The search
-is that of docs/namespace.md, sections 4 to 6, and uses nothing of the program.
+A namespace has, beside the opening state's objects, a link `\\b` to `\\GLOBAL??` and up to four objects with names of one letter, each in the root or in the
+latest directory. The last of these directories is the caller's device map. In each namespace, names are opened, opened without case, opened as links, and
+made. The search is that of docs/namespace.md, sections 4 to 6, and uses nothing of the program.
 """
 
 from dataclasses import dataclass
@@ -17,7 +17,10 @@ NAMESPACES = 343
 
 NAMES = ("a", "A", "b")
 TARGETS = ("\\a", "\\b\\", "\\A\\a", "b", "\\", "\\??", "\\??\\a")
-LOOKED_UP = ("\\a", "\\b", "\\A\\a", "\\b\\b", "\\a\\b\\a", "\\b\\A\\", "\\a\\\\b", "\\b\\a\\b", "\\??", "\\??\\a", "\\??\\b\\a", "\\??\\A\\", "\\DosDevices\\a")
+LOOKED_UP = (
+    "\\a", "\\b", "\\A\\a", "\\b\\b", "\\a\\b\\a", "\\b\\A\\", "\\a\\\\b", "\\b\\a\\b",
+    "\\??", "\\??\\a", "\\??\\b\\a", "\\??\\A\\", "\\DosDevices\\a",
+)
 MODES = ("open", "folded", "link", "create")
 
 

@@ -46,7 +46,7 @@ gather() {
 part edits gate/wrong.py --applies
 part selftest gate/selftest.py
 before=$(gate/build.py --before)
-part ci gate/rt.py ci
+part ci rt ci
 gate/build.py --after "$before"
 run program gate/program.py crates/ntns/out/ntns > "$logs/program" &
 run cases gate/cases.py crates/ntns/out/ntns crates/callers/out/callers > "$logs/cases" &

@@ -1,20 +1,19 @@
 #!/usr/bin/env python3
 """Tries the wrong bodies in crates/NAME/wrong/ and the turned definitions in crates/NAME/definitions/: each must be refused.
 
-A wrong body, FUNCTION-what_it_does.edit, turns one function, whose own contract must refuse it. One `rt check` gives a verdict for each function that it looks at, so
-the wrong bodies of a crate are tried in one check of their functions alone, and those that it leaves open in a second. A wrong body counts as refused if a goal of its
-own function, or of a closure in it, is not proved. It does not count
+A wrong body, FUNCTION-what_it_does.edit, turns one function, whose own contract must refuse it. One `rt check` gives a verdict for each function that it
+looks at, so the wrong bodies of a crate are tried in one check of their functions alone, and those that it leaves open in a second. A wrong body counts as
+refused if a goal of its own function, or of a closure in it, is not proved. It does not count
 - if the function is not proved only because it calls another turned function: it is tried again without the others;
 - if an answer of its proof no longer fits: it is tried again without that answer.
-With a line `refusal: CODE` the compiler must refuse it, by errors of that code alone. With a line `fails: TEST` a test must fail, for which the crates are compiled
-without proofs: CRATE::TEST of a crate of tests; CRATE, a program that writes something else than its stdout; or examples/NAME, a script that `ntns` answers otherwise.
+With a line `refusal: CODE` the compiler must refuse it, by errors of that code alone. With a line `fails: TEST` a test must fail, for which the crates are
+compiled without proofs: CRATE::TEST of a crate of tests; CRATE, a program that prints something else than its stdout; or examples/NAME, a script that `ntns`
+answers otherwise.
 
 A turned definition, FUNCTION-what_it_says.edit, changes a file of src/ or specs/, and the check of the functions of that name must refuse it.
 
     gate/wrong.py [--jobs N] [--definitions] [CRATE | CRATE/EDIT ..]
     gate/wrong.py --applies      tries none: checks that each edit applies to the sources, its old text there once, its function there
-
-The last line is 'N passed, M failed'. The exit status is 0 if none failed, else 1.
 """
 
 import argparse
@@ -25,14 +24,13 @@ import subprocess
 import sys
 import tempfile
 import time
-from concurrent.futures import ThreadPoolExecutor
+from concurrent.futures import ThreadPoolExecutor, as_completed
 from dataclasses import dataclass, field
 from pathlib import Path
 
 from crates import ROOT, RT, copied, folder_of, is_program, listed, rewrite, with_dependencies
-from edits import Edit, Unfit, definition_of, functions_named, read_edit, with_edits
-
-WRONG, DEFINITIONS = "wrong", "definitions"
+from edits import DEFINITIONS, WRONG, Edit, Unfit, read_edit, with_edits
+from runs import Count
 
 # reasons of a verdict that are not the function's own
 INHERITED = re.compile(r"(?:calls|waits for the proof of) .*|.*(?:which is not proved|which are not proved|has no proof|have no proof).*")
@@ -111,70 +109,68 @@ class Try:
 
 def rt(words, home):
     """What `rt` prints in a crate's folder."""
-    ran = subprocess.run([RT, *words], cwd=home, stdin=subprocess.DEVNULL, stdout=subprocess.PIPE, stderr=subprocess.STDOUT, text=True, errors="replace", check=False)
-    return ran.stdout
+    how = {"stdin": subprocess.DEVNULL, "stdout": subprocess.PIPE, "stderr": subprocess.STDOUT, "text": True, "errors": "replace"}
+    return subprocess.run([RT, *words], cwd=home, check=False, **how).stdout
 
 
 class Bench:
     """A copy of a crate over what earlier checks kept, in which its edits are tried one check after another."""
 
     def __init__(self, crate, folder):
-        self.crate, self.home, self.changed = crate, folder / "crates" / crate, set()
+        self.crate, self.home, self.changed, self.checks = crate, folder / "crates" / crate, set(), 0
         copied(with_dependencies(crate), folder, with_dependencies(crate))
 
-    def check(self, texts, *words):
-        """What a check prints with these texts in place of the crate's own."""
-        for file in self.changed - {*texts}:
-            rewrite(self.home / file, (folder_of(self.crate) / file).read_text())
-        for file, text in texts.items():
-            rewrite(self.home / file, text)
-        self.changed = {*texts}
-        return rt(["check", "--jobs", "1", *words], self.home)
+    def text_of(self, file):
+        """The text of one of the crate's own files."""
+        return (folder_of(self.crate) / file).read_text()
+
+    def check(self, texts, functions):
+        """What a check of these functions prints with these texts in place of the crate's own."""
+        for file in self.changed | texts.keys():
+            rewrite(self.home / file, texts[file] if file in texts else self.text_of(file))
+        self.changed, self.checks = set(texts), self.checks + 1
+        return rt(["check", "--jobs", "1", *(word for it in functions for word in ("--only", it.path))], self.home)
 
     def tried(self, tries):
         """What a check prints with these wrong bodies, each of another function."""
-        texts = {}
-        for file in {it.edit.file for it in tries}:
-            texts[file] = with_edits((folder_of(self.crate) / file).read_text(), [it.edit for it in tries if it.edit.file == file])
+        texts = {file: with_edits(self.text_of(file), [it.edit for it in tries if it.edit.file == file]) for file in {it.edit.file for it in tries}}
         for it in tries:
             texts.update(it.without)
-        return self.check(texts, *only(it.edit.function for it in tries))
+        return self.check(texts, [it.edit.function for it in tries])
 
     def wrong(self, edits):
-        """Tries wrong bodies; gives the fault of each by name, empty where it was refused, and the number of checks."""
-        faults, checks = {}, 0
-        left = [Try(edit, is_alone=bool(edit.refusal)) for edit in edits]
+        """Tries wrong bodies; the fault of each by name, empty if it was refused."""
+        faults, left = {}, [Try(edit, is_alone=bool(edit.refusal)) for edit in edits]
         while left:
             batch = one_of_each(left)
             left = [it for it in left if it not in batch]
-            output, checks = self.tried(batch), checks + 1
+            output = self.tried(batch)
             found = verdicts(output)
             for it in batch:
-                said = refusal_fault(it.edit, output) if it.edit.refusal else self.said_of(it, found, output, len(batch) == 1)
-                if said is None:
-                    it.is_alone = it.is_alone or not found
+                fault = fault_of_refusal(it.edit, output) if it.edit.refusal else self.fault_of(it, found, output, len(batch) == 1)
+                if fault is None:
                     left.append(it)
                 else:
-                    faults[it.edit.name] = said
-        return faults, checks
+                    faults[it.edit.name] = fault
+        return faults
 
-    def said_of(self, it, found, output, was_alone):
-        """The fault of one wrong body, empty where it was refused; None where it is to be tried again."""
-        path = it.edit.function.path
+    def fault_of(self, it, found, output, was_alone):
+        """The fault of one wrong body, empty if it was refused; None if it is to be tried again."""
         if not found:
+            it.is_alone = True
             lines = output.splitlines() or ["rt printed nothing"]
             return f"it can't be checked: {next((line for line in lines if 'error' in line), lines[-1])}" if was_alone else None
-        said = judge(it.edit.function, found)
-        if said == "misfits":
+        says, path = judge(it.edit.function, found), it.edit.function.path
+        if says == "misfits":
             return self.leave_out(it, found)
-        if said == "inherited" and not was_alone:
+        if says == "inherited" and not was_alone:
             it.is_alone = True
             return None
         known = {"refused": "", "proved": f"{path} is proved with it", "inherited": f"{path} is not proved only because of what it calls"}
-        return known.get(said, said)
+        return known.get(says, says)
 
     def leave_out(self, it, found):
-        """Takes the answers away that no longer fit a wrong body; None where it can be tried so, else the fault."""
+        """Leaves out the answers that no longer fit a wrong body; None if it can be tried so, else the fault."""
         before = dict(it.without)
         for path, verdict in found.items():
             if not it.edit.function.owns(path) or not verdict.misfits:
@@ -182,28 +178,19 @@ class Bench:
             if {*verdict.misfits} != {"Answers"}:
                 return f"an invariant or a whole proof of {path} doesn't fit it"
             file = answers_of(self.crate, path)
-            text = it.without.get(file) or (folder_of(self.crate) / file).read_text()
+            text = it.without[file] if file in it.without else self.text_of(file)
             it.without[file] = without_answers(text, verdict.misfits["Answers"])
         return f"the answers of {it.edit.function.path} don't fit it" if it.without == before else None
 
-    def definition(self, path):
-        """The fault of a turned definition, empty where it was refused."""
-        file, turned = definition_of(self.crate, path)
-        functions = functions_named(self.crate, path.stem.split("-")[0])
-        if not functions:
-            return "no function of the crate has the name with which it begins"
-        output = self.check({file: turned}, *only(functions))
-        if re.search(rf"^(?:\./)?{re.escape(file)}:\d+:\d+: error", output, re.M):
+    def definition(self, edit):
+        """The fault of a turned definition, empty if it was refused."""
+        output = self.check(edit.files, edit.functions)
+        if re.search(rf"^(?:\./)?{re.escape(edit.file)}:\d+:\d+: error", output, re.M):
             return "the turned text can't be read"
-        own = [verdict for name, verdict in verdicts(output).items() if any(it.owns(name) for it in functions)]
+        own = [verdict for path, verdict in verdicts(output).items() if any(it.owns(path) for it in edit.functions)]
         if not own:
             return f"the check gives no verdict: {(output.splitlines() or ['rt printed nothing'])[-1]}"
-        return f"{functions[0].path} is proved with it" if all(it.is_proved for it in own) else ""
-
-
-def only(functions):
-    """The words by which a check looks at these functions alone."""
-    return [word for it in functions for word in ("--only", it.path)]
+        return f"{edit.function.path} is proved with it" if all(it.is_proved for it in own) else ""
 
 
 def one_of_each(tries):
@@ -212,8 +199,8 @@ def one_of_each(tries):
     return list(together.values()) or tries[:1]
 
 
-def refusal_fault(edit, output):
-    """What is wrong with an edit that the compiler must refuse; empty where it does."""
+def fault_of_refusal(edit, output):
+    """What is wrong with an edit that the compiler must refuse; empty if it does."""
     errors = re.findall(r"^(?:\./)?(\S+?):\d+:\d+: error(?:\[([\w-]+)\])?", output, re.M)
     if not errors:
         return "the compiler accepts it"
@@ -221,18 +208,20 @@ def refusal_fault(edit, output):
     return f"it is refused by another error: {other[1] or 'one without a code'} in {other[0]}" if other else ""
 
 
-def test_fault(edit, folder):
-    """What is wrong with an edit that a test must refuse; empty where that test fails with it."""
+def fault_of_test(edit, folder):
+    """What is wrong with an edit that a test must refuse; empty if that test fails with it."""
     crate, _, test = edit.fails.partition("::")
-    script = ROOT / f"{crate}.ntns"
-    crate, wanted = ("ntns", script.with_suffix(".out")) if script.is_file() else (crate, folder_of(crate) / "stdout")
-    if crate not in listed():
+    given, wanted = ROOT / f"{crate}.ntns", ROOT / f"{crate}.out"
+    if given.is_file():
+        crate = "ntns"
+    elif crate in listed():
+        given, wanted = folder_of(crate) / "stdin", folder_of(crate) / "stdout"
+    else:
         return f"there is no test {edit.fails}"
-    copied({*with_dependencies(crate), *with_dependencies(edit.crate)}, folder)
+    copied(with_dependencies(crate) | with_dependencies(edit.crate), folder)
     for file, text in edit.files.items():
         rewrite(folder / "crates" / edit.crate / file, text)
     words = [RT, "try", *([] if is_program(crate) else ["--test"])]
-    given = script if script.is_file() else folder_of(crate) / "stdin"
     with (given if given.is_file() else Path(os.devnull)).open() as stream:
         ran = subprocess.run(words, cwd=folder / "crates" / crate, stdin=stream, capture_output=True, text=True, errors="replace", check=False)
     if not re.search(r"^run=(?!none)", ran.stderr, re.M):
@@ -241,52 +230,52 @@ def test_fault(edit, folder):
     return f"{edit.fails} passes with it" if passes else ""
 
 
-def edits_in(crate, folder):
-    """The edits of a crate."""
-    return sorted((folder_of(crate) / folder).glob("*.edit"))
+def edits_in(crate, kind):
+    """The files with a crate's edits of one kind."""
+    return sorted((folder_of(crate) / kind).glob("*.edit"))
 
 
-def asked_for(labels, folder):
-    """The edits that are asked for, by crate."""
+def asked_for(labels, kind):
+    """The files with the edits that are asked for, by crate."""
     found = {}
-    for label in labels or [crate for crate in listed() if edits_in(crate, folder)]:
+    for label in labels or [crate for crate in listed() if edits_in(crate, kind)]:
         crate, _, name = label.partition("/")
-        found.setdefault(crate, []).extend(it for it in edits_in(crate, folder) if name in ("", it.stem))
+        found.setdefault(crate, []).extend(it for it in edits_in(crate, kind) if name in ("", it.stem))
     return found
 
 
-def tried_in(crate, paths, folder, room):
-    """Tries a crate's edits of one kind; gives the fault of each by name, empty where it was refused."""
-    begun, faults, edits, checks = time.monotonic(), {}, [], 0
+def read(crate, paths):
+    """A crate's edits, and the faults of those that can't be tried, by name."""
+    edits, faults = [], {}
+    for path in paths:
+        try:
+            edits.append(read_edit(crate, path))
+        except Unfit as fault:
+            faults[path.stem] = str(fault)
+    return edits, faults
+
+
+def try_crate(crate, paths, kind, room):
+    """Tries a crate's edits of one kind; a line on that, and the fault of each, empty if it was refused."""
+    begun, checks = time.monotonic(), 0
+    edits, faults = read(crate, paths)
     try:
-        for path in paths:
-            try:
-                edits.append(read_edit(crate, path) if folder == WRONG else definition_of(crate, path) and path)
-            except Unfit as fault:
-                faults[path.stem] = str(fault)
-        if folder == WRONG:
-            for number, edit in enumerate(it for it in edits if it.fails):
-                faults[edit.name] = test_fault(edit, room / f"test-{number}")
-                checks += 1
-            proved = [it for it in edits if not it.fails]
-            if proved:
-                found, more = Bench(crate, room / "bench").wrong(proved)
-                faults, checks = faults | found, checks + more
-        else:
+        for edit in (it for it in edits if it.fails):
+            checks += 1
+            faults[edit.name] = fault_of_test(edit, room / f"test-{checks}")
+        proved = [it for it in edits if not it.fails]
+        if proved:
             bench = Bench(crate, room / "bench")
-            faults |= {path.stem: bench.definition(path) for path in edits}
-            checks = len(edits)
+            faults |= bench.wrong(proved) if kind == WRONG else {edit.name: bench.definition(edit) for edit in proved}
+            checks += bench.checks
     finally:
         shutil.rmtree(room, ignore_errors=True)
-    for name, fault in sorted(faults.items()):
-        if fault:
-            print(f"{folder}: {crate}/{name}: not refused: {fault}", flush=True)
-    print(f"{folder}: {crate}: {len(paths)} edits, {checks} checks, {time.monotonic() - begun:.0f} s", flush=True)
-    return faults
+    line = f"{crate}, {checks} checks by rt in {time.monotonic() - begun:.0f} s"
+    return line, [fault and f"{crate}/{name}: not refused: {fault}" for name, fault in sorted(faults.items())]
 
 
 def prove_below(crates, jobs):
-    """Has the libraries proved that these crates stand on, lowest first, where earlier checks have not; returns whether all are."""
+    """Has the libraries proved that these crates stand on, lowest first, if earlier checks have not; returns whether all are."""
     needed = set().union(*(with_dependencies(it) - {it} for it in crates))
     for crate in (it for it in listed() if it in needed):
         output = rt(["lib", "--jobs", str(jobs)], folder_of(crate))
@@ -296,24 +285,21 @@ def prove_below(crates, jobs):
     return True
 
 
-def try_all(asked, folder, jobs):
-    """Tries all these edits, several crates side by side, the largest first; gives their faults."""
-    size = {crate: sum(len(it.read_bytes()) for it in (folder_of(crate) / "src").rglob("*.rt")) * (1 if folder == WRONG else len(paths)) for crate, paths in asked.items()}
-    with tempfile.TemporaryDirectory(prefix="wrong-") as name, ThreadPoolExecutor(jobs) as pool:
-        runs = {crate: pool.submit(tried_in, crate, asked[crate], folder, Path(name) / crate) for crate in sorted(asked, key=lambda it: -size[it])}
-        return [fault for run in runs.values() for fault in run.result().values()]
+def try_all(asked, kind, jobs, count):
+    """Tries all these edits, several crates side by side, the largest first."""
+    size = {crate: len(paths) * sum(it.stat().st_size for it in (folder_of(crate) / "src").rglob("*.rt")) for crate, paths in asked.items()}
+    with tempfile.TemporaryDirectory(prefix="wrong-") as room, ThreadPoolExecutor(jobs) as pool:
+        crates = sorted(asked, key=size.get, reverse=True)
+        for run in as_completed([pool.submit(try_crate, crate, asked[crate], kind, Path(room) / crate) for crate in crates]):
+            count.add(*run.result())
 
 
-def applies():
-    """The faults of edits that don't apply, empty for each that does."""
-    for folder in (WRONG, DEFINITIONS):
-        for crate in listed():
-            for path in edits_in(crate, folder):
-                try:
-                    is_named = read_edit(crate, path) if folder == WRONG else definition_of(crate, path) and functions_named(crate, path.stem.split("-")[0])
-                    yield "" if is_named else f"{folder}: {crate}/{path.stem}: no function of the crate has the name with which it begins"
-                except Unfit as fault:
-                    yield f"{folder}: {crate}/{path.stem}: {fault}"
+def applies(kind):
+    """The faults of edits of one kind that don't apply, empty for each that does."""
+    for crate, paths in asked_for([], kind).items():
+        edits, faults = read(crate, paths)
+        yield from [""] * len(edits)
+        yield from (f"crates/{crate}/{kind}/{name}.edit: {fault}" for name, fault in faults.items())
 
 
 def main():
@@ -326,21 +312,20 @@ def main():
     unknown = [label for label in words.asked if label.split("/")[0] not in listed()]
     if unknown:
         parser.error(f"no crate of crates.txt: {' '.join(unknown)}")
-    folder = DEFINITIONS if words.definitions else WRONG
+    kind = DEFINITIONS if words.definitions else WRONG
+    count = Count("edits" if words.applies else kind)
     if words.applies:
-        faults = list(applies())
-        print(*filter(None, faults), sep="\n")
-    else:
-        asked = asked_for(words.asked, folder)
-        if not any(asked.values()):
-            parser.error("there is no such edit")
-        proved = {crate for crate, paths in asked.items() if not all("\nfails: " in it.read_text() for it in paths)}
-        if not prove_below(proved, words.jobs):
-            sys.exit("0 passed, 1 failed")
-        faults = try_all(asked, folder, words.jobs)
-    failed = sum(map(bool, faults))
-    print(f"{len(faults) - failed} passed, {failed} failed")
-    return 1 if failed else 0
+        for kind in (WRONG, DEFINITIONS):
+            count.add(f"those of {kind}/ apply", applies(kind))
+        return count.end()
+    asked = asked_for(words.asked, kind)
+    if not any(asked.values()):
+        parser.error("there is no such edit")
+    proved = {crate for crate, paths in asked.items() if not all("\nfails: " in it.read_text() for it in paths)}
+    if not prove_below(proved, words.jobs):
+        sys.exit("0 passed, 1 failed")
+    try_all(asked, kind, words.jobs, count)
+    return count.end()
 
 
 if __name__ == "__main__":
