@@ -19,7 +19,7 @@ use Rattle.ob_threads.specs.Faults.{IsFaultAt}
 use Rattle.ob_threads.specs.Played.{IsJournalOf, SeatsRelation}
 use Rattle.ob_threads.specs.Worked.{IsSeatRun}
 
--- some call answered this fault and handed this pass back
+-- some call answered this fault, and handed some pass back
 abbrev pub IsGiven : {P : Type 0} → (P → Known) → Known
 IsGiven gives fault = (last : _) × gives last fault
 

@@ -11,6 +11,7 @@ ghost use Rattle.ob_locked.specs.Opened.{fresh_pass, fresh_passes, most_seats};
 ghost use Rattle.ob_worker_lines.specs.Parts.{IsFault, lines_in};
 ghost use Rattle.ob_lines.specs.Lines.{lines_of};
 ghost use Rattle.ob_streams.specs.Fault.{is_unwritten};
+ghost use Rattle.ob_streams.specs.Reading.{StopsReading, TakesAtMost};
 ghost use Rattle.ob_threads.specs.Faults.{IsFaultAt};
 ghost use Rattle.ob_threads.specs.Played.{ArePasses, ArePassesOf, ArePlayedBy, IsJournalOf, IsPlayedOf};
 ghost use Rattle.ob_threads.specs.Run.{AreRun};
@@ -66,6 +67,15 @@ pub fn run_threads<H: Threads + Wait + Sync, L: Ledger + Send + Sync, R: Read, W
         → IfSome (R.remaining reader.old) (λ script. SCRIPT_LIMIT < length script) }
     ensures refused { IfSome (R.remaining reader.old) (λ script. SCRIPT_LIMIT < length script
         → IsErr result) }
+
+    // Nothing is written of it; and out of memory is said only of as many bytes as a script may have.
+    ensures long { IfSome (R.remaining reader.old) (λ script. SCRIPT_LIMIT < length script →
+        IfErr result (λ fault. StopsReading fault (R.remaining reader.old) (R.remaining reader.new))
+        × (W.contents writer.new ≡ W.contents writer.old)) }
+
+    // However it ends, no more than one byte past the limit is read.
+    ensures taken { TakesAtMost (R.remaining reader.old) (R.remaining reader.new)
+        (SCRIPT_LIMIT + 1) }
 {
     match read_script(alloc, reader) {
         Ok(script) => run_text::<H, L, W>(rt, alloc, blank, script.as_slice(), writer),
@@ -172,7 +182,7 @@ fn play<H: Threads + Wait + Sync, L: Ledger + Send + Sync>(
         OnOk done.ended (IsPlayedOf (lines_in parts.now.before)
         (map lines_in parts.now.workers.items) (lines_in parts.now.behind)
         (joined (map arc_value done.sealed.items) ++ done.last.entries))) }
-    ensures stopped { IfOk result (λ done.
+    ensures ended { IfOk result (λ done.
         IsJournalOf (AreRun IsFaultAt parts.now done.ended) (length parts.now.workers.items)
         (joined (map arc_value done.sealed.items) ++ done.last.entries)) }
     ensures fault { IfErr result (λ fault. (fault ≡ ShellFault.Memory)
@@ -207,7 +217,7 @@ fn play_shared<H: Threads + Wait + Sync, L: Ledger + Send + Sync>(
         OnOk done.ended (IsPlayedOf (lines_in parts.now.before)
         (map lines_in parts.now.workers.items) (lines_in parts.now.behind)
         (joined (map arc_value done.sealed.items) ++ done.last.entries))) }
-    ensures stopped { IfOk result (λ done.
+    ensures ended { IfOk result (λ done.
         IsJournalOf (AreRun IsFaultAt parts.now done.ended) (length parts.now.workers.items)
         (joined (map arc_value done.sealed.items) ++ done.last.entries)) }
     ensures fault { IfErr result (λ fault. (fault ≡ ShellFault.Memory)
@@ -254,7 +264,7 @@ fn run_lent<'a, H: Threads + Wait + Sync, L: Ledger + Send + Sync>(
     ensures played { IfOk result (λ ran.
         OnOk (ran.1) (ArePlayedBy (lines_in parts.now.before) (map lines_in parts.now.workers.items)
         (lines_in parts.now.behind) (ran.0.items))) }
-    ensures stopped { IfOk result (λ ran.
+    ensures ended { IfOk result (λ ran.
         ArePassesOf (AreRun IsFaultAt parts.now (ran.1)) (ran.0.items)) }
     ensures fault { IfErr result (λ fault. fault ≡ ShellFault.Memory) }
 {

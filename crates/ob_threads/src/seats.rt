@@ -54,6 +54,8 @@ pub fn run_seats<H: Threads + Wait + Sync, C: Callers + Sync>(
         OnOk ran.ended (IsPlayedBy (lines_in script.now.before)
         (map lines_in script.now.workers.items) (lines_in script.now.behind)
         (C.receipts ran.own) (map C.receipts ran.theirs.items))) }
+
+    // Whether every line was run or a seat stopped: what each seat ran, and the end that is told.
     ensures run { IfOk result (λ ran. AreRun C.gives_fault script.now ran.ended
         (C.receipts ran.own) (map C.receipts ran.theirs.items)) }
 {

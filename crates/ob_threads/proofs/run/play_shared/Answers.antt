@@ -49,8 +49,8 @@ returns-in-Ok-close-clause-played g c =
     (settled_of is journal (length parts.workers.items) c.args.shared c.in-Ok.passes.items c.requires.seats c.in-Ok.ensures.passes c.in-Ok-close.ensures.settled played))
     c.in-Ok.ensures.played
 
-pub returns-in-Ok-close-clause-stopped : goal.returns-in-Ok-close-clause-stopped
-returns-in-Ok-close-clause-stopped g c =
+pub returns-in-Ok-close-clause-ended : goal.returns-in-Ok-close-clause-ended
+returns-in-Ok-close-clause-ended g c =
     let parts = c.args.parts.now in
     settled_of (AreRun IsFaultAt parts c.in-Ok.ended) (joined (map arc_value c.in-Ok-close.field-0.sealed.items) ++ c.in-Ok-close.field-0.journal.entries) (length parts.workers.items) c.args.shared c.in-Ok.passes.items c.requires.seats
-    c.in-Ok.ensures.passes c.in-Ok-close.ensures.settled c.in-Ok.ensures.stopped
+    c.in-Ok.ensures.passes c.in-Ok-close.ensures.settled c.in-Ok.ensures.ended

@@ -23,7 +23,7 @@ returns-in-Ok-write_journal-clause-written g c =
       subst (λ e. IsOutput c.args.script.now e text) (sym c.ending_of.ensures)
           (output_of c.args.script.now text done.ended c.seats_of-seats.result journal (journal_of c.seats_of-seats.result sealed done.last c.in-Ok-play.ensures.run c.in-Ok-play.ensures.sealed c.in-Ok-play.ensures.last)
           (then_done _ _ done.ended (is_played (lines_of c.args.script.now) parts.before parts.behind parts.workers.items c.seats_of-seats.result journal c.in-Ok.ensures.lines c.seats_of-seats.ensures) c.in-Ok-play.ensures.played)
-          (record { script = parts; cut = c.in-Ok.ensures.lines; numbers = c.in-Ok.ensures.numbers; seated = c.seats_of-seats.ensures; run = c.in-Ok-play.ensures.stopped })),
+          (record { script = parts; cut = c.in-Ok.ensures.lines; numbers = c.in-Ok.ensures.numbers; seated = c.seats_of-seats.ensures; run = c.in-Ok-play.ensures.ended })),
       subst (λ ss. Appends (g.W.Write.contents c.args.writer.now) (g.W.Write.contents c.write_journal.new.writer) (journal_lines standard.type_name c.seats_of-seats.result (map arc_value ss ++ done.last ∷ []))) c.as_slice.ensures.value
           c.in-Ok-write_journal.ensures.written,
     )
@@ -40,7 +40,7 @@ returns-in-Ok-play-clause-part g c =
       ending_of done.ended,
       output_of c.args.script.now text done.ended c.seats_of-seats.result journal (journal_of c.seats_of-seats.result sealed done.last c.in-Ok-play.ensures.run c.in-Ok-play.ensures.sealed c.in-Ok-play.ensures.last)
           (then_done _ _ done.ended (is_played (lines_of c.args.script.now) parts.before parts.behind parts.workers.items c.seats_of-seats.result journal c.in-Ok.ensures.lines c.seats_of-seats.ensures) c.in-Ok-play.ensures.played)
-          (record { script = parts; cut = c.in-Ok.ensures.lines; numbers = c.in-Ok.ensures.numbers; seated = c.seats_of-seats.ensures; run = c.in-Ok-play.ensures.stopped }),
+          (record { script = parts; cut = c.in-Ok.ensures.lines; numbers = c.in-Ok.ensures.numbers; seated = c.seats_of-seats.ensures; run = c.in-Ok-play.ensures.ended }),
       subst (λ ss. IsCutOff c.in-Err-write_journal.fault (g.W.Write.contents c.args.writer.now) (g.W.Write.contents c.write_journal.new.writer) (journal_lines standard.type_name c.seats_of-seats.result (map arc_value ss ++ done.last ∷ []))) c.as_slice.ensures.value
           c.in-Err-write_journal.ensures.cut_off,
     )
