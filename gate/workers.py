@@ -7,7 +7,7 @@ import journal  # of bench/
 
 from runs import fault_of_journal, run
 
-SCRIPTS = 300
+SCRIPTS = 1_000
 
 # forms of lines: process, name, flags and variable are drawn
 LINES = (
