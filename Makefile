@@ -6,14 +6,16 @@
 # make random  plays COMMANDS random commands, 1,000,000 by default, beside a plain model; the 60 seconds of a test allow some 5,000,000
 # make hostile refuses each request for memory of longer scripts in turn, or of the script that SCRIPT names, as the gate does of short ones
 # make bench   times the built program and the library, and fails nothing
-# make lib     the static library for C and C++: out/libntns.a, out/ntns.h and out/ntns.pc; the first build proves every crate below it
-# make install puts these below PREFIX, /usr/local by default, and that below DESTDIR
+# make lib     the static library for C and C++, out/libntns.a, and out/ntns.h; the first build proves every crate below it
+# make shared  the shared library too, out/libntns.so.1
+# make install puts both, the header, and files for pkg-config and CMake below PREFIX, /usr/local by default, and that below DESTDIR
 
 SCRIPT ?= examples/first.ntns
 COMMANDS ?= 1000000
 PREFIX ?= /usr/local
+PLACE = $(DESTDIR)$(PREFIX)
 
-.PHONY: try run test wrong definitions random bench hostile build lib install
+.PHONY: try run test wrong definitions random bench hostile build lib shared install
 
 try:
 	@echo "make try: compiled without proofs, which takes a minute or two; nothing of it is proved" >&2
@@ -49,10 +51,16 @@ hostile: build
 	gate/refusals.py crates/ntns/out/ntns $(if $(filter command environment,$(firstword $(origin SCRIPT))),$(SCRIPT),--long)
 
 lib:
-	@gate/library.py "$(PREFIX)"
+	@gate/library.py
 
-install: lib
-	mkdir -p "$(DESTDIR)$(PREFIX)/include" "$(DESTDIR)$(PREFIX)/lib/pkgconfig"
-	cp out/ntns.h "$(DESTDIR)$(PREFIX)/include/"
-	cp out/libntns.a "$(DESTDIR)$(PREFIX)/lib/"
-	cp out/ntns.pc "$(DESTDIR)$(PREFIX)/lib/pkgconfig/"
+shared:
+	@gate/library.py --shared
+
+install: shared
+	install -d "$(PLACE)/include" "$(PLACE)/lib/pkgconfig" "$(PLACE)/lib/cmake/ntns"
+	install -m 644 include/ntns.h "$(PLACE)/include/"
+	install -m 644 out/libntns.a "$(PLACE)/lib/"
+	install -m 755 out/libntns.so.1 "$(PLACE)/lib/"
+	ln -sf libntns.so.1 "$(PLACE)/lib/libntns.so"
+	install -m 644 lib/ntns.pc "$(PLACE)/lib/pkgconfig/"
+	install -m 644 lib/ntns-config.cmake lib/ntns-config-version.cmake "$(PLACE)/lib/cmake/ntns/"

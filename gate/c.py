@@ -1,12 +1,16 @@
 #!/usr/bin/env python3
-"""Builds the static library for C, and programs in C and C++ that link it, and runs these.
+"""Builds the libraries for C, and programs in C and C++ that link them, and runs these.
 
 - The header alone compiles in C11 and in C++17, and the archive has what the header declares; of a caller's program it needs nothing but memory.
 - The program of README.md's section 'From C', in both languages, prints what is shown there.
 - The clients of `clients/`: worked cases, odd arguments, and each request for memory refused in turn; where valgrind is there, also under it: no error, no
   leak. `clients/bench.c`, with each operation once.
 - Each wrong library of `clients/wrong.c` fails a client.
-- What `make install` puts into a folder serves a program.
+- The shared library exports what the header declares, and nothing else; README.md's program and the worked cases run over it.
+- What `make install` puts into a folder, which is moved then, serves a program by pkg-config, and one by CMake.
+- The bindings of `bindings/` are of today's header, and pass their own tests.
+
+What this machine has no program for is named as not tried.
 
     gate/c.py [ARCHIVE]      ARCHIVE: a library to be tried in place of the one that is built
 """
@@ -30,9 +34,6 @@ CXX = (os.environ.get("CXX", "c++"), "-x", "c++", "-std=c++17")
 FLAGS = ("-O1", "-g", "-Wall", "-Wextra", "-Werror")
 VALGRIND = ("valgrind", "--quiet", "--leak-check=full", "--show-leak-kinds=all", "--errors-for-leak-kinds=all", "--error-exitcode=9")
 
-# where the library says that it is installed
-PREFIX = "/usr/local"
-
 # what of the C library the archive may refer to
 NEEDED = {"malloc", "realloc", "free", "memcpy", "memmove", "memset", "memcmp", "bcmp"}
 
@@ -45,6 +46,19 @@ MADE_OF = {
 
 # the client that a wrong library of clients/wrong.c fails, if it is another than `cases`, by the library's macro
 FAILS = {"OPENS_AGAIN": "hostile", "CLOSE_FREES_NOTHING": "refusals", "REFUSED_MEMORY_AND_DONE": "refusals", "LOSES_MEMORY": "refusals"}
+
+
+BINDINGS = ROOT / "bindings"
+
+# a project in CMake over both libraries
+PROJECT = """cmake_minimum_required(VERSION 3.13)
+project(shown C)
+find_package(ntns 1 REQUIRED)
+add_executable(shared shown.c)
+target_link_libraries(shared ntns::ntns)
+add_executable(static shown.c)
+target_link_libraries(static ntns::static)
+"""
 
 
 class Fault(Exception):
@@ -103,10 +117,10 @@ def wrong_libraries(source):
 
 
 class Bench:
-    """A folder in which programs are made and run."""
+    """A folder in which programs are made and run, over a library."""
 
-    def __init__(self, folder, archive):
-        self.folder, self.archive = folder, archive
+    def __init__(self, folder, linked):
+        self.folder, self.linked = folder, linked
 
     def made(self, name, sources, *flags, language=C, wrapped=()):
         """Compiles sources and links them to the library; the program."""
@@ -115,7 +129,8 @@ class Bench:
             objects.append(str(self.folder / f"{name}-{source.stem}.o"))
             run([*language, *FLAGS, *flags, *INCLUDE, "-c", str(source), "-o", objects[-1]])
         program = str(self.folder / name)
-        run([language[0], *objects, str(self.archive), *(f"-Wl,--wrap={call}" for call in wrapped), "-o", program])
+        folder = self.linked.parent
+        run([language[0], *objects, str(self.linked), f"-Wl,-rpath,{folder}", *(f"-Wl,--wrap={call}" for call in wrapped), "-o", program])
         return program
 
     def header(self, language):
@@ -127,9 +142,17 @@ class Bench:
     def symbols(self):
         """What the archive defines and needs."""
         declared = declared_in((library.INCLUDE / "ntns.h").read_text())
-        defined, needed = names_in(run([os.environ.get("NM", "nm"), str(self.archive)]))
+        defined, needed = names_in(run([os.environ.get("NM", "nm"), str(self.linked)]))
         if declared - defined or needed - NEEDED:
             raise Fault(f"the archive lacks {sorted(declared - defined)}, and needs {sorted(needed - NEEDED)}")
+
+    def exports(self):
+        """What the shared library defines for others."""
+        declared = declared_in((library.INCLUDE / "ntns.h").read_text())
+        table = run([os.environ.get("NM", "nm"), "--dynamic", "--defined-only", str(self.linked)])
+        defined = {name.partition("@")[0] for name in names_in(table)[0]}
+        if declared != defined:
+            raise Fault(f"the shared library lacks {sorted(declared - defined)}, and exports {sorted(defined - declared)}")
 
     def shown(self, language, *before):
         """The program that README.md shows."""
@@ -159,24 +182,50 @@ class Bench:
         if status != 1 or not failed:
             raise Fault(f"the client ended with {status}: {passed} passed, {failed} failed")
 
-    def installed(self):
-        """What `make install` leaves, by which the program that README.md shows is made and run."""
-        place = self.folder / "root"
-        run(["make", "-s", "install", f"PREFIX={PREFIX}", f"DESTDIR={place}"], cwd=ROOT)
-        package = (place / f"{PREFIX[1:]}/lib/pkgconfig/ntns.pc").read_text()
-        says = dict(re.findall(r"^(\w+)[=:] *(.*)$", package.replace(PREFIX, f"{place}{PREFIX}"), re.MULTILINE))
-        folders = {f"${{{name}}}": says[name].replace("${prefix}", says["prefix"]) for name in ("includedir", "libdir")}
-        flags, libraries = (re.sub(r"\$\{\w+\}", lambda it: folders[it[0]], says[name]).split() for name in ("Cflags", "Libs"))
+    def by_pkg_config(self, place):
+        """The program that README.md shows, made by what pkg-config says of what is installed at a place."""
+        says = {**os.environ, "PKG_CONFIG_PATH": f"{place}/lib/pkgconfig"}
+        words = run(["pkg-config", "--cflags", "--libs", "ntns"], env=says).split()
         text, prints = shown_in((ROOT / "README.md").read_text())
         source, program = self.folder / "installed.c", str(self.folder / "installed")
         source.write_text(text)
-        run([*C, *FLAGS, *flags, str(source), *libraries, "-o", program])
-        if run([program]) != prints:
+        run([*C, *FLAGS, str(source), *words, "-o", program])
+        if run([program], env={**os.environ, "LD_LIBRARY_PATH": f"{place}/lib"}) != prints:
             raise Fault("the program printed another thing")
 
+    def by_cmake(self, place):
+        """The same by CMake, over the shared library and over the archive."""
+        text, prints = shown_in((ROOT / "README.md").read_text())
+        (self.folder / "shown.c").write_text(text)
+        (self.folder / "CMakeLists.txt").write_text(PROJECT)
+        run(["cmake", "-S", str(self.folder), "-B", str(self.folder / "made"), f"-DCMAKE_PREFIX_PATH={place}"])
+        run(["cmake", "--build", str(self.folder / "made")])
+        for name in ("shared", "static"):
+            if run([str(self.folder / "made" / name)]) != prints:
+                raise Fault(f"the program {name} printed another thing")
 
-def parts(is_built):
-    """What is tried: what it shows, and how on a bench."""
+    def python(self):
+        """The tests of the binding for Python."""
+        run([sys.executable, "-B", "-m", "unittest", "test_ntns"], cwd=BINDINGS / "python", env={**os.environ, "NTNS_LIBRARY": str(self.linked)})
+
+    def rust(self):
+        """The tests of the binding for Rust, over the archive."""
+        says = {"NTNS_LIB_DIR": str(library.ARCHIVE.parent), "CARGO_TARGET_DIR": str(self.folder)}
+        run(["cargo", "test", "--offline", "--locked", "--quiet"], cwd=BINDINGS / "rust", env={**os.environ, **says})
+
+
+def where(program, tried):
+    """What is tried where a program is there, and else named as not tried."""
+    is_there = shutil.which(program) and not ended([program, "--version"]).returncode
+    for shows, part in tried:
+        if is_there:
+            yield shows, part
+        else:
+            print(f"c: {shows} ... not tried: there is no {program}")
+
+
+def parts():
+    """What is tried of an archive: what it shows, and how on a bench."""
     yield "the header stands alone in C11", lambda bench: bench.header(C)
     yield "the header stands alone in C++17", lambda bench: bench.header(CXX)
     yield "the archive has what the header declares, and needs memory alone", Bench.symbols
@@ -186,21 +235,33 @@ def parts(is_built):
     yield "odd arguments", lambda bench: bench.client("hostile")
     yield "each request for memory refused in turn", lambda bench: bench.client("refusals")
     yield "what is timed is answered as it should be", Bench.timed
-    if shutil.which(VALGRIND[0]):
-        yield "README.md's program under valgrind", lambda bench: bench.shown(C, *VALGRIND)
-        yield "worked cases under valgrind", lambda bench: bench.client("cases", *VALGRIND)
-        yield "odd arguments under valgrind", lambda bench: bench.client("hostile", *VALGRIND)
-        yield "each request for memory refused in turn, under valgrind", lambda bench: bench.client("refusals", *VALGRIND)
+    under_valgrind = {
+        "README.md's program under valgrind": lambda bench: bench.shown(C, *VALGRIND),
+        "worked cases under valgrind": lambda bench: bench.client("cases", *VALGRIND),
+        "odd arguments under valgrind": lambda bench: bench.client("hostile", *VALGRIND),
+        "each request for memory refused in turn, under valgrind": lambda bench: bench.client("refusals", *VALGRIND),
+    }
+    yield from where(VALGRIND[0], under_valgrind.items())
     for macro, call in wrong_libraries((CLIENTS / "wrong.c").read_text()):
         yield f"a wrong library fails a client: {macro}", lambda bench, macro=macro, call=call: bench.wrong(macro, call)
-    if is_built:
-        yield "what is installed serves a program", Bench.installed
 
 
-def fault_of(part, folder, archive):
+def shared_parts(place):
+    """What is tried of the shared library, and of what is installed at a place."""
+    yield "the shared library exports what the header declares, and nothing else", Bench.exports
+    yield "README.md's program over the shared library", lambda bench: bench.shown(C)
+    yield "worked cases over the shared library", lambda bench: bench.client("cases")
+    yield from where("pkg-config", [("what is installed serves a program by pkg-config", lambda bench: bench.by_pkg_config(place))])
+    yield from where("cmake", [("what is installed serves a project in CMake", lambda bench: bench.by_cmake(place))])
+    yield "the bindings are of today's header", lambda bench: run([str(BINDINGS / "generate.py"), "--check"])
+    yield "the binding for Python passes its tests", Bench.python
+    yield from where("cargo", [("the binding for Rust passes its tests", Bench.rust)])
+
+
+def fault_of(part, folder, linked):
     """What is wrong with a part, on a bench in a new folder."""
     try:
-        part(Bench(Path(tempfile.mkdtemp(dir=folder)), archive))
+        part(Bench(Path(tempfile.mkdtemp(dir=folder)), linked))
     except Fault as fault:
         return str(fault)
     return ""
@@ -209,12 +270,19 @@ def fault_of(part, folder, archive):
 def main():
     if len(sys.argv) > 2:
         sys.exit("usage: gate/c.py [ARCHIVE]")
-    is_built = len(sys.argv) == 1
-    if is_built and not library.make(PREFIX):
-        sys.exit("c: error: the library is not built\n0 passed, 1 failed")
-    archive, count = library.ARCHIVE if is_built else Path(sys.argv[1]).resolve(), Count("c")
+    count = Count("c")
     with tempfile.TemporaryDirectory(prefix="ntns-c-") as folder, ThreadPoolExecutor(os.cpu_count()) as pool:
-        for shows, fault in [(shows, pool.submit(fault_of, part, folder, archive)) for shows, part in parts(is_built)]:
+        tried = []
+        if len(sys.argv) == 2:
+            archive = Path(sys.argv[1]).resolve()
+        else:
+            first, place, archive = Path(folder) / "first", Path(folder) / "place", library.ARCHIVE
+            if subprocess.run(["make", "-s", "install", f"PREFIX={first}"], cwd=ROOT, check=False).returncode:
+                sys.exit("c: error: the library is not built and installed\n0 passed, 1 failed")
+            first.rename(place)
+            tried = [(shows, part, library.SHARED) for shows, part in shared_parts(place)]
+        tried = [*((shows, part, archive) for shows, part in parts()), *tried]
+        for shows, fault in [(shows, pool.submit(fault_of, part, folder, linked)) for shows, part, linked in tried]:
             count.add(shows, [fault.result()])
     return count.end()
 

@@ -1,10 +1,11 @@
 #!/usr/bin/env python3
-"""Makes what a program in C or C++ links: out/libntns.a, out/ntns.h and out/ntns.pc.
+"""Makes what a program in C or C++ links: out/libntns.a, perhaps out/libntns.so.1, and out/ntns.h.
 
 The archive is that of the crate `ob_c`, proved and built if it isn't yet, with `lib/ntns.c` and the part of the kit in C that asks for memory: one archive,
-so that a caller names no other. It wants a C compiler ($CC, or cc) and ar ($AR).
+so that a caller names no other. The shared library is made of the archive, and exports the calls of ntns.h alone (`lib/ntns.map`). Both want a C compiler
+($CC, or cc), and the archive ar ($AR).
 
-    gate/library.py [PREFIX]      PREFIX: where it is to be installed, which out/ntns.pc says; /usr/local by default
+    gate/library.py [--shared]      --shared: the shared library too
 
 The exit status is 0 if all is made, else 1.
 """
@@ -21,7 +22,7 @@ from crates import ROOT
 
 CRATE = "ob_c"
 OUT, INCLUDE, LIB = ROOT / "out", ROOT / "include", ROOT / "lib"
-ARCHIVE = OUT / "libntns.a"
+ARCHIVE, SHARED = OUT / "libntns.a", OUT / "libntns.so.1"
 COMPILE = (os.environ.get("CC", "cc"), "-std=c11", "-O2", "-Wall", "-Wextra", "-Werror", "-fPIC", "-I", str(INCLUDE))
 
 
@@ -43,24 +44,31 @@ def merge(archives, source, made):
         shutil.move(Path(room) / "whole.a", made)
 
 
-def make(prefix):
-    """Makes the three files; whether that was possible."""
+def share(archive, made):
+    """Makes the shared library of an archive."""
+    linked = ("-Wl,--whole-archive", str(archive), "-Wl,--no-whole-archive", "-Wl,-z,defs", f"-Wl,-soname,{SHARED.name}", f"-Wl,--version-script={LIB / 'ntns.map'}")
+    subprocess.run([COMPILE[0], "-shared", *linked, "-o", str(made)], check=True)
+
+
+def make(is_shared):
+    """Makes the archive, and perhaps the shared library; whether that was possible."""
     if not build.is_built(CRATE) and not build.build(CRATE):
         return False
     OUT.mkdir(exist_ok=True)
     try:
         merge([build.built(CRATE)[0], archive_of_kit()], LIB / "ntns.c", ARCHIVE)
+        if is_shared:
+            share(ARCHIVE, SHARED)
     except subprocess.CalledProcessError:
         return False
     shutil.copyfile(INCLUDE / "ntns.h", OUT / "ntns.h")
-    (OUT / "ntns.pc").write_text((LIB / "ntns.pc.in").read_text().replace("@PREFIX@", prefix))
     return True
 
 
 def main():
-    if len(sys.argv) > 2:
-        sys.exit("usage: gate/library.py [PREFIX]")
-    return 0 if make(sys.argv[1] if len(sys.argv) == 2 else "/usr/local") else 1
+    if sys.argv[1:] not in ([], ["--shared"]):
+        sys.exit("usage: gate/library.py [--shared]")
+    return 0 if make(is_shared=bool(sys.argv[1:])) else 1
 
 
 if __name__ == "__main__":

@@ -1,0 +1,386 @@
+r"""The naming half of the NT object manager, in memory, for Python 3.8 and later.
+
+    >>> import ntns
+    >>> with ntns.Namespace() as namespace:
+    ...     system = namespace.process()
+    ...     disk = system.create_object(ntns.Type.DEVICE, r"\Device\Disk", user_data=7)
+    ...     drive = system.create_link(r"\??\C:", r"\Device\Disk")
+    ...     with system.open(r"\??\C:\a.txt") as file:
+    ...         print(file.query().type.name, file.query().user_data, file.file_text())
+    FILE 7 \a.txt
+
+The module loads libntns.so.1, which `make shared` builds: from the path in the environment variable NTNS_LIBRARY, else where the system finds it. docs/c.md
+describes each call, its statuses, and what a refusal changes. A refused call raises NtError.
+
+Names and texts are `str` or `bytes`. The namespace refuses bytes outside 0x20 to 0x7E. Only one thread at a time may use a namespace.
+"""
+
+import ctypes
+import enum
+import os
+from ctypes import POINTER, byref, c_bool, c_char_p, c_size_t, c_uint32, c_uint64
+from typing import Iterator, NamedTuple, Optional, Union
+
+__all__ = ["Attribute", "Deletion", "Entry", "Handle", "Namespace", "NtError", "Object", "Process", "Status", "Type"]
+
+# constants of ntns.h, written by bindings/generate.py
+
+
+class Status(enum.IntEnum):
+    """NTSTATUS values; those from 0xE0000000 on are this library's own."""
+
+    SUCCESS = 0x00000000
+    MORE_ENTRIES = 0x00000105
+    OBJECT_NAME_EXISTS = 0x40000000
+    NO_MORE_ENTRIES = 0x8000001A
+    INVALID_HANDLE = 0xC0000008
+    INVALID_PARAMETER = 0xC000000D
+    NO_MEMORY = 0xC0000017
+    ACCESS_DENIED = 0xC0000022
+    BUFFER_TOO_SMALL = 0xC0000023
+    OBJECT_TYPE_MISMATCH = 0xC0000024
+    OBJECT_NAME_INVALID = 0xC0000033
+    OBJECT_NAME_NOT_FOUND = 0xC0000034
+    OBJECT_NAME_COLLISION = 0xC0000035
+    OBJECT_PATH_NOT_FOUND = 0xC000003A
+    OBJECT_PATH_SYNTAX_BAD = 0xC000003B
+    INSUFFICIENT_RESOURCES = 0xC000009A
+    NAME_TOO_LONG = 0xC0000106
+    REPARSE_LIMIT = 0xE0000001
+    PROCESS_GONE = 0xE0000002
+
+
+class Attribute(enum.IntFlag):
+    """Attributes, as of OBJECT_ATTRIBUTES."""
+
+    INHERIT = 0x002
+    PERMANENT = 0x010
+    EXCLUSIVE = 0x020
+    CASE_INSENSITIVE = 0x040
+    OPENIF = 0x080
+    OPENLINK = 0x100
+
+
+class Type(enum.IntEnum):
+    """Types of objects; ANY is for opens alone."""
+
+    ANY = 0
+    DIRECTORY = 1
+    SYMBOLIC_LINK = 2
+    EVENT = 3
+    MUTANT = 4
+    SEMAPHORE = 5
+    TIMER = 6
+    SECTION = 7
+    JOB = 8
+    IO_COMPLETION = 9
+    ALPC_PORT = 10
+    KEY = 11
+    DEVICE = 12
+    DRIVER = 13
+    FILE = 14
+    WINDOW_STATION = 15
+    DESKTOP = 16
+    PROCESS = 17
+    THREAD = 18
+    TOKEN = 19
+    CALLBACK = 20
+    PROFILE = 21
+    KEYED_EVENT = 22
+    SESSION = 23
+    PARTITION = 24
+    CONTROLLER = 25
+    ADAPTER = 26
+    ETW_REGISTRATION = 27
+    TM_TM = 28
+    TM_TX = 29
+    TM_RM = 30
+    TM_EN = 31
+    WAITABLE_PORT = 32
+    TP_WORKER_FACTORY = 33
+    FILTER_CONNECTION_PORT = 34
+    POWER_REQUEST = 35
+    DEBUG_OBJECT = 36
+    ETW_CONSUMER = 37
+    WMI_GUID = 38
+
+
+# end of constants
+
+Text = Union[str, bytes]
+
+
+class NtError(Exception):
+    """A refused call, with its status."""
+
+    def __init__(self, status):
+        super().__init__(status.name)
+        self.status = status
+
+
+class Object(NamedTuple):
+    """The object of a handle. The user data of directories and links is 0. No other object of the namespace ever has this id."""
+
+    type: Type
+    user_data: int
+    id: int
+
+
+class Entry(NamedTuple):
+    """A directory's entry."""
+
+    name: str
+    type: Type
+
+
+class Deletion(NamedTuple):
+    """A deleted object."""
+
+    type: Type
+    user_data: int
+
+
+class _Space(ctypes.Structure):
+    _fields_ = [("words", ctypes.c_size_t * 2)]
+
+
+_LIBRARY = ctypes.CDLL(os.environ.get("NTNS_LIBRARY", "libntns.so.1"))
+
+_NAME = (c_char_p, c_size_t)
+_HANDLE = (c_uint32, c_uint32)
+_NUMBER = POINTER(c_uint32)
+_BUFFER = (c_char_p, c_size_t, POINTER(c_size_t))
+
+# the parameters of each call after the namespace
+_PARAMETERS = {
+    "open": (),
+    "close": (),
+    "create_directory": (*_HANDLE, *_NAME, c_uint32, _NUMBER),
+    "create_link": (*_HANDLE, *_NAME, c_uint32, *_NAME, _NUMBER),
+    "create_object": (*_HANDLE, *_NAME, c_uint32, c_uint32, c_uint64, _NUMBER),
+    "open_directory": (*_HANDLE, *_NAME, c_uint32, _NUMBER),
+    "open_link": (*_HANDLE, *_NAME, c_uint32, _NUMBER),
+    "open_object": (*_HANDLE, *_NAME, c_uint32, c_uint32, _NUMBER),
+    "close_handle": _HANDLE,
+    "duplicate": (*_HANDLE, c_uint32, c_bool, _NUMBER),
+    "make_temporary": _HANDLE,
+    "make_permanent": _HANDLE,
+    "query_link": (*_HANDLE, *_BUFFER),
+    "query_name": (*_HANDLE, *_BUFFER),
+    "query_file": (*_HANDLE, *_BUFFER),
+    "next_entry": (*_HANDLE, POINTER(c_uint64), *_BUFFER, _NUMBER),
+    "set_device_map": _HANDLE,
+    "new_process": (c_uint32, c_bool, _NUMBER),
+    "exit_process": (c_uint32,),
+    "query_object": (*_HANDLE, _NUMBER, POINTER(c_uint64), POINTER(c_uint64)),
+    "next_deleted": (_NUMBER, POINTER(c_uint64)),
+}
+
+for _call, _types in _PARAMETERS.items():
+    _function = getattr(_LIBRARY, f"ntns_{_call}")
+    _function.argtypes, _function.restype = (POINTER(_Space), *_types), None if _call == "close" else c_uint32
+
+
+def _named(text: Optional[Text]):
+    """A text and its length, as calls take them."""
+    encoded = text.encode() if isinstance(text, str) else text
+    return encoded, len(encoded or b"")
+
+
+class Namespace:
+    """A namespace with process 1, open until it is closed. A context manager."""
+
+    def __init__(self):
+        self._space = _Space()
+        self._call("open")
+
+    def __enter__(self):
+        return self
+
+    def __exit__(self, *_):
+        self.close()
+
+    def __del__(self):
+        self.close()
+
+    def close(self):
+        """Frees all memory of the namespace. It reports no deletions. Every other call is refused afterwards; another close does nothing."""
+        _LIBRARY.ntns_close(byref(self._space))
+
+    def process(self, number: int = 1) -> "Process":
+        """The process with this number."""
+        return Process(self, number)
+
+    def deletions(self) -> Iterator[Deletion]:
+        """The deleted objects of the caller, each once, in order of deletion."""
+        kind, user_data = c_uint32(), c_uint64()
+        while self._status("next_deleted", byref(kind), byref(user_data)) is not Status.NO_MORE_ENTRIES:
+            yield Deletion(Type(kind.value), user_data.value)
+
+    def _status(self, call, *arguments):
+        """The status of a call, which has to succeed or to be NO_MORE_ENTRIES or BUFFER_TOO_SMALL."""
+        for kind, value in zip(_PARAMETERS[call], arguments):
+            if kind in (c_uint32, c_uint64) and not 0 <= value < 2 ** (8 * ctypes.sizeof(kind)):
+                raise ValueError(f"{value} is no number of {8 * ctypes.sizeof(kind)} bits")
+        status = Status(getattr(_LIBRARY, f"ntns_{call}")(byref(self._space), *arguments))
+        if status >= 0x80000000 and status not in (Status.NO_MORE_ENTRIES, Status.BUFFER_TOO_SMALL):
+            raise NtError(status)
+        return status
+
+    def _call(self, call, *arguments):
+        """The status of a call, which has to succeed."""
+        status = self._status(call, *arguments)
+        if status >= 0x80000000:
+            raise NtError(status)
+        return status
+
+    def _number(self, call, *arguments):
+        """The number that a call gives in its last parameter."""
+        number = c_uint32()
+        self._call(call, *arguments, byref(number))
+        return number.value
+
+    def _text(self, call, *arguments):
+        """The text that a call writes into a buffer."""
+        length, room = c_size_t(), 256
+        while True:
+            buffer = ctypes.create_string_buffer(room)
+            if self._status(call, *arguments, buffer, room, byref(length)) is not Status.BUFFER_TOO_SMALL:
+                return buffer.raw[: length.value].decode()
+            room = length.value
+
+
+class Process:
+    """A process of a namespace. Every call of a process that has ended raises PROCESS_GONE, or INVALID_HANDLE where docs/c.md says so."""
+
+    def __init__(self, namespace: Namespace, number: int):
+        self.namespace, self.number = namespace, number
+
+    def __repr__(self):
+        return f"Process({self.number})"
+
+    def create_directory(self, name: Optional[Text] = None, attributes: int = 0, root: Optional["Handle"] = None) -> "Handle":
+        """NtCreateDirectoryObject. Without a name the directory has none."""
+        return self._handle("create_directory", root, *_named(name), attributes)
+
+    def create_link(self, name: Optional[Text], target: Text, attributes: int = 0, root: Optional["Handle"] = None) -> "Handle":
+        """NtCreateSymbolicLinkObject."""
+        return self._handle("create_link", root, *_named(name), attributes, *_named(target))
+
+    def create_object(
+        self, kind: int, name: Optional[Text] = None, user_data: int = 0, attributes: int = 0, root: Optional["Handle"] = None
+    ) -> "Handle":
+        """NtCreateEvent, NtCreateMutant and so on: an object of the caller, with 64 bits of user data."""
+        return self._handle("create_object", root, *_named(name), attributes, kind, user_data)
+
+    def open(self, name: Text, kind: int = 0, attributes: int = 0, root: Optional["Handle"] = None) -> "Handle":
+        """NtOpenEvent, NtOpenFile and so on; with the kind 0, Type.ANY, whatever object the name leads to."""
+        return self._handle("open_object", root, *_named(name), attributes, kind)
+
+    def open_directory(self, name: Text, attributes: int = 0, root: Optional["Handle"] = None) -> "Handle":
+        """NtOpenDirectoryObject."""
+        return self._handle("open_directory", root, *_named(name), attributes)
+
+    def open_link(self, name: Text, attributes: int = 0, root: Optional["Handle"] = None) -> "Handle":
+        """NtOpenSymbolicLinkObject: the link itself."""
+        return self._handle("open_link", root, *_named(name), attributes)
+
+    def new_process(self, inherit: bool = False) -> "Process":
+        """A child, with the device map of this process and with `inherit` its handles that have INHERIT, under the same values."""
+        return Process(self.namespace, self.namespace._number("new_process", self.number, inherit))
+
+    def exit(self):
+        """Ends the process: its handles are closed in the order in which they were opened."""
+        self.namespace._call("exit_process", self.number)
+
+    def handle(self, value: int) -> "Handle":
+        """The handle of this value, as one that a child inherited."""
+        return Handle(self, value)
+
+    def _handle(self, call, root, *arguments):
+        if root is not None and (root.process.namespace, root.process.number) != (self.namespace, self.number):
+            raise ValueError("the root is a handle of another process")
+        number = c_uint32()
+        status = self.namespace._call(call, self.number, 0 if root is None else root.value, *arguments, byref(number))
+        return Handle(self, number.value, status is Status.OBJECT_NAME_EXISTS)
+
+
+class Handle:
+    """A handle of a process; `existed` says that a create with OPENIF opened it. A context manager, which closes it. A handle that is only dropped stays open."""
+
+    def __init__(self, process: Process, value: int, existed: bool = False):
+        self.process, self.value, self.existed = process, value, existed
+
+    def __enter__(self):
+        return self
+
+    def __exit__(self, *_):
+        self.close()
+
+    def __repr__(self):
+        return f"Handle({self.process.number}, {self.value:#x})"
+
+    def close(self):
+        """NtClose."""
+        self._do("close_handle")
+
+    def duplicate(self, to: Optional[Process] = None, inherit: bool = False) -> "Handle":
+        """NtDuplicateObject: another handle to the object, of the process `to` or of the same one."""
+        to = to or self.process
+        if to.namespace is not self.process.namespace:
+            raise ValueError("the process is one of another namespace")
+        return Handle(to, self._ask("duplicate", to.number, inherit))
+
+    def make_temporary(self):
+        """NtMakeTemporaryObject: the object loses its name with its last handle."""
+        self._do("make_temporary")
+
+    def make_permanent(self):
+        """NtMakePermanentObject: the object keeps its name without handles."""
+        self._do("make_permanent")
+
+    def set_device_map(self):
+        """NtSetInformationProcess with ProcessDeviceMap: \\?? is then this directory before \\GLOBAL??, for its process."""
+        self._do("set_device_map")
+
+    def target(self) -> str:
+        """NtQuerySymbolicLinkObject."""
+        return self.process.namespace._text("query_link", *self._arguments)
+
+    def path(self) -> str:
+        """ObQueryNameString: empty if the object or a directory above it has no name."""
+        return self.process.namespace._text("query_name", *self._arguments)
+
+    def file_text(self) -> str:
+        """The part of its name that an open of a file or a key left to its device or key; empty if it was created."""
+        return self.process.namespace._text("query_file", *self._arguments)
+
+    def query(self) -> Object:
+        """ObReferenceObjectByHandle: type, user data and id of the object."""
+        kind, user_data, number = c_uint32(), c_uint64(), c_uint64()
+        self._do("query_object", byref(kind), byref(user_data), byref(number))
+        return Object(Type(kind.value), user_data.value, number.value)
+
+    def __iter__(self) -> Iterator[Entry]:
+        """NtQueryDirectoryObject: the entries of the directory, in the order in which they were made. Each that stays throughout comes once."""
+        context, length, kind, room = c_uint64(), c_size_t(), c_uint32(), 256
+        while True:
+            buffer = ctypes.create_string_buffer(room)
+            arguments = (byref(context), buffer, room, byref(length), byref(kind))
+            status = self.process.namespace._status("next_entry", *self._arguments, *arguments)
+            if status is Status.NO_MORE_ENTRIES:
+                return
+            if status is Status.BUFFER_TOO_SMALL:
+                room = length.value
+            else:
+                yield Entry(buffer.raw[: length.value].decode(), Type(kind.value))
+
+    @property
+    def _arguments(self):
+        return self.process.number, self.value
+
+    def _do(self, call, *arguments):
+        self.process.namespace._call(call, *self._arguments, *arguments)
+
+    def _ask(self, call, *arguments):
+        return self.process.namespace._number(call, *self._arguments, *arguments)

@@ -1,0 +1,172 @@
+"""Tests of the binding, over the library that NTNS_LIBRARY names or the system finds."""
+
+import ctypes
+import doctest
+import unittest
+
+import ntns
+from ntns import Attribute, Deletion, Entry, Namespace, NtError, Status, Type
+
+
+class Bound(unittest.TestCase):
+    """A test in a new namespace."""
+
+    def setUp(self):
+        self.namespace = Namespace()
+        self.system = self.namespace.process()
+        self.addCleanup(self.namespace.close)
+
+    def refused(self, status, call, *arguments, **named):
+        """Checks that a call is refused with a status."""
+        with self.assertRaises(NtError) as caught:
+            call(*arguments, **named)
+        self.assertIs(caught.exception.status, status)
+        self.assertEqual(str(caught.exception), status.name)
+
+
+class Objects(Bound):
+    def test_a_file_on_a_device_is_opened_by_a_drive(self):
+        self.system.create_object(Type.DEVICE, r"\Device\Disk", user_data=7)
+        drive = self.system.create_link(r"\??\C:", r"\Device\Disk")
+        with self.system.open(r"\??\C:\a.txt", Type.FILE) as file:
+            self.assertEqual(file.query()[:2], (Type.FILE, 7))
+            self.assertEqual(file.file_text(), r"\a.txt")
+        self.assertEqual(drive.target(), r"\Device\Disk")
+        self.assertEqual(drive.path(), r"\GLOBAL??\C:")
+        self.system.exit()
+        self.assertEqual(list(self.namespace.deletions()), [Deletion(Type.FILE, 7), Deletion(Type.DEVICE, 7)])
+        self.assertEqual(list(self.namespace.deletions()), [])
+
+    def test_ids_tell_objects_apart(self):
+        first, second = (self.system.create_object(Type.EVENT, user_data=1) for _ in range(2))
+        self.assertNotEqual(first.query().id, second.query().id)
+        self.assertEqual(first.duplicate().query(), first.query())
+
+    def test_user_data_has_64_bits(self):
+        event = self.system.create_object(Type.EVENT, user_data=2**64 - 1)
+        self.assertEqual(event.query().user_data, 2**64 - 1)
+
+    def test_numbers_out_of_range_are_refused(self):
+        self.assertRaises(ValueError, self.system.create_object, Type.EVENT, user_data=2**64)
+        self.assertRaises(ValueError, self.system.create_directory, attributes=2**32)
+        self.assertRaises(ValueError, self.system.create_directory, attributes=-1)
+        self.assertRaises(ValueError, self.namespace.process(2**32 + 1).create_directory)
+
+    def test_openif_says_that_it_opened(self):
+        made = self.system.create_directory(r"\A")
+        opened = self.system.create_directory(r"\A", Attribute.OPENIF)
+        self.assertEqual((made.existed, opened.existed), (False, True))
+        self.assertEqual(made.query(), opened.query())
+
+    def test_names_are_relative_to_a_root(self):
+        with self.system.create_directory(r"\A") as root:
+            self.system.create_object(Type.MUTANT, "m", root=root)
+            self.assertEqual(self.system.open(r"\a\M", attributes=Attribute.CASE_INSENSITIVE).path(), r"\A\m")
+
+    def test_a_link_is_opened_itself(self):
+        self.system.create_link(r"\L", r"\Device")
+        self.assertIs(self.system.open_link(r"\L").query().type, Type.SYMBOLIC_LINK)
+        self.assertIs(self.system.open_directory(r"\L").query().type, Type.DIRECTORY)
+
+    def test_an_object_keeps_its_name_if_it_is_permanent(self):
+        event = self.system.create_object(Type.EVENT, r"\E")
+        event.make_permanent()
+        event.close()
+        with self.system.open(r"\E") as event:
+            event.make_temporary()
+        self.refused(Status.OBJECT_NAME_NOT_FOUND, self.system.open, r"\E")
+
+
+class Processes(Bound):
+    def test_a_child_inherits(self):
+        handle = self.system.create_object(Type.EVENT, user_data=3, attributes=Attribute.INHERIT)
+        kept = self.system.create_object(Type.EVENT)
+        child = self.system.new_process(inherit=True)
+        self.assertEqual(child.handle(handle.value).query().user_data, 3)
+        self.refused(Status.INVALID_HANDLE, child.handle(kept.value).close)
+        child.exit()
+        self.refused(Status.PROCESS_GONE, child.create_directory)
+
+    def test_a_handle_is_duplicated_into_another_process(self):
+        child = self.system.new_process()
+        copy = self.system.create_object(Type.EVENT, user_data=5).duplicate(to=child)
+        self.assertEqual((copy.process.number, copy.query().user_data), (child.number, 5))
+
+    def test_a_device_map_comes_first(self):
+        local = self.system.create_directory(r"\Sessions\1")
+        child = self.system.new_process()
+        local.duplicate(to=child).set_device_map()
+        child.create_link(r"\??\C:", r"\Device").make_permanent()
+        self.assertIs(child.open(r"\??\C:").query().type, Type.DIRECTORY)
+        self.refused(Status.OBJECT_NAME_NOT_FOUND, self.system.open, r"\??\C:")
+
+
+class Texts(Bound):
+    def test_a_directory_lists_its_entries_in_order(self):
+        with self.system.create_directory(r"\A") as directory:
+            names = [f"e{number:03}" for number in range(300)] + ["x" * 4000]
+            for name in names:
+                self.system.create_object(Type.EVENT, name, root=directory)
+            self.assertEqual(list(directory), [Entry(name, Type.EVENT) for name in names])
+
+    def test_a_long_target_is_read_whole(self):
+        target = "\\" + "t" * 32_766
+        self.assertEqual(self.system.create_link(r"\L", target).target(), target)
+
+    def test_names_are_bytes_too(self):
+        self.assertEqual(self.system.create_directory(b"\\A").path(), r"\A")
+
+    def test_a_nul_is_part_of_a_name(self):
+        self.refused(Status.OBJECT_NAME_INVALID, self.system.create_directory, "\\A\0B")
+
+    def test_what_is_not_ascii_is_refused(self):
+        self.refused(Status.OBJECT_NAME_INVALID, self.system.create_directory, "\\\u00c4")
+
+
+class Ends(Bound):
+    def test_a_closed_namespace_refuses_and_closes_again(self):
+        self.namespace.close()
+        self.namespace.close()
+        self.refused(Status.INVALID_PARAMETER, self.system.create_directory, r"\A")
+
+    def test_a_context_closes_its_handle(self):
+        with self.system.create_directory(r"\A") as handle:
+            pass
+        self.refused(Status.INVALID_HANDLE, handle.close)
+
+    def test_namespaces_are_apart(self):
+        self.system.create_directory(r"\A")
+        with Namespace() as other:
+            self.refused(Status.OBJECT_NAME_NOT_FOUND, other.process().open, r"\A")
+
+
+    def test_handles_of_others_are_no_roots(self):
+        with Namespace() as other:
+            root = other.process().create_directory(r"\A")
+            self.assertRaises(ValueError, self.system.create_directory, "B", root=root)
+            self.assertRaises(ValueError, self.system.create_directory().duplicate, to=other.process())
+        root = self.system.create_directory()
+        self.assertRaises(ValueError, self.system.new_process().create_directory, "B", root=root)
+
+
+class Constants(unittest.TestCase):
+    def test_statuses_have_the_names_of_the_library(self):
+        text = ntns._LIBRARY.ntns_status_text
+        text.argtypes, text.restype = [ctypes.c_uint32], ctypes.c_char_p
+        self.assertEqual([text(status) for status in Status], [status.name.encode() for status in Status])
+
+    def test_types_are_those_of_the_library(self):
+        name = ntns._LIBRARY.ntns_type_name
+        name.argtypes, name.restype = [ctypes.c_uint32], ctypes.c_char_p
+        known = [number for number in range(1, 100) if name(number)]
+        self.assertEqual(known, [kind for kind in Type if kind is not Type.ANY])
+
+
+def load_tests(_, tests, __):
+    """The tests here, and the example of the module's document."""
+    tests.addTests(doctest.DocTestSuite(ntns))
+    return tests
+
+
+if __name__ == "__main__":
+    unittest.main()

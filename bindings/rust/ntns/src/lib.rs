@@ -1,0 +1,395 @@
+//! The naming half of the NT object manager, in memory: object directories, symbolic links, objects of the caller's own, and processes with handles.
+//!
+//! ```
+//! use ntns::{Namespace, Type};
+//!
+//! # fn main() -> Result<(), ntns::Status> {
+//! let namespace = Namespace::open()?;
+//! let system = namespace.process(1);
+//! let _disk = system.object(Type::DEVICE, 7).create(r"\Device\Disk")?;
+//! let _drive = system.link(r"\Device\Disk").create(r"\??\C:")?;
+//! let file = system.open(Type::FILE, r"\??\C:\a.txt")?;
+//! assert_eq!(file.query()?.user_data, 7);
+//! assert_eq!(file.file_text()?, r"\a.txt");
+//! # Ok(())
+//! # }
+//! ```
+//!
+//! `docs/c.md` describes the calls of the library, the statuses of each in their order, and what a refusal changes. Names and texts are bytes from 0x20 to 0x7E;
+//! the library refuses others.
+//!
+//! A [`Namespace`] is `Send` and not `Sync`. Threads share it in a `Mutex`:
+//!
+//! ```
+//! use ntns::Namespace;
+//! use std::sync::Mutex;
+//!
+//! # fn main() -> Result<(), ntns::Status> {
+//! let shared = Mutex::new(Namespace::open()?);
+//! std::thread::scope(|threads| {
+//!     for _ in 0..2 {
+//!         threads.spawn(|| shared.lock().unwrap().process(1).directory().create_unnamed().is_ok());
+//!     }
+//! });
+//! # Ok(())
+//! # }
+//! ```
+//!
+//! ```compile_fail
+//! fn is_sync<T: Sync>() {}
+//! is_sync::<ntns::Namespace>();
+//! ```
+
+mod constants;
+mod create;
+
+use ntns_sys as raw;
+use std::cell::UnsafeCell;
+use std::ffi::{c_char, CStr};
+use std::fmt;
+
+pub use create::Create;
+
+/// An NTSTATUS. As an error it is that of a refused call.
+#[derive(Clone, Copy, PartialEq, Eq, Hash)]
+pub struct Status(pub u32);
+
+/// The type of an object.
+#[derive(Clone, Copy, PartialEq, Eq, Hash)]
+pub struct Type(pub u32);
+
+/// Attributes, as of OBJECT_ATTRIBUTES, joined by `|`.
+#[derive(Debug, Clone, Copy, Default, PartialEq, Eq, Hash)]
+pub struct Attribute(pub u32);
+
+/// The object of a handle. The user data of directories and links is 0. No other object of the namespace ever has this id.
+#[derive(Debug, Clone, Copy, PartialEq, Eq)]
+pub struct Object {
+    pub kind: Type,
+    pub user_data: u64,
+    pub id: u64,
+}
+
+/// An entry of a directory.
+#[derive(Debug, Clone, PartialEq, Eq)]
+pub struct Entry {
+    pub name: String,
+    pub kind: Type,
+}
+
+/// A deleted object.
+#[derive(Debug, Clone, Copy, PartialEq, Eq)]
+pub struct Deletion {
+    pub kind: Type,
+    pub user_data: u64,
+}
+
+/// A namespace with process 1, closed when it is dropped.
+pub struct Namespace {
+    space: UnsafeCell<raw::ntns>,
+}
+
+/// A process of a namespace.
+#[derive(Clone, Copy)]
+pub struct Process<'a> {
+    namespace: &'a Namespace,
+    number: u32,
+}
+
+/// A handle, closed when it is dropped.
+pub struct Handle<'a> {
+    process: Process<'a>,
+    value: u32,
+}
+
+impl Namespace {
+    /// Opens a namespace. The error is `NO_MEMORY`.
+    pub fn open() -> Result<Self, Status> {
+        let namespace = Self { space: UnsafeCell::new(raw::ntns::default()) };
+        namespace.call(|space| unsafe { raw::ntns_open(space) })?;
+        Ok(namespace)
+    }
+
+    /// The process with this number; 1 is there from the start.
+    pub fn process(&self, number: u32) -> Process<'_> {
+        Process { namespace: self, number }
+    }
+
+    /// Takes the deleted objects of the caller, each once, in order of deletion.
+    pub fn deletions(&self) -> impl Iterator<Item = Deletion> + '_ {
+        std::iter::from_fn(move || {
+            let (mut kind, mut user_data) = (0, 0);
+            let status = self.call(|space| unsafe { raw::ntns_next_deleted(space, &mut kind, &mut user_data) });
+            status.ok().map(|_| Deletion { kind: Type(kind), user_data })
+        })
+    }
+
+    /// Makes a call: its status, where that is a success.
+    fn call(&self, make: impl FnOnce(*mut raw::ntns) -> u32) -> Result<Status, Status> {
+        // The namespace isn't Sync, and no call calls back: nobody else uses it meanwhile.
+        match Status(make(self.space.get())) {
+            status if status.is_success() => Ok(status),
+            status => Err(status),
+        }
+    }
+
+    /// Makes a call that fills a buffer of a length that it gives.
+    fn text(&self, mut make: impl FnMut(*mut raw::ntns, *mut c_char, usize, &mut usize) -> u32) -> Result<String, Status> {
+        let (mut buffer, mut length) = (vec![0u8; 256], 0);
+        loop {
+            match self.call(|space| make(space, buffer.as_mut_ptr().cast(), buffer.len(), &mut length)) {
+                Err(Status::BUFFER_TOO_SMALL) => buffer.resize(length, 0),
+                Err(status) => return Err(status),
+                Ok(_) => {
+                    buffer.truncate(length);
+                    return Ok(String::from_utf8(buffer).expect("texts of a namespace are ASCII"));
+                }
+            }
+        }
+    }
+}
+
+impl Drop for Namespace {
+    fn drop(&mut self) {
+        unsafe { raw::ntns_close(self.space.get()) }
+    }
+}
+
+impl<'a> Process<'a> {
+    /// Its number.
+    pub fn number(self) -> u32 {
+        self.number
+    }
+
+    /// NtCreateDirectoryObject: the directory to create.
+    pub fn directory(self) -> Create<'a, 'static> {
+        Create::new(self, create::Kind::Directory)
+    }
+
+    /// NtCreateSymbolicLinkObject: the link to create.
+    pub fn link<'t>(self, target: &'t (impl AsRef<[u8]> + ?Sized)) -> Create<'a, 't> {
+        Create::new(self, create::Kind::Link(target.as_ref()))
+    }
+
+    /// NtCreateEvent, NtCreateMutant and so on: the object to create, with 64 bits of user data.
+    pub fn object(self, kind: Type, user_data: u64) -> Create<'a, 'static> {
+        Create::new(self, create::Kind::Object(kind, user_data))
+    }
+
+    /// NtOpenEvent, NtOpenFile and so on; with [`Type::ANY`] whatever object the name leads to.
+    pub fn open(self, kind: Type, name: impl AsRef<[u8]>) -> Result<Handle<'a>, Status> {
+        self.open_with(kind, name, Attribute::default(), None)
+    }
+
+    /// The same with attributes, and relative to a root if there is one. Panics if that is a handle of another process.
+    pub fn open_with(self, kind: Type, name: impl AsRef<[u8]>, attributes: Attribute, root: Option<&Handle<'a>>) -> Result<Handle<'a>, Status> {
+        let (name, root) = (name.as_ref(), root.map_or(0, |root| self.root(root)));
+        self.handle(|space, handle| unsafe {
+            let text = (name.as_ptr().cast(), name.len());
+            match kind {
+                Type::DIRECTORY => raw::ntns_open_directory(space, self.number, root, text.0, text.1, attributes.0, handle),
+                Type::SYMBOLIC_LINK => raw::ntns_open_link(space, self.number, root, text.0, text.1, attributes.0, handle),
+                Type(number) => raw::ntns_open_object(space, self.number, root, text.0, text.1, attributes.0, number, handle),
+            }
+        })
+    }
+
+    /// A child, with the device map of this process and with `inherit` its handles that have INHERIT, under the same values.
+    pub fn new_process(self, inherit: bool) -> Result<Process<'a>, Status> {
+        let mut number = 0;
+        self.namespace.call(|space| unsafe { raw::ntns_new_process(space, self.number, inherit, &mut number) })?;
+        Ok(Process { number, ..self })
+    }
+
+    /// Ends the process: its handles are closed in the order in which they were opened.
+    pub fn exit(self) -> Result<(), Status> {
+        self.namespace.call(|space| unsafe { raw::ntns_exit_process(space, self.number) })?;
+        Ok(())
+    }
+
+    /// The handle of this value, as one that a child inherited. It is closed when it is dropped.
+    pub fn adopt(self, value: u32) -> Handle<'a> {
+        Handle { process: self, value }
+    }
+
+    /// The value of a root, a handle of this process.
+    pub(crate) fn root(self, root: &Handle<'_>) -> u32 {
+        let is_own = std::ptr::eq(root.process.namespace, self.namespace) && root.process.number == self.number;
+        assert!(is_own, "the root is a handle of another process");
+        root.value
+    }
+
+    /// The handle that a call gives.
+    fn handle(self, make: impl FnOnce(*mut raw::ntns, *mut u32) -> u32) -> Result<Handle<'a>, Status> {
+        let mut value = 0;
+        self.namespace.call(|space| make(space, &mut value))?;
+        Ok(self.adopt(value))
+    }
+}
+
+impl<'a> Handle<'a> {
+    /// Its value, a multiple of four.
+    pub fn value(&self) -> u32 {
+        self.value
+    }
+
+    /// Keeps it open; its value.
+    pub fn into_value(self) -> u32 {
+        std::mem::ManuallyDrop::new(self).value
+    }
+
+    /// NtClose, with its status.
+    pub fn close(self) -> Result<(), Status> {
+        std::mem::ManuallyDrop::new(self).make(raw::ntns_close_handle)
+    }
+
+    /// NtDuplicateObject: another handle to the object, of the process `to`. Panics if that is a process of another namespace.
+    pub fn duplicate(&self, to: Process<'a>, inherit: bool) -> Result<Handle<'a>, Status> {
+        assert!(std::ptr::eq(to.namespace, self.process.namespace), "the process is one of another namespace");
+        let mut copy = 0;
+        self.call(|space, process, value| unsafe { raw::ntns_duplicate(space, process, value, to.number, inherit, &mut copy) })?;
+        Ok(to.adopt(copy))
+    }
+
+    /// NtMakeTemporaryObject: the object loses its name with its last handle.
+    pub fn make_temporary(&self) -> Result<(), Status> {
+        self.make(raw::ntns_make_temporary)
+    }
+
+    /// NtMakePermanentObject: the object keeps its name without handles.
+    pub fn make_permanent(&self) -> Result<(), Status> {
+        self.make(raw::ntns_make_permanent)
+    }
+
+    /// NtSetInformationProcess with ProcessDeviceMap: `\??` is then this directory before `\GLOBAL??`, for its process.
+    pub fn set_device_map(&self) -> Result<(), Status> {
+        self.make(raw::ntns_set_device_map)
+    }
+
+    /// NtQuerySymbolicLinkObject.
+    pub fn target(&self) -> Result<String, Status> {
+        self.text(raw::ntns_query_link)
+    }
+
+    /// ObQueryNameString: empty if the object or a directory above it has no name.
+    pub fn path(&self) -> Result<String, Status> {
+        self.text(raw::ntns_query_name)
+    }
+
+    /// The part of its name that an open of a file or a key left to its device or key; empty if it was created.
+    pub fn file_text(&self) -> Result<String, Status> {
+        self.text(raw::ntns_query_file)
+    }
+
+    /// ObReferenceObjectByHandle.
+    pub fn query(&self) -> Result<Object, Status> {
+        let (mut kind, mut user_data, mut id) = (0, 0, 0);
+        self.call(|space, process, value| unsafe { raw::ntns_query_object(space, process, value, &mut kind, &mut user_data, &mut id) })?;
+        Ok(Object { kind: Type(kind), user_data, id })
+    }
+
+    /// NtQueryDirectoryObject: the entries of the directory, in the order in which they were made. Each that stays throughout comes once. A refusal is the last item.
+    pub fn entries(&self) -> impl Iterator<Item = Result<Entry, Status>> + '_ {
+        let (mut context, mut is_over) = (0, false);
+        std::iter::from_fn(move || {
+            if is_over {
+                return None;
+            }
+            let mut kind = 0;
+            let (process, value) = (self.process.number, self.value);
+            let name = self.process.namespace.text(|space, buffer, capacity, length| unsafe {
+                raw::ntns_next_entry(space, process, value, &mut context, buffer, capacity, length, &mut kind)
+            });
+            is_over = name.is_err();
+            match name {
+                Err(Status::NO_MORE_ENTRIES) => None,
+                name => Some(name.map(|name| Entry { name, kind: Type(kind) })),
+            }
+        })
+    }
+
+    /// Makes a call with the process and the value.
+    fn call(&self, make: impl FnOnce(*mut raw::ntns, u32, u32) -> u32) -> Result<(), Status> {
+        self.process.namespace.call(|space| make(space, self.process.number, self.value))?;
+        Ok(())
+    }
+
+    /// Makes a call that takes nothing else.
+    fn make(&self, call: unsafe extern "C" fn(*mut raw::ntns, u32, u32) -> u32) -> Result<(), Status> {
+        self.call(|space, process, value| unsafe { call(space, process, value) })
+    }
+
+    /// The text that a call gives.
+    fn text(&self, call: unsafe extern "C" fn(*mut raw::ntns, u32, u32, *mut c_char, usize, *mut usize) -> u32) -> Result<String, Status> {
+        let (process, value) = (self.process.number, self.value);
+        self.process.namespace.text(|space, buffer, capacity, length| unsafe { call(space, process, value, buffer, capacity, length) })
+    }
+}
+
+impl Drop for Handle<'_> {
+    fn drop(&mut self) {
+        // It may be closed already, as by the exit of its process.
+        let _ = self.make(raw::ntns_close_handle);
+    }
+}
+
+impl Status {
+    /// Whether a call did what was asked: as NT_SUCCESS.
+    pub fn is_success(self) -> bool {
+        self.0 < 0x8000_0000
+    }
+
+    /// Its name, as "OBJECT_NAME_NOT_FOUND", if it is one of the library's.
+    pub fn name(self) -> Option<&'static str> {
+        text_of(unsafe { raw::ntns_status_text(self.0) })
+    }
+}
+
+impl Type {
+    /// Its name, as Windows spells it: "Directory", "ALPC Port".
+    pub fn name(self) -> Option<&'static str> {
+        text_of(unsafe { raw::ntns_type_name(self.0) })
+    }
+}
+
+/// A text of the library, which is there as long as the program.
+fn text_of(text: *const c_char) -> Option<&'static str> {
+    (!text.is_null()).then(|| unsafe { CStr::from_ptr(text) }.to_str().expect("texts of the library are ASCII"))
+}
+
+impl std::ops::BitOr for Attribute {
+    type Output = Self;
+
+    fn bitor(self, other: Self) -> Self {
+        Self(self.0 | other.0)
+    }
+}
+
+impl std::error::Error for Status {}
+
+impl fmt::Display for Status {
+    fn fmt(&self, formatter: &mut fmt::Formatter<'_>) -> fmt::Result {
+        match self.name() {
+            Some(name) => formatter.write_str(name),
+            None => write!(formatter, "{:#010X}", self.0),
+        }
+    }
+}
+
+impl fmt::Debug for Status {
+    fn fmt(&self, formatter: &mut fmt::Formatter<'_>) -> fmt::Result {
+        fmt::Display::fmt(self, formatter)
+    }
+}
+
+impl fmt::Debug for Type {
+    fn fmt(&self, formatter: &mut fmt::Formatter<'_>) -> fmt::Result {
+        write!(formatter, "{}", self.name().unwrap_or("any"))
+    }
+}
+
+impl fmt::Debug for Handle<'_> {
+    fn fmt(&self, formatter: &mut fmt::Formatter<'_>) -> fmt::Result {
+        write!(formatter, "Handle({}, {:#x})", self.process.number, self.value)
+    }
+}

@@ -1,0 +1,113 @@
+//! Calls of a namespace, each against what the library answers.
+
+use ntns::{Attribute, Deletion, Entry, Namespace, Status, Type};
+
+#[test]
+fn a_file_on_a_device_is_opened_by_a_drive_and_deleted_with_its_process() -> Result<(), Status> {
+    let namespace = Namespace::open()?;
+    let system = namespace.process(1);
+    let disk = system.object(Type::DEVICE, 7).create(r"\Device\Disk")?;
+    let drive = system.link(r"\Device\Disk").create(r"\??\C:")?;
+    let file = system.open(Type::FILE, r"\??\C:\a.txt")?;
+    assert_eq!((file.query()?.kind, file.query()?.user_data), (Type::FILE, 7));
+    assert_eq!((drive.target()?, drive.path()?), (r"\Device\Disk".into(), r"\GLOBAL??\C:".into()));
+    assert_eq!(disk.file_text(), Err(Status::OBJECT_TYPE_MISMATCH));
+    system.exit()?;
+    let deleted: Vec<_> = namespace.deletions().collect();
+    assert_eq!(deleted, [Type::FILE, Type::DEVICE].map(|kind| Deletion { kind, user_data: 7 }));
+    assert_eq!(drive.close(), Err(Status::PROCESS_GONE));
+    Ok(())
+}
+
+#[test]
+fn a_handle_closes_when_it_is_dropped_and_not_when_its_value_is_kept() -> Result<(), Status> {
+    let namespace = Namespace::open()?;
+    let system = namespace.process(1);
+    drop(system.object(Type::EVENT, 1).create(r"\E")?);
+    assert_eq!(system.open(Type::ANY, r"\E").unwrap_err(), Status::OBJECT_NAME_NOT_FOUND);
+    let value = system.object(Type::EVENT, 2).create(r"\E")?.into_value();
+    assert_eq!(system.adopt(value).query()?.user_data, 2);
+    Ok(())
+}
+
+#[test]
+fn a_directory_lists_its_entries_in_order() -> Result<(), Status> {
+    let namespace = Namespace::open()?;
+    let system = namespace.process(1);
+    let directory = system.directory().create(r"\A")?;
+    let names: Vec<_> = (0..300).map(|number| format!("e{number:03}")).chain(["x".repeat(4000)]).collect();
+    let mut events = Vec::new();
+    for name in &names {
+        events.push(system.object(Type::EVENT, 0).root(&directory).create(name)?);
+    }
+    let listed: Vec<_> = directory.entries().collect::<Result<_, _>>()?;
+    let wanted: Vec<_> = names.into_iter().map(|name| Entry { name, kind: Type::EVENT }).collect();
+    assert_eq!(listed, wanted);
+    assert_eq!(events[0].entries().collect::<Vec<_>>(), [Err(Status::OBJECT_TYPE_MISMATCH)]);
+    Ok(())
+}
+
+#[test]
+fn a_child_inherits_and_a_device_map_comes_first() -> Result<(), Status> {
+    let namespace = Namespace::open()?;
+    let system = namespace.process(1);
+    let event = system.object(Type::EVENT, 3).attributes(Attribute::INHERIT).create_unnamed()?;
+    let local = system.directory().create(r"\Sessions\1")?;
+    let child = system.new_process(true)?;
+    assert_eq!(child.adopt(event.value()).query()?.user_data, 3);
+    local.duplicate(child, false)?.set_device_map()?;
+    child.link(r"\Device").create(r"\??\C:")?.make_permanent()?;
+    assert_eq!(child.open(Type::DIRECTORY, r"\??\C:")?.path()?, r"\Device");
+    assert_eq!(system.open(Type::DIRECTORY, r"\??\C:").unwrap_err(), Status::OBJECT_NAME_NOT_FOUND);
+    Ok(())
+}
+
+#[test]
+fn attributes_are_joined() -> Result<(), Status> {
+    let namespace = Namespace::open()?;
+    let system = namespace.process(1);
+    let made = system.directory().create(r"\A")?;
+    let opened = system.directory().attributes(Attribute::OPENIF | Attribute::CASE_INSENSITIVE).create(r"\a")?;
+    assert_eq!(made.query()?, opened.query()?);
+    Ok(())
+}
+
+#[test]
+fn names_outside_the_profile_are_refused() -> Result<(), Status> {
+    let namespace = Namespace::open()?;
+    for name in ["\\A\0B", "\\\u{c4}"] {
+        assert_eq!(namespace.process(1).directory().create(name).unwrap_err(), Status::OBJECT_NAME_INVALID);
+    }
+    Ok(())
+}
+
+#[test]
+fn statuses_and_types_have_the_names_of_the_library() {
+    assert_eq!(Status::OBJECT_NAME_NOT_FOUND.to_string(), "OBJECT_NAME_NOT_FOUND");
+    assert_eq!((Status(1).name(), Status(1).to_string()), (None, "0x00000001".into()));
+    assert_eq!((Type::ALPC_PORT.name(), Type(99).name()), (Some("ALPC Port"), None));
+}
+
+#[test]
+fn a_namespace_may_go_to_another_thread() -> Result<(), Status> {
+    let namespace = Namespace::open()?;
+    let opened = std::thread::spawn(move || namespace.process(1).open(Type::DIRECTORY, r"\Device").map(|handle| handle.value())).join();
+    assert_eq!(opened.unwrap(), Ok(4));
+    Ok(())
+}
+
+#[test]
+#[should_panic(expected = "another process")]
+fn a_handle_of_another_process_is_no_root() {
+    let namespace = Namespace::open().unwrap();
+    let system = namespace.process(1);
+    let root = system.directory().create_unnamed().unwrap();
+    let _ = system.new_process(false).unwrap().directory().root(&root);
+}
+
+#[test]
+#[should_panic(expected = "another namespace")]
+fn a_handle_is_duplicated_within_its_namespace() {
+    let (one, other) = (Namespace::open().unwrap(), Namespace::open().unwrap());
+    let _ = one.process(1).directory().create_unnamed().unwrap().duplicate(other.process(1), false);
+}
