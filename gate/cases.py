@@ -17,6 +17,8 @@
   that the lines 1 to 3 succeed; `<<` at the end of a line, with `*0>>` at the beginning of the next, removes that end. Arguments name the files of `FILES`,
   and `two`, which isn't there.
 
+The blocks of `docs/windows.md` are scripts of such rows too.
+
 Then it measures how much memory many directories take, and, where valgrind is there, checks that an open asks the cache of prefixes. If the program `callers`
 is named, `PROGRAM` has to accept each journal that it writes, of what its callers do together, at once and without memory.
 
@@ -36,7 +38,7 @@ from pathlib import Path
 import lookups as searched
 import runs
 from crates import ROOT
-from runs import Case, Count, dialogue, fault_of_journal, parted, run, sections
+from runs import Case, Count, dialogue, fault_of_journal, in_full, parted, run, sections
 
 sys.path.append(str(ROOT / "bench"))
 
@@ -106,6 +108,13 @@ def lookups():
 def objects():
     """Runs of scripts that make objects and open names behind them."""
     return scripts("objects.txt")
+
+
+def windows():
+    """Runs of the differences from Windows that the page shows."""
+    for section in re.split("^### ", (ROOT / "docs" / "windows.md").read_text(encoding="ascii"), flags=re.MULTILINE)[1:]:
+        (shown,) = re.findall("\n```\n(.*?)```\n", section, re.DOTALL)
+        yield dialogue(f"windows: {section.partition(chr(10))[0]}", in_full(shown).splitlines())
 
 
 def requests():
@@ -211,7 +220,7 @@ def main():
     with tempfile.TemporaryDirectory(prefix="ntns-cases-") as folder, ThreadPoolExecutor(len(os.sched_getaffinity(0))) as pool:
         for name, text in FILES.items():
             (Path(folder) / name).write_text(text)
-        for table in (lines, scripts, lookups, objects, requests, workers, journals, worked):
+        for table in (lines, scripts, lookups, objects, windows, requests, workers, journals, worked):
             count.add(table.__name__, pool.map(lambda case: case.fault(program, folder), table()))
         count.add("memory", faults_of_memory(program, folder))
         count.add("names that come and go", random_workers.faults_of_names(program, Path(folder)))

@@ -70,17 +70,21 @@ def sections(path):
         yield name, text
 
 
-def repeated(found):
-    """A text as often as a worked case says, in which `{}` is the number of each."""
-    text, times = "{}: SUCCESS\n" if found[1] == "successes" else found[1], int(found[2])
-    return "".join(text.replace("{}", str(number)) for number in range(1, times + 1)) if "{}" in text else text * times
+def in_full(text):
+    """A text with what `<<a*3>>` repeats; `{}` in it is the number of each."""
+
+    def repeated(found):
+        part, times = "{}: SUCCESS\n" if found[1] == "successes" else found[1], int(found[2])
+        return "".join(part.replace("{}", str(number)) for number in range(1, times + 1)) if "{}" in part else part * times
+
+    return re.sub(r"<<([^*]*)\*(\d+)>>", repeated, text)
 
 
 def worked(path):
     """The worked cases of a file."""
     for shows, text in sections(path):
         texts = re.fullmatch(r"(?:\$ ntns(\S*)\n)?(.*)-- ends with (\d+)\n(.*)", text, re.DOTALL)
-        script, left = (re.sub(r"<<([^*]*)\*(\d+)>>", repeated, texts[it]).encode() for it in (2, 4))
+        script, left = (in_full(texts[it]).encode() for it in (2, 4))
         output, errors = (b"", left) if left.startswith((b"ntns: ", b"error: ")) else (left, b"")
         yield Case(f"{path.stem}: {shows}", tuple((texts[1] or "").split("|")[1:]), int(texts[3]), output, errors, script)
 
