@@ -7,8 +7,8 @@ refused if a goal of its own function, or of a closure in it, is not proved. It 
 - if the function is not proved only because it calls another turned function: it is tried again without the others;
 - if an answer of its proof no longer fits: it is tried again without that answer.
 With a line `refusal: CODE` the compiler must refuse it, by errors of that code alone. With a line `fails: TEST` a test must fail, for which the crates are
-compiled without proofs: CRATE::TEST of a crate of tests; CRATE, a program that prints something else than its stdout; or examples/NAME, a script that `ntns`
-answers otherwise.
+compiled without proofs: CRATE::TEST of a crate of tests; CRATE, a program that prints something else than its stdout, or fails; or examples/NAME, a script that
+`ntns` answers otherwise.
 
 A turned definition, FUNCTION-what_it_says.edit, changes a file of src/ or specs/, and the check of the functions of that name must refuse it.
 
@@ -226,7 +226,10 @@ def fault_of_test(edit, folder):
         ran = subprocess.run(words, cwd=folder / "crates" / crate, stdin=stream, capture_output=True, text=True, errors="replace", check=False)
     if not re.search(r"^run=(?!none)", ran.stderr, re.M):
         return f"it can't be compiled: {(ran.stderr.splitlines() or ['rt printed nothing'])[0]}"
-    passes = ran.stdout == wanted.read_text() if is_program(crate) else re.search(rf"^test {re.escape(test)} \.\.\. ok$", ran.stdout + ran.stderr, re.M)
+    if is_program(crate):
+        passes = ran.stdout == wanted.read_text() and re.search(r"^run=ended status=0\b", ran.stderr, re.M)
+    else:
+        passes = re.search(rf"^test {re.escape(test)} \.\.\. ok$", ran.stdout + ran.stderr, re.M)
     return f"{edit.fails} passes with it" if passes else ""
 
 
