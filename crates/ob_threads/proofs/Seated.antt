@@ -6,7 +6,7 @@ use Rattle.std.specs.List.{range_with_len}
 use Rattle.ob_standard.specs.Standard.{StandardKind}
 use Rattle.ob_locked.specs.Opened.{fresh_pass}
 use Rattle.ob_locked.specs.Passed.{Passed}
-use Rattle.ob_locked.specs.Settled.{IsSettled, entries_of, passes_of, only}
+use Rattle.ob_settled.specs.Settled.{IsSettled, entries_of, passes_of, only}
 use Rattle.ob_seats.specs.Received.{Entries}
 use Rattle.ob_threads.specs.Played.{ArePasses, ArePassesOf, IsJournalOf, SeatsRelation, entries_from}
 

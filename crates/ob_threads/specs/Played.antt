@@ -5,7 +5,7 @@ use Rattle.std.specs.Prelude.{◌≡◌, ℕ, ◌+◌, ◌≤◌, List, [], ◌�
 use Rattle.std.specs.List.{AllZip, range_with_len}
 use Rattle.ob_standard.specs.Standard.{StandardKind}
 use Rattle.ob_locked.specs.Passed.{Passed}
-use Rattle.ob_locked.specs.Settled.{entries_of}
+use Rattle.ob_settled.specs.Settled.{entries_of}
 use Rattle.ob_requests.specs.Words.{Words, first_words}
 use Rattle.ob_worker_lines.specs.Cuts.{IsCut, Lines}
 use Rattle.ob_seats.specs.Kept.{for_worker}
