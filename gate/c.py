@@ -5,7 +5,7 @@
   program it needs nothing but memory.
 - The program of README.md's section 'From C', in both languages, prints what is shown there.
 - The clients of `clients/`: worked cases, odd arguments, and each request for memory refused in turn; where valgrind is there, also under it: no error, no
-  leak. `clients/bench.c`, with each operation once. What `ntns_windows.h` does, in C and in C++, and under the sanitizers of addresses and of undefined
+  leak. `clients/bench.c`, with each operation once. The system calls of `examples/nt/`. What `ntns_windows.h` does, in C and in C++, and under the sanitizers of addresses and of undefined
   behaviour.
 - Each wrong library of `clients/wrong.c` fails a client.
 - The shared library exports what the header declares, and nothing else; README.md's program and the worked cases run over it.
@@ -30,7 +30,7 @@ import library
 from crates import ROOT
 from runs import Count
 
-CLIENTS, INCLUDE = ROOT / "clients", ("-I", str(library.INCLUDE))
+CLIENTS, EXAMPLE, INCLUDE = ROOT / "clients", ROOT / "examples" / "nt", ("-I", str(library.INCLUDE))
 C = (os.environ.get("CC", "cc"), "-std=c11")
 CXX = (os.environ.get("CXX", "c++"), "-x", "c++", "-std=c++17")
 C99, CXX11 = (C[0], "-std=c99"), (*CXX[:-1], "-std=c++11")
@@ -50,7 +50,14 @@ MADE_OF = {
 }
 
 # the client that a wrong library of clients/wrong.c fails, if it is another than `cases`, by the library's macro
-FAILS = {"OPENS_AGAIN": "hostile", "CLOSE_FREES_NOTHING": "refusals", "REFUSED_MEMORY_AND_DONE": "refusals", "LOSES_MEMORY": "refusals"}
+FAILS = {
+    "OPENS_AGAIN": "hostile",
+    "ROWS_HAVE_ONE_CONTEXT": "hostile",
+    "ROW_PAST_THE_PLACES": "hostile",
+    "CLOSE_FREES_NOTHING": "refusals",
+    "REFUSED_MEMORY_AND_DONE": "refusals",
+    "LOSES_MEMORY": "refusals",
+}
 
 
 BINDINGS = ROOT / "bindings"
@@ -176,6 +183,12 @@ class Bench:
         if status or not passed or failed:
             raise Fault("\n".join([f"it ended with {status}", *lines[:20]]))
 
+    def example(self, *before, flags=()):
+        """The system calls of `examples/nt`, perhaps under another program."""
+        status, passed, failed, lines = checked([*before, self.made("nt", [EXAMPLE / "main.c", EXAMPLE / "nt.c"], *flags)])
+        if status or not passed or failed:
+            raise Fault("\n".join([f"it ended with {status}", *lines[:20]]))
+
     def timed(self):
         """The operations that `clients/bench.c` times, each once."""
         run([self.made("bench", [CLIENTS / "bench.c"]), "1"])
@@ -245,12 +258,15 @@ def parts():
     yield "texts and statuses of Windows in C99", lambda bench: bench.client("windows", language=C99)
     yield "texts and statuses of Windows in C++11", lambda bench: bench.client("windows", language=CXX11)
     yield "texts and statuses of Windows under the sanitizers", lambda bench: bench.client("windows", language=C99, flags=SANITIZED)
+    yield "system calls over the library", Bench.example
+    yield "system calls under the sanitizers", lambda bench: bench.example(flags=SANITIZED)
     yield "what is timed is answered as it should be", Bench.timed
     under_valgrind = {
         "README.md's program under valgrind": lambda bench: bench.shown(C, *VALGRIND),
         "worked cases under valgrind": lambda bench: bench.client("cases", *VALGRIND),
         "odd arguments under valgrind": lambda bench: bench.client("hostile", *VALGRIND),
         "each request for memory refused in turn, under valgrind": lambda bench: bench.client("refusals", *VALGRIND),
+        "system calls under valgrind": lambda bench: bench.example(*VALGRIND),
     }
     yield from where(VALGRIND[0], under_valgrind.items())
     for macro, call in wrong_libraries((CLIENTS / "wrong.c").read_text()):
