@@ -1,7 +1,7 @@
 -- A journal has so few entries that their numbers can be counted; the place is one of them.
 use Rattle.std.proofs.Common.{◌≡◌, ◌∙◌, ℕ, ◌+◌, ◌-◌, Some, ap, arith}
 use Rattle.ob_segments.specs.Journal.{whole}
-use Rattle.ob_settled.proofs.Keeps.{whole_few}
+use Rattle.ob_locked.proofs.Keeps.{whole_few}
 use Rattle.ob_settled.proofs.compared.entry_at.Goals as goal
 
 pub overflow_add-place : goal.overflow_add-place
