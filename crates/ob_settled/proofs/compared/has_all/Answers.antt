@@ -9,7 +9,7 @@ loop-receipt-preserved g c =
     let number = ap (λ e. e.number) c.receipt.view_is in
     let rises = c.if-receipt-last.false in
     subst (λ n. Follows c.args.seat (whole c.args.journal.now.journal) c.args.receipts.now n c.next.new.self) (sym number)
-    (follows c.args.seat (whole c.args.journal.now.journal) c.args.receipts.now c.loop-receipt.last c.in-Some.receipt.now c.next.new.self (omega (arith, rises, number)) (c.stands.ensures.0 c.if-not-stands.false)
+    (follows c.args.seat (whole c.args.journal.now.journal) c.args.receipts.now c.loop-receipt.last c.in-Some.receipt.now c.next.new.self (omega (arith, rises, number)) (c.has_entry.ensures.0 c.if-not-has_entry.false)
     (ap (λ e. e.seat) (sym c.receipt.view_is) ∙ c.if-receipt-seat.false)
     (subst (Follows c.args.seat (whole c.args.journal.now.journal) c.args.receipts.now c.loop-receipt.last) c.in-Some.ensures.steps c.loop-receipt.invariant))
 
