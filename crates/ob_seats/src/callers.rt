@@ -1,6 +1,6 @@
 //! A shared namespace, as a seat sees it.
 
-ghost use Rattle.std.specs.Prelude.{◌≡◌, ◌⊎◌, ℕ, true, false, IfOk, IfErr, OnErr};
+ghost use Rattle.std.specs.Prelude.{◌≡◌, ◌⊎◌, ℕ, true, false, IfOk, IfErr, OnErr, length};
 ghost use Rattle.ob_base.specs.declared.fault.Fault.{Fault};
 ghost use Rattle.ob_base.specs.declared.status.Status.TheVariants.{Success};
 ghost use Rattle.ob_model.specs.declared.reply.Event.TheVariants.{Start, Resume, Abandon};
@@ -46,6 +46,10 @@ pub trait Callers {
     /// The ticket of the open that waits for a parse.
     fn ticket(parsing: &Self::Parsing) -> u64
         ensures { result ≡ ticket_of parsing.now };
+
+    /// How many receipts a pass has.
+    fn count(pass: &Self::Pass) -> usize
+        ensures { result ≡ length (receipts pass.now) };
 
     /// Starts a command of a process. A fault leaves all as it was.
     fn start(

@@ -36,6 +36,10 @@ impl Callers for Refusing {
         *parsing
     }
 
+    fn count(_pass: &usize) -> usize {
+        0
+    }
+
     fn start(
         &self,
         pass: usize,

@@ -39,18 +39,5 @@ run_lent-requires-clause-passes g c κs within =
     let opened : length c.args.passes.items ≡ length c.args.parts.now.workers.items + 1 = ap length c.requires.passes ∙ length-map-range_with_len fresh_pass 0 (length c.args.parts.now.workers.items + 1) in
     omega (arith, opened, c.remove-own.ensures.len, c.remove-own.new.self.ok.0, c.args.passes.ok.0)
 
-pub returns-in-Ok-close-clause-played : goal.returns-in-Ok-close-clause-played
-returns-in-Ok-close-clause-played g c =
-    let parts = c.args.parts.now in
-    then_done _ _ c.in-Ok.ended
-    (λ played. let is = IsPlayedBy (lines_in parts.before) (map lines_in parts.workers.items) (lines_in parts.behind) in
-    let journal = joined (map arc_value c.in-Ok-close.field-0.sealed.items) ++ c.in-Ok-close.field-0.journal.entries in
-    subst (λ n. IsJournalOf is n journal) (sym (length-map parts.workers.items lines_in))
-    (settled_of is journal (length parts.workers.items) c.args.shared c.in-Ok.passes.items c.requires.seats c.in-Ok.ensures.passes c.in-Ok-close.ensures.settled played))
-    c.in-Ok.ensures.played
-
-pub returns-in-Ok-close-clause-ended : goal.returns-in-Ok-close-clause-ended
-returns-in-Ok-close-clause-ended g c =
-    let parts = c.args.parts.now in
-    settled_of (AreRun IsFaultAt parts c.in-Ok.ended) (joined (map arc_value c.in-Ok-close.field-0.sealed.items) ++ c.in-Ok-close.field-0.journal.entries) (length parts.workers.items) c.args.shared c.in-Ok.passes.items c.requires.seats
-    c.in-Ok.ensures.passes c.in-Ok-close.ensures.settled c.in-Ok.ensures.ended
+pub returns-in-Ok-close-then-clause-finished : goal.returns-in-Ok-close-then-clause-finished
+returns-in-Ok-close-then-clause-finished g c = ?
