@@ -82,8 +82,8 @@ pub trait Callers {
             (receipts (result.0)))) }
         ensures fault { IfErr (result.1) (λ fault. gives_fault (result.0) fault) };
 
-    /// Gives an open up whose parse wasn't run, and tells whether that was a step: it was none where the parse is a stranger's, which is let
-    /// go. Takes no memory.
+    /// Gives an open up whose parse wasn't run, and returns whether that was a step: it was none if the parse is a stranger's, which is
+    /// dropped. Takes no memory.
     fn abandon(&self, pass: Self::Pass, parsing: Self::Parsing) -> (Self::Pass, bool)
         ensures seat { seat_of (result.0) ≡ seat_of pass }
         ensures made { result.1 ≡ true

@@ -71,8 +71,8 @@ impl<C: Callers> Seat<C> {
         words_for_worker(&self.words)
     }
 
-    /// Runs the lines of a part, one after another, by a pass, which comes back with the receipts of their steps. Ok gives the number behind
-    /// that of the last line.
+    /// Runs the lines of a part, one after another, by a pass, which comes back with the receipts of their steps. Ok returns the number
+    /// after that of the last line.
     ///
     /// The fault says which line could not be run to its end, and why. The lines before it were played, and of its own steps a beginning. Where a call
     /// answered a fault, that is the reason; an open that waited for a parse in this line is abandoned. (this profile)

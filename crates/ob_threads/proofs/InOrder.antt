@@ -143,5 +143,5 @@ pub in_order : (count : ℕ) (journal : Entries) → IsTrue (is_whole (followed 
 in_order count journal = (
   λ whole. let is = parts_of (Begun count) journal whole in (is.0, is.2, is.3, record { between = is.1; order = is.4; own = is.5 }),
   λ (begun, rest, many, are). subst (λ n. is_whole (followed (Begun n) journal) ≡ true) many (subst (λ es. is_whole (followed (Begun (length begun)) es) ≡ true) (sym are.order)
-  (whole_of begun are.between rest (sym (ap (entries_of 0) are.order) ∙ are.own))),
+      (whole_of begun are.between rest (sym (ap (entries_of 0) are.order) ∙ are.own))),
 )

@@ -58,7 +58,7 @@ pub record IsPlayed (lines : Lines) (journal : Entries) (seats : ℕ) : Type 0 w
   pub seated : seats ≡ length workers + 1
   pub played : IsPlayedOf before workers behind journal
 
--- passes of so many workers, in order, with that of seat 0 behind them
+-- passes of so many workers, in order, with that of seat 0 after them
 abbrev pub ArePasses : ℕ → List (Passed StandardKind) → Type 0
 ArePasses count passes = map (λ p. p.seat) passes ≡ range_with_len 1 count ++ 0 ∷ []
 

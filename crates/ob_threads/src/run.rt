@@ -32,9 +32,10 @@ use std::sync::{Arc, Wait};
 use std::thread::Threads;
 
 /// Reads a script with workers, runs it over a shared namespace in the opening state, with a thread for each worker, and writes the journal;
-/// docs/script.md has the language. The output differs from run to run, since nobody says in which order the steps of several threads come.
+/// docs/script.md has the language. The output differs from run to run, since nobody says in which order the steps of several threads come; but all
+/// of them come after those of seat 0 before the first `thread`, and before those after `join`.
 ///
-/// The script is read whole, and cut, before any line is run. Where a line of it is bad, that is told in one line of output, and nothing is run.
+/// The script is read whole, and cut, before any line is run. If a line of it is bad, one line of output says so, and nothing is run.
 ///
 /// The faults are `Read`, `TooLong` (more than 16,777,216 bytes) and `Mismatch`, after which nothing was written; and `Memory`, for the script, the
 /// seats, the threads or a line of the journal, and `Write`, after which a beginning of the output was written. A line that finds no memory is no
@@ -115,7 +116,7 @@ fn run_text<H: Threads + Wait + Sync, L: Ledger + Send + Sync, W: Write>(
     }
 }
 
-/// Tells why a script was not cut.
+/// Reports why a script was not cut.
 fn tell<W: Write>(
     script: &[u8],
     fault: CutFault,
@@ -180,7 +181,8 @@ fn play<H: Threads + Wait + Sync, L: Ledger + Send + Sync>(
     }
 }
 
-/// Runs a script over a namespace that was just opened, and closes it.
+/// Runs a script over a namespace that was just opened, and closes it. It is a mismatch if the journal differs from the passes, or if its entries don't come
+/// in order; a correct lock causes neither.
 fn play_shared<H: Threads + Wait + Sync, L: Ledger + Send + Sync>(
     rt: &H,
     alloc: Global,
@@ -238,7 +240,7 @@ struct Returned<L: Ledger> {
     passes: Vec<Pass<StandardKind, L>>,
     /// How many receipts seat 0 had before the workers.
     begun: usize,
-    /// The end that is told.
+    /// The end that is reported.
     ended: Result<(), Stopped>,
 }
 

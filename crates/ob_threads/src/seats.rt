@@ -18,7 +18,7 @@ use std::alloc::{AllocError, Global};
 use std::sync::Wait;
 use std::thread::Threads;
 
-/// What a run of all seats gives back: the passes `P`, that of seat 0 apart, and the end that is told.
+/// What a run of all seats gives back: the passes `P`, that of seat 0 apart, and the end that is reported.
 #[derive(Drop)]
 pub struct Ran<P> {
     /// The pass of seat 0.
@@ -32,7 +32,7 @@ pub struct Ran<P> {
 }
 
 /// Runs a script that was cut: the lines before the workers by seat 0; then the workers, each in a thread of its own, all at once; and when all have
-/// ended the lines behind them, by seat 0 again. Where seat 0 stops before the workers, none is started.
+/// ended the lines after the join, by seat 0 again. If seat 0 stops before the workers, none is started.
 ///
 /// The only fault is out of memory for the seats and threads themselves, and then the passes are lost. (this profile)
 pub fn run_seats<H: Threads + Wait + Sync, C: Callers + Sync>(
@@ -57,7 +57,7 @@ pub fn run_seats<H: Threads + Wait + Sync, C: Callers + Sync>(
         (map lines_in script.now.workers.items) (lines_in script.now.behind)) ran.begun
         (C.receipts ran.own) (map C.receipts ran.theirs.items))) }
 
-    // Whether every line was run or a seat stopped: what each seat ran, and the end that is told.
+    // Whether every line was run or a seat stopped: what each seat ran, and the end that is reported.
     ensures run { IfOk result (λ ran. AreReceiptsOf (AreRun C.gives_fault script.now ran.ended) ran.begun
         (C.receipts ran.own) (map C.receipts ran.theirs.items)) }
 {
