@@ -76,7 +76,7 @@ pub(crate) fn carry_on<C: Callers>(
 
 /// The word of an open that waits.
 fn word_of<'a>(pending: PendingForm<&'a [u8]>) -> &'a [u8]
-    ensures { result.now ≡ word_of (pending_seen pending) }
+    ensures { result.now ≡ word_of (pending_seen pending.entry) }
 {
     match pending {
         PendingForm::Begin { word, .. } => word,
