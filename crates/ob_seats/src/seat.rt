@@ -71,8 +71,8 @@ impl<C: Callers> Seat<C> {
         words_for_worker(&self.words)
     }
 
-    /// Runs the lines of a part, one after another, by a pass, which comes back with the receipts of their steps. Ok returns the number
-    /// after that of the last line.
+    /// Runs the lines of a part, one after another, by a pass, which comes back with the receipts of their steps. Ok gives the number behind
+    /// that of the last line.
     ///
     /// The fault says which line could not be run to its end, and why. The lines before it were played, and of its own steps a beginning. Where a call
     /// answered a fault, that is the reason; an open that waited for a parse in this line is abandoned. (this profile)
@@ -119,7 +119,7 @@ impl<C: Callers> Seat<C> {
         (pass, Ok(number))
     }
 
-    /// Does what a line of this form says. A seal that is refused, or that finds no memory, does nothing; nor does `stat`.
+    /// Does what a line of this form says. A seal that is refused, or that finds no memory, does nothing.
     fn perform<R: Wait>(
         &mut self,
         rt: &R,
@@ -145,13 +145,39 @@ impl<C: Callers> Seat<C> {
                 let (pass, _is_sealed) = callers.seal(pass);
                 (pass, Ok(()))
             }
-            SeatForm::Line(Form::Nothing) => (pass, Ok(())),
-            SeatForm::Line(Form::Stat) => (pass, Ok(())),
-            SeatForm::Line(Form::Asks { process, request }) => {
+            SeatForm::Line(form) => self.perform_script_line(rt, callers, pass, form),
+        }
+    }
+
+    /// Does what a line of this form of a script without workers says; `stat` does nothing.
+    fn perform_script_line<R: Wait>(
+        &mut self,
+        rt: &R,
+        callers: &C,
+        pass: C::Pass,
+        form: Form<&[u8]>,
+    ) -> (C::Pass, Result<(), Stop>)
+        requires texts { FormHasTexts (form_seen form) }
+        requires held { AreHeld (words_in self.old.words).tickets self.old.waits }
+        ensures held { AreHeld (words_in self.new.words).tickets self.new.waits }
+        ensures played { OnOk (result.1) ((entries : Entries) × (C.receipts (result.0)
+            ≡ C.receipts pass ++ entries)
+            × IsScriptLinePlayed (form_seen form.entry) (words_in self.old.words) entries
+            (words_in self.new.words)) }
+        ensures begun { IfErr (result.1) (λ why. (entries : Entries) × (C.receipts (result.0)
+            ≡ C.receipts pass ++ entries)
+            × IsScriptLineBegun (C.gives_fault (result.0)) (form_seen form.entry)
+            (words_in self.old.words) entries why (words_in self.new.words)) }
+        ensures seat { C.seat_of (result.0) ≡ C.seat_of pass }
+    {
+        match form {
+            Form::Nothing => (pass, Ok(())),
+            Form::Stat => (pass, Ok(())),
+            Form::Asks { process, request } => {
                 let process = self.words.process_of(process);
                 answer(rt, callers, &mut self.words, pass, process, request)
             }
-            SeatForm::Line(Form::Waits { process, pending }) => {
+            Form::Waits { process, pending } => {
                 let process = self.words.process_of(process);
                 carry_on(
                     callers,

@@ -11,7 +11,7 @@ ghost use Rattle.ob_lines.specs.declared.pending.PendingForm.TheVariants.{Begin,
 ghost use Rattle.ob_requests.specs.Commands.{IsOpenObject};
 ghost use Rattle.ob_requests.specs.Tables.{words_in, HasRoom};
 ghost use Rattle.ob_requests.specs.Words.{with_ticket};
-ghost use Rattle.ob_effects.specs.Waiting.{word_of, words_answered};
+ghost use Rattle.ob_effects.specs.Waiting.{words_answered};
 ghost use Rattle.ob_seats.specs.Received.{Entries};
 ghost use Rattle.ob_seats.specs.Played.{IsStepPlayed, IsWaitPlayed};
 ghost use Rattle.ob_seats.specs.Stopped.{IsAbandoned, IsNotKept, IsStepBegun, IsWaitBegun};
@@ -52,36 +52,114 @@ pub(crate) fn carry_on<C: Callers>(
         (words_in words.old) entries why (words_in words.new)) }
     ensures seat { C.seat_of (result.0) ≡ C.seat_of pass }
 {
-    let ticket = words.ticket_of(process, word_of(pending));
     match pending {
         PendingForm::Begin {
             want,
             name,
             attrs,
             word,
-        } if ticket == 0 => {
-            let asked = (want, name, attrs);
-            begin(callers, words, waits, pass, process, asked, word)
-        }
-        PendingForm::End { word } if ticket != 0 => {
-            end(callers, words, waits, pass, process, word, ticket)
-        }
-        PendingForm::Drop { word } if ticket != 0 => {
-            give_up(callers, words, waits, pass, process, word, ticket)
-        }
-        // One waits under the word of an open that would begin, or none under that of one that would end.
-        _ => (pass, Ok(())),
+        } => begin_under(
+            callers,
+            words,
+            waits,
+            pass,
+            process,
+            (want, name, attrs),
+            word,
+        ),
+        PendingForm::End { word } => end_under(callers, words, waits, pass, process, word),
+        PendingForm::Drop { word } => drop_under(callers, words, waits, pass, process, word),
     }
 }
 
-/// The word of an open that waits.
-fn word_of<'a>(pending: PendingForm<&'a [u8]>) -> &'a [u8]
-    ensures { result.now ≡ word_of (pending_seen pending.entry) }
+/// Begins an open of a process under a word, unless one waits there.
+fn begin_under<C: Callers>(
+    callers: &C,
+    words: &mut Words,
+    waits: &mut SeatWaits<C>,
+    pass: C::Pass,
+    process: Proc,
+    asked: OpenForm<'_>,
+    word: &[u8],
+) -> (C::Pass, Result<(), Stop>)
+    requires text { IsText (text_of (name_seen (asked.1))) }
+    requires held { AreHeld (words_in words.old).tickets waits.old }
+    ensures held { AreHeld (words_in words.new).tickets waits.new }
+    ensures played { OnOk (result.1) ((entries : Entries) × (C.receipts (result.0) ≡ C.receipts pass
+        ++ entries)
+        × IsWaitPlayed (Begin (asked.entry.0) (name_seen (asked.entry.1))
+        (asked.entry.2) word.now) process (words_in words.old) entries (words_in words.new)) }
+    ensures begun { IfErr (result.1) (λ why. (entries : Entries) × (C.receipts (result.0)
+        ≡ C.receipts pass ++ entries)
+        × IsWaitBegun (C.gives_fault (result.0)) (Begin (asked.entry.0) (name_seen (asked.entry.1)) (asked.entry.2) word.now) process
+        (words_in words.old) entries why (words_in words.new)) }
+    ensures seat { C.seat_of (result.0) ≡ C.seat_of pass }
 {
-    match pending {
-        PendingForm::Begin { word, .. } => word,
-        PendingForm::End { word } => word,
-        PendingForm::Drop { word } => word,
+    if words.ticket_of(process, word) != 0 {
+        return (pass, Ok(()));
+    }
+    begin(callers, words, waits, pass, process, asked, word)
+}
+
+/// Ends the open that waits under a word of a process, where one does.
+fn end_under<C: Callers>(
+    callers: &C,
+    words: &mut Words,
+    waits: &mut SeatWaits<C>,
+    pass: C::Pass,
+    process: Proc,
+    word: &[u8],
+) -> (C::Pass, Result<(), Stop>)
+    requires held { AreHeld (words_in words.old).tickets waits.old }
+    ensures held { AreHeld (words_in words.new).tickets waits.new }
+    ensures played { OnOk (result.1) ((entries : Entries) × (C.receipts (result.0) ≡ C.receipts pass
+        ++ entries)
+        × IsWaitPlayed (End word.now) process (words_in words.old) entries (words_in words.new)) }
+    ensures begun { IfErr (result.1) (λ why. (entries : Entries) × (C.receipts (result.0)
+        ≡ C.receipts pass ++ entries)
+        × IsWaitBegun (C.gives_fault (result.0)) (End word.now) process
+        (words_in words.old) entries why (words_in words.new)) }
+    ensures seat { C.seat_of (result.0) ≡ C.seat_of pass }
+{
+    let ticket = words.ticket_of(process, word);
+    if ticket == 0 {
+        return (pass, Ok(()));
+    }
+    end(callers, words, waits, pass, process, word, ticket)
+}
+
+/// Gives up the open that waits under a word of a process, where one does. A handle that the word held stays open, and is no longer named.
+fn drop_under<C: Callers>(
+    callers: &C,
+    words: &mut Words,
+    waits: &mut SeatWaits<C>,
+    pass: C::Pass,
+    process: Proc,
+    word: &[u8],
+) -> (C::Pass, Result<(), Stop>)
+    requires held { AreHeld (words_in words.old).tickets waits.old }
+    ensures held { AreHeld (words_in words.new).tickets waits.new }
+    ensures played { OnOk (result.1) ((entries : Entries) × (C.receipts (result.0) ≡ C.receipts pass
+        ++ entries)
+        × IsWaitPlayed (Drop word.now) process (words_in words.old) entries (words_in words.new)) }
+    ensures begun { IfErr (result.1) (λ why. (entries : Entries) × (C.receipts (result.0)
+        ≡ C.receipts pass ++ entries)
+        × IsWaitBegun (C.gives_fault (result.0)) (Drop word.now) process
+        (words_in words.old) entries why (words_in words.new)) }
+    ensures seat { C.seat_of (result.0) ≡ C.seat_of pass }
+{
+    let ticket = words.ticket_of(process, word);
+    if ticket == 0 {
+        return (pass, Ok(()));
+    }
+    let parsing = waits.take(ticket);
+    let (pass, is_made) = callers.abandon(pass, parsing);
+    words.clear_ticket(process, word);
+    words.give_up(process, word);
+    if is_made {
+        (pass, Ok(()))
+    } else {
+        (pass, Err(Stop::Refused))
     }
 }
 
@@ -240,39 +318,5 @@ fn end<C: Callers>(
                 }
             }
         }
-    }
-}
-
-/// Gives up the open that waits under a word of a process. A handle that the word held stays open, and is no longer named.
-fn give_up<C: Callers>(
-    callers: &C,
-    words: &mut Words,
-    waits: &mut SeatWaits<C>,
-    pass: C::Pass,
-    process: Proc,
-    word: &[u8],
-    ticket: u64,
-) -> (C::Pass, Result<(), Stop>)
-    requires under { (words_in words.old).tickets process word.now ≡ ticket }
-    requires some { ticket ≢ 0 }
-    requires held { AreHeld (words_in words.old).tickets waits.old }
-    ensures held { AreHeld (words_in words.new).tickets waits.new }
-    ensures played { OnOk (result.1) ((e : Entry StandardKinds) × (C.receipts (result.0)
-        ≡ C.receipts pass ++ e ∷ [])
-        × IsStepPlayed (Drop word.now) process (words_in words.old) e (words_in words.new)) }
-    ensures begun { IfErr (result.1) (λ why. (entries : Entries) × (C.receipts (result.0)
-        ≡ C.receipts pass ++ entries)
-        × IsStepBegun (C.gives_fault (result.0)) (Drop word.now) process
-        (words_in words.old) entries why (words_in words.new)) }
-    ensures seat { C.seat_of (result.0) ≡ C.seat_of pass }
-{
-    let parsing = waits.take(ticket);
-    let (pass, is_made) = callers.abandon(pass, parsing);
-    words.clear_ticket(process, word);
-    words.give_up(process, word);
-    if is_made {
-        (pass, Ok(()))
-    } else {
-        (pass, Err(Stop::Refused))
     }
 }
