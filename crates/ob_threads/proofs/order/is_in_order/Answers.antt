@@ -1,5 +1,5 @@
 -- One segment more was followed.
-use Rattle.std.proofs.Common.{◌≡◌, ◌∙◌, ◌↔◌, IsTrue, [], ◌∷◌, ◌++◌, ◌<◌, ◌+◌, map, length, take, ap, sym, subst, arith}
+use Rattle.std.proofs.Common.{◌≡◌, ◌∙◌, ◌↔◌, IsTrue, ◌++◌, ◌<◌, map, length, ap, sym, subst, arith}
 use Rattle.std.proofs.lemmas.List.{length-map, take_all}
 use Rattle.std.specs.Arc.{arc_value}
 use Rattle.ob_standard.specs.Standard.{StandardKind}
