@@ -6,7 +6,7 @@ use Rattle.std.proofs.lemmas.List.Sums.{fold-append}
 use Rattle.ob_threads.specs.declared.order.Order.{Order}
 use Rattle.ob_threads.specs.declared.order.Order.TheVariants.{Begun, Joined, Broken}
 use Rattle.ob_journal.specs.Segments.{Segment, joined}
-use Rattle.ob_locked.specs.Settled.{entries_of}
+use Rattle.ob_settled.specs.Settled.{entries_of}
 use Rattle.ob_model.specs.Run.{Entry}
 use Rattle.ob_standard.specs.Standard.{StandardKind}
 use Rattle.ob_seats.specs.Received.{Entries}
