@@ -39,8 +39,8 @@ run_lent-requires-clause-passes g c κs within =
     let opened : length c.args.passes.items ≡ length c.args.parts.now.workers.items + 1 = ap length c.requires.passes ∙ length-map-range_with_len fresh_pass 0 (length c.args.parts.now.workers.items + 1) in
     omega (arith, opened, c.remove-own.ensures.len, c.remove-own.new.self.ok.0, c.args.passes.ok.0)
 
-pub returns-in-Ok-close-then-clause-finished : goal.returns-in-Ok-close-then-clause-finished
-returns-in-Ok-close-then-clause-finished g c =
+pub returns-then-is_in_order-clause-finished : goal.returns-then-is_in_order-clause-finished
+returns-then-is_in_order-clause-finished g c =
     let parts = c.args.parts.now in
     let workers = length parts.workers.items in
     let returned = c.in-Ok.field-0 in

@@ -26,11 +26,11 @@ returns-in-Ok-clause-played g c =
     c.in_default.is c.run_part-own.ensures.played in
     let first : receipts c.run_part-own.result.0 ≡ begun.0 = begun.1 ∙ ap (λ es. es ++ begun.0) c.requires.own in
     let is = IsPlayedBy (lines_in script.before) (map lines_in script.workers.items) (lines_in script.behind) in
-    subst (λ r. OnOk r (AreReceiptsOf is c.count-begun.result (receipts c.run_seat-own.result.0) (map receipts c.in-Ok.theirs.items))) (sym c.told_of-ended.ensures)
+    subst (λ r. OnOk r (AreReceiptsOf is c.count-begun-2.result (receipts c.run_seat-own.result.0) (map receipts c.in-Ok.theirs.items))) (sym c.told_of-ended.ensures)
     (both_done c.in-Ok.ended c.run_seat-own.result.1 _ (λ a b.
     let last = subst (λ r. OnOk r ((entries : Entries) × (receipts c.run_seat-own.result.0 ≡ receipts c.run_part-own.result.0 ++ entries) × IsSeatPlayed (lines_in script.behind) words entries)) b c.run_seat-own.ensures.played in
     let workers = subst (λ r. OnOk r (AllZip (λ (l : Lines) (es : Entries). IsSeatPlayed l (for_worker words) es) (map lines_in c.as_slice.result.now) (map receipts c.in-Ok.theirs.items))) a c.in-Ok.ensures.played in
-    cut_receipts c.count-begun.result (receipts c.run_seat-own.result.0) begun.0 last.0 (sym (c.count-begun.ensures ∙ ap length first)) (last.1 ∙ ap (λ es. es ++ last.0) first) is (map receipts c.in-Ok.theirs.items)
+    cut_receipts c.count-begun-2.result (receipts c.run_seat-own.result.0) begun.0 last.0 (sym (c.count-begun-2.ensures ∙ ap length first)) (last.1 ∙ ap (λ es. es ++ last.0) first) is (map receipts c.in-Ok.theirs.items)
     (record {
       words = words;
       first = subst (λ (w : Words). ArePlayed (lines_in script.before) w begun.0 words) c.in_ok-seat.ensures.first begun.2;
@@ -48,7 +48,7 @@ returns-in-Ok-clause-run g c =
     c.in_default.is c.run_part-own.ensures.played in
     let last = seat_runs known script.behind words (receipts c.run_part-own.result.0) (receipts c.run_seat-own.result.0) c.run_seat-own.result.1 c.run_seat-own.ensures.played c.run_seat-own.ensures.stopped in
     let first : receipts c.run_part-own.result.0 ≡ begun.0 = begun.1 ∙ ap (λ es. es ++ begun.0) c.requires.own in
-    cut_receipts c.count-begun.result (receipts c.run_seat-own.result.0) begun.0 last.0 (sym (c.count-begun.ensures ∙ ap length first)) (last.1 ∙ ap (λ es. es ++ last.0) first)
+    cut_receipts c.count-begun-2.result (receipts c.run_seat-own.result.0) begun.0 last.0 (sym (c.count-begun-2.ensures ∙ ap length first)) (last.1 ∙ ap (λ es. es ++ last.0) first)
     (AreRun g.C.Callers.gives_fault script c.told_of-ended.result) (map receipts c.in-Ok.theirs.items)
     (inr (record {
       words = words;
