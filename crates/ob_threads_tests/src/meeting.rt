@@ -134,7 +134,7 @@ struct Met {
 }
 
 /// Runs a script of two workers that meet, and of seat 0 after them.
-fn met<R: Threads + Wait + Clock + Sync>(rt: &R, alloc: Global) -> Result<Met, Fail> {
+fn meet_and_join<R: Threads + Wait + Clock + Sync>(rt: &R, alloc: Global) -> Result<Met, Fail> {
     let meeting = Meeting {
         rt,
         first: Progress::new(),
@@ -165,7 +165,7 @@ fn met<R: Threads + Wait + Clock + Sync>(rt: &R, alloc: Global) -> Result<Met, F
 
 #[test]
 fn two_workers_run_at_the_same_time(rt: HostRuntime) -> Result<(), Fail> {
-    if met(&rt, rt.alloc())?.at_once {
+    if meet_and_join(&rt, rt.alloc())?.at_once {
         Ok(())
     } else {
         Err(Fail::new("it was told otherwise"))
@@ -174,7 +174,7 @@ fn two_workers_run_at_the_same_time(rt: HostRuntime) -> Result<(), Fail> {
 
 #[test]
 fn seat_0_goes_on_when_all_workers_have_ended(rt: HostRuntime) -> Result<(), Fail> {
-    if met(&rt, rt.alloc())?.in_order {
+    if meet_and_join(&rt, rt.alloc())?.in_order {
         Ok(())
     } else {
         Err(Fail::new("it went on before"))
