@@ -1,13 +1,16 @@
 //! The run of a session.
 
 ghost use Rattle.std.specs.Prelude.{◌≡◌, ◌≤◌, ◌<◌, ◌^◌, [], vec_capacity, IfErr, IfOk};
+ghost use Rattle.std.specs.Io.KnownBytes.{Appends};
+ghost use Rattle.ob_streams.specs.Writing.{AppendsFront};
+ghost use Rattle.ob_shell.specs.Running.{outcome_text};
 ghost use Rattle.ob_effects.specs.Kept.{IsFirst, IsSession, space_of, words_of};
 ghost use Rattle.ob_session.specs.Session.{HasAnswered, IsConversation, IsConversationCut, IsTurn, IsTurnCut};
 
 use crate::reading::take_line;
-use ob_effects::Session;
+use ob_effects::{LineOutcome, Session};
 use ob_shell::{perform_line, write_outcome};
-use ob_streams::{ShellFault, write_out};
+use ob_streams::{ShellFault, Unwritten, write_out};
 use std::alloc::Global;
 use std::io::{BufRead, Write};
 
@@ -95,8 +98,28 @@ pub fn answer_next<R: BufRead, W: Write>(
         return Ok(false);
     }
     let outcome = perform_line(session, line.as_slice());
-    write_outcome(writer, block, number, &outcome)?;
+    write_answer(writer, block, number, &outcome)?;
+    Ok(true)
+}
+
+/// Writes the outcome of the line of this number, a line of output or none, by way of the block.
+fn write_answer<W: Write>(
+    writer: &mut W,
+    block: &mut Vec<u8>,
+    number: u64,
+    outcome: &LineOutcome,
+) -> Result<(), Unwritten>
+    requires empty { block.old.items ≡ [] }
+    requires capacity { 192 ≤ vec_capacity block.old }
+    ensures ok { IfOk result (λ _. Appends (W.contents writer.old) (W.contents writer.new)
+        (outcome_text number outcome.now)) }
+    ensures front { IfErr result (λ _. AppendsFront (W.contents writer.old)
+        (W.contents writer.new) (outcome_text number outcome.now)) }
+    ensures empty { IfOk result (λ _. block.new.items ≡ []) }
+    ensures capacity { vec_capacity block.old ≤ vec_capacity block.new }
+{
+    write_outcome(writer, block, number, outcome)?;
     write_out(writer, block.as_slice())?;
     block.clear();
-    Ok(true)
+    Ok(())
 }
