@@ -6,9 +6,9 @@
 # make random  plays COMMANDS random commands, 1,000,000 by default, beside a plain model; the 60 seconds of a test allow some 5,000,000
 # make hostile refuses each request for memory of longer scripts in turn, or of the script that SCRIPT names, as the gate does of short ones
 # make bench   times the built program and the library, and fails nothing
-# make lib     the static library for C and C++, out/libntns.a, and out/ntns.h; the first build proves every crate below it
+# make lib     the static library for C and C++, out/libntns.a, and its headers; the first build proves every crate below it
 # make shared  the shared library too, out/libntns.so.1
-# make install puts both, the header, and files for pkg-config and CMake below PREFIX, /usr/local by default, and that below DESTDIR
+# make install puts both, the headers, and files for pkg-config and CMake below PREFIX, /usr/local by default, and that below DESTDIR
 
 SCRIPT ?= examples/first.ntns
 COMMANDS ?= 1000000
@@ -58,7 +58,7 @@ shared:
 
 install: shared
 	install -d "$(PLACE)/include" "$(PLACE)/lib/pkgconfig" "$(PLACE)/lib/cmake/ntns"
-	install -m 644 include/ntns.h "$(PLACE)/include/"
+	install -m 644 include/ntns.h include/ntns_windows.h "$(PLACE)/include/"
 	install -m 644 out/libntns.a "$(PLACE)/lib/"
 	install -m 755 out/libntns.so.1 "$(PLACE)/lib/"
 	ln -sf libntns.so.1 "$(PLACE)/lib/libntns.so"

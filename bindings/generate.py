@@ -1,5 +1,5 @@
 #!/usr/bin/env python3
-"""Writes what the bindings take from include/ntns.h: the constants for Python and Rust, and the declarations of its calls for Rust.
+"""Writes what the bindings take from include/ntns.h: the constants for Python and Rust, and the declarations of its structs and calls for Rust.
 
     bindings/generate.py              writes them
     bindings/generate.py --check      only compares; the exit status is 1 where a file differs
@@ -39,10 +39,15 @@ def python(text):
 
 
 def parameter(declared):
-    """A parameter in Rust."""
-    kind, pointer, name = re.fullmatch(r"((?:const )?\w+) (\*?)(\w+)", " ".join(declared.split())).groups()
-    const, _, kind = kind.rpartition(" ")
-    return f"{'kind' if name == 'type' else name}: {'*const ' if const else '*mut ' if pointer else ''}{TYPES[kind]}"
+    """A parameter in Rust, or a field of a struct."""
+    const, kind, pointer, name = re.fullmatch(r"(const )?(?:struct )?(\w+) (\*?)(\w+)", " ".join(declared.split())).groups()
+    return f"{'kind' if name == 'type' else name}: {'*const ' if const else '*mut ' if pointer else ''}{TYPES.get(kind, kind)}"
+
+
+def struct(name, fields):
+    """The declaration of a struct in Rust."""
+    rows = "".join(f"    pub {parameter(field)},\n" for field in fields.split(";") if field.strip())
+    return f"#[repr(C)]\n#[derive(Debug, Clone, Copy, Default, PartialEq, Eq)]\npub struct {name} {{\n{rows}}}\n\n"
 
 
 def call(result, name, parameters):
@@ -54,12 +59,14 @@ def call(result, name, parameters):
 def declarations(_):
     """The crate `ntns-sys`."""
     calls = re.findall(r"^(const char \*|void|ntns_status)\s*(ntns_\w+)\(([^)]*)\);", CODE, re.MULTILINE)
+    structs = re.findall(r"^struct (ntns_\w+) \{([^}]*)\};", CODE, re.MULTILINE)
     return (
         "//! The declarations of `include/ntns.h`, which describes the calls. Written by bindings/generate.py.\n"
         "#![no_std]\n#![allow(non_camel_case_types)]\n\nuse core::ffi::c_char;\n\n"
         "/// A namespace: all zeros before it is opened and after it is closed.\n"
         "#[repr(C)]\n#[derive(Debug, Default)]\npub struct ntns {\n    pub words: [usize; 2],\n}\n\n"
         "pub type ntns_status = u32;\n\n"
+        + "".join(struct(*it) for it in structs)
         + "".join(f"pub const {CLASSES[name][1]}{row}: u32 = {value};\n" for name in CLASSES for row, value in constants(name))
         + '\n#[rustfmt::skip]\nunsafe extern "C" {\n'
         + "".join(call(*it) for it in calls)

@@ -118,9 +118,9 @@ static ntns_status do_plain(ntns *ns, int call, uint32_t process, uint32_t handl
 static bool leads_nowhere(ntns *ns, uint32_t process, uint32_t handle, ntns_status status)
 {
 	uint32_t type = STALE;
-	uint64_t word = STALE, id = STALE;
+	uint64_t user_data = STALE, id = STALE;
 
-	return ntns_query_object(ns, process, handle, &type, &word, &id) == status && type == 0 && word == 0 && id == 0;
+	return ntns_query_object(ns, process, handle, &type, &user_data, &id) == status && type == 0 && user_data == 0 && id == 0;
 }
 
 /* Every call has to answer a status to a process and a handle, and to give and tell nothing; exits are left out where the process lives. Of a process that is
@@ -141,17 +141,23 @@ static void refused(ntns *ns, uint32_t process, uint32_t handle, ntns_status sta
 	hold(leads_nowhere(ns, process, handle, looked_at), "a handle leads nowhere", handle);
 }
 
+/* Whether each field of a deletion is 0. */
+static bool is_none(const struct ntns_deletion *deletion)
+{
+	return deletion->type == 0 && deletion->user_data == 0 && deletion->id == 0 && !deletion->parsed;
+}
+
 static void closed_namespaces(void)
 {
 	ntns ns = NTNS_CLOSED;
-	uint32_t type = STALE;
-	uint64_t word = STALE;
+	struct ntns_deletion deletion;
 
 	ntns_close(&ns);
 	hold(is_closed(&ns), "a closed namespace is closed again", 0);
 	for (int round = 0; round < 3; round++) {
 		refused(&ns, 1, 4, S(INVALID_PARAMETER), false);
-		hold(ntns_next_deleted(&ns, &type, &word) == S(INVALID_PARAMETER) && type == 0 && word == 0, "a closed one tells nothing deleted", round);
+		memset(&deletion, 0x5A, sizeof deletion);
+		hold(ntns_next_deletion(&ns, &deletion) == S(INVALID_PARAMETER) && is_none(&deletion), "a closed one reports no deletion", round);
 		hold(is_closed(&ns), "what is refused leaves it closed", round);
 		hold(ntns_open(&ns) == S(SUCCESS), "it is opened", round);
 		ntns before = ns;
@@ -282,11 +288,90 @@ static void pages(void)
 	hold(ntns_next_page(&ns, 1, directory, &context, text, sizeof text, &length) == S(INVALID_PARAMETER) && length == 0, "nor has a closed namespace", 0);
 }
 
+/* Reads the rest of a listing by so many rows and so much room, and compares it with its entries, "a", "bb" and "ccc". Whether it is told whole. */
+static bool lists_all(ntns *ns, uint32_t directory, size_t places, size_t room)
+{
+	static const char names[] = "abbccc";
+	uint64_t context = 0;
+	size_t told = 0;
+
+	while (true) {
+		struct ntns_row rows[5];
+		char buffer[16];
+		uint64_t before = context;
+		size_t count = places, used = 0;
+
+		memset(rows, 0xAB, sizeof rows);
+		memset(buffer, 'z', sizeof buffer);
+		ntns_status status = ntns_next_rows(ns, 1, directory, &context, rows, &count, buffer, room);
+		for (size_t row = 0; row < count; row++, told++) {
+			size_t length = told + 1;
+			if (told > 2 || rows[row].name != used || rows[row].length != length || rows[row].type != NTNS_TYPE_EVENT || rows[row].context <= before)
+				return false;
+			if (memcmp(buffer + used, names + told * length / 2, length))
+				return false;
+			before = rows[row].context;
+			used += length;
+		}
+		if (count > places || used > room || buffer[used] != 'z' || rows[count].length != STALE)
+			return false;
+		if (context != before)
+			return false;
+		if (status == S(BUFFER_TOO_SMALL))
+			return count == 0 && told < 3 && (places == 0 || room <= told);
+		if (status == S(SUCCESS) || status == S(NO_MORE_ENTRIES))
+			return told == 3 && (status == S(SUCCESS)) == (count != 0);
+		if (status != S(MORE_ENTRIES) || count == 0 || told == 3)
+			return false;
+	}
+}
+
+static void rows(void)
+{
+	ntns ns = opened();
+	uint32_t directory, given;
+	uint64_t context = 7;
+	size_t count = 3;
+	struct ntns_row row[2];
+	char text[8];
+
+	ntns_create_directory(&ns, 1, 0, TEXT("\\D"), 0, &directory);
+	hold(ntns_next_rows(&ns, 1, directory, &context, row, &count, text, sizeof text) == S(NO_MORE_ENTRIES) && count == 0 && context == 7, "an empty directory has no rows", 0);
+	ntns_create_object(&ns, 1, directory, TEXT("a"), 0, NTNS_TYPE_EVENT, 1, &given);
+	ntns_create_object(&ns, 1, directory, TEXT("bb"), 0, NTNS_TYPE_EVENT, 1, &given);
+	ntns_create_object(&ns, 1, directory, TEXT("ccc"), 0, NTNS_TYPE_EVENT, 1, &given);
+	for (size_t places = 0; places < 5; places++)
+		for (size_t room = 0; room < 9; room++)
+			hold(lists_all(&ns, directory, places, room), "rows tell a listing", (long)(places * 10 + room));
+	struct ntns_row all[4];
+	context = 0;
+	count = 3;
+	hold(ntns_next_rows(&ns, 1, directory, &context, all, &count, text, sizeof text) == S(SUCCESS) && count == 3, "three rows have three entries", 0);
+	for (size_t last = 0; last < 2; last++) {
+		count = 1;
+		context = all[last].context;
+		hold(ntns_next_rows(&ns, 1, directory, &context, row, &count, text, sizeof text) == (last ? S(SUCCESS) : S(MORE_ENTRIES)) && row->length == last + 2 && context == all[last + 1].context, "a listing goes on from any row", (long)last);
+	}
+	context = 0;
+	count = 3;
+	hold(ntns_next_rows(&ns, 1, directory, &context, NULL, &count, text, sizeof text) == S(BUFFER_TOO_SMALL) && count == 0 && context == 0, "there are no rows", 0);
+	count = 1;
+	hold(ntns_next_rows(&ns, 1, directory, &context, row, &count, NULL, 9) == S(BUFFER_TOO_SMALL) && count == 0 && context == 0, "there is no buffer", 0);
+	count = 1;
+	hold(ntns_next_rows(&ns, 1, given, &context, row, &count, text, sizeof text) == S(OBJECT_TYPE_MISMATCH) && count == 0 && context == 0, "an event has no rows", 0);
+	count = 1;
+	context = UINT64_MAX;
+	hold(ntns_next_rows(&ns, 1, directory, &context, row, &count, text, sizeof text) == S(NO_MORE_ENTRIES) && count == 0 && context == UINT64_MAX, "nor has the end of a listing", 0);
+	ntns_close(&ns);
+	count = 1;
+	hold(ntns_next_rows(&ns, 1, directory, &context, row, &count, text, sizeof text) == S(INVALID_PARAMETER) && count == 0, "nor has a closed namespace", 0);
+}
+
 static void types(void)
 {
 	ntns ns = opened();
 	uint32_t given, type, directory;
-	uint64_t word, id, context = 0;
+	uint64_t user_data, id, context = 0;
 	size_t length;
 	char name[16];
 
@@ -305,7 +390,7 @@ static void types(void)
 	for (uint32_t made = NTNS_TYPE_EVENT; made <= NTNS_TYPE_WMI_GUID; made++) {
 		hold(ntns_next_entry(&ns, 1, directory, &context, name, sizeof name, &length, &type) == S(SUCCESS) && type == made, "an entry tells its type", made);
 		hold(ntns_open_object(&ns, 1, directory, name, length, 0, made == NTNS_TYPE_DEVICE ? NTNS_TYPE_FILE : made, &given) == S(SUCCESS), "an object is opened by its type", made);
-		hold(ntns_query_object(&ns, 1, given, &type, &word, &id) == S(SUCCESS) && word == made + 100, "its word is told", made);
+		hold(ntns_query_object(&ns, 1, given, &type, &user_data, &id) == S(SUCCESS) && user_data == made + 100, "its user data is told", made);
 		hold(ntns_open_object(&ns, 1, directory, name, length, 0, made == NTNS_TYPE_EVENT ? NTNS_TYPE_MUTANT : NTNS_TYPE_EVENT, &given) == S(OBJECT_TYPE_MISMATCH), "and by no other", made);
 	}
 	hold(ntns_create_object(&ns, 1, 0, NULL, 0, 0, UINT32_MAX, 1, &given) == S(INVALID_PARAMETER) && given == 0, "there are no other types", 0);
@@ -367,15 +452,18 @@ static void two_namespaces(void)
 {
 	ntns one = opened(), other = opened();
 	uint32_t handle, given, type;
-	uint64_t word;
+	uint64_t user_data, id;
+	struct ntns_deletion deletion;
 
 	ntns_create_object(&one, 1, 0, TEXT("\\E"), 0, NTNS_TYPE_EVENT, 7, &handle);
 	hold(ntns_open_object(&other, 1, 0, TEXT("\\E"), 0, NTNS_TYPE_EVENT, &given) == S(OBJECT_NAME_NOT_FOUND), "what one has the other hasn't", 0);
 	hold(leads_nowhere(&other, 1, handle, S(INVALID_HANDLE)), "nor does it know its handles", 0);
+	hold(ntns_query_object(&one, 1, handle, &type, &user_data, &id) == S(SUCCESS) && id == 1, "its first object has the first id", 0);
 	ntns moved = one;
 	ntns_close(&other);
 	hold(ntns_close_handle(&moved, 1, handle) == S(SUCCESS), "a struct that was moved serves on", 0);
-	hold(ntns_next_deleted(&moved, &type, &word) == S(SUCCESS) && type == NTNS_TYPE_EVENT && word == 7, "with all that it had", 0);
+	hold(ntns_next_deletion(&moved, &deletion) == S(SUCCESS) && deletion.type == NTNS_TYPE_EVENT && deletion.user_data == 7 && deletion.id == id && !deletion.parsed, "with all that it had", 0);
+	hold(ntns_next_deletion(&moved, &deletion) == S(NO_MORE_ENTRIES) && is_none(&deletion), "and no more", 0);
 	ntns_close(&moved);
 	hold(is_closed(&moved), "and is closed", 0);
 }
@@ -387,6 +475,7 @@ int main(void)
 	long_names();
 	rooms();
 	pages();
+	rows();
 	types();
 	attributes();
 	handles_and_processes();

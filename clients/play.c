@@ -53,7 +53,7 @@ static void call_by_name(struct play *play, const struct step *step, struct answ
 						  play_text(step->text, targets), &answer->number);
 		break;
 	case CREATE_OBJECT:
-		answer->status = ntns_create_object(ns, process, root, name, length, step->attributes, step->type, step->word,
+		answer->status = ntns_create_object(ns, process, root, name, length, step->attributes, step->type, step->user_data,
 						    &answer->number);
 		break;
 	case OPEN_DIRECTORY:
@@ -68,12 +68,55 @@ static void call_by_name(struct play *play, const struct step *step, struct answ
 	}
 }
 
+/* Takes a deletion. */
+static void next_deletion(ntns *ns, struct answer *answer)
+{
+	struct ntns_deletion deletion;
+
+	memset(&deletion, STALE, sizeof deletion);
+	answer->status = ntns_next_deletion(ns, &deletion);
+	answer->type = deletion.type;
+	answer->user_data = deletion.user_data;
+	answer->id = deletion.id;
+	answer->parsed = deletion.parsed;
+}
+
+/* Adds a text and a 0 to that of an answer. */
+static void add_text(struct answer *answer, const char *text, size_t length)
+{
+	memcpy(answer->text + answer->length, text, length);
+	answer->length += length;
+	answer->text[answer->length++] = 0;
+}
+
+/* Asks for rows, and tells them as a page: of each its name and that of its type. */
+static void next_rows(struct play *play, const struct step *step, struct answer *answer)
+{
+	static struct ntns_row rows[ROW_ROOM];
+	static char names[TEXT_ROOM];
+	size_t count = step->user_data ? step->user_data : ROW_ROOM, place = 0;
+
+	memset(rows, STALE, sizeof rows);
+	answer->status = ntns_next_rows(&play->ns, play->processes[(int)step->process], handle_of(play, step), &answer->context, rows, &count, names,
+					sizeof names);
+	answer->length = 0;
+	for (size_t row = 0; row < count; row++) {
+		if (rows[row].name != place)
+			add_text(answer, "a name elsewhere", 16);
+		add_text(answer, names + place, rows[row].length);
+		add_text(answer, ntns_type_name(rows[row].type), strlen(ntns_type_name(rows[row].type)));
+		place += rows[row].length;
+	}
+	if (count && rows[count - 1].context != answer->context)
+		add_text(answer, "another context", 15);
+}
+
 /* Makes the call of a query. */
 static void query(struct play *play, const struct step *step, struct answer *answer, size_t capacity)
 {
 	ntns *ns = &play->ns;
 	uint32_t process = play->processes[(int)step->process], handle = handle_of(play, step);
-	bool goes_on = step->call == NEXT_ENTRY || step->call == NEXT_PAGE;
+	bool goes_on = step->call == NEXT_ENTRY || step->call == NEXT_PAGE || step->call == NEXT_ROWS;
 
 	answer->context = goes_on ? play->contexts[(int)step->process][(int)step->handle] : 0;
 	switch (step->call) {
@@ -87,15 +130,19 @@ static void query(struct play *play, const struct step *step, struct answer *ans
 		answer->status = ntns_query_file(ns, process, handle, answer->text, capacity, &answer->length);
 		break;
 	case QUERY_OBJECT:
-		answer->status = ntns_query_object(ns, process, handle, &answer->type, &answer->word, &answer->id);
+		answer->status = ntns_query_object(ns, process, handle, &answer->type, &answer->user_data, &answer->id);
 		break;
-	case NEXT_DELETED:
-		answer->status = ntns_next_deleted(ns, &answer->type, &answer->word);
+	case NEXT_DELETION:
+		next_deletion(ns, answer);
 		break;
 	case FIRST_PAGE:
 	case NEXT_PAGE:
-		answer->status = ntns_next_page(ns, process, handle, &answer->context, answer->text, step->word ? step->word : capacity,
+		answer->status = ntns_next_page(ns, process, handle, &answer->context, answer->text, step->user_data ? step->user_data : capacity,
 						&answer->length);
+		break;
+	case FIRST_ROWS:
+	case NEXT_ROWS:
+		next_rows(play, step, answer);
 		break;
 	default:
 		answer->status = ntns_next_entry(ns, process, handle, &answer->context, answer->text, capacity, &answer->length,
@@ -145,7 +192,7 @@ struct answer play_call(struct play *play, const struct step *step, char *text, 
 		break;
 	default:
 		memset(&answer.type, STALE, sizeof answer.type);
-		memset(&answer.word, STALE, sizeof answer.word);
+		memset(&answer.user_data, STALE, sizeof answer.user_data);
 		memset(&answer.length, STALE, sizeof answer.length);
 		query(play, step, &answer, capacity);
 		break;
@@ -180,6 +227,8 @@ void play_keep(struct play *play, const struct step *step, const struct answer *
 	case NEXT_ENTRY:
 	case FIRST_PAGE:
 	case NEXT_PAGE:
+	case FIRST_ROWS:
+	case NEXT_ROWS:
 		play->contexts[process][(int)step->handle] = answer->context;
 		break;
 	default:
@@ -191,10 +240,10 @@ void play_keep(struct play *play, const struct step *step, const struct answer *
 	}
 }
 
-/* Whether a call tells a page, where it succeeds. */
+/* Whether a call tells a page or rows, where it succeeds. */
 static bool tells_page(enum call call)
 {
-	return call == FIRST_PAGE || call == NEXT_PAGE;
+	return call >= FIRST_PAGE && call <= NEXT_ROWS;
 }
 
 /* Whether a call tells a text, where it succeeds. */
@@ -239,12 +288,14 @@ const char *play_fault(const struct step *step, const struct answer *answer)
 		if (memcmp(answer->text, wanted, length))
 			return "another text";
 	}
-	if ((is_entry || step->call == QUERY_OBJECT || step->call == NEXT_DELETED) && answer->type != (has_succeeded ? step->type : 0))
+	if ((is_entry || step->call == QUERY_OBJECT || step->call == NEXT_DELETION) && answer->type != (has_succeeded ? step->type : 0))
 		return "another type";
-	if ((step->call == QUERY_OBJECT || step->call == NEXT_DELETED) && answer->word != (has_succeeded ? step->word : 0))
-		return "another word";
+	if ((step->call == QUERY_OBJECT || step->call == NEXT_DELETION) && answer->user_data != (has_succeeded ? step->user_data : 0))
+		return "other user data";
 	if (step->call == QUERY_OBJECT && has_succeeded != (answer->id != 0))
 		return "an id where nothing was found, or none where it was";
+	if (step->call == NEXT_DELETION && !has_succeeded && (answer->id || answer->parsed))
+		return "something of a deletion where there is none";
 	return NULL;
 }
 
@@ -281,6 +332,54 @@ static const char *fault_of_rooms(struct play *play, const struct step *step, co
 	return NULL;
 }
 
+/* Keeps account of the object that a create or an open gave a handle to; what is wrong with its id, or NULL. */
+static const char *fault_of_object(struct play *play, const struct step *step, uint32_t handle)
+{
+	uint32_t type;
+	uint64_t user_data, id;
+
+	if (ntns_query_object(&play->ns, play->processes[(int)step->process], handle, &type, &user_data, &id) != S(SUCCESS))
+		return "an object that isn't there";
+	if ((id >> 63) != (type == T(DIRECTORY) || type == T(SYMBOLIC_LINK)))
+		return "an id of another type";
+	if (id >= IDS)
+		return NULL;
+	struct known *known = &play->known[id];
+	if (known->type && (known->type != type || known->user_data != user_data))
+		return "an id of another object";
+	if (!known->type)
+		known->parsed = step->call == OPEN_OBJECT;
+	known->type = type;
+	known->user_data = user_data;
+	return NULL;
+}
+
+/* Strikes a deleted object off; what is wrong with its deletion, or NULL. */
+static const char *fault_of_deletion(struct play *play, const struct answer *answer)
+{
+	if (answer->id >= IDS)
+		return NULL;
+	struct known *known = &play->known[answer->id];
+	if (answer->id == 0)
+		return answer->parsed ? NULL : "an object that had no handle, and that no parse made";
+	if (known->type != answer->type || known->user_data != answer->user_data)
+		return "the deletion of another object";
+	if (known->parsed != answer->parsed)
+		return "the deletion of an object that was made otherwise";
+	known->type = 0;
+	return NULL;
+}
+
+/* Keeps account of the caller's objects; what is wrong with them, or NULL. */
+static const char *fault_of_account(struct play *play, const struct step *step, const struct answer *answer)
+{
+	if (step->call >= CREATE_DIRECTORY && step->call <= OPEN_OBJECT && NTNS_SUCCEEDED(answer->status))
+		return fault_of_object(play, step, answer->number);
+	if (step->call == NEXT_DELETION && answer->status == S(SUCCESS))
+		return fault_of_deletion(play, answer);
+	return NULL;
+}
+
 const char *play_step(struct play *play, const struct step *step)
 {
 	static char text[TEXT_ROOM];
@@ -291,6 +390,8 @@ const char *play_step(struct play *play, const struct step *step)
 		fault = play_fault(step, &answer);
 		if (!fault && tells_text(step->call) && answer.status == S(SUCCESS))
 			fault = fault_of_rooms(play, step, &answer);
+		if (!fault)
+			fault = fault_of_account(play, step, &answer);
 		play_keep(play, step, &answer);
 	}
 	return fault;

@@ -26,11 +26,13 @@ enum call {
 	NEXT_ENTRY,
 	FIRST_PAGE,
 	NEXT_PAGE,
+	FIRST_ROWS,
+	NEXT_ROWS,
 	SET_DEVICE_MAP,
 	NEW_PROCESS,
 	EXIT_PROCESS,
 	QUERY_OBJECT,
-	NEXT_DELETED
+	NEXT_DELETION
 };
 
 struct step {
@@ -41,8 +43,8 @@ struct step {
 	const char *name;    /* the name; NULL for none; {N:c} in it is N times the character c */
 	uint32_t attributes;
 	uint32_t type;       /* the type that is made, wanted or told */
-	uint64_t word;       /* the word that is given or told, or the room of a page; 0 is all */
-	const char *text;    /* a link's target, or the text that is told; in a page '|' stands for the 0 behind each name */
+	uint64_t user_data;  /* the user data that is given or reported, or the room of a page, or the places for rows; 0 is all */
+	const char *text;    /* a link's target, or the text that is told; in a page '|' stands for the 0 behind each name, as in rows, which are told as a page */
 	bool inherit;
 	char to;             /* the process that gets a duplicate */
 	char kept;           /* the letter that the handle, or the process, is kept under */
@@ -58,7 +60,7 @@ struct step {
 
 #define DIRECTORY(p, root, n, a, k, s) .call = CREATE_DIRECTORY, .process = p, .handle = root, .name = n, .attributes = a, .kept = k, .status = S(s)
 #define LINK(p, root, n, a, t, k, s) .call = CREATE_LINK, .process = p, .handle = root, .name = n, .attributes = a, .text = t, .kept = k, .status = S(s)
-#define OBJECT(p, t, root, n, a, w, k, s) .call = CREATE_OBJECT, .process = p, .type = T(t), .handle = root, .name = n, .attributes = a, .word = w, .kept = k, .status = S(s)
+#define OBJECT(p, t, root, n, a, w, k, s) .call = CREATE_OBJECT, .process = p, .type = T(t), .handle = root, .name = n, .attributes = a, .user_data = w, .kept = k, .status = S(s)
 #define OPENDIR(p, root, n, a, k, s) .call = OPEN_DIRECTORY, .process = p, .handle = root, .name = n, .attributes = a, .kept = k, .status = S(s)
 #define OPENLINK(p, root, n, a, k, s) .call = OPEN_LINK, .process = p, .handle = root, .name = n, .attributes = a, .kept = k, .status = S(s)
 #define OPEN(p, t, root, n, a, k, s) .call = OPEN_OBJECT, .process = p, .type = T(t), .handle = root, .name = n, .attributes = a, .kept = k, .status = S(s)
@@ -72,17 +74,32 @@ struct step {
 #define FIRST(p, h, n, t, s) .call = FIRST_ENTRY, .process = p, .handle = h, .text = n, .type = T(t), .status = S(s)
 #define NEXT(p, h, n, t, s) .call = NEXT_ENTRY, .process = p, .handle = h, .text = n, .type = T(t), .status = S(s)
 #define LAST(p, h) .call = NEXT_ENTRY, .process = p, .handle = h, .status = S(NO_MORE_ENTRIES)
-#define PAGE(p, h, room, t, s) .call = FIRST_PAGE, .process = p, .handle = h, .word = room, .text = t, .status = S(s)
-#define MORE(p, h, room, t, s) .call = NEXT_PAGE, .process = p, .handle = h, .word = room, .text = t, .status = S(s)
+#define PAGE(p, h, room, t, s) .call = FIRST_PAGE, .process = p, .handle = h, .user_data = room, .text = t, .status = S(s)
+#define MORE(p, h, room, t, s) .call = NEXT_PAGE, .process = p, .handle = h, .user_data = room, .text = t, .status = S(s)
+#define ROWS(p, h, places, t, s) .call = FIRST_ROWS, .process = p, .handle = h, .user_data = places, .text = t, .status = S(s)
+#define MOREROWS(p, h, places, t, s) .call = NEXT_ROWS, .process = p, .handle = h, .user_data = places, .text = t, .status = S(s)
 #define MAP(p, h, s) .call = SET_DEVICE_MAP, .process = p, .handle = h, .status = S(s)
 #define NEW(p, i, k, s) .call = NEW_PROCESS, .process = p, .inherit = i, .kept = k, .status = S(s)
 #define EXIT(p, s) .call = EXIT_PROCESS, .process = p, .status = S(s)
-#define IS(p, h, t, w, s) .call = QUERY_OBJECT, .process = p, .handle = h, .type = T(t), .word = w, .status = S(s)
-#define DELETED(t, w) .call = NEXT_DELETED, .type = T(t), .word = w, .status = S(SUCCESS)
-#define NOT_DELETED .call = NEXT_DELETED, .status = S(NO_MORE_ENTRIES)
+#define IS(p, h, t, w, s) .call = QUERY_OBJECT, .process = p, .handle = h, .type = T(t), .user_data = w, .status = S(s)
+#define DELETED(t, w) .call = NEXT_DELETION, .type = T(t), .user_data = w, .status = S(SUCCESS)
+#define NOT_DELETED .call = NEXT_DELETION, .status = S(NO_MORE_ENTRIES)
 
 /* the most bytes of a text that a step names */
 enum { TEXT_ROOM = 40000 };
+
+/* the most rows that are asked for */
+enum { ROW_ROOM = 64 };
+
+/* the objects of the caller's that a play keeps account of, by their ids from 1 on */
+enum { IDS = 1 << 12 };
+
+/* What a play knows of an object: its type, which is 0 where it isn't known, or was deleted. */
+struct known {
+	uint64_t user_data;
+	uint32_t type;
+	bool parsed;
+};
 
 /* What a play of a table knows: what each process's letters stand for. */
 struct play {
@@ -90,6 +107,7 @@ struct play {
 	uint32_t processes[128];
 	uint32_t handles[128][128];
 	uint64_t contexts[128][128];
+	struct known known[IDS];
 };
 
 /* What a call answered. What it doesn't write stays 0. */
@@ -97,7 +115,8 @@ struct answer {
 	ntns_status status;
 	uint32_t number; /* a handle, or a process */
 	uint32_t type;
-	uint64_t word, id, context;
+	uint64_t user_data, id, context;
+	bool parsed;
 	size_t length;
 	char *text;      /* TEXT_ROOM bytes, of the play's */
 };

@@ -67,6 +67,8 @@ static const struct step steps[] = {
 	{ NEXT('p', 'a', "L", SYMBOLIC_LINK, SUCCESS) },
 	{ LAST('p', 'a') },
 	{ PAGE('p', 'a', 0, "B|Directory|a name of more than a few bytes {200:x}|Directory|L|SymbolicLink|", SUCCESS) },
+	{ ROWS('p', 'a', 0, "B|Directory|a name of more than a few bytes {200:x}|Directory|L|SymbolicLink|", SUCCESS) },
+	{ ROWS('p', 'a', 2, "B|Directory|a name of more than a few bytes {200:x}|Directory|", MORE_ENTRIES) },
 	{ MAP('p', 'a', SUCCESS) },
 	{ OPENLINK('p', 0, "\\??\\L", 0, 'y', SUCCESS) },
 	{ MAP('p', 'm', SUCCESS) },
@@ -176,7 +178,7 @@ static const char *name_of(ntns_status status)
 static bool takes_memory(enum call call)
 {
 	return call != CLOSE_HANDLE && call != MAKE_TEMPORARY && call != MAKE_PERMANENT && call != EXIT_PROCESS && call != QUERY_FILE &&
-	       call != QUERY_OBJECT && call != NEXT_DELETED;
+	       call != QUERY_OBJECT && call != NEXT_DELETION;
 }
 
 /* What is there, as text: what each handle of each process leads to, and what is said of it. Values are gone through until so many in turn are no handles. */
@@ -202,13 +204,13 @@ static bool add_handle(struct state *state, ntns *ns, uint32_t process, uint32_t
 {
 	static char text[TEXT_ROOM];
 	uint32_t type;
-	uint64_t word, id, context = 0;
+	uint64_t user_data, id, context = 0;
 	size_t length;
-	ntns_status status = ntns_query_object(ns, process, handle, &type, &word, &id);
+	ntns_status status = ntns_query_object(ns, process, handle, &type, &user_data, &id);
 
 	if (status == S(INVALID_HANDLE))
 		return false;
-	add(state, "%" PRIu32 " %" PRIu32 ": %s %" PRIu32 " %" PRIu64 " %" PRIu64, process, handle, name_of(status), type, word, id);
+	add(state, "%" PRIu32 " %" PRIu32 ": %s %" PRIu32 " %" PRIu64 " %" PRIu64, process, handle, name_of(status), type, user_data, id);
 	status = ntns_query_name(ns, process, handle, text, sizeof text, &length);
 	add(state, "; %s %.*s", name_of(status), (int)length, text);
 	status = ntns_query_link(ns, process, handle, text, sizeof text, &length);
@@ -298,23 +300,22 @@ static void play_whole(void)
 /* Whether a call that is made again answers as in the whole run. */
 static bool is_same(const struct answer *one, const struct answer *other)
 {
-	return one->status == other->status && one->number == other->number && one->type == other->type && one->word == other->word &&
-	       one->context == other->context && one->length == other->length;
+	return one->status == other->status && one->number == other->number && one->type == other->type && one->user_data == other->user_data &&
+	       one->id == other->id && one->parsed == other->parsed && one->context == other->context && one->length == other->length;
 }
 
 /* Whether nothing is told as deleted behind a call that was refused memory, or what a parse made for its open. */
 static bool is_nothing_deleted(ntns *ns, const struct step *step)
 {
-	uint32_t type;
-	uint64_t word;
-	int told = 0;
+	struct ntns_deletion deletion;
+	int reported = 0;
 
-	while (ntns_next_deleted(ns, &type, &word) == S(SUCCESS)) {
-		told++;
-		if (step->call != OPEN_OBJECT || (type != NTNS_TYPE_FILE && type != NTNS_TYPE_KEY))
+	while (ntns_next_deletion(ns, &deletion) == S(SUCCESS)) {
+		reported++;
+		if (step->call != OPEN_OBJECT || (deletion.type != NTNS_TYPE_FILE && deletion.type != NTNS_TYPE_KEY) || deletion.id || !deletion.parsed)
 			return false;
 	}
-	return told <= 1;
+	return reported <= 1;
 }
 
 /* What is wrong with the answer to a call that was refused memory, or NULL. */

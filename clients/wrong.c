@@ -65,34 +65,56 @@ INSTEAD(ntns_status, ntns_open, ntns *ns)
 INSTEAD(ntns_status, ntns_close_handle, ntns *ns, uint32_t process, uint32_t handle)
 {
 	uint32_t type;
-	uint64_t word, id;
-	return ntns_query_object(ns, process, handle, &type, &word, &id);
+	uint64_t user_data, id;
+	return ntns_query_object(ns, process, handle, &type, &user_data, &id);
 }
 
 #elif defined DELETED_IS_TOLD_TWICE
-static uint32_t last_type;
-static uint64_t last_word;
+static struct ntns_deletion last;
 
-INSTEAD(ntns_status, ntns_next_deleted, ntns *ns, uint32_t *type, uint64_t *word)
+INSTEAD(ntns_status, ntns_next_deletion, ntns *ns, struct ntns_deletion *deletion)
 {
-	if (last_type) {
-		*type = last_type;
-		*word = last_word;
-		last_type = 0;
+	if (last.type) {
+		*deletion = last;
+		last.type = 0;
 		return S(SUCCESS);
 	}
-	ntns_status status = __real_ntns_next_deleted(ns, type, word);
-	last_type = *type;
-	last_word = *word;
+	ntns_status status = __real_ntns_next_deletion(ns, deletion);
+	last = *deletion;
 	return status;
 }
 
 #elif defined DELETED_IS_NEVER_TOLD
-INSTEAD(ntns_status, ntns_next_deleted, ntns *ns, uint32_t *type, uint64_t *word)
+INSTEAD(ntns_status, ntns_next_deletion, ntns *ns, struct ntns_deletion *deletion)
 {
-	*type = 0;
-	*word = 0;
+	*deletion = (struct ntns_deletion){ 0 };
 	return ns->words[0] ? S(NO_MORE_ENTRIES) : S(INVALID_PARAMETER);
+}
+
+#elif defined DELETED_HAS_ANOTHER_ID
+/* Reports the id of the object that got its handle before. */
+INSTEAD(ntns_status, ntns_next_deletion, ntns *ns, struct ntns_deletion *deletion)
+{
+	ntns_status status = __real_ntns_next_deletion(ns, deletion);
+	deletion->id -= deletion->id > 1;
+	return status;
+}
+
+#elif defined FILE_IS_TOLD_AS_ITS_DEVICE
+INSTEAD(ntns_status, ntns_next_deletion, ntns *ns, struct ntns_deletion *deletion)
+{
+	ntns_status status = __real_ntns_next_deletion(ns, deletion);
+	if (deletion->type == NTNS_TYPE_FILE && deletion->parsed)
+		deletion->type = NTNS_TYPE_DEVICE;
+	return status;
+}
+
+#elif defined WHO_MADE_IT_IS_NOT_TOLD
+INSTEAD(ntns_status, ntns_next_deletion, ntns *ns, struct ntns_deletion *deletion)
+{
+	ntns_status status = __real_ntns_next_deletion(ns, deletion);
+	deletion->parsed = false;
+	return status;
 }
 
 #elif defined WRITES_PAST_THE_ROOM
@@ -151,10 +173,34 @@ INSTEAD(ntns_status, ntns_next_page, ntns *ns, uint32_t process, uint32_t handle
 	return status;
 }
 
-#elif defined ANOTHER_WORD
-INSTEAD(ntns_status, ntns_create_object, ntns *ns, uint32_t process, uint32_t root, const char *name, size_t length, uint32_t attributes, uint32_t type, uint64_t word, uint32_t *handle)
+#elif defined ROWS_LOSE_ONE
+INSTEAD(ntns_status, ntns_next_rows, ntns *ns, uint32_t process, uint32_t handle, uint64_t *context, struct ntns_row *rows, size_t *count, char *buffer, size_t capacity)
 {
-	return __real_ntns_create_object(ns, process, root, name, length, attributes, type, (uint32_t)word, handle);
+	ntns_status status = __real_ntns_next_rows(ns, process, handle, context, rows, count, buffer, capacity);
+	*count -= *count > 1;
+	return status;
+}
+
+#elif defined ROWS_HAVE_ONE_CONTEXT
+INSTEAD(ntns_status, ntns_next_rows, ntns *ns, uint32_t process, uint32_t handle, uint64_t *context, struct ntns_row *rows, size_t *count, char *buffer, size_t capacity)
+{
+	ntns_status status = __real_ntns_next_rows(ns, process, handle, context, rows, count, buffer, capacity);
+	for (size_t row = 0; row < *count; row++)
+		rows[row].context = *context;
+	return status;
+}
+
+#elif defined ROW_PAST_THE_PLACES
+INSTEAD(ntns_status, ntns_next_rows, ntns *ns, uint32_t process, uint32_t handle, uint64_t *context, struct ntns_row *rows, size_t *count, char *buffer, size_t capacity)
+{
+	*count += *count != 0;
+	return __real_ntns_next_rows(ns, process, handle, context, rows, count, buffer, capacity);
+}
+
+#elif defined OTHER_USER_DATA
+INSTEAD(ntns_status, ntns_create_object, ntns *ns, uint32_t process, uint32_t root, const char *name, size_t length, uint32_t attributes, uint32_t type, uint64_t user_data, uint32_t *handle)
+{
+	return __real_ntns_create_object(ns, process, root, name, length, attributes, type, (uint32_t)user_data, handle);
 }
 
 #elif defined REFUSED_MEMORY_AND_DONE

@@ -1,10 +1,12 @@
 #!/usr/bin/env python3
 """Builds the libraries for C, and programs in C and C++ that link them, and runs these.
 
-- The header alone compiles in C11 and in C++17, and the archive has what the header declares; of a caller's program it needs nothing but memory.
+- Each header alone compiles, `ntns.h` in C11 and in C++17, `ntns_windows.h` in C99 and in C++11, and the archive has what `ntns.h` declares; of a caller's
+  program it needs nothing but memory.
 - The program of README.md's section 'From C', in both languages, prints what is shown there.
 - The clients of `clients/`: worked cases, odd arguments, and each request for memory refused in turn; where valgrind is there, also under it: no error, no
-  leak. `clients/bench.c`, with each operation once.
+  leak. `clients/bench.c`, with each operation once. The system calls of `examples/nt/`. What `ntns_windows.h` does, in C and in C++, and under the sanitizers of addresses and of undefined
+  behaviour.
 - Each wrong library of `clients/wrong.c` fails a client.
 - The shared library exports what the header declares, and nothing else; README.md's program and the worked cases run over it.
 - What `make install` puts into a folder, which is moved then, serves a program by pkg-config, and one by CMake.
@@ -28,9 +30,11 @@ import library
 from crates import ROOT
 from runs import Count
 
-CLIENTS, INCLUDE = ROOT / "clients", ("-I", str(library.INCLUDE))
+CLIENTS, EXAMPLE, INCLUDE = ROOT / "clients", ROOT / "examples" / "nt", ("-I", str(library.INCLUDE))
 C = (os.environ.get("CC", "cc"), "-std=c11")
 CXX = (os.environ.get("CXX", "c++"), "-x", "c++", "-std=c++17")
+C99, CXX11 = (C[0], "-std=c99"), (*CXX[:-1], "-std=c++11")
+SANITIZED = ("-fsanitize=address,undefined", "-fno-sanitize-recover=all")
 FLAGS = ("-O1", "-g", "-Wall", "-Wextra", "-Werror")
 VALGRIND = ("valgrind", "--quiet", "--leak-check=full", "--show-leak-kinds=all", "--errors-for-leak-kinds=all", "--error-exitcode=9")
 
@@ -42,10 +46,18 @@ MADE_OF = {
     "cases": (("cases.c", "play.c"), ()),
     "hostile": (("hostile.c",), ()),
     "refusals": (("refusals.c", "play.c"), ("malloc", "calloc", "realloc", "free")),
+    "windows": (("windows.c",), ()),
 }
 
 # the client that a wrong library of clients/wrong.c fails, if it is another than `cases`, by the library's macro
-FAILS = {"OPENS_AGAIN": "hostile", "CLOSE_FREES_NOTHING": "refusals", "REFUSED_MEMORY_AND_DONE": "refusals", "LOSES_MEMORY": "refusals"}
+FAILS = {
+    "OPENS_AGAIN": "hostile",
+    "ROWS_HAVE_ONE_CONTEXT": "hostile",
+    "ROW_PAST_THE_PLACES": "hostile",
+    "CLOSE_FREES_NOTHING": "refusals",
+    "REFUSED_MEMORY_AND_DONE": "refusals",
+    "LOSES_MEMORY": "refusals",
+}
 
 
 BINDINGS = ROOT / "bindings"
@@ -130,14 +142,14 @@ class Bench:
             run([*language, *FLAGS, *flags, *INCLUDE, "-c", str(source), "-o", objects[-1]])
         program = str(self.folder / name)
         folder = self.linked.parent
-        run([language[0], *objects, str(self.linked), f"-Wl,-rpath,{folder}", *(f"-Wl,--wrap={call}" for call in wrapped), "-o", program])
+        run([language[0], *flags, *objects, str(self.linked), f"-Wl,-rpath,{folder}", *(f"-Wl,--wrap={call}" for call in wrapped), "-o", program])
         return program
 
-    def header(self, language):
-        """The header alone, twice."""
+    def header(self, name, language):
+        """A header alone, twice."""
         source = self.folder / "header.c"
-        source.write_text("#include <ntns.h>\n#include <ntns.h>\n")
-        run([*language, *FLAGS, "-pedantic", "-fsyntax-only", *INCLUDE, str(source)])
+        source.write_text(f"#include <{name}>\n" * 2)
+        run([*language, *FLAGS, "-Wconversion", "-pedantic", "-fsyntax-only", *INCLUDE, str(source)])
 
     def symbols(self):
         """What the archive defines and needs."""
@@ -163,10 +175,17 @@ class Bench:
         if output != prints:
             raise Fault(f"it printed {output!r}")
 
-    def client(self, name, *before):
+    def client(self, name, *before, language=C, flags=()):
         """A client, perhaps under another program."""
         sources, wrapped = MADE_OF[name]
-        status, passed, failed, lines = checked([*before, self.made(name, [CLIENTS / source for source in sources], wrapped=wrapped)])
+        program = self.made(name, [CLIENTS / source for source in sources], *flags, language=language, wrapped=wrapped)
+        status, passed, failed, lines = checked([*before, program])
+        if status or not passed or failed:
+            raise Fault("\n".join([f"it ended with {status}", *lines[:20]]))
+
+    def example(self, *before, flags=()):
+        """The system calls of `examples/nt`, perhaps under another program."""
+        status, passed, failed, lines = checked([*before, self.made("nt", [EXAMPLE / "main.c", EXAMPLE / "nt.c"], *flags)])
         if status or not passed or failed:
             raise Fault("\n".join([f"it ended with {status}", *lines[:20]]))
 
@@ -226,20 +245,28 @@ def where(program, tried):
 
 def parts():
     """What is tried of an archive: what it shows, and how on a bench."""
-    yield "the header stands alone in C11", lambda bench: bench.header(C)
-    yield "the header stands alone in C++17", lambda bench: bench.header(CXX)
+    yield "ntns.h stands alone in C11", lambda bench: bench.header("ntns.h", C)
+    yield "ntns.h stands alone in C++17", lambda bench: bench.header("ntns.h", CXX)
+    yield "ntns_windows.h stands alone in C99", lambda bench: bench.header("ntns_windows.h", C99)
+    yield "ntns_windows.h stands alone in C++11", lambda bench: bench.header("ntns_windows.h", CXX11)
     yield "the archive has what the header declares, and needs memory alone", Bench.symbols
     yield "README.md's program prints in C what stands there", lambda bench: bench.shown(C)
     yield "README.md's program prints in C++ what stands there", lambda bench: bench.shown(CXX)
     yield "worked cases", lambda bench: bench.client("cases")
     yield "odd arguments", lambda bench: bench.client("hostile")
     yield "each request for memory refused in turn", lambda bench: bench.client("refusals")
+    yield "texts and statuses of Windows in C99", lambda bench: bench.client("windows", language=C99)
+    yield "texts and statuses of Windows in C++11", lambda bench: bench.client("windows", language=CXX11)
+    yield "texts and statuses of Windows under the sanitizers", lambda bench: bench.client("windows", language=C99, flags=SANITIZED)
+    yield "system calls over the library", Bench.example
+    yield "system calls under the sanitizers", lambda bench: bench.example(flags=SANITIZED)
     yield "what is timed is answered as it should be", Bench.timed
     under_valgrind = {
         "README.md's program under valgrind": lambda bench: bench.shown(C, *VALGRIND),
         "worked cases under valgrind": lambda bench: bench.client("cases", *VALGRIND),
         "odd arguments under valgrind": lambda bench: bench.client("hostile", *VALGRIND),
         "each request for memory refused in turn, under valgrind": lambda bench: bench.client("refusals", *VALGRIND),
+        "system calls under valgrind": lambda bench: bench.example(*VALGRIND),
     }
     yield from where(VALGRIND[0], under_valgrind.items())
     for macro, call in wrong_libraries((CLIENTS / "wrong.c").read_text()):

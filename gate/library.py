@@ -1,5 +1,5 @@
 #!/usr/bin/env python3
-"""Makes what a program in C or C++ links: out/libntns.a, perhaps out/libntns.so.1, and out/ntns.h.
+"""Makes what a program in C or C++ links: out/libntns.a, perhaps out/libntns.so.1, and the headers beside them.
 
 The archive is that of the crate `ob_c`, proved and built if it isn't yet, with `lib/ntns.c` and the part of the kit in C that asks for memory: one archive,
 so that a caller names no other. The shared library is made of the archive, and exports the calls of ntns.h alone (`lib/ntns.map`). Both want a C compiler
@@ -61,7 +61,8 @@ def make(is_shared):
             share(ARCHIVE, SHARED)
     except subprocess.CalledProcessError:
         return False
-    shutil.copyfile(INCLUDE / "ntns.h", OUT / "ntns.h")
+    for header in INCLUDE.glob("*.h"):
+        shutil.copyfile(header, OUT / header.name)
     return True
 
 

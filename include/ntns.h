@@ -2,8 +2,8 @@
  * ntns: the naming half of the NT object manager, in memory, for callers in C and C++.
  *
  * A namespace holds object directories, symbolic links and objects of the caller's own, and processes with handles to them. Of
- * each object that is the caller's own it keeps a type and a word, 64 bits in which the caller says what the object is, and tells
- * these again when the last reference has gone. docs/c.md has every call's statuses with what carries each claim;
+ * each object that is the caller's own it keeps a type and user data, 64 bits in which the caller says what the object is, and
+ * reports these again when the last reference has gone. docs/c.md has every call's statuses with what carries each claim;
  * docs/namespace.md has the rules.
  *
  *     ntns ns = NTNS_CLOSED;
@@ -28,6 +28,10 @@
  * refused, out of memory too, leaves the namespace as it was; the exceptions stand in docs/c.md.
  *
  * Process 1 is there from the open on; ntns_new_process gives others.
+ *
+ * NTNS_VERSION is the version of this header. Version 1 isn't released yet, and until it is each call may change. A later version may
+ * add calls, constants and statuses, so a caller judges a status by NTNS_SUCCEEDED. One that changes or takes away what is there
+ * has a library of another name, libntns.so.2.
  */
 #ifndef NTNS_H
 #define NTNS_H
@@ -39,6 +43,8 @@
 #ifdef __cplusplus
 extern "C" {
 #endif
+
+#define NTNS_VERSION 1
 
 /* A namespace: all zeros before it is opened and after it is closed. It may be moved between calls, and isn't copied. */
 typedef struct ntns {
@@ -170,7 +176,7 @@ ntns_status ntns_create_link(ntns *ns, uint32_t process, uint32_t root, const ch
 
 /* NtCreateEvent, NtCreateMutant, NtCreateSection and so on: an object of the caller's, of a type from NTNS_TYPE_EVENT on. */
 ntns_status ntns_create_object(ntns *ns, uint32_t process, uint32_t root, const char *name, size_t name_len, uint32_t attributes,
-			       uint32_t type, uint64_t word, uint32_t *handle);
+			       uint32_t type, uint64_t user_data, uint32_t *handle);
 
 /*
  * Opens. `handle` is given a handle of the process on success, and else 0. A name that leads through a device or a key is parsed to
@@ -196,14 +202,14 @@ ntns_status ntns_open_link(ntns *ns, uint32_t process, uint32_t root, const char
 
 /*
  * NtOpenEvent, NtOpenFile, NtOpenKey and so on; with NTNS_TYPE_ANY whatever the name leads to, also a directory, and with OPENLINK a
- * link. What lies behind a device is a new file, what lies behind a key a new key, each with the word of the device or key and the
- * rest of the name as its text (ntns_query_file). The empty rest of a key is the key itself, of a device a file too.
+ * link. What lies behind a device is a new file, what lies behind a key a new key, each with the user data of the device or key and
+ * the rest of the name as its text (ntns_query_file). The empty rest of a key is the key itself, of a device a file too.
  */
 ntns_status ntns_open_object(ntns *ns, uint32_t process, uint32_t root, const char *name, size_t name_len, uint32_t attributes,
 			     uint32_t type, uint32_t *handle);
 
 /*
- * NtClose. What nothing refers to any more is deleted, and what of it is the caller's stands in the list of ntns_next_deleted.
+ * NtClose. What nothing refers to any more is deleted, and what of it is the caller's is reported by ntns_next_deletion.
  * INVALID_PARAMETER (closed), PROCESS_GONE, INVALID_HANDLE.
  */
 ntns_status ntns_close_handle(ntns *ns, uint32_t process, uint32_t handle);
@@ -261,6 +267,28 @@ ntns_status ntns_next_entry(ntns *ns, uint32_t process, uint32_t handle, uint64_
  */
 ntns_status ntns_next_page(ntns *ns, uint32_t process, uint32_t handle, uint64_t *context, char *buffer, size_t capacity, size_t *length);
 
+/* A row of a listing. */
+struct ntns_row {
+	uint64_t context; /* that the listing goes on from after this row */
+	uint32_t type;
+	uint32_t name;    /* where in the buffer the name begins */
+	uint32_t length;  /* its bytes */
+};
+
+/*
+ * NtQueryDirectoryObject, for a host that fills the native structure: the entries after `context`, which is 0 for the first of all and
+ * is then left at the last row. `count` is how many rows there is place for, and is given how many were filled; their names stand in
+ * `buffer`, one after another. It stops where no entry is left, at the last place for a row, and at a name that doesn't fit into the
+ * buffer, of which the first 4,294,967,295 bytes are used. A host whose own buffer ends before the last row goes on from the
+ * context of the last row that it took. The call is as many queries of one entry, with no other call between them.
+ *
+ * SUCCESS (no entry is left), MORE_ENTRIES (others are), which are both successes; INVALID_PARAMETER (closed), PROCESS_GONE,
+ * INVALID_HANDLE, OBJECT_TYPE_MISMATCH (no directory), NO_MEMORY, NO_MORE_ENTRIES (behind the last), BUFFER_TOO_SMALL (no place for a
+ * row, or the first name doesn't fit). On a refusal `count` is 0 and `context` stays; after NO_MEMORY rows and buffer may have changed.
+ */
+ntns_status ntns_next_rows(ntns *ns, uint32_t process, uint32_t handle, uint64_t *context, struct ntns_row *rows, size_t *count, char *buffer,
+			   size_t capacity);
+
 /*
  * NtSetInformationProcess with ProcessDeviceMap: \?? is then this directory before \GLOBAL??, for the process and the children that
  * it begins.
@@ -279,18 +307,28 @@ ntns_status ntns_new_process(ntns *ns, uint32_t process, bool inherit, uint32_t 
 ntns_status ntns_exit_process(ntns *ns, uint32_t process);
 
 /*
- * ObReferenceObjectByHandle: what a handle leads to, its type, its word (0 of directories and links) and its id, which no other object of
- * the namespace ever has. It takes no memory.
+ * ObReferenceObjectByHandle: what a handle leads to, its type, its user data (0 of directories and links) and its id. The caller's
+ * objects have the ids 1, 2, 3 and so on, in the order in which each got its first handle; those of directories and links are from
+ * 2^63 on. No two objects of a namespace have one id, also where one is deleted before the other is made. It takes no memory.
  * INVALID_PARAMETER (closed), INVALID_HANDLE (also of a process that is gone); then all three are 0.
  */
-ntns_status ntns_query_object(ntns *ns, uint32_t process, uint32_t handle, uint32_t *type, uint64_t *word, uint64_t *id);
+ntns_status ntns_query_object(ntns *ns, uint32_t process, uint32_t handle, uint32_t *type, uint64_t *user_data, uint64_t *id);
+
+/* An object of the caller's that was deleted. */
+struct ntns_deletion {
+	uint32_t type;
+	uint64_t user_data; /* of its create, or of the device or key through which it was opened */
+	uint64_t id;        /* that of ntns_query_object; 0 where no handle to it was ever given */
+	bool parsed;        /* an open through a device or a key made it */
+};
 
 /*
- * The delete procedure, told behind the step: takes the first of the caller's objects that were deleted and not taken yet. What a
- * parse made and no handle was given to is told too. It takes no memory.
- * INVALID_PARAMETER (closed), NO_MORE_ENTRIES (none is left); then both are 0.
+ * The delete procedure, run after the step: takes the first deletion that wasn't taken yet. They wait until they are taken, in the
+ * order of the steps, and take no further memory. What a parse made and no handle was given to is reported too. docs/c.md says how
+ * a host counts. It takes no memory.
+ * INVALID_PARAMETER (closed), NO_MORE_ENTRIES (none is left); then each field is 0.
  */
-ntns_status ntns_next_deleted(ntns *ns, uint32_t *type, uint64_t *word);
+ntns_status ntns_next_deletion(ntns *ns, struct ntns_deletion *deletion);
 
 /* The status's name, as "OBJECT_NAME_NOT_FOUND"; NULL where it is none of this library's. */
 const char *ntns_status_text(ntns_status status);

@@ -20,9 +20,9 @@ ntns_status ntns_create_link(ntns *ns, uint32_t process, uint32_t root, const ch
 }
 
 ntns_status ntns_create_object(ntns *ns, uint32_t process, uint32_t root, const char *name, size_t name_len, uint32_t attributes,
-			       uint32_t type, uint64_t word, uint32_t *handle)
+			       uint32_t type, uint64_t user_data, uint32_t *handle)
 {
-	return ntns_create_object_raw(ns, process, root, name != NULL, TEXT(name, name_len), attributes, type, word, handle);
+	return ntns_create_object_raw(ns, process, root, name != NULL, TEXT(name, name_len), attributes, type, user_data, handle);
 }
 
 ntns_status ntns_open_directory(ntns *ns, uint32_t process, uint32_t root, const char *name, size_t name_len, uint32_t attributes,
@@ -72,6 +72,15 @@ ntns_status ntns_next_page(ntns *ns, uint32_t process, uint32_t handle, uint64_t
 {
 	char none;
 	return ntns_next_page_raw(ns, process, handle, context, buffer ? buffer : &none, buffer ? capacity : 0, length);
+}
+
+ntns_status ntns_next_rows(ntns *ns, uint32_t process, uint32_t handle, uint64_t *context, struct ntns_row *rows, size_t *count, char *buffer,
+			   size_t capacity)
+{
+	struct ntns_row no_row;
+	char none;
+	return ntns_next_rows_raw(ns, process, handle, context, rows ? rows : &no_row, rows ? *count : 0, buffer ? buffer : &none,
+				  buffer ? capacity : 0, count);
 }
 
 const char *ntns_status_text(ntns_status status)

@@ -12,7 +12,7 @@ ntns_status ntns_create_directory_raw(ntns *ns, uint32_t process, uint32_t root,
 ntns_status ntns_create_link_raw(ntns *ns, uint32_t process, uint32_t root, bool named, const char *name, size_t name_len,
 				 uint32_t attributes, const char *target, size_t target_len, uint32_t *handle);
 ntns_status ntns_create_object_raw(ntns *ns, uint32_t process, uint32_t root, bool named, const char *name, size_t name_len,
-				   uint32_t attributes, uint32_t type, uint64_t word, uint32_t *handle);
+				   uint32_t attributes, uint32_t type, uint64_t user_data, uint32_t *handle);
 ntns_status ntns_open_directory_raw(ntns *ns, uint32_t process, uint32_t root, const char *name, size_t name_len, uint32_t attributes,
 				    uint32_t *handle);
 ntns_status ntns_open_link_raw(ntns *ns, uint32_t process, uint32_t root, const char *name, size_t name_len, uint32_t attributes,
@@ -25,6 +25,8 @@ ntns_status ntns_query_file_raw(ntns *ns, uint32_t process, uint32_t handle, cha
 ntns_status ntns_next_entry_raw(ntns *ns, uint32_t process, uint32_t handle, uint64_t *context, char *buffer, size_t capacity,
 				size_t *length, uint32_t *type);
 ntns_status ntns_next_page_raw(ntns *ns, uint32_t process, uint32_t handle, uint64_t *context, char *buffer, size_t capacity, size_t *length);
+ntns_status ntns_next_rows_raw(ntns *ns, uint32_t process, uint32_t handle, uint64_t *context, struct ntns_row *rows, size_t places,
+			       char *buffer, size_t capacity, size_t *filled);
 void ntns_status_text_raw(ntns_status status, const char **text);
 void ntns_type_name_raw(uint32_t type, const char **name);
 

@@ -134,14 +134,20 @@ class Entry(NamedTuple):
 
 
 class Deletion(NamedTuple):
-    """A deleted object."""
+    """A deleted object. The id is that of `Handle.query`, or 0 where no handle to it was ever given; `parsed` says that an open through a device or a key made it."""
 
     type: Type
     user_data: int
+    id: int
+    parsed: bool
 
 
 class _Space(ctypes.Structure):
     _fields_ = [("words", ctypes.c_size_t * 2)]
+
+
+class _Deletion(ctypes.Structure):
+    _fields_ = [("type", c_uint32), ("user_data", c_uint64), ("id", c_uint64), ("parsed", c_bool)]
 
 
 _LIBRARY = ctypes.CDLL(os.environ.get("NTNS_LIBRARY", "libntns.so.1"))
@@ -173,7 +179,7 @@ _PARAMETERS = {
     "new_process": (c_uint32, c_bool, _NUMBER),
     "exit_process": (c_uint32,),
     "query_object": (*_HANDLE, _NUMBER, POINTER(c_uint64), POINTER(c_uint64)),
-    "next_deleted": (_NUMBER, POINTER(c_uint64)),
+    "next_deletion": (POINTER(_Deletion),),
 }
 
 for _call, _types in _PARAMETERS.items():
@@ -213,9 +219,9 @@ class Namespace:
 
     def deletions(self) -> Iterator[Deletion]:
         """The deleted objects of the caller, each once, in order of deletion."""
-        kind, user_data = c_uint32(), c_uint64()
-        while self._status("next_deleted", byref(kind), byref(user_data)) is not Status.NO_MORE_ENTRIES:
-            yield Deletion(Type(kind.value), user_data.value)
+        deletion = _Deletion()
+        while self._status("next_deletion", byref(deletion)) is not Status.NO_MORE_ENTRIES:
+            yield Deletion(Type(deletion.type), deletion.user_data, deletion.id, deletion.parsed)
 
     def _status(self, call, *arguments):
         """The status of a call, which has to succeed or to be NO_MORE_ENTRIES or BUFFER_TOO_SMALL."""

@@ -26,15 +26,16 @@ class Bound(unittest.TestCase):
 
 class Objects(Bound):
     def test_a_file_on_a_device_is_opened_by_a_drive(self):
-        self.system.create_object(Type.DEVICE, r"\Device\Disk", user_data=7)
+        disk = self.system.create_object(Type.DEVICE, r"\Device\Disk", user_data=7).query()
         drive = self.system.create_link(r"\??\C:", r"\Device\Disk")
         with self.system.open(r"\??\C:\a.txt", Type.FILE) as file:
-            self.assertEqual(file.query()[:2], (Type.FILE, 7))
+            opened = file.query()
+            self.assertEqual(opened[:2], (Type.FILE, 7))
             self.assertEqual(file.file_text(), r"\a.txt")
         self.assertEqual(drive.target(), r"\Device\Disk")
         self.assertEqual(drive.path(), r"\GLOBAL??\C:")
         self.system.exit()
-        self.assertEqual(list(self.namespace.deletions()), [Deletion(Type.FILE, 7), Deletion(Type.DEVICE, 7)])
+        self.assertEqual(list(self.namespace.deletions()), [Deletion(*opened, True), Deletion(*disk, False)])
         self.assertEqual(list(self.namespace.deletions()), [])
 
     def test_ids_tell_objects_apart(self):

@@ -1,7 +1,7 @@
 //! Callers share a namespace, by threads of their own and under its lock.
 //!
-//! `callers` tells what callers do together, and then what comes of steps, as `callers refused` does. Behind each stands the journal of its namespace,
-//! which `ntns replay` accepts.
+//! `callers` plays scenes of several callers, and then steps as `callers refused` does. The journal of each namespace follows, which
+//! `ntns replay` accepts.
 //!
 //! `callers refused` makes steps under the lock of four seats, each in a namespace of its own, a line each with the journal behind it, and `callers refused N` the
 //! Nth alone. A library that refuses its requests for memory in turn is to be preloaded. Where a step is refused memory, namespace, journal and pass have to be
@@ -87,7 +87,7 @@ fn task_of(words: &[String]) -> Option<Task> {
     }
 }
 
-/// Does what is asked for; whether all came as it should.
+/// Does as the arguments say; whether every outcome is as expected.
 fn is_done<R: Threads + Wait + Clock + Sync, W: Write>(
     rt: &R,
     writer: &mut W,
@@ -104,7 +104,7 @@ fn is_done<R: Threads + Wait + Clock + Sync, W: Write>(
     }
 }
 
-/// Does what the words ask for; the status is 1 where something didn't come as it should.
+/// Does as the arguments say; the status is 1 if an outcome isn't as expected.
 fn main(rt: HostRuntime) -> io::Result<ExitCode> {
     let alloc = rt.alloc();
     let Ok(words) = env::args(&rt)?.collect::<Vec<String>>(alloc) else {

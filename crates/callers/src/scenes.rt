@@ -1,4 +1,4 @@
-//! What callers do together in a namespace, from its opening to its close.
+//! Scenes: callers who share a namespace, from its opening to its close.
 
 ghost use Rattle.std.specs.Prelude.{◌≡◌};
 
@@ -72,14 +72,14 @@ pub(crate) fn of_many(seats: u32, deed: Deed, is_written: bool) -> Scene {
     }
 }
 
-/// What is seen of a namespace that was closed.
+/// A namespace after its close.
 #[derive(Clone, Copy)]
 struct Seen {
     /// Where passes and journal differ.
     mismatch: Option<Mismatch>,
     /// How many entries the journal has.
     entries: usize,
-    /// Whether all came as it should.
+    /// Whether every step had its expected outcome.
     is_right: bool,
 }
 
@@ -102,7 +102,7 @@ fn passes_of<L: Ledger>(
     (passes, lines)
 }
 
-/// What is seen at the close of a namespace, which is let go; the lines of its journal are put behind others.
+/// Closes a namespace and drops it, and adds the lines of its journal after others.
 fn seen_at_close(
     alloc: Global,
     lines: &mut Vec<u8>,
@@ -132,7 +132,7 @@ fn seen_at_close(
     }
 }
 
-/// Opens a namespace, has a scene played in it, and closes it; what is seen then, and none where it can't be opened.
+/// Opens a namespace, plays a scene in it, and closes it; `None` if it can't be opened.
 fn see_in<R: Threads + Wait + Clock + Sync, L: Ledger + Send + Sync>(
     rt: &R,
     alloc: Global,
@@ -169,7 +169,7 @@ fn see<R: Threads + Wait + Clock + Sync>(
     see_in::<_, Brand>(rt, alloc, Blank::new(1024), scene, lines)
 }
 
-/// What is told of a scene: how many entries its journal has, or where passes and journal differ.
+/// The outcome of a scene: how many entries its journal has, or where passes and journal differ.
 fn told_of(alloc: Global, seen: &Seen) -> Option<String> {
     let mut text = String::new(alloc);
     let put = match seen.mismatch {
@@ -192,7 +192,7 @@ fn told_of(alloc: Global, seen: &Seen) -> Option<String> {
     }
 }
 
-/// Plays a scene and tells it, with the lines of its journal; whether it came as it should.
+/// Plays a scene, and writes its outcome and its journal; whether that is the expected outcome.
 fn is_told<R: Threads + Wait + Clock + Sync, W: Write>(
     rt: &R,
     writer: &mut W,
@@ -213,7 +213,7 @@ fn is_told<R: Threads + Wait + Clock + Sync, W: Write>(
     writer.write_all(lines.as_slice()).is_ok() && seen.is_right
 }
 
-/// Plays the scenes that are the same each time, and tells them; whether all came as they should.
+/// Plays the scenes that are the same each time, and writes their outcomes; whether those are as expected.
 pub(crate) fn are_told<R: Threads + Wait + Clock + Sync, W: Write>(
     rt: &R,
     writer: &mut W,
@@ -233,7 +233,7 @@ pub(crate) fn are_told<R: Threads + Wait + Clock + Sync, W: Write>(
     are_told
 }
 
-/// Plays a scene of many callers, and writes its journal, or tells how many entries that has; whether it came as it should.
+/// Plays a scene of many callers, and writes its journal, or how many entries that has; whether the outcome is as expected.
 pub(crate) fn are_made<R: Threads + Wait + Clock + Sync, W: Write>(
     rt: &R,
     writer: &mut W,

@@ -283,7 +283,7 @@ fn tried<L: Ledger, W: Write>(
     }
 }
 
-/// Makes what stands before each row; whether all was made.
+/// Makes the steps that come before each row; whether all were made.
 fn is_ready<L: Ledger>(
     alloc: Global,
     locked: &mut Locked<L>,
@@ -307,7 +307,7 @@ fn is_ready<L: Ledger>(
     true
 }
 
-/// Writes how a step came and what was seen then, and the journal behind it; whether memory is found.
+/// Writes the outcome of a step, and the journal after it; `false` if out of memory.
 fn tell<W: Write>(
     writer: &mut W,
     alloc: Global,
@@ -330,7 +330,7 @@ fn tell<W: Write>(
     Ok(())
 }
 
-/// Makes the step of the row at this place behind what stands before it, and tells it; whether it came as it should.
+/// Makes the step of the row at this place after the steps before it, and writes its outcome; whether that is as expected.
 fn is_played<L: Ledger, W: Write>(
     writer: &mut W,
     alloc: Global,
@@ -370,7 +370,7 @@ fn is_played<L: Ledger, W: Write>(
     }
 }
 
-/// Opens a namespace of four seats, and plays the row at a place in it, if one is to be played; whether it came as it should, and none where it could not be made.
+/// Opens a namespace of four seats, and plays the row at a place in it, if one is to be played; whether its outcome is as expected, and `None` if it could not be made.
 fn look<L: Ledger, W: Write>(
     writer: &mut W,
     alloc: Global,
@@ -399,7 +399,7 @@ fn look_at<W: Write>(writer: &mut W, alloc: Global, row: Option<usize>) -> Optio
     look::<Brand, W>(writer, alloc, Blank::new(1024), row)
 }
 
-/// Opens a namespace, again where that is refused memory, and tells it; whether it came as it should.
+/// Opens a namespace, again if that is refused memory, and writes the outcome; whether that is as expected.
 fn is_opened<W: Write>(writer: &mut W, alloc: Global) -> bool {
     mark(writer, "four seats opened");
     if look_at(writer, alloc, None).is_some() {
@@ -416,8 +416,8 @@ fn is_opened<W: Write>(writer: &mut W, alloc: Global) -> bool {
     is_opened
 }
 
-/// Makes each of the steps, or the one at this place, from 1, and tells in a last line whether all came as they should; whether they did. The first is the
-/// opening of a namespace.
+/// Makes each of the steps, or the one at this place, from 1; the first is the opening of a namespace. Whether all outcomes are as expected is
+/// returned, and written in a last line.
 pub(crate) fn are_tried<W: Write>(writer: &mut W, alloc: Global, asked: Option<usize>) -> bool {
     let mut are_right = true;
     if asked.is_none() || asked == Some(1) {

@@ -2,7 +2,7 @@
 --
 -- Source: Windows Internals, Object Manager (parse methods), for opens that are run on; that a closed namespace refuses,
 -- and that a call which wants memory says so, are this profile.
-use Rattle.std.specs.Prelude.{◌≡◌, ℕ, zero, suc, Bool, true, false, List, [], ◌⊎◌, Option, None, Some, Result, Ok, Err}
+use Rattle.std.specs.Prelude.{◌≡◌, ℕ, zero, suc, Bool, true, false, List, ◌⊎◌, Option, None, Some, Result, Ok, Err}
 use Rattle.std.specs.Int.{w64, to_le_bytes}
 use Rattle.ob_base.specs.declared.status.Status.{Status}
 use Rattle.ob_base.specs.declared.status.Status.TheVariants.{Success, InvalidParameter, NoMemory}
@@ -17,7 +17,7 @@ use Rattle.ob_model.specs.declared.reply.Event.TheVariants.{Start}
 use Rattle.ob_model.specs.declared.reply.Reply.{Reply}
 use Rattle.ob_model.specs.Step.{Step}
 use Rattle.ob_runner.specs.Completes.{Made, Completes, MayFalter, Falters}
-use Rattle.ob_host.specs.Deletions.{Keeps}
+use Rattle.ob_host.specs.Deletions.{unused}
 use Rattle.ob_host.specs.declared.kind.Kind.{Kind}
 use Rattle.ob_c.specs.Machine.{Space, host}
 use Rattle.ob_c.specs.Types.{type_of_kind}
@@ -32,9 +32,9 @@ abbrev pub place_of : (named : Bool) → ℕ → List ℕ → Place
 place_of true root name = At (root_of root) name
 place_of false root name = Unnamed
 
--- the arguments of an object with a word: its eight bytes, the lowest first
+-- the arguments of an object with user data: its eight bytes, the lowest first
 abbrev pub arguments_of : ℕ → List ℕ
-arguments_of word = to_le_bytes w64 word
+arguments_of user_data = to_le_bytes w64 user_data
 
 -- a command is handed in with bytes, of which a copy is made
 abbrev pub HasBytes : Command Kind → Type 0
@@ -122,5 +122,5 @@ DoesOfAnyType (suc n) p command old new Tells = DoesOfType (suc n) p (λ kind. c
 
 -- a closed namespace is opened, or memory is wanted and it stays closed; an open one is refused and stays as it is
 abbrev pub IsOpened : (old new : Option Space) → ℕ → Type 0
-IsOpened None new status = ((new ≡ Some (opening (Keeps []))) × (status ≡ code_of Success)) ⊎ ((new ≡ None) × (status ≡ code_of NoMemory))
+IsOpened None new status = ((new ≡ Some (opening unused)) × (status ≡ code_of Success)) ⊎ ((new ≡ None) × (status ≡ code_of NoMemory))
 IsOpened (Some s) new status = (new ≡ Some s) × (status ≡ code_of InvalidParameter)

@@ -6,4 +6,5 @@ pub mod Told
 pub mod Objects
 pub mod Texts
 pub mod Pages
-pub mod Deleted
+pub mod Deletions
+pub mod Rows

@@ -1,6 +1,6 @@
 -- What is told of the object of a handle.
 --
--- Source: ObReferenceObjectByHandle (Windows Driver Kit); words and texts are this profile.
+-- Source: ObReferenceObjectByHandle (Windows Driver Kit); user data, ids and texts are this profile.
 use Rattle.std.specs.Prelude.{◌≡◌, ℕ, List, Bool, ◌||◌, Option, None, Some, MatchBool}
 use Rattle.ob_base.specs.Status.{code_of}
 use Rattle.ob_base.specs.declared.status.Status.TheVariants.{Success, InvalidParameter, InvalidHandle, ObjectTypeMismatch}
@@ -14,21 +14,22 @@ use Rattle.ob_host.specs.declared.kind.Kind.TheVariants.{File, Key}
 use Rattle.ob_host.specs.declared.object.HostObject.{HostObject}
 use Rattle.ob_c.specs.Machine.{Space}
 use Rattle.ob_c.specs.Told.{Fills, FillsNothing}
-use Rattle.ob_c.specs.Types.{type_of_body, word_of_body}
+use Rattle.ob_c.specs.Types.{id_of_body, type_of_body, user_data_of_body}
 
 -- a number and an object are told, or a refusal with zeros
-abbrev pub TellsZeros : (status code type word id : ℕ) → Type 0
-TellsZeros status code type word id = (status ≡ code) × (type ≡ 0) × (word ≡ 0) × (id ≡ 0)
+abbrev pub TellsZeros : (status code type user_data id : ℕ) → Type 0
+TellsZeros status code type user_data id = (status ≡ code) × (type ≡ 0) × (user_data ≡ 0) × (id ≡ 0)
 
--- the type, the word and the id of what a handle leads to
-abbrev pub TellsReferent : Option (ℕ × Body HostObject Kept) → (status type word id : ℕ) → Type 0
-TellsReferent None status type word id = TellsZeros status (code_of InvalidHandle) type word id
-TellsReferent (Some led) status type word id = (status ≡ code_of Success) × (type ≡ type_of_body led.1) × (word ≡ word_of_body led.1) × (id ≡ led.0)
+-- the type, the user data and the id of what a handle leads to
+abbrev pub TellsReferent : Option (ℕ × Body HostObject Kept) → (status type user_data id : ℕ) → Type 0
+TellsReferent None status type user_data id = TellsZeros status (code_of InvalidHandle) type user_data id
+TellsReferent (Some led) status type user_data id =
+    (status ≡ code_of Success) × (type ≡ type_of_body led.1) × (user_data ≡ user_data_of_body led.1) × (id ≡ id_of_body led.0 led.1)
 
 -- the same in a namespace that may be closed
-abbrev pub TellsObject : Option Space → (process handle : ℕ) → (status type word id : ℕ) → Type 0
-TellsObject None p handle status type word id = TellsZeros status (code_of InvalidParameter) type word id
-TellsObject (Some s) p handle status type word id = TellsReferent (referent_at s p handle) status type word id
+abbrev pub TellsObject : Option Space → (process handle : ℕ) → (status type user_data id : ℕ) → Type 0
+TellsObject None p handle status type user_data id = TellsZeros status (code_of InvalidParameter) type user_data id
+TellsObject (Some s) p handle status type user_data id = TellsReferent (referent_at s p handle) status type user_data id
 
 -- whether what an object is has a text: a file or a key
 abbrev pub has_text : Kind → Bool

@@ -65,7 +65,7 @@ pub(crate) fn create_link(
     })
 }
 
-/// The command that creates an object of a kind, with a word and no text. The only error is out of memory.
+/// The command that creates an object of a kind, with user data and no text. The only error is out of memory.
 pub(crate) fn create_object(
     alloc: Global,
     root: u32,
@@ -73,16 +73,16 @@ pub(crate) fn create_object(
     name: &[u8],
     attributes: u32,
     kind: Kind,
-    word: u64,
+    user_data: u64,
 ) -> Result<Command<Kind>, AllocError>
     ensures { IfOk result (λ command. command
-        ≡ CreateObject (place_of named root name.now) attributes kind (arguments_of word)) }
+        ≡ CreateObject (place_of named root name.now) attributes kind (arguments_of user_data)) }
 {
     Ok(Command::CreateObject {
         place: place_of(alloc, root, named, name)?,
         attrs: attributes,
         kind,
-        args: Bytes::from_slice(alloc, &word.to_le_bytes())?,
+        args: Bytes::from_slice(alloc, &user_data.to_le_bytes())?,
     })
 }
 

@@ -8,7 +8,7 @@ use crate::machine::HostCore;
 use ob_base::Status;
 use std::alloc::Global;
 
-/// Opens a namespace: the opening state, with process 1 alone, in which nothing was deleted.
+/// Opens a namespace: the opening state, with process 1 alone, in which nothing was opened or deleted.
 ///
 /// `Success`; `InvalidParameter` where it is open already, and then it stays as it is; and `NoMemory` where memory is wanted,
 /// and then it stays closed. (this profile)

@@ -1,16 +1,16 @@
 //! The machine behind a caller's struct.
 
-ghost use Rattle.std.specs.Prelude.{◌≡◌, [], IfOk, IfSome, IfNone};
+ghost use Rattle.std.specs.Prelude.{◌≡◌, IfOk, IfSome, IfNone};
 ghost use Rattle.std.specs.Option.{option_map};
 ghost use Rattle.ob_core.specs.Referent.{body_lent, referent_at};
 ghost use Rattle.ob_drains.specs.Unnoticed.{with_change};
-ghost use Rattle.ob_host.specs.Deletions.{Keeps, next_deleted, behind_next};
+ghost use Rattle.ob_host.specs.Deletions.{behind_next, next_deletion, unused};
 ghost use Rattle.ob_model.specs.Opening.{opening};
 ghost use Rattle.ob_c.specs.Calls.{Ends, EndsMade};
 
 use ob_base::{Handle, ObjId, Proc, Status};
 use ob_core::{Command, Core, Referent, Reply, SlabTable};
-use ob_host::{HostInner, HostObject, HostSet, Kind};
+use ob_host::{HostDeletion, HostInner, HostObject, HostSet, Kind};
 use ob_runner::run_command;
 use std::alloc::{AllocError, Global};
 use std::marker::Model;
@@ -32,9 +32,9 @@ impl Model for HostCore {
 }
 
 impl HostCore {
-    /// The opening state, in which nothing was deleted. The only error is out of memory. (this profile)
+    /// The opening state, in which nothing was opened or deleted. The only error is out of memory. (this profile)
     pub(crate) fn new(alloc: Global) -> Result<HostCore, AllocError>
-        ensures { IfOk result (λ core. core ≡ opening (Keeps [])) }
+        ensures { IfOk result (λ core. core ≡ opening unused) }
     {
         match Core::new(alloc, HostSet::new()) {
             Ok(core) => Ok(HostCore { core }),
@@ -90,10 +90,11 @@ impl HostCore {
     {
         self.core.referent(Proc(process), Handle(handle))
     }
-    /// Takes the object that was deleted first of those that weren't taken yet; `None` where none is left, and then nothing
-    /// changes. Takes no memory. (this profile)
-    pub(crate) fn take_next(&mut self) -> Option<HostObject>
-        ensures told { result ≡ next_deleted self.old.set }
+
+    /// Takes the first deletion that wasn't taken yet; `None` where none is left, and then nothing changes. Takes no
+    /// memory. (this profile)
+    pub(crate) fn take_next(&mut self) -> Option<HostDeletion>
+        ensures told { result ≡ next_deletion self.old.set }
         ensures taken { IfSome result (λ _. self.new ≡ with_change behind_next self.old) }
         ensures none { IfNone result (self.new ≡ self.old) }
     {

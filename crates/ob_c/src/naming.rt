@@ -59,13 +59,13 @@ pub extern "C" fn ntns_create_link_raw(
     tell_handle(&call(ns, alloc, process, made), handle)
 }
 
-/// Creates an object of the kind of a type's number, with a word of the caller's, at a name, or without one where `named` is
+/// Creates an object of the kind of a type's number, with user data of the caller's, at a name, or without one where `named` is
 /// false, and opens a handle to it. `root` is the handle that the name is relative to, 0 for none. The handle is told, 0
 /// where none is given.
 ///
 /// The statuses are those of the command `CreateObject`, in its order; `InvalidParameter` where the namespace is closed, or
 /// no kind has the number, and `NoMemory` where memory is wanted, and then nothing has changed. Source: ZwCreateEvent and its
-/// like (Windows Driver Kit); words are this profile.
+/// like (Windows Driver Kit); user data is this profile.
 #[unsafe(no_mangle)]
 pub extern "C" fn ntns_create_object_raw(
     ns: &mut Ntns,
@@ -76,17 +76,17 @@ pub extern "C" fn ntns_create_object_raw(
     name: &[u8],
     attributes: u32,
     number: u32,
-    word: u64,
+    user_data: u64,
     handle: &mut u32,
 ) -> u32
     ensures { DoesOfType number process (λ kind.
-        CreateObject (place_of named root name.now) attributes kind (arguments_of word))
+        CreateObject (place_of named root name.now) attributes kind (arguments_of user_data))
         ns.old.core ns.new.core (TellsHandle result handle.new) }
 {
     let Some(kind) = kind_of(number) else {
         *handle = 0;
         return Status::InvalidParameter.code();
     };
-    let made = create_object(alloc, root, named, name, attributes, kind, word);
+    let made = create_object(alloc, root, named, name, attributes, kind, user_data);
     tell_handle(&call(ns, alloc, process, made), handle)
 }

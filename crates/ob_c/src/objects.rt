@@ -7,17 +7,19 @@ ghost use Rattle.ob_c.specs.Objects.{has_text, TellsFile, TellsObject, TellsRefe
 use crate::Ntns;
 use crate::buffers::{fill, fill_nothing};
 use crate::machine::HostCore;
-use crate::types::{type_of, word_of};
+use crate::types::{id_of, type_of, user_data_of};
 use ob_base::Status;
 use ob_core::Referent;
 use ob_host::Kind;
 use std::alloc::Global;
 
-/// Tells the type's number, the word and the id of what a handle of a process leads to. The word of a directory and of a
-/// symbolic link is 0. It takes no memory, and changes nothing.
+/// Tells the type's number, the user data and the id of what a handle of a process leads to. The user data of a directory and of
+/// a symbolic link is 0, and their ids are from 2^63 on; those of the caller's objects are 1, 2, 3 and so on, in the order of
+/// their first opens. It takes no memory, and changes nothing.
 ///
 /// `InvalidParameter` where the namespace is closed, and `InvalidHandle` where the process, which may be gone, has no such
-/// handle: all three are 0 then. Source: ObReferenceObjectByHandle (Windows Driver Kit); words are this profile.
+/// handle: all three are 0 then. Source: ObReferenceObjectByHandle (Windows Driver Kit); user data and ids
+/// are this profile.
 #[unsafe(no_mangle)]
 pub extern "C" fn ntns_query_object(
     ns: &mut Ntns,
@@ -25,19 +27,19 @@ pub extern "C" fn ntns_query_object(
     process: u32,
     handle: u32,
     number: &mut u32,
-    word: &mut u64,
+    user_data: &mut u64,
     id: &mut u64,
 ) -> u32
-    ensures told { TellsObject ns.old.core process handle result number.new word.new id.new }
+    ensures told { TellsObject ns.old.core process handle result number.new user_data.new id.new }
     ensures same { ns.new.core ≡ ns.old.core }
 {
     *number = 0;
-    *word = 0;
+    *user_data = 0;
     *id = 0;
     let Some(core) = ns.take(alloc) else {
         return Status::InvalidParameter.code();
     };
-    let status = tell_object(&core, process, handle, number, word, id);
+    let status = tell_object(&core, process, handle, number, user_data, id);
     ns.put(core);
     status
 }
@@ -48,21 +50,21 @@ fn tell_object(
     process: u32,
     handle: u32,
     number: &mut u32,
-    word: &mut u64,
+    user_data: &mut u64,
     id: &mut u64,
 ) -> u32
-    ensures { TellsReferent (referent_at core.now process handle) result number.new word.new
+    ensures { TellsReferent (referent_at core.now process handle) result number.new user_data.new
         id.new }
 {
     let Some((object, referent)) = core.referent(process, handle) else {
         *number = 0;
-        *word = 0;
+        *user_data = 0;
         *id = 0;
         return Status::InvalidHandle.code();
     };
     *number = type_of(&referent);
-    *word = word_of(&referent);
-    *id = object.0;
+    *user_data = user_data_of(&referent);
+    *id = id_of(object, &referent);
     Status::Success.code()
 }
 

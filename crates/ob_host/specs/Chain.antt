@@ -1,9 +1,9 @@
--- The objects of a chain.
+-- The deletions of a chain.
 use Rattle.std.specs.Prelude.{List, [], ◌∷◌}
-use Rattle.ob_host.specs.declared.object.HostObject.{HostObject}
+use Rattle.ob_host.specs.declared.deletion.HostDeletion.{HostDeletion}
 use Rattle.ob_host.specs.declared.chain.Chain.{Chain, End, More'}
 
--- the objects, the one that was put in last first
-abbrev pub items : Chain → List HostObject
+-- the deletions, the one that was put in last first
+abbrev pub items : Chain → List HostDeletion
 items End = []
-items (More' object place rest) = object ∷ items rest
+items (More' deletion place rest) = deletion ∷ items rest

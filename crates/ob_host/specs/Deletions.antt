@@ -1,31 +1,48 @@
--- What the set of a caller's own objects knows of the deletes: how the list of the objects grows, and how they are
--- taken from it, one after another.
+-- What the set of a caller's own objects knows: the deletions, how their list grows, and how they are taken from it, one after
+-- another; and the last serial that a first open drew.
 --
 -- Source: this profile.
 use Rattle.std.specs.Prelude.{ℕ, zero, suc, List, [], ◌∷◌, ◌++◌, Option, None, Some}
-use Rattle.ob_host.specs.declared.object.HostObject.{HostObject}
+use Rattle.ob_host.specs.declared.deletion.HostDeletion.{HostDeletion}
 
--- The list of the objects that were deleted and not taken, the first one first; or the next deletes are passed over, one
+-- The list of the deletions that were not taken, the first one first; or the next deletes are passed over, one
 -- more than this number, before a list is kept. The set itself always keeps a list: one that passes deletes over is the first
 -- value of the run in which what was taken had never been listed.
 pub data Deletions : Type 0 where
-  Keeps : List HostObject → Deletions
+  Keeps : List HostDeletion → Deletions
   Passes : ℕ → Deletions
 
--- behind the delete of an object
-abbrev pub with_delete : Deletions → HostObject → Deletions
-with_delete (Keeps objects) object = Keeps (objects ++ object ∷ [])
-with_delete (Passes zero) object = Keeps []
-with_delete (Passes (suc more)) object = Passes more
+-- after a deletion
+abbrev pub with_delete : Deletions → HostDeletion → Deletions
+with_delete (Keeps deletions) deletion = Keeps (deletions ++ deletion ∷ [])
+with_delete (Passes zero) deletion = Keeps []
+with_delete (Passes (suc more)) deletion = Passes more
 
--- the object that is taken next
-abbrev pub next_deleted : Deletions → Option HostObject
-next_deleted (Keeps []) = None
-next_deleted (Keeps (object ∷ left)) = Some object
-next_deleted (Passes more) = None
+-- the deletion that is taken next
+abbrev pub next_of : Deletions → Option HostDeletion
+next_of (Keeps []) = None
+next_of (Keeps (deletion ∷ left)) = Some deletion
+next_of (Passes more) = None
 
--- what is left behind it; where there is none, one delete more is passed over
-abbrev pub behind_next : Deletions → Deletions
-behind_next (Keeps []) = Passes zero
-behind_next (Keeps (object ∷ left)) = Keeps left
-behind_next (Passes more) = Passes (suc more)
+-- what is left after it; where there is none, one delete more is passed over
+abbrev pub after_next : Deletions → Deletions
+after_next (Keeps []) = Passes zero
+after_next (Keeps (deletion ∷ left)) = Keeps left
+after_next (Passes more) = Passes (suc more)
+
+-- the set's value: the deletions, and the last serial that was drawn, 0 where none was
+pub record Hosted : Type 0 where
+  pub deletions : Deletions
+  pub last : ℕ
+
+-- the value of a new set
+abbrev pub unused : Hosted
+unused = record { deletions = Keeps []; last = 0 }
+
+-- the deletion that is taken next
+abbrev pub next_deletion : Hosted → Option HostDeletion
+next_deletion set = next_of set.deletions
+
+-- the value after it
+abbrev pub behind_next : Hosted → Hosted
+behind_next set = record set { deletions = after_next set.deletions }

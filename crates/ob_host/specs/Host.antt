@@ -1,10 +1,11 @@
 -- The procedures of a caller's own objects.
 --
 -- Sources: Windows Internals, Object Manager (object types and their methods), for the types' names and that devices
--- and keys parse; words, texts and the list of what was deleted are this profile.
-use Rattle.std.specs.Prelude.{◌≡◌, ℕ, ◌+◌, ◌^◌, ◌-◌, Bool, ◌&&◌, ◌==◌, if◌then◌else◌, List, Option, None, Some, is_some, length, min}
+-- and keys parse; user data, texts, serials and the list of the deletions are this profile.
+use Rattle.std.specs.Prelude.{◌≡◌, ℕ, ◌+◌, ◌^◌, ◌-◌, Bool, true, false, ◌&&◌, ◌==◌, if◌then◌else◌, List, Option, None, Some, is_some, length, min}
 use Rattle.ob_model.specs.Procedures.{Procedures, ParseAnswer, Itself, Front, Refused}
 use Rattle.ob_host.specs.Deletions.{with_delete}
+use Rattle.ob_host.specs.declared.deletion.HostDeletion.{HostDeletion}
 use Rattle.ob_host.specs.Kept.{Kept}
 use Rattle.ob_host.specs.Kinds.{name_of, same_kind}
 use Rattle.ob_host.specs.Objects.{object_of, same_object, object_below}
@@ -23,9 +24,26 @@ kind_below _ = None
 abbrev pub IsIdle : Kept → Type 0
 IsIdle inner = inner.handles ≡ 0
 
--- the inner value of what was not opened yet
-abbrev pub unopened : HostObject → Kept
-unopened object = record { object = object; handles = 0 }
+-- the inner value of what was not opened yet, made by a parse or by a create
+abbrev pub unopened : (parsed : Bool) → HostObject → Kept
+unopened parsed object = record { object = object; handles = 0; serial = 0; parsed = parsed }
+
+-- the next serial, stopping at the greatest u64
+abbrev pub next_serial : ℕ → ℕ
+next_serial last = min (last + 1) (2 ^ 64 - 1)
+
+-- the serial of an object after an open: the next one at the first, and else its own
+abbrev pub serial_after : (last serial : ℕ) → ℕ
+serial_after last serial = if serial == 0 then next_serial last else serial
+
+-- the last serial that was drawn, after that open
+abbrev pub last_after : (last serial : ℕ) → ℕ
+last_after last serial = if serial == 0 then next_serial last else last
+
+-- what a delete leaves of an object
+abbrev pub deletion_of : Kept → HostDeletion
+deletion_of inner =
+    record { kind = inner.object.kind; user_data = inner.object.user_data; text = inner.object.text; serial = inner.serial; parsed = inner.parsed }
 
 -- one handle more, stopping at the greatest u32
 abbrev pub one_more : Kept → Kept
@@ -39,13 +57,13 @@ is_itself kind rest = same_kind kind Key && length rest == 0
 abbrev pub answer_below : HostObject → Option Kind → List ℕ → ParseAnswer HostObject Kept
 answer_below object None rest = Refused 3
 answer_below object (Some kind) rest =
-    if is_itself kind rest then Itself else Front (length rest) (object_below object kind rest) (unopened (object_below object kind rest))
+    if is_itself kind rest then Itself else Front (length rest) (object_below object kind rest) (unopened true (object_below object kind rest))
 
 -- what an object answers to a rest
 abbrev pub answer_to : HostObject → List ℕ → ParseAnswer HostObject Kept
 answer_to object rest = answer_below object (kind_below object.kind) rest
 
--- what each procedure means; the set's value tells what was deleted and not taken
+-- what each procedure means
 abbrev pub host_procedures : Procedures Kind HostSet HostObject Kept
 host_procedures = record {
   type_name = name_of;
@@ -54,10 +72,10 @@ host_procedures = record {
   parses = λ kind. is_some (kind_below kind);
   same_face = same_object;
   refuses_to_make = λ _ _. None;
-  made = λ kind args. (object_of kind args, unopened (object_of kind args));
+  made = λ kind args. (object_of kind args, unopened false (object_of kind args));
   parsed = answer_to;
   refuses_to_open = λ _ _ _. None;
-  opened = λ set inner _. (set, one_more inner);
+  opened = λ set inner _. (record set { last = last_after set.last inner.serial }, record (one_more inner) { serial = serial_after set.last inner.serial });
   closed = λ set inner _ system_left. (set, record inner { handles = system_left });
-  deleted = λ set inner. with_delete set inner.object;
+  deleted = λ set inner. record set { deletions = with_delete set.deletions (deletion_of inner) };
 }

@@ -3,12 +3,13 @@ use Rattle.std.proofs.Common.{◌≡◌, ◌≢◌, ℕ, zero, suc, ◌<◌, Boo
 use Rattle.ob_model.specs.Procedures.{Itself, Front, FrontIsUsed, ItselfIsAtEnd, ParsedIsIdle, OwnFaceIsSame, SameFacesAnswerAlike}
 use Rattle.std.proofs.lemmas.Bool.{eqb-true}
 use Rattle.ob_drains.specs.Unnoticed.{IsUnnoticed}
-use Rattle.ob_host.specs.Deletions.{Deletions, Keeps, Passes, with_delete, behind_next}
+use Rattle.ob_host.specs.Deletions.{Deletions, Keeps, Passes, with_delete, after_next, behind_next}
+use Rattle.ob_host.specs.declared.deletion.HostDeletion.{HostDeletion}
 use Rattle.ob_host.specs.Kept.{Kept}
 use Rattle.ob_host.specs.Kinds.{same_kind}
 use Rattle.ob_host.specs.Objects.{object_below}
 use Rattle.ob_host.specs.ObjectLaws.{second_true, same_object_is_one, own_object_is_same}
-use Rattle.ob_host.specs.Host.{host_procedures, kind_below, is_itself, answer_below, answer_to, unopened, IsIdle}
+use Rattle.ob_host.specs.Host.{host_procedures, kind_below, is_itself, answer_below, answer_to, unopened, deletion_of, IsIdle}
 use Rattle.ob_host.specs.declared.kind.Kind.{Kind}
 use Rattle.ob_host.specs.declared.kind.Kind.TheVariants.{Key}
 use Rattle.ob_host.specs.declared.object.HostObject.{HostObject}
@@ -20,7 +21,7 @@ pub host_same_answers : SameFacesAnswerAlike host_procedures
 host_same_answers a b rest e = ap (λ object. answer_to object rest) (same_object_is_one a b e)
 
 -- where a front is answered, it is the whole rest, and leads to an object that no handle is open to
-whole_if : (itself : Bool) (n used : ℕ) (below next : HostObject) (inner : Kept) → (if itself then Itself else Front n below (unopened below)) ≡ Front used next inner → (used ≡ n) × (inner ≡ unopened below)
+whole_if : (itself : Bool) (n used : ℕ) (below next : HostObject) (inner : Kept) → (if itself then Itself else Front n below (unopened true below)) ≡ Front used next inner → (used ≡ n) × (inner ≡ unopened true below)
 whole_if true n used below next inner e = cc
 whole_if false n used below next inner e = (cc, cc)
 
@@ -63,23 +64,23 @@ empty : (object : HostObject) (kind : Option Kind) (rest : List ℕ) → answer_
 empty object None rest e = cc
 empty object (Some kind) rest e =
     let below = object_below object kind rest in
-    let itself = itself_if (is_itself kind rest) (length rest) below (unopened below) e in
+    let itself = itself_if (is_itself kind rest) (length rest) below (unopened true below) e in
     no_bytes rest (eqb-true (length rest) 0 (second_true (same_kind kind Key) (length rest == 0) itself))
 
 pub host_itself : ItselfIsAtEnd host_procedures
 host_itself object rest e = empty object (kind_below object.kind) rest e
 
--- an object is taken, and then one is deleted; or the other way round
-taken_apart : (set : Deletions) (object : HostObject) → with_delete (behind_next set) object ≡ behind_next (with_delete set object)
-taken_apart (Keeps []) object = refl
-taken_apart (Keeps (first ∷ left)) object = refl
-taken_apart (Passes zero) object = refl
-taken_apart (Passes (suc more)) object = refl
+-- a deletion is taken, and then one is added; or the other way round
+taken_apart : (deletions : Deletions) (deletion : HostDeletion) → with_delete (after_next deletions) deletion ≡ after_next (with_delete deletions deletion)
+taken_apart (Keeps []) deletion = refl
+taken_apart (Keeps (first ∷ left)) deletion = refl
+taken_apart (Passes zero) deletion = refl
+taken_apart (Passes (suc more)) deletion = refl
 
 pub host_unnoticed : IsUnnoticed host_procedures behind_next
 host_unnoticed = record {
   refusals = λ set inner reason. refl;
   opens = λ set inner reason. refl;
   closes = λ set inner process_left system_left. refl;
-  deletes = λ set inner. taken_apart set inner.object;
+  deletes = λ set inner. λ i. record set { deletions = taken_apart set.deletions (deletion_of inner) i };
 }

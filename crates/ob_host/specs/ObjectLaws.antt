@@ -19,18 +19,18 @@ second_true false t e = cc
 pub same_object_is_one : (a b : HostObject) → same_object a b ≡ true → a ≡ b
 same_object_is_one a b e =
     let same_texts = pointwise nat_eq a.text b.text in
-    let parts = second_true (same_kind a.kind b.kind) (nat_eq a.word b.word && same_texts) e in
-    let kinds : a.kind ≡ b.kind = same_kind_is_one a.kind b.kind (first_true (same_kind a.kind b.kind) (nat_eq a.word b.word && same_texts) e) in
-    let words : a.word ≡ b.word = eqb-true a.word b.word (first_true (nat_eq a.word b.word) same_texts parts) in
-    let texts : a.text ≡ b.text = (bytes_decides a.text b.text).0 (second_true (nat_eq a.word b.word) same_texts parts) in
-    λ i. record { kind = kinds i; word = words i; text = texts i }
+    let parts = second_true (same_kind a.kind b.kind) (nat_eq a.user_data b.user_data && same_texts) e in
+    let kinds : a.kind ≡ b.kind = same_kind_is_one a.kind b.kind (first_true (same_kind a.kind b.kind) (nat_eq a.user_data b.user_data && same_texts) e) in
+    let user_data : a.user_data ≡ b.user_data = eqb-true a.user_data b.user_data (first_true (nat_eq a.user_data b.user_data) same_texts parts) in
+    let texts : a.text ≡ b.text = (bytes_decides a.text b.text).0 (second_true (nat_eq a.user_data b.user_data) same_texts parts) in
+    λ i. record { kind = kinds i; user_data = user_data i; text = texts i }
 
 pub own_object_is_same : (a : HostObject) → same_object a a ≡ true
 own_object_is_same a =
     let kinds = own_kind_is_same a.kind in
-    let words = eq-eqb a.word a.word refl in
+    let user_data = eq-eqb a.user_data a.user_data refl in
     let texts = (bytes_decides a.text a.text).1 refl in
-    λ i. kinds i && (words i && texts i)
+    λ i. kinds i && (user_data i && texts i)
 
 objects_decide : (a b : HostObject) → (same_object a b ≡ true → a ≡ b) × (a ≡ b → same_object a b ≡ true)
 objects_decide a b = (same_object_is_one a b, λ e. ap (same_object a) (sym e) ∙ own_object_is_same a)

@@ -9,25 +9,25 @@ use Rattle.ob_host.specs.Kinds.{same_kind}
 use Rattle.ob_host.specs.declared.kind.Kind.{Kind}
 use Rattle.ob_host.specs.declared.object.HostObject.{HostObject}
 
--- the bytes of a word in arguments
-abbrev pub word_bytes : ℕ
-word_bytes = 8
+-- the bytes of user data in arguments
+abbrev pub user_data_bytes : ℕ
+user_data_bytes = 8
 
--- the word of arguments: their first eight bytes, the lowest first; those that aren't there are 0
-abbrev pub word_of : List ℕ → ℕ
-word_of args = from_le_bytes w64 args
+-- the user data of arguments: their first eight bytes, the lowest first; those that aren't there are 0
+abbrev pub user_data_of : List ℕ → ℕ
+user_data_of args = from_le_bytes w64 args
 
--- the text of arguments: what stands behind the word
+-- the text of arguments: the bytes after the user data
 abbrev pub text_of : List ℕ → List ℕ
-text_of args = drop word_bytes args
+text_of args = drop user_data_bytes args
 
 -- the object of a kind with these arguments
 abbrev pub object_of : Kind → List ℕ → HostObject
-object_of kind args = record { kind = kind; word = word_of args; text = text_of args }
+object_of kind args = record { kind = kind; user_data = user_data_of args; text = text_of args }
 
--- two objects are the same: kind, word and text are
+-- two objects are the same: kind, user data and text are
 abbrev pub same_object : HostObject → HostObject → Bool
-same_object a b = same_kind a.kind b.kind && (nat_eq a.word b.word && pointwise nat_eq a.text b.text)
+same_object a b = same_kind a.kind b.kind && (nat_eq a.user_data b.user_data && pointwise nat_eq a.text b.text)
 
 -- a backslash is wanted between a text and the rest of a name: there is a text, and the rest begins without one
 abbrev pub wants_separator : List ℕ → List ℕ → Bool
@@ -39,4 +39,4 @@ text_below text rest = text ++ (if wants_separator text rest then separator ∷ 
 
 -- the object of a kind that the rest of a name leads to from this one
 abbrev pub object_below : HostObject → Kind → List ℕ → HostObject
-object_below object kind rest = record { kind = kind; word = object.word; text = text_below object.text rest }
+object_below object kind rest = record { kind = kind; user_data = object.user_data; text = text_below object.text rest }

@@ -1,32 +1,35 @@
 //! The arguments of a caller's objects.
 
 ghost use Rattle.std.specs.Prelude.{◌≡◌, []};
-ghost use Rattle.ob_host.specs.Objects.{word_of, text_of};
+ghost use Rattle.ob_host.specs.Objects.{user_data_of, text_of};
 
 use std::array;
 
-// The bytes of a word in arguments.
-const WORD_BYTES: usize = 8;
+// The bytes of user data in arguments.
+const USER_DATA_BYTES: usize = 8;
 
-/// The arguments of an object with this word and no text: the word's eight bytes, the lowest first. (this profile)
-pub fn arguments(word: u64) -> [u8; 8]
-    ensures word { word_of result ≡ word }
+/// The arguments of an object with this user data and no text: the user data's eight bytes, the lowest first. (this profile)
+pub fn arguments(user_data: u64) -> [u8; 8]
+    ensures user_data { user_data_of result ≡ user_data }
     ensures text { text_of result ≡ [] }
 {
-    word.to_le_bytes()
+    user_data.to_le_bytes()
 }
 
-// The word of arguments: their first eight bytes, the lowest first; those that aren't there are 0.
-pub(crate) fn word_of(args: &[u8]) -> u64
-    ensures { result ≡ word_of args.now }
+// The user data of arguments: their first eight bytes, the lowest first; those that aren't there are 0.
+pub(crate) fn user_data_of(args: &[u8]) -> u64
+    ensures { result ≡ user_data_of args.now }
 {
-    let bytes: [u8; WORD_BYTES] = array::from_fn(|place| args.get(place).copied().unwrap_or(0));
+    let bytes: [u8; USER_DATA_BYTES] = array::from_fn(|place| args
+        .get(place)
+        .copied()
+        .unwrap_or(0));
     u64::from_le_bytes(bytes)
 }
 
-// The text of arguments: what stands behind the word.
+// The text of arguments: the bytes after the user data.
 pub(crate) fn text_of(args: &[u8]) -> &[u8]
     ensures { result.now ≡ text_of args.now }
 {
-    args.get(WORD_BYTES..).unwrap_or(b"")
+    args.get(USER_DATA_BYTES..).unwrap_or(b"")
 }

@@ -1,75 +1,75 @@
-//! Chains of objects, whose places are made ahead of their use.
+//! Chains of deletions, whose places are made ahead of their use.
 
 ghost use Rattle.std.specs.Prelude.{◌≡◌, ◌==◌, [], ◌∷◌, ◌++◌, ◌↔◌, IsTrue, IfSome, IfNone, length, reverse};
 ghost use Rattle.ob_host.specs.Chain.{items};
 
-use crate::HostObject;
+use crate::HostDeletion;
 use std::mem;
 
-/// A chain of objects, the one that was put in last first.
+/// A chain of deletions, the one that was put in last first.
 pub(crate) enum Chain {
-    /// No object.
+    /// No deletion.
     End,
-    /// An object, and those behind it.
-    More(HostObject, Box<Chain>),
+    /// A deletion, and those behind it.
+    More(HostDeletion, Box<Chain>),
 }
 
 impl Chain {
-    /// Whether there is no object.
+    /// Whether there is no deletion.
     pub(crate) fn is_end(&self) -> bool
         ensures { IsTrue result ↔ (items self.now ≡ []) }
     {
         matches!(self, Chain::End)
     }
 
-    /// Puts an object in front. The place behind it is where the objects so far go; what was there is lost.
-    pub(crate) fn push(&mut self, object: HostObject, mut place: Box<Chain>)
-        ensures { items self.new ≡ object ∷ items self.old }
+    /// Puts a deletion in front. The place behind it is where the deletions so far go; what was there is lost.
+    pub(crate) fn push(&mut self, deletion: HostDeletion, mut place: Box<Chain>)
+        ensures { items self.new ≡ deletion ∷ items self.old }
     {
         *place = mem::replace(self, Chain::End);
-        *self = Chain::More(object, place);
+        *self = Chain::More(deletion, place);
     }
 
-    /// Takes the first object, and the place that was behind it.
-    pub(crate) fn pop(&mut self) -> Option<(HostObject, Box<Chain>)>
+    /// Takes the first deletion, and the place that was behind it.
+    pub(crate) fn pop(&mut self) -> Option<(HostDeletion, Box<Chain>)>
         ensures taken { IfSome result (λ first. items self.old ≡ first.0 ∷ items self.new) }
         ensures none { IfNone result ((items self.old ≡ []) × (items self.new ≡ [])) }
     {
-        let (object, mut place) = mem::replace(self, Chain::End).parted()?;
+        let (deletion, mut place) = mem::replace(self, Chain::End).parted()?;
         *self = mem::replace(&mut place, Chain::End);
-        Some((object, place))
+        Some((deletion, place))
     }
 
-    // The first object, and the place that those behind it stand in.
-    fn parted(self) -> Option<(HostObject, Box<Chain>)>
+    // The first deletion, and the place that those behind it stand in.
+    fn parted(self) -> Option<(HostDeletion, Box<Chain>)>
         ensures found { IfSome result (λ first. items self ≡ first.0 ∷ items first.1.value) }
         ensures none { IfNone result (items self ≡ []) }
     {
         match self {
             Chain::End => None,
-            Chain::More(object, place) => Some((object, place)),
+            Chain::More(deletion, place) => Some((deletion, place)),
         }
     }
 
-    /// The objects in the other order. No memory is taken.
+    /// The deletions in the other order. No memory is taken.
     pub(crate) fn reversed(mut self) -> Chain
         ensures { items result ≡ reverse (items self) }
     {
         let mut turned = Chain::End;
-        while let Some((object, place)) = self.pop() {
-            turned.push(object, place);
+        while let Some((deletion, place)) = self.pop() {
+            turned.push(deletion, place);
         }
         turned
     }
 }
 
-/// One object after another, since a chain may be long.
+/// One deletion after another, since a chain may be long.
 impl Drop for Chain {
     fn drop(mut self) {
         loop {
             match self {
                 Chain::End => return,
-                Chain::More(_object, rest) => self = Box::into_inner(rest),
+                Chain::More(_deletion, rest) => self = Box::into_inner(rest),
             }
         }
     }

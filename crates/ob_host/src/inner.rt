@@ -1,19 +1,22 @@
 //! What the procedures change of a caller's object.
 
 ghost use Rattle.std.specs.Prelude.{◌≡◌, IfOk};
-ghost use Rattle.ob_host.specs.Host.{unopened, one_more};
+ghost use Rattle.ob_host.specs.Host.{deletion_of, one_more, unopened};
 
-use crate::HostObject;
 use crate::chain::Chain;
+use crate::{HostDeletion, HostObject};
 use std::alloc::{AllocError, Global};
 use std::marker::Model;
 
-/// What the procedures change of an object: the handles that are open to it. The object lies beside them, and
-/// so does a place for it in the list of what was deleted, so that its delete takes no memory. (this profile)
+/// What the procedures change of an object: the handles that are open to it, and the serial that its first open drew. The object
+/// is beside them, whether a parse made it, and a place for it in the list of the deletions, so that its delete takes no
+/// memory. (this profile)
 #[derive(Drop)]
 pub struct HostInner {
     object: HostObject,
     handles: u32,
+    serial: u64,
+    parsed: bool,
     place: Box<Chain>,
 }
 
@@ -22,17 +25,24 @@ impl Model for HostInner {
 
     ghost Value = { Kept };
 
-    ghost view = { λ inner. record { object = inner.object; handles = inner.handles } };
+    ghost view = { λ inner. record { object = inner.object; handles = inner.handles; serial = inner.serial; parsed = inner.parsed } };
 }
 
 impl HostInner {
-    /// An object that no handle is open to, with its place. The only error is out of memory.
-    pub(crate) fn new(alloc: Global, object: HostObject) -> Result<HostInner, AllocError>
-        ensures { IfOk result (λ inner. inner ≡ unopened object) }
+    /// An object that no handle is open to, made by a parse or by a create, with its place. The only error is out of
+    /// memory.
+    pub(crate) fn new(
+        alloc: Global,
+        object: HostObject,
+        parsed: bool,
+    ) -> Result<HostInner, AllocError>
+        ensures { IfOk result (λ inner. inner ≡ unopened parsed object) }
     {
         Ok(HostInner {
             object,
             handles: 0,
+            serial: 0,
+            parsed,
             place: Box::new(alloc, Chain::End)?,
         })
     }
@@ -51,6 +61,27 @@ impl HostInner {
         self.handles
     }
 
+    /// The serial that the object's first open drew, from 1 in the order of first opens; 0 before.
+    pub fn serial(&self) -> u64
+        ensures { result ≡ self.now.serial }
+    {
+        self.serial
+    }
+
+    /// Whether a parse made the object.
+    pub fn is_parsed(&self) -> bool
+        ensures { result ≡ self.now.parsed }
+    {
+        self.parsed
+    }
+
+    // Gives the object a serial.
+    pub(crate) fn set_serial(&mut self, serial: u64)
+        ensures { self.new ≡ record self.old { serial = serial } }
+    {
+        self.serial = serial;
+    }
+
     // Counts one handle more, up to the greatest u32.
     pub(crate) fn add_handle(&mut self)
         ensures { self.new ≡ one_more self.old }
@@ -65,15 +96,29 @@ impl HostInner {
         self.handles = handles;
     }
 
-    // The object, and its place in the list of what was deleted.
-    pub(crate) fn into_parts(self) -> (HostObject, Box<Chain>)
-        ensures { result.0 ≡ self.object }
+    // The deletion of the object, and its place in the list of the deletions.
+    pub(crate) fn into_deletion(self) -> (HostDeletion, Box<Chain>)
+        ensures { result.0 ≡ deletion_of self }
     {
         let HostInner {
             object,
             handles: _,
+            serial,
+            parsed,
             place,
         } = self;
-        (object, place)
+        let HostObject {
+            kind,
+            user_data,
+            text,
+        } = object;
+        let deletion = HostDeletion {
+            kind,
+            user_data,
+            text,
+            serial,
+            parsed,
+        };
+        (deletion, place)
     }
 }

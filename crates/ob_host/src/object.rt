@@ -14,9 +14,9 @@ use std::alloc::{AllocError, Global};
 pub struct HostObject {
     /// Its kind.
     pub kind: Kind,
-    /// The caller's word: that of its arguments, or of the object whose parse made it.
-    pub word: u64,
-    /// What stood behind the word in its arguments; where a parse made it, the text of the object whose parse
+    /// The caller's user data: that of its arguments, or of the object whose parse made it.
+    pub user_data: u64,
+    /// The bytes after the user data in its arguments; where a parse made it, the text of the object whose parse
     /// that was and the rest of the name behind that object.
     pub text: Bytes,
 }
@@ -28,7 +28,7 @@ impl HostObject {
     {
         Ok(HostObject {
             kind: self.kind,
-            word: self.word,
+            user_data: self.user_data,
             text: Bytes::from_slice(alloc, self.text.as_slice())?,
         })
     }
@@ -44,13 +44,13 @@ impl HostObject {
     {
         Ok(HostObject {
             kind,
-            word: self.word,
+            user_data: self.user_data,
             text: text_below(alloc, self.text.as_slice(), rest)?,
         })
     }
 }
 
-/// Two objects are equal where kind, word and text are. (this profile)
+/// Two objects are equal where kind, user data and text are. (this profile)
 impl PartialEq for HostObject {
     ghost eq = { same_object };
 
@@ -58,7 +58,7 @@ impl PartialEq for HostObject {
 
     fn eq(&self, other: &HostObject) -> bool {
         self.kind == other.kind
-            && self.word == other.word
+            && self.user_data == other.user_data
             && self.text.as_slice() == other.text.as_slice()
     }
 }

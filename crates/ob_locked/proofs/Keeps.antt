@@ -77,7 +77,7 @@ module _ {K T F I : Type 0} (g : Procedures K T F I) (h : History K T F I) (plac
   pub kept_roomier : (cap' : ℕ) → cap ≤ cap' → IsKept g h places cap' total
   kept_roomier cap' more = record { run = kept.run; reserved = kept.reserved; few = kept.few; room = omega (arith, kept.room, more); counted = kept.counted }
 
-  -- the same behind a seal, where the new open segment has room for all reserved places
+  -- the same after a seal, if the new open segment has room for all reserved places
   pub kept_sealed : (cap' : ℕ) → places ≤ cap' → IsKept g (sealed_then h) places cap' total
   kept_sealed cap' room = record {
     run = subst (λ es. Run g h.first es h.state) (sym (sealed_whole h.journal)) kept.run;
@@ -183,7 +183,7 @@ module _ {K T F I : Type 0} (g : Procedures K T F I) (h : History K T F I) (plac
       pub place_behind_end : length h.journal.unsealed + 1 ≤ cap
       place_behind_end = let (x, freed, held, after) = waited in omega (arith, held, kept.room)
 
--- the same behind a call that may have sealed
+-- the same after a call that may have sealed
 pub kept_by_seal : {K T F I A : Type 0} (g : Procedures K T F I) (first : T) (s : State K T F I) (old new : Placed K) (held total : ℕ) → IsKept g (record { first = first; journal = old.journal; state = s }) held old.places total
     → (r : Result A Fault) → OnOk r (new.journal ≡ with_seal old.journal) → OnOk r (held ≤ new.places) → OnErr r (new ≡ old) → IsKept g (record { first = first; journal = new.journal; state = s }) held new.places total
 kept_by_seal g first s old new held total kept (Ok segment) sealed room same =

@@ -2,4 +2,3 @@ pub mod Placed
 pub mod Pendings
 pub mod Starts
 pub mod Keeps
-pub mod Seats

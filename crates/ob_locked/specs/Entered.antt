@@ -24,8 +24,7 @@ abbrev pub PendingAfter : {K : Type 0} → (ℕ → Type 0) → List (Pending K)
 PendingAfter Few before (Done reply) after = after ≡ before
 PendingAfter {K} Few before (Ticket m) after = (y : Pending K) × (after ≡ before ++ y ∷ []) × (y.ticket ≡ m) × Few y.left × All (λ z. z.ticket < m) before
 
--- the same behind the end of the open of a ticket: one waited under it, and waits no longer; and one that waits again has fewer
--- reparses left
+-- the same after the end of the open of a ticket: it is pending no longer; or it is pending again with fewer reparses left
 abbrev pub EndedAfter : {K : Type 0} → List (Pending K) → ℕ → Answer → List (Pending K) → Type 0
 EndedAfter before ticket answer after =
     MatchOption (find (λ x. x.ticket == ticket) before) ⊥ (λ x. PendingAfter (λ n. n < x.left) (filter (λ y. not (y.ticket == ticket)) before) answer after)

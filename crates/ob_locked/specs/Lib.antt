@@ -7,4 +7,3 @@ pub mod Steps
 pub mod Answers
 pub mod Asked
 pub mod Opened
-pub mod Settled

@@ -1,4 +1,4 @@
--- What lies under the lock of a shared namespace: a journal that is a run, and the state that it leads to.
+-- The state under the lock of a shared namespace: a journal that is a run, and the state to which it leads.
 --
 -- Source: this profile.
 use Rattle.std.specs.Prelude.{◌≡◌, ℕ, ◌+◌, ◌≤◌, length}
@@ -15,7 +15,7 @@ pub record History (K T F I : Type 0) : Type 0 where
   pub journal : Journal K
   pub state : State K T F I
 
--- What always holds of it: the whole journal is a run from the opening state to this one; the pending opens have reserved so many
+-- The invariant: the whole journal is a run from the opening state to this one; the pending opens have reserved so many
 -- places of the open segment, which with those that are used are at most 1,048,576 and have their memory; and so many steps were
 -- counted as there are entries.
 pub record IsKept {K T F I : Type 0} (g : Procedures K T F I) (h : History K T F I) (held places total : ℕ) : Type 0 where

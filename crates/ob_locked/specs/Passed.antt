@@ -18,6 +18,6 @@ last_of entries = slice_get entries (length entries - 1)
 abbrev pub last_number : {K : Type 0} → List (Entry K) → ℕ
 last_number entries = option_map_or (λ e. e.number) (last_of entries) 0
 
--- the last of the receipts, where there is one, stands in the journal at its number: else the pass is a stranger's
+-- the journal has the last of the receipts, if there is one, at its number: if not, the pass is a stranger's
 abbrev pub IsKnown : {K : Type 0} → List (Entry K) → List (Entry K) → Type 0
 IsKnown journal receipts = MatchOption (last_of receipts) (Unit {0}) (λ e. slice_get journal (e.number - 1) ≡ Some e)

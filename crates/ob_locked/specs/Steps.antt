@@ -32,15 +32,15 @@ pub record IsMade {K T F I : Type 0} (g : Procedures K T F I) (h : History K T F
 abbrev pub IsFull : ℕ → ℕ → Type 0
 IsFull used reserved = most_entries < used + reserved + places_of_start
 
--- Why a start makes no step, beside this journal and so many reserved places, with a pass of these receipts: memory was wanted;
--- the pass is a stranger's; or the open segment is full.
+-- The fault of a start that makes no step, beside this journal and so many reserved places, with a pass of these receipts: it is out of
+-- memory; the pass is a stranger's; or the open segment is full.
 abbrev pub IsNotAdmitted : {K : Type 0} → Journal K → ℕ → List (Entry K) → Fault → Type 0
 IsNotAdmitted journal reserved receipts Memory = IsKnown (whole journal) receipts × (IsFull (length journal.unsealed) reserved → ⊥)
 IsNotAdmitted journal reserved receipts (Refused status) =
     ((status ≡ InvalidParameter) × (IsKnown (whole journal) receipts → ⊥))
     ⊎ ((status ≡ JournalFull) × IsKnown (whole journal) receipts × IsFull (length journal.unsealed) reserved)
 
--- Why a resume makes no step: memory was wanted; or the pass is a stranger's, or the parse that it brings is.
+-- The fault of a resume that makes no step: it is out of memory; or its pass or its parse is a stranger's.
 abbrev pub IsNotResumed : {K T F I : Type 0} → Procedures K T F I → History K T F I → Passed K → ToRun F → Fault → Type 0
 IsNotResumed g h p asked Memory = IsKnown (whole h.journal) p.receipts × IsAwaited g h.state asked
 IsNotResumed g h p asked (Refused status) =
@@ -54,7 +54,7 @@ sealed_then h = record h { journal = with_seal h.journal }
 abbrev pub MaySeal : {K : Type 0} → Journal K → Type 0
 MaySeal j = (j.unsealed ≡ [] → ⊥) × (length j.sealed < most_sealed)
 
--- Why a journal isn't sealed: its open segment is empty; as many segments are sealed as may be; or else memory was wanted.
+-- The fault of a seal that seals nothing: the open segment is empty; as many segments are sealed as may be; or it is out of memory.
 abbrev pub IsNotSealed : {K : Type 0} → Journal K → Fault → Type 0
 IsNotSealed j Memory = MaySeal j
 IsNotSealed j (Refused status) =

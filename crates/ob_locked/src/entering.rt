@@ -23,9 +23,9 @@ const MOST_ENTRIES: usize = 1_048_576;
 /// The places that a start may come to take.
 const PLACES_OF_START: usize = 34;
 
-/// Judges whether a start may be made with this pass, and makes room for it in the open segment. The faults are `InvalidParameter`
-/// for a stranger's pass, then `JournalFull` where fewer than 34 of its places are neither used nor reserved, then out of memory. Ok is who writes
-/// the entry.
+/// Checks whether a start may be made with this pass, makes room for it in the open segment, and returns the writer of its entry. The faults
+/// are `InvalidParameter` for a stranger's pass, then `JournalFull` if fewer than 34 places of the open segment are neither used nor
+/// reserved, then `Memory` if out of memory.
 pub(crate) fn admit<T: TypeSet, L: Ledger>(
     journal: &mut Journal<T::Kind>,
     reserved: usize,
@@ -56,7 +56,7 @@ pub(crate) fn admit<T: TypeSet, L: Ledger>(
     Ok(next_writer(journal, pass.seat()))
 }
 
-/// Who writes the entry behind these.
+/// The writer of the next entry.
 pub(crate) fn next_writer<K>(journal: &Journal<K>, seat: u32) -> Writer
     requires { length journal.now.journal.unsealed ≤ most_entries }
     ensures number { result.number ≡ length (whole journal.now.journal) + 1 }

@@ -1,4 +1,4 @@
-//! What lies under the lock of a shared namespace, and its one mutator.
+//! The state under the lock of a shared namespace, and its one mutator.
 
 ghost use Rattle.std.specs.Prelude.{◌≡◌, ◌↔◌, ◌≤◌, ◌+◌, ◌^◌, ◌++◌, [], false, IsTrue, IfOk, IfErr, OnErr, OnOk, length, map};
 ghost use Rattle.std.specs.Arc.{arc_value};
@@ -36,7 +36,7 @@ use std::snapshot::Snapshot;
 use std::sync::Arc;
 use std::sync::ledger::{Blank, Book, Ledger, Share};
 
-/// What lies under the lock of a shared namespace: a core, and the journal of its steps. `T` is the set of types, `H` the
+/// The state under the lock of a shared namespace: a core, and the journal of its steps. `T` is the set of types, `H` the
 /// handle table of each process, and `L` the ledger by which the steps of all passes are counted.
 ///
 /// Contracts see the set's value at the opening, the journal with its segments, and the state. Of every value of this type they know
@@ -65,8 +65,8 @@ impl<T: TypeSet, H: HandleTable, L: Ledger> Model for Locked<T, H, L> {
 }
 
 impl<T: TypeSet, H: HandleTable, L: Ledger> Locked<T, H, L> {
-    /// The opening state under an empty journal, and the share that has all parts of the ledger. The only fault is want of
-    /// memory, and then the set is let go. (this profile)
+    /// The opening state with an empty journal, and the share that has all parts of the ledger. The only fault is `Memory`, which drops the
+    /// set. (this profile)
     pub fn open(alloc: Global, blank: Blank, types: T) -> Result<(Locked<T, H, L>, Share<L>), Fault>
         requires name { blank.name ≡ L.name }
         requires parts { blank.parts ≡ L.parts }
@@ -91,9 +91,9 @@ impl<T: TypeSet, H: HandleTable, L: Ledger> Locked<T, H, L> {
         Ok((locked, all))
     }
 
-    /// The law of what lies under the lock: its journal is a run from the opening state to its state; its sealed segments are in
+    /// The law of every `Locked`: its journal is a run from the opening state to its state; its sealed segments are in
     /// order, and at most 4,095; and the places of the open segment that are used, with those that pending opens have reserved, are at
-    /// most 1,048,576. The call does nothing; a caller makes it to have the fact. (this profile)
+    /// most 1,048,576. The call does nothing. (this profile)
     pub fn is_kept(&self)
         ensures run { Run T.procedures self.now.first (whole self.now.journal) self.now.state }
         ensures sealed { AreSealed 1 1 self.now.journal.sealed }
@@ -161,13 +161,13 @@ impl<T: TypeSet, H: HandleTable, L: Ledger> Locked<T, H, L> {
         self.reserved
     }
 
-    /// Starts a command of a process, for which this was prepared, by a pass: makes one step of the machine under the lock, with its entry and the pass's
-    /// receipt of it.
+    /// Starts a command of a process: makes one step of the machine, with its entry and the pass's receipt. `prepared` is the memory that was
+    /// taken for it before the lock, or why there is none.
     ///
-    /// The faults, of which each leaves all as it was: `InvalidParameter` where the pass is a stranger's, whose last receipt
-    /// doesn't stand in the journal at its number; `JournalFull` where fewer than 34 places of the open segment are neither used
-    /// nor reserved; and `Memory`, where memory was wanted. (this profile)
-    pub(crate) fn start(
+    /// At a fault nothing has changed. It is `InvalidParameter` if the pass is a stranger's: the journal doesn't have its last receipt at
+    /// that number; then `JournalFull` if fewer than 34 places of the open segment are neither used nor reserved; then `Memory` if out of
+    /// memory, then or when it was prepared. (this profile)
+    pub fn start(
         &mut self,
         alloc: Global,
         pass: &mut Pass<T::Kind, L>,
@@ -236,11 +236,11 @@ impl<T: TypeSet, H: HandleTable, L: Ledger> Locked<T, H, L> {
         }
     }
 
-    /// Brings a parse to the open that waits for it, by a pass: makes one step of the machine under the lock, with its entry and
-    /// the pass's receipt of it, for which there was room since the open began to wait.
+    /// Brings a parse to its pending open: makes one step of the machine, with its entry and the pass's receipt, for which places were
+    /// reserved when the open began to wait.
     ///
-    /// The faults hand the parse back, and each leaves all as it was: `InvalidParameter` where the pass is a stranger's, or
-    /// the parse is; and `Memory`, where memory was wanted. (this profile)
+    /// A fault returns the parse, and nothing has changed. It is `InvalidParameter` if the pass or the parse is a stranger's, and
+    /// `Memory` if out of memory. (this profile)
     pub(crate) fn resume(
         &mut self,
         alloc: Global,
@@ -302,9 +302,8 @@ impl<T: TypeSet, H: HandleTable, L: Ledger> Locked<T, H, L> {
         }
     }
 
-    /// Gives up an open that waits, by a pass: makes one step of the machine under the lock, with its entry and the pass's receipt
-    /// of it. Takes no memory, and makes no test of the pass. It is false for a stranger's parse alone, which is let go, and then
-    /// all is as it was. (this profile)
+    /// Abandons a pending open: makes one step of the machine, with its entry and the pass's receipt. It takes no memory, and doesn't
+    /// test the pass. It returns `false` exactly for a stranger's parse, which it drops, and then nothing has changed. (this profile)
     pub(crate) fn abandon(&mut self, pass: &mut Pass<T::Kind, L>, pending: Pending<T>) -> bool
         ensures exact { IsTrue result
             ↔ IsAwaited T.procedures self.old.state (asked_of (brought_in pending)) }
@@ -337,7 +336,7 @@ impl<T: TypeSet, H: HandleTable, L: Ledger> Locked<T, H, L> {
         true
     }
 
-    /// Why the parse of an open isn't brought that found no place for a receipt: it is a stranger's, or memory was wanted.
+    /// The fault of a resume for whose receipt there is no memory: a stranger's parse is refused as such, and any other is out of memory.
     fn without_place(&self, parsed: Parsed<T>) -> (Fault, Parsed<T>)
         ensures fault { IsNotTaken T.procedures self.now.state (asked_of parsed) (result.0) }
         ensures back { result.1 ≡ parsed }
@@ -355,8 +354,8 @@ impl<T: TypeSet, H: HandleTable, L: Ledger> Locked<T, H, L> {
     /// Seals the open segment, and opens an empty one that has the memory of all reserved places. The sealed segment is shared: it
     /// stays in the journal. No entry is added.
     ///
-    /// The faults, of which each leaves all as it was: `InvalidParameter` where the open segment is empty;
-    /// `InsufficientResources` where 4,095 segments are sealed; and `Memory`, where memory was wanted. (this profile)
+    /// At a fault nothing has changed. It is `InvalidParameter` if the open segment is empty, then `InsufficientResources` if 4,095
+    /// segments are sealed, then `Memory` if out of memory. (this profile)
     pub(crate) fn seal(&mut self, alloc: Global) -> Result<Arc<Segment<T::Kind>>, Fault>
         ensures sealed { OnOk result (self.new ≡ sealed_then self.old) }
         ensures admitted { OnOk result (MaySeal self.old.journal) }
@@ -370,7 +369,7 @@ impl<T: TypeSet, H: HandleTable, L: Ledger> Locked<T, H, L> {
     }
 }
 
-/// The places that the open of a ticket has reserved: none where no open waits under it.
+/// How many places the pending open of a ticket has reserved: none if there is no such open.
 fn places_at<T: TypeSet, H: HandleTable>(core: &Core<T, H>, ticket: u64) -> usize
     ensures value { result ≡ places_of core.now ticket }
     ensures small { result ≤ 2 ^ 32 }

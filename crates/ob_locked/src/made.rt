@@ -1,4 +1,4 @@
-//! Steps of the core, with copies of what was asked and answered.
+//! Steps of the core, with copies of their events and answers.
 
 ghost use Rattle.std.specs.Prelude.{◌≡◌, ◌↔◌, ◌≤◌, [], true, length, vec_capacity, IfOk, IfErr, OnErr, IfSome, OnSome, IsSome, IfNone};
 ghost use Rattle.ob_base.specs.declared.status.Status.TheVariants.{Success};
@@ -49,7 +49,7 @@ fn entry_of<K>(writer: Writer, step: Event<K>, reply: Answer) -> Entry<K>
     }
 }
 
-/// Starts a command, of which these are copies, with copies of its reply. The only fault is out of memory, and then the core is as it was.
+/// Starts a command, of which these are copies, and copies its reply. The only fault is out of memory, and then the core is as it was.
 pub(crate) fn start_core<T: TypeSet, H: HandleTable>(
     core: &mut Core<T, H>,
     alloc: Global,
@@ -145,7 +145,7 @@ fn with_rooms<T: TypeSet, H: HandleTable>(
     ))
 }
 
-/// The entry of a start that was replied to. Memory is taken for a text or a page alone.
+/// The entry of a start that got a reply. It takes memory only for a text or a page.
 fn entry_told<K: Drop>(
     alloc: Global,
     writer: Writer,
@@ -204,7 +204,7 @@ fn told_twice<K: Drop>(
     }
 }
 
-/// The entry of a start whose open waits under a ticket.
+/// The entry of a start whose open is pending under a ticket.
 fn entry_waiting<K>(writer: Writer, process: Proc, asked: Asked<K>, ticket: u64) -> Entry<K>
     ensures { result ≡ entered writer.number writer.seat (Start process asked.command) (Ticket ticket) }
 {
@@ -222,7 +222,7 @@ fn started_by<K>(process: Proc, command: Command<K>) -> Event<K>
     Event::Start { process, command }
 }
 
-/// A copy of a reply that gives nothing, or a handle. Takes no memory.
+/// A copy of a reply that gives nothing, or a handle. It takes no memory.
 fn copy_plain(reply: &Reply) -> Reply
     requires { is_plain reply.now.given ≡ true }
     ensures { result ≡ reply.now }
@@ -310,8 +310,8 @@ pub(crate) struct Twice<K> {
     pub receipt: Entry<K>,
 }
 
-/// Gives an open up, with the entry of the step; none where no open waits for this parse, and then the core is as it was. Takes
-/// no memory.
+/// Abandons an open, with the entry of the step; `None` if no open waits for this parse, and then the core is as it was. It takes no
+/// memory.
 pub(crate) fn abandon_core<T: TypeSet, H: HandleTable>(
     core: &mut Core<T, H>,
     writer: Writer,

@@ -1,4 +1,4 @@
-//! A namespace with its passes, as it is opened.
+//! Opening a namespace with its passes.
 
 ghost use Rattle.std.specs.Prelude.{◌≡◌, ◌≤◌, ◌<◌, ◌⊎◌, Err, IfOk, IfErr, []};
 ghost use Rattle.ob_base.specs.declared.Fault.TheVariants.{Memory, Refused};
@@ -17,11 +17,11 @@ use std::sync::ledger::{Blank, Ledger, Share};
 /// The most seats: each has a part of the ledger of its own.
 const MOST_SEATS: u32 = 1024;
 
-/// Opens a namespace for so many seats, 1 to 1,024: what is to lie under the lock, in the opening state, and a pass for each seat,
-/// at the place of its number. The ledger is cut into 1,024 parts.
+/// Opens a namespace for so many seats, 1 to 1,024: a [`Locked`] in the opening state, and a pass for each seat, at the place of its
+/// number. The ledger is cut into 1,024 parts.
 ///
-/// The faults, at which the set is let go: `InvalidParameter` exactly where no seat or more than 1,024 are asked for; and
-/// `Memory`, where memory was wanted. (this profile)
+/// It fails with `InvalidParameter` exactly if no seat or more than 1,024 are requested, and with `Memory` if out of memory. Either drops
+/// the set. (this profile)
 pub fn open_locked<T: TypeSet, H: HandleTable, L: Ledger>(
     alloc: Global,
     blank: Blank,

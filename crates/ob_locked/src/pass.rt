@@ -1,4 +1,4 @@
-//! Passes: who a caller is, and what it was told.
+//! Passes: a caller's seat, and the receipts of its steps.
 
 ghost use Rattle.std.specs.Prelude.{◌≡◌, ◌↔◌, ◌<◌, ◌+◌, ◌^◌, [], ◌∷◌, ◌++◌, IsTrue, Some, ◌-◌, length, option_copied, slice_get};
 ghost use Rattle.ob_segments.specs.Journal.{whole};
@@ -13,7 +13,7 @@ use std::collections::LinkedList;
 use std::marker::Model;
 use std::sync::ledger::{Book, Ledger, Share};
 
-/// A caller's pass: its seat, and a receipt for each of its steps, which is the step's entry in the journal. It is lent to
+/// A caller's pass: its seat, and a receipt for each of its steps, which equals the step's entry in the journal. It is lent to
 /// each step. `K` is the kind of an object of the set of types, and `L` the ledger by which the steps of all passes are
 /// counted. Contracts see the seat and the receipts. (this profile)
 #[derive(Drop)]
@@ -35,7 +35,7 @@ impl<K: Copy, L: Ledger> Model for Pass<K, L> {
 }
 
 impl<K: Copy, L: Ledger> Pass<K, L> {
-    /// A pass of a seat, without a receipt. Its share has a part of the ledger, and counts nothing. Takes no memory.
+    /// A pass of a seat, without a receipt. Its share has a part of the ledger, and counts nothing. It takes no memory.
     pub(crate) fn new(alloc: Global, seat: u32, share: Share<L>) -> Pass<K, L>
         requires part { 0 < share.parts }
         requires none { share.amount ≡ 0 }
@@ -48,21 +48,21 @@ impl<K: Copy, L: Ledger> Pass<K, L> {
         }
     }
 
-    /// Its seat: 0 to 1,023. Takes no memory. (this profile)
+    /// Its seat: 0 to 1,023. (this profile)
     pub fn seat(&self) -> u32
         ensures { result ≡ self.now.seat }
     {
         self.seat
     }
 
-    /// How many receipts it has: one for each of its steps. Takes no memory. (this profile)
+    /// How many receipts it has: one for each of its steps. (this profile)
     pub fn count(&self) -> usize
         ensures { result ≡ length self.now.receipts }
     {
         self.receipts.len()
     }
 
-    /// The number of its last step in the journal, from 1, or 0 where it made none. Takes no memory. (this profile)
+    /// The number of its last step in the journal, from 1, or 0 if it made none. (this profile)
     pub fn last(&self) -> u64
         ensures { result ≡ last_number self.now.receipts }
     {
@@ -72,7 +72,7 @@ impl<K: Copy, L: Ledger> Pass<K, L> {
         }
     }
 
-    /// Adds the receipt of a step, which is counted. Takes no memory.
+    /// Adds the receipt of a step, and counts it. It takes no memory.
     pub(crate) fn receive(&mut self, book: &mut Book<L>, place: ReceiptPlace<K>, receipt: Entry<K>)
         requires { book.old.total < 2 ^ 61 }
         ensures receipts { self.new ≡ record {
@@ -87,8 +87,8 @@ impl<K: Copy, L: Ledger> Pass<K, L> {
         book.add(&mut self.share, 1);
     }
 
-    /// Its receipts, in their order.
-    pub(crate) fn receipts(&self) -> &LinkedList<Entry<K>>
+    /// Its receipts, in their order. (this profile)
+    pub fn receipts(&self) -> &LinkedList<Entry<K>>
         ensures { result.now ≡ self.now.receipts }
     {
         &self.receipts
@@ -102,7 +102,7 @@ impl<K: Copy, L: Ledger> Pass<K, L> {
     }
 }
 
-/// Whether the last receipt of a pass, where it has one, stands in this journal at its number: else the pass is a stranger's.
+/// Whether this journal has the last receipt of a pass at its number, or the pass has no receipt: if not, the pass is a stranger's.
 pub(crate) fn is_known<T: TypeSet, L: Ledger>(
     pass: &Pass<T::Kind, L>,
     journal: &Journal<T::Kind>,
@@ -110,13 +110,13 @@ pub(crate) fn is_known<T: TypeSet, L: Ledger>(
     ensures { IsTrue result ↔ IsKnown (whole journal.now.journal) pass.now.receipts }
 {
     match pass.last_receipt() {
-        Some(receipt) => stands::<T>(journal, receipt),
+        Some(receipt) => has_entry::<T>(journal, receipt),
         None => true,
     }
 }
 
-/// Whether an entry stands in a journal at its number.
-pub(crate) fn stands<T: TypeSet>(journal: &Journal<T::Kind>, entry: &Entry<T::Kind>) -> bool
+/// Whether a journal has this entry, the same in each field, at the entry's number. (this profile)
+pub fn has_entry<T: TypeSet>(journal: &Journal<T::Kind>, entry: &Entry<T::Kind>) -> bool
     ensures { IsTrue result ↔ slice_get (whole journal.now.journal) (entry.now.number - 1)
         ≡ Some entry.now }
 {

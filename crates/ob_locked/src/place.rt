@@ -9,7 +9,7 @@ use std::collections::LinkedList;
 use std::marker::Model;
 use std::mem;
 
-/// The place of one receipt, which is made before the step that fills it, so that no memory is wanted then. It may be let go.
+/// The place of one receipt. It is made before the step that fills it, so that the step needs no memory for it. It may be dropped.
 #[derive(Drop)]
 pub(crate) struct ReceiptPlace<K> {
     cell: LinkedList<Entry<K>>,
@@ -47,7 +47,7 @@ impl<K: Copy> ReceiptPlace<K> {
         }
     }
 
-    /// Puts a receipt behind these. Takes no memory.
+    /// Adds a receipt after these. It takes no memory.
     pub(crate) fn fill(self, receipts: &mut LinkedList<Entry<K>>, receipt: Entry<K>)
         requires { length receipts.old < 2 ^ 62 }
         ensures { receipts.new ≡ receipts.old ++ receipt ∷ [] }

@@ -1,4 +1,4 @@
-//! What a start needs beside the namespace.
+//! The memory that a start needs beside the namespace.
 
 ghost use Rattle.std.specs.Prelude.{◌≡◌, IfOk};
 
@@ -9,7 +9,7 @@ use std::alloc::{AllocError, Global};
 use std::marker::Model;
 use std::mem;
 
-/// What a start of a command needs beside the namespace, made before it, so that a lock is held for the step alone: two copies of the command,
+/// The memory of a start beside the namespace, taken before the lock, so that the lock is held for the step alone: two copies of the command,
 /// for the journal and for the receipt, and the places of two receipts. Contracts see the command. (this profile)
 #[derive(Drop)]
 pub struct Prepared<K: Copy> {
@@ -31,7 +31,7 @@ impl<K: Copy> Model for Prepared<K> {
 }
 
 impl<K: Copy> Prepared<K> {
-    /// What the start of this command needs. The only error is out of memory. (this profile)
+    /// Prepares the start of a command. The only error is out of memory. (this profile)
     pub fn new(alloc: Global, command: &Command<K>) -> Result<Prepared<K>, AllocError>
         ensures { IfOk result (λ prepared. prepared ≡ command.now) }
     {

@@ -1,4 +1,4 @@
-//! Copies of replies, for which the room was made before the step.
+//! Copies of replies, into memory that was taken before the step.
 
 ghost use Rattle.std.specs.Prelude.{◌≡◌, ◌≤◌, [], true, IfOk, OnErr, length, vec_capacity};
 ghost use Rattle.ob_model.specs.State.{table_size};
@@ -25,7 +25,7 @@ pub(crate) fn values_of<T: TypeSet, H: HandleTable>(
     }
 }
 
-/// Handle values, in the room that was made for them. Takes no memory.
+/// Copies handle values into the room that was made for them. It takes no memory.
 fn values_in(room: Vec<Handle>, values: &[Handle]) -> Handles
     requires empty { room.items ≡ [] }
     requires fits { length values.now ≤ vec_capacity room }
@@ -38,7 +38,7 @@ fn values_in(room: Vec<Handle>, values: &[Handle]) -> Handles
     Handles::new(copy)
 }
 
-/// A copy of a reply, whose handle values fit the room. Memory is taken for a text or a page alone.
+/// A copy of a reply, whose handle values fit the room. It takes memory only for a text or a page.
 pub(crate) fn copy_in(alloc: Global, reply: &Reply, room: Vec<Handle>) -> Result<Reply, AllocError>
     requires empty { room.items ≡ [] }
     requires fits { length (values_given reply.now.given) ≤ vec_capacity room }

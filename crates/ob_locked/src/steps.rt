@@ -1,15 +1,12 @@
-//! The one way in which what lies under the lock changes.
+//! The one way in which the state under the lock changes.
 
-ghost use Rattle.std.specs.Prelude.{◌≡◌, IfOk, IfErr, OnErr, OnOk, length};
+ghost use Rattle.std.specs.Prelude.{◌≡◌, IfOk, IfErr, OnErr, OnOk};
 ghost use Rattle.ob_opens.specs.Waiting.{IsParseOf};
 ghost use Rattle.ob_locked.specs.Answers.{answer_in, IfWaits};
 ghost use Rattle.ob_locked.specs.Asked.{event_of, handed_back, IsAdmitted, IsUnmade};
-ghost use Rattle.ob_locked.specs.Steps.{sealed_then, IsFull, IsMade, IsNotAdmitted, IsNotSealed, MaySeal};
-ghost use Rattle.ob_model.specs.declared.reply.Event.TheVariants.{Start};
-ghost use Rattle.ob_locked.specs.Passed.{IsKnown};
-ghost use Rattle.ob_locked.specs.Places.{places_for};
+ghost use Rattle.ob_locked.specs.Steps.{sealed_then, IsMade, IsNotSealed, MaySeal};
 ghost use Rattle.std.specs.Arc.{arc_value};
-ghost use Rattle.ob_segments.specs.Journal.{open_segment, whole};
+ghost use Rattle.ob_segments.specs.Journal.{open_segment};
 
 use crate::{Locked, Parsed, Pass, Pending, Prepared, Started};
 use ob_base::{Fault, Proc, Status};
@@ -17,29 +14,28 @@ use ob_core::HandleTable;
 use ob_journal::Segment;
 use ob_model::{Command, Given, Reply};
 use ob_types::TypeSet;
-use std::alloc::{AllocError, Global};
+use std::alloc::Global;
 use std::sync::Arc;
 use std::sync::ledger::Ledger;
 
-/// What a caller asks for: a command of a process, the end of an open that waits for its parse, or to give one up. (this
-/// profile)
+/// The step that a caller asks for. (this profile)
 pub enum Asked<'a, T: TypeSet> {
     /// A process begins a command.
     Start(Proc, &'a Command<T::Kind>),
-    /// The parse of an open that waits is brought.
+    /// A pending open goes on with its parse.
     Resume(Parsed<T>),
-    /// An open that waits is given up.
+    /// A pending open is abandoned.
     Abandon(Pending<T>),
 }
 
-/// Makes the step that a caller asks for by its pass, on what lies under the lock: the machine's step, with its entry at the end
-/// of the journal and the same as the pass's last receipt. An abandon answers `Success`.
+/// Makes the step that a caller asks for: the machine's step, with its entry at the end of the journal and the same as the pass's last
+/// receipt. An abandon answers `Success`.
 ///
-/// The faults each leave all as it was, and hand the parse of a resume back. Of a start: `InvalidParameter` where the pass is a
-/// stranger's, whose last receipt doesn't stand in the journal at its number; then `JournalFull` where fewer than 34 places of
-/// the open segment are neither used nor reserved; then `Memory`, where memory was wanted. Of a resume: `InvalidParameter` where the
-/// pass is a stranger's or the parse is, then `Memory`. Of an abandon, which takes no memory and makes no test of the pass:
-/// `InvalidParameter` where the parse is a stranger's, which is let go. (this profile)
+/// At a fault nothing has changed, and the parse of a resume is returned. A start fails with `InvalidParameter` if the pass is a
+/// stranger's: the journal doesn't have its last receipt at that number; then with `JournalFull` if fewer than 34 places of the open
+/// segment are neither used nor reserved; then with `Memory` if out of memory. A resume fails with `InvalidParameter` if the pass or the
+/// parse is a stranger's, then with `Memory`. An abandon takes no memory and doesn't test the pass; it fails with `InvalidParameter` if
+/// the parse is a stranger's, which it drops. (this profile)
 pub fn step<T: TypeSet, H: HandleTable, L: Ledger>(
     alloc: Global,
     locked: &mut Locked<T, H, L>,
@@ -80,37 +76,11 @@ pub fn step<T: TypeSet, H: HandleTable, L: Ledger>(
     }
 }
 
-/// Makes the step of a start for which this was prepared, as [`step`] does: so little is done while what lies under the lock is held. Where nothing
-/// was prepared, since memory was wanted, the fault is `Memory`, after the others of a start. (this profile)
-pub fn start_prepared<T: TypeSet, H: HandleTable, L: Ledger>(
-    alloc: Global,
-    locked: &mut Locked<T, H, L>,
-    pass: &mut Pass<T::Kind, L>,
-    process: Proc,
-    command: &Command<T::Kind>,
-    prepared: Result<Prepared<T::Kind>, AllocError>,
-) -> Result<Started<T>, Fault>
-    requires { IfOk prepared (λ prepared. prepared ≡ command.now) }
-    ensures made { IfOk result (λ started.
-        IsMade T.procedures locked.old pass.old (Start process command.now)
-        (answer_in started) locked.new pass.new) }
-    ensures admitted { OnOk result (IsKnown (whole locked.old.journal) pass.old.receipts
-        × (IsFull (length locked.old.journal.unsealed)
-        (places_for locked.old.state.pending) → ⊥)) }
-    ensures waits { IfOk result (λ started. IfWaits started (IsParseOf locked.new.state)) }
-    ensures unmade { OnErr result ((locked.new ≡ locked.old) × (pass.new ≡ pass.old)) }
-    ensures fault { IfErr result (λ fault.
-        IsNotAdmitted locked.old.journal
-        (places_for locked.old.state.pending) pass.old.receipts fault) }
-{
-    locked.start(alloc, pass, process, command, prepared)
-}
-
-/// Seals the open segment of what lies under the lock, and gives it: it is added to the sealed segments, and an empty one is open,
-/// which has the memory of all reserved places. It is no step: there is no entry, no receipt, and no test of a pass.
+/// Seals the journal's open segment and returns it. It becomes the last sealed segment, and an empty one is open, with the memory of all
+/// reserved places. A seal isn't a step: it adds no entry and no receipt, and tests no pass.
 ///
-/// The faults, of which each leaves all as it was: `InvalidParameter` where the open segment is empty; then
-/// `InsufficientResources` where 4,095 segments are sealed; then `Memory`, where memory was wanted. (this profile)
+/// At a fault nothing has changed. It is `InvalidParameter` if the open segment is empty, then `InsufficientResources` if 4,095 segments
+/// are sealed, then `Memory` if out of memory. (this profile)
 pub fn seal_step<T: TypeSet, H: HandleTable, L: Ledger>(
     alloc: Global,
     locked: &mut Locked<T, H, L>,

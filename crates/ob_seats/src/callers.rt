@@ -1,6 +1,6 @@
 //! A shared namespace, as a seat sees it.
 
-ghost use Rattle.std.specs.Prelude.{◌≡◌, ◌⊎◌, ℕ, true, false, IfOk, IfErr, OnErr};
+ghost use Rattle.std.specs.Prelude.{◌≡◌, ◌⊎◌, ℕ, true, false, IfOk, IfErr, OnErr, length};
 ghost use Rattle.ob_base.specs.declared.fault.Fault.{Fault};
 ghost use Rattle.ob_base.specs.declared.status.Status.TheVariants.{Success};
 ghost use Rattle.ob_model.specs.declared.reply.Event.TheVariants.{Start, Resume, Abandon};
@@ -47,6 +47,10 @@ pub trait Callers {
     fn ticket(parsing: &Self::Parsing) -> u64
         ensures { result ≡ ticket_of parsing.now };
 
+    /// How many receipts a pass has.
+    fn count(pass: &Self::Pass) -> usize
+        ensures { result ≡ length (receipts pass.now) };
+
     /// Starts a command of a process. A fault leaves all as it was.
     fn start(
         &self,
@@ -78,8 +82,8 @@ pub trait Callers {
             (receipts (result.0)))) }
         ensures fault { IfErr (result.1) (λ fault. gives_fault (result.0) fault) };
 
-    /// Gives an open up whose parse wasn't run, and tells whether that was a step: it was none where the parse is a stranger's, which is let
-    /// go. Takes no memory.
+    /// Gives an open up whose parse wasn't run, and returns whether that was a step: it was none if the parse is a stranger's, which is
+    /// dropped. Takes no memory.
     fn abandon(&self, pass: Self::Pass, parsing: Self::Parsing) -> (Self::Pass, bool)
         ensures seat { seat_of (result.0) ≡ seat_of pass }
         ensures made { result.1 ≡ true

@@ -18,7 +18,7 @@ pub enum Stop {
 #[derive(Clone, Copy, PartialEq, Eq, Debug)]
 pub struct Stopped {
     /// The number of the line, as its part numbers it; where all lines were run and what waited was not given up by a step, the number of the
-    /// line behind the last.
+    /// line after the last.
     pub line: u64,
     /// Why.
     pub why: Stop,

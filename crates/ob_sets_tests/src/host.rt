@@ -66,7 +66,7 @@ fn delete(alloc: Global, set: &mut HostSet, word: u64) -> bool {
         return false;
     };
     let opened = set.on_open(&mut inner, Reason::Created);
-    let found = inner.object().word;
+    let found = inner.object().user_data;
     close_last(set, inner);
     opened.is_ok() & (found == word)
 }
@@ -74,7 +74,7 @@ fn delete(alloc: Global, set: &mut HostSet, word: u64) -> bool {
 // The word of the object that was deleted first.
 fn taken(set: &mut HostSet) -> Option<u64> {
     match set.take_deleted() {
-        Some(object) => Some(object.word),
+        Some(deletion) => Some(deletion.user_data),
         None => None,
     }
 }

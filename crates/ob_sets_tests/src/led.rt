@@ -78,12 +78,12 @@ const CASES: [Case; 16] = [
     ),
 ];
 
-// The word of these objects, which those that they lead to have too.
-const WORD: u64 = 0x3837_3635_3433_3231;
+// The user data of these objects, which those that they lead to have too.
+const USER_DATA: u64 = 0x3837_3635_3433_3231;
 
 // Whether a new object is the one that is wanted.
 fn is_object(object: &HostObject, kind: Kind, text: &[u8]) -> bool {
-    object.kind == kind && object.word == WORD && object.text.as_slice() == text
+    object.kind == kind && object.user_data == USER_DATA && object.text.as_slice() == text
 }
 
 // Whether a parse ended so.

@@ -21,7 +21,7 @@ use Rattle.ob_model.specs.Step.{Step}
 use Rattle.ob_types.specs.Parse.{HasRun, ToRun, asked_of}
 use Rattle.ob_opens.specs.Waiting.{IsParseOf}
 use Rattle.ob_journal.specs.Segments.{Segment, AreSealed}
-use Rattle.ob_locked.specs.declared.compared.Mismatch.{Mismatch}
+use Rattle.ob_settled.specs.declared.compared.Mismatch.{Mismatch}
 use Rattle.ob_locked.specs.declared.started.Started.{Started}
 use Rattle.ob_locked.specs.declared.started.Started.TheVariants as started
 use Rattle.ob_segments.specs.Journal.{open_segment, whole}
@@ -32,7 +32,7 @@ use Rattle.ob_locked.specs.Locked.{History}
 use Rattle.ob_locked.specs.Places.{places_for}
 use Rattle.ob_locked.specs.Steps.{IsFull, IsMade, IsNotAdmitted, IsNotResumed, IsNotSealed, MaySeal}
 use Rattle.ob_locked.specs.Passed.{Passed, IsKnown}
-use Rattle.ob_locked.specs.Settled.{IsMismatch, IsSettled}
+use Rattle.ob_settled.specs.Settled.{IsMismatch, IsSettled}
 use Rattle.ob_shared.specs.Chains.{IsChain, IsGivenUpAt, IsOnTheWay, IsRunToReply}
 use Rattle.ob_shared.specs.Told.{IsCutOff, IsGivenUpAfter, IsNotStarted, IsOfRun, IsSealed, IsTold, IsUnsealed}
 
@@ -94,7 +94,7 @@ module _ {K T F I : Type 0} (g : Procedures K T F I) where
   resume_on_the_way before p p' event ticket parse next way told =
       way_on before p p' event ticket next.ticket parse (entered (length (whole told.before.journal) + 1) p.seat (Resume ticket parse) (Ticket next.ticket)) way told.made.receipts told.made.seat refl refl
 
-  -- what came of a resume, as its call tells it
+  -- the outcome of a resume, as its call reports it
   module _ (before p p' : Passed K) (event : Event K) (ticket asked : ℕ) (parse : ParseRun) (same : asked ≡ ticket) (way : IsOnTheWay before event ticket p) where
     module _ {E : Type 0} (r : Result (Started T K F I) E) (s : Started T K F I) (is : r ≡ Ok s) (told : IfOk r (λ x. IsTold g p (Resume asked parse) x p')) where
       told_so : (x : Started T K F I) → s ≡ x → IsTold g p (Resume ticket parse) x p'
@@ -166,7 +166,7 @@ module _ {K T F I : Type 0} (g : Procedures K T F I) where
       go None none = absurd none
       go (Some x) ends = ends.0
 
--- what was settled, in other words
+-- the same facts of equal journals, passes and counts
 pub settled_as : {K : Type 0} (j j' : List (Entry K)) (ps ps' : List (Passed K)) (n n' : ℕ) → j ≡ j' → ps ≡ ps' → n ≡ n' → IsSettled j ps n → IsSettled j' ps' n'
 settled_as j j' ps ps' n n' same_j same_ps same_n settled =
     subst (λ k. IsSettled j' ps' k) same_n (subst (λ qs. IsSettled j' qs n) same_ps (subst (λ l. IsSettled l ps n) same_j settled))

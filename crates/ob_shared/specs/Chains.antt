@@ -1,6 +1,6 @@
 -- The steps by which a command is run to its reply.
 --
--- Source: Windows Internals, Object Manager (parse methods); that other steps may stand between them is this profile.
+-- Source: Windows Internals, Object Manager (parse methods); that other steps may come between them is this profile.
 use Rattle.std.specs.Prelude.{◌≡◌, ◌⊎◌, ℕ, List, [], ◌∷◌, ◌++◌}
 use Rattle.ob_base.specs.declared.fault.Fault.{Fault}
 use Rattle.ob_model.specs.declared.reply.Answer.{Answer}
@@ -36,13 +36,13 @@ pub record IsRunToReply {K T F I : Type 0} (g : Procedures K T F I) (p : Passed 
   pub last : Event K
   pub told : IsTold {I = I} g before last (started.Done reply) p'
 
--- It was not: the parse of an open on the way was brought, no step was made of it for this reason, and the open was given up there and then.
+-- A command got no reply: the resume of a pending open made no step for this reason, and the open was abandoned under the same lock.
 pub record IsGivenUpAt {K T F I : Type 0} (g : Procedures K T F I) (p : Passed K) (event : Event K) (fault : Fault) (p' : Passed K) : Type 0 where
   pub waited : Passed K
   pub parsed : HasRun F I
   pub way : IsOnTheWay p event parsed.ticket waited
   pub ended : IsCutOff g waited parsed fault p'
 
--- so no reply is given: the start made no step; or the open was given up
+-- no reply is given: the start made no step; or the open was abandoned
 abbrev pub IsCutShort : {K T F I : Type 0} → Procedures K T F I → Passed K → Event K → Fault → Passed K → Type 0
 IsCutShort g p event fault p' = ((p' ≡ p) × IsNotStarted g p fault) ⊎ IsGivenUpAt g p event fault p'

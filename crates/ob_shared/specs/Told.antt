@@ -1,4 +1,4 @@
--- What a call that took the lock says: that the journal under the lock was a run then, and what the call made of it.
+-- The facts that a call reports which took the lock: the journal was a run then, and the call's effect on it.
 --
 -- Source: this profile.
 use Rattle.std.specs.Prelude.{◌≡◌, ◌⊎◌, ℕ, List}
@@ -20,13 +20,13 @@ use Rattle.ob_locked.specs.Answers.{answer_in, brought_in, run_in, IfWaits}
 use Rattle.ob_locked.specs.Locked.{History}
 use Rattle.ob_locked.specs.Passed.{Passed, IsKnown}
 use Rattle.ob_locked.specs.Places.{places_for}
-use Rattle.ob_locked.specs.Settled.{IsMismatch}
-use Rattle.ob_locked.specs.declared.compared.Mismatch.{Mismatch}
+use Rattle.ob_settled.specs.Settled.{IsMismatch}
+use Rattle.ob_settled.specs.declared.compared.Mismatch.{Mismatch}
 use Rattle.ob_locked.specs.Steps.{IsMade, IsNotAdmitted, IsNotResumed, IsNotSealed, MaySeal}
 
--- A step that was told is the last of a run: there is a run, in which the last receipt that the pass had stands at its number; the
--- machine's step goes on from its state, with its entry behind the journal and as the pass's last receipt; and where it is an open
--- that waits, the parse that is handed out is that open's.
+-- A step is the last one of a run: there is a run that has the pass's earlier last receipt at its number; the machine makes the step in
+-- its state, with an entry that follows the journal and is the pass's last receipt; and if its open is pending, the returned parse is that
+-- open's.
 pub record IsTold {K T F I : Type 0} (g : Procedures K T F I) (p : Passed K) (event : Event K) (started : Started T K F I) (p' : Passed K) : Type 0 where
   pub before : History K T F I
   pub after : History K T F I
@@ -36,34 +36,34 @@ pub record IsTold {K T F I : Type 0} (g : Procedures K T F I) (p : Passed K) (ev
   pub waits : IfWaits started (IsParseOf after.state)
 
 module _ {K T F I : Type 0} (g : Procedures K T F I) where
-  -- so it is of the journal and the state that lay under the lock
+  -- this is true of the journal and the state under the lock
   abbrev pub IsOfRun : History K T F I → Type 0
   IsOfRun h = Run g h.first (whole h.journal) h.state
 
-  -- no step is made by a start, for a reason that stood in a run
+  -- a start makes no step, for a reason that a run gives
   abbrev pub IsNotStarted : Passed K → Fault → Type 0
   IsNotStarted p fault = (h : History K T F I) × IsOfRun h × IsNotAdmitted h.journal (places_for h.state.pending) p.receipts fault
 
-  -- nor by a resume
+  -- nor does a resume
   abbrev pub IsNotBrought : Passed K → ToRun F → Fault → Type 0
   IsNotBrought p asked fault = (h : History K T F I) × IsOfRun h × IsNotResumed g h p asked fault
 
-  -- An open is given up behind this history: it waited for the parse, and the step was made; or the parse is a stranger's, and the pass is
-  -- as it was.
+  -- An open is abandoned after this history: it waited for the parse, and the step is made; or the parse is a stranger's, and the pass is as
+  -- it was.
   abbrev pub IsGivenUpAfter : History K T F I → Passed K → Pending T K F I → Passed K → Type 0
   IsGivenUpAfter h p pending p' =
       (IsAwaited g h.state (asked_of (brought_in pending)) × (h' : History K T F I) × IsMade g h p (Abandon (brought_in pending).ticket (run_in pending)) (answers Success) h' p')
       ⊎ ((IsAwaited g h.state (asked_of (brought_in pending)) → ⊥) × (p' ≡ p))
 
-  -- an open was given up behind a run
+  -- an open is abandoned after a run
   abbrev pub IsGivenUp : Passed K → Pending T K F I → Passed K → Type 0
   IsGivenUp p pending p' = (h : History K T F I) × IsOfRun h × IsGivenUpAfter h p pending p'
 
-  -- A resume makes no step behind this history, for this reason, and its open is given up there and then.
+  -- A resume makes no step after this history, for this reason, and its open is abandoned under the same lock.
   abbrev pub IsCutOffAfter : History K T F I → Passed K → HasRun F I → Fault → Passed K → Type 0
   IsCutOffAfter h p parsed fault p' = IsNotResumed g h p (asked_of parsed) fault × IsGivenUpAfter h p (pending.Run parsed) p'
 
-  -- and so it was behind a run
+  -- this is so after a run
   abbrev pub IsCutOff : Passed K → HasRun F I → Fault → Passed K → Type 0
   IsCutOff p parsed fault p' = (h : History K T F I) × IsOfRun h × IsCutOffAfter h p parsed fault p'
 
@@ -76,6 +76,6 @@ module _ {K T F I : Type 0} (g : Procedures K T F I) where
   IsSealed segment =
       (h : History K T F I) × IsOfRun h × AreSealed 1 1 h.journal.sealed × MaySeal h.journal × (segment ≡ open_segment h.journal)
 
-  -- none was, for a reason that stood in a run
+  -- none was, for a reason that a run gives
   abbrev pub IsUnsealed : Fault → Type 0
   IsUnsealed fault = (h : History K T F I) × IsOfRun h × IsNotSealed h.journal fault

@@ -7,7 +7,8 @@
 //! one step alone; a parse is run between two steps, with nothing held. Once all callers have ended, [`Shared::close`] gives back
 //! the namespace and the journal, of which each pass has its own steps as receipts.
 //!
-//! What lies under the lock, and the steps that are made there, are those of `ob_locked`, handed on here.
+//! The state under the lock, its steps, and the check of passes against the journal come from `ob_locked` and `ob_settled`, and are exported
+//! again here.
 #![tactic(auto)]
 
 mod shared;
@@ -15,8 +16,9 @@ mod to_reply;
 mod under;
 
 pub use ob_locked::{
-    Asked, Journal, Locked, Mismatch, Parsed, Parsing, Pass, Pending, Prepared, Segment, Started,
-    open_locked, seal_step, settle, start_prepared, step,
+    Asked, Journal, Locked, Parsed, Parsing, Pass, Pending, Prepared, Segment, Started,
+    open_locked, seal_step, step,
 };
+pub use ob_settled::{Mismatch, settle};
 pub use shared::{Ended, Shared, open_shared};
 pub use to_reply::Gate;

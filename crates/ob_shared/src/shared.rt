@@ -1,4 +1,4 @@
-//! The lock, and what is handed back when it is closed.
+//! The lock, and the namespace and journal that its close returns.
 
 ghost use Rattle.std.specs.Prelude.{◌≡◌, ◌≤◌, ◌<◌, ◌++◌, ◌⊎◌, Err, IfOk, IfErr, OnErr, length, map};
 ghost use Rattle.std.specs.Arc.{arc_value};
@@ -10,16 +10,15 @@ ghost use Rattle.ob_model.specs.Run.{Run};
 ghost use Rattle.ob_types.specs.Brought.{run_of_end};
 ghost use Rattle.ob_types.specs.Parse.{asked_of};
 ghost use Rattle.ob_locked.specs.Opened.{fresh_passes, most_seats};
-ghost use Rattle.ob_locked.specs.Settled.{IsSettled};
+ghost use Rattle.ob_settled.specs.Settled.{IsSettled};
 ghost use Rattle.ob_shared.specs.Told.{IsCutOff, IsGivenUp, IsMismatchOfRun, IsNotBrought, IsNotStarted, IsSealed, IsTold, IsUnsealed};
 
 use crate::under::{abandon_under, bring_under, resume_under, seal_under, start_under};
 use ob_base::{Fault, Proc};
 use ob_core::{Core, HandleTable};
-use ob_locked::{
-    Locked, Mismatch, Parsed, Pass, Pending, Prepared, Segment, Started, open_locked, settle,
-};
+use ob_locked::{Locked, Parsed, Pass, Pending, Prepared, Segment, Started, open_locked};
 use ob_model::Command;
+use ob_settled::{Mismatch, settle};
 use ob_types::TypeSet;
 use std::alloc::Global;
 use std::marker::Model;
@@ -27,8 +26,8 @@ use std::sync::ledger::{Blank, Ledger};
 use std::sync::{Arc, Mutex, Wait};
 
 /// A namespace that threads share. `T` is the set of types, `H` the handle table of each process, and `L` the ledger by which the
-/// steps of all passes are counted. It is lent to as many threads as there are; a call waits for the lock, which is held for one
-/// step alone. Contracts see how many seats it has. (this profile)
+/// steps of all passes are counted. Any number of threads may use it at once. Each call waits for the lock, and holds it for one step.
+/// Contracts see how many seats it has. (this profile)
 #[derive(Drop)]
 pub struct Shared<T: TypeSet, H: HandleTable, L: Ledger> {
     lock: Mutex<Locked<T, H, L>>,
@@ -47,8 +46,8 @@ impl<T: TypeSet, H: HandleTable, L: Ledger> Model for Shared<T, H, L> {
     ghost invariant = { λ a. a.seats ≤ most_seats };
 }
 
-/// What is left of a shared namespace that was closed: the namespace, and the journal of all its steps, which is the sealed segments and the
-/// open one joined in order. (this profile)
+/// A shared namespace after its close: the namespace, and the journal of all its steps, which is the sealed segments and the open one joined in
+/// order. (this profile)
 #[derive(Drop)]
 pub struct Ended<T: TypeSet, H: HandleTable> {
     /// The namespace, as the steps of the journal have left it.
@@ -61,8 +60,8 @@ pub struct Ended<T: TypeSet, H: HandleTable> {
 
 /// Opens a namespace in the opening state for so many seats, 1 to 1,024, with a pass for each seat, at the place of its number.
 ///
-/// The faults, at which the set is let go: `InvalidParameter` exactly where no seat or more than 1,024 are asked for; and
-/// `Memory`, where memory was wanted. (this profile)
+/// It fails with `InvalidParameter` exactly if no seat or more than 1,024 are requested, and with `Memory` if out of memory. Either drops
+/// the set. (this profile)
 pub fn open_shared<T: TypeSet, H: HandleTable, L: Ledger>(
     alloc: Global,
     blank: Blank,
@@ -87,7 +86,7 @@ pub fn open_shared<T: TypeSet, H: HandleTable, L: Ledger>(
 }
 
 impl<T: TypeSet, H: HandleTable, L: Ledger> Shared<T, H, L> {
-    /// How many seats it has: 1 to 1,024. Takes no memory. (this profile)
+    /// How many seats it has: 1 to 1,024. (this profile)
     pub fn seats(&self) -> u32
         ensures { result ≡ self.now }
     {
@@ -99,12 +98,12 @@ impl<T: TypeSet, H: HandleTable, L: Ledger> Shared<T, H, L> {
         self.alloc
     }
 
-    /// Starts a command of a process, by a pass, which comes back with the receipt of the step. What is answered is the last step
-    /// of a run, in which the receipt that was the pass's last stands at its number.
+    /// Starts a command of a process, and returns the pass with the receipt of the step. The step is the last one of a run that has the pass's
+    /// earlier last receipt at its number.
     ///
-    /// The faults, of which each leaves the namespace and the pass as they were: `InvalidParameter` where the pass is a
-    /// stranger's, whose last receipt doesn't stand in the journal at its number; `JournalFull` where fewer than 34 places of the
-    /// open segment are neither used nor reserved; and `Memory`, where memory was wanted. (this profile)
+    /// At a fault the namespace and the pass are as they were. It is `InvalidParameter` if the pass is a stranger's: the journal doesn't
+    /// have its last receipt at that number; then `JournalFull` if fewer than 34 places of the open segment are neither used nor reserved;
+    /// then `Memory` if out of memory. (this profile)
     pub fn start<R: Wait>(
         &self,
         rt: &R,
@@ -132,11 +131,11 @@ impl<T: TypeSet, H: HandleTable, L: Ledger> Shared<T, H, L> {
         (pass, started)
     }
 
-    /// Brings a parse to the open that waits for it, by a pass, which comes back with the receipt of the step. The place of its
-    /// entry was reserved when the open began to wait, so the journal is never full.
+    /// Brings a parse to its pending open, and returns the pass with the receipt of the step. The place of its entry was reserved when the open
+    /// began to wait, so the journal is never full.
     ///
-    /// The faults hand the parse back, and each leaves the namespace and the pass as they were: `InvalidParameter` where the
-    /// pass is a stranger's, or the parse is; and `Memory`, where memory was wanted. (this profile)
+    /// A fault returns the parse, and the namespace and the pass are as they were. It is `InvalidParameter` if the pass or the parse is a
+    /// stranger's, and `Memory` if out of memory. (this profile)
     pub fn resume<R: Wait>(
         &self,
         rt: &R,
@@ -157,8 +156,8 @@ impl<T: TypeSet, H: HandleTable, L: Ledger> Shared<T, H, L> {
         (pass, resumed)
     }
 
-    /// Gives up an open that waits, by a pass, which comes back with the receipt of the step; where the parse is a stranger's,
-    /// it is let go, and the pass comes back as it was. Takes no memory, and makes no test of the pass. (this profile)
+    /// Abandons a pending open, and returns the pass with the receipt of the step. A stranger's parse is dropped, and the pass returned as it
+    /// was. It takes no memory, and doesn't test the pass. (this profile)
     pub fn abandon<R: Wait>(
         &self,
         rt: &R,
@@ -173,9 +172,9 @@ impl<T: TypeSet, H: HandleTable, L: Ledger> Shared<T, H, L> {
         pass
     }
 
-    /// Brings a parse to the open that waits for it, by a pass, as [`Shared::resume`]; where no step is made by that, the open is given up
-    /// under the same lock, as by [`Shared::abandon`], so that it doesn't wait any longer: after `Memory` by a step, of which the pass has
-    /// the receipt; after `InvalidParameter` by a step where the open waited for this parse, and else nothing has changed. (this profile)
+    /// Brings a parse to its pending open as [`Shared::resume`] does. If that fails, it abandons the open under the same lock, as
+    /// [`Shared::abandon`] does. After `Memory` the abandon is a step, of which the pass has the receipt. After `InvalidParameter` it is a
+    /// step if the open waited for this parse; if not, nothing has changed. (this profile)
     pub fn bring<R: Wait>(
         &self,
         rt: &R,
@@ -194,12 +193,12 @@ impl<T: TypeSet, H: HandleTable, L: Ledger> Shared<T, H, L> {
         (pass, brought)
     }
 
-    /// Seals the open segment of the journal, and gives it: an empty one is open then, which has the memory of all reserved places. The
-    /// sealed segment stays in the journal, and is shared, so it can be written out while others make steps. A seal is no step: there is
-    /// no entry, and the pass comes back as it is, untested.
+    /// Seals the open segment of the journal and returns it; an empty one is open then, with the memory of all reserved places. The sealed
+    /// segment remains in the journal and is shared, so that it can be written out while others make steps. A seal isn't a step: it adds no
+    /// entry, and returns the pass as it is, untested.
     ///
-    /// The faults, of which each leaves all as it was: `InvalidParameter` where the open segment is empty; `InsufficientResources` where
-    /// 4,095 segments are sealed; and `Memory`, where memory was wanted. (this profile)
+    /// At a fault nothing has changed. It is `InvalidParameter` if the open segment is empty, then `InsufficientResources` if 4,095 segments
+    /// are sealed, then `Memory` if out of memory. (this profile)
     pub fn seal<R: Wait>(
         &self,
         rt: &R,
@@ -214,10 +213,10 @@ impl<T: TypeSet, H: HandleTable, L: Ledger> Shared<T, H, L> {
         (pass, sealed)
     }
 
-    /// Closes the namespace, with the passes of all seats. Ok gives it back with its journal, which is a run to the namespace's state,
-    /// and has the receipts of each pass, each once and in their order, and no other entries. Else it says where passes
-    /// and journal differ, and hands nothing back: a pass is missing, or isn't the only one of its seat, or has other receipts than
-    /// the journal has entries of its seat. Takes no memory and no lock. (this profile)
+    /// Closes the namespace with the passes of all seats, and returns it with its journal, which is a run to the namespace's state. The journal
+    /// has the receipts of each pass, each once and in their order, and no other entries. If that isn't so, it reports where passes and
+    /// journal differ, and drops the namespace: a pass is missing, or isn't the only one of its seat, or its receipts aren't the entries
+    /// of its seat. It takes no memory and no lock. (this profile)
     pub fn close(self, passes: Vec<Pass<T::Kind, L>>) -> Result<Ended<T, H>, Mismatch>
         ensures run { IfOk result (λ ended. (first : T)
             × Run T.procedures first (joined (map arc_value ended.sealed.items)

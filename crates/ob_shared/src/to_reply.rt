@@ -1,4 +1,4 @@
-//! Commands that are run to their replies by one caller, beside the steps of others.
+//! Commands that one caller runs to their replies, while others make steps.
 
 ghost use Rattle.std.specs.Prelude.{IfOk, IfErr};
 ghost use Rattle.ob_model.specs.declared.reply.Event.{Event};
@@ -15,19 +15,19 @@ use ob_types::TypeSet;
 use std::sync::Wait;
 use std::sync::ledger::Ledger;
 
-/// What is done between the step that reaches a parsing object and the run of its parse, with nothing held: a caller may wait
-/// there, or do nothing. (this profile)
+/// A call between the step that reaches a parsing object and the run of its parse. No lock is held meanwhile, so it may wait. (this
+/// profile)
 pub trait Gate {
-    /// Is called once before each parse.
+    /// [`Shared::open_with`] calls this once before each parse.
     fn between(&self);
 }
 
 impl<T: TypeSet, H: HandleTable, L: Ledger> Shared<T, H, L> {
-    /// Starts a command and runs it to its reply, by a pass, which comes back with the receipts of its steps: while an open
-    /// waits, the gate is called, the parse is run, and brought.
+    /// Runs a command to its reply, and returns the pass with the receipts of its steps. While its open is pending, it calls the gate, runs
+    /// the parse and brings it.
     ///
-    /// The faults are those of the start, which leave all as it was; and those of a resume, after which the open is given up under the
-    /// same lock, so that it doesn't wait any longer: after `Memory` by a step, of which the pass has the receipt. (this profile)
+    /// At a fault of the start nothing has changed. At a fault of a resume it abandons the open under the same lock; after `Memory` that is
+    /// a step, of which the pass has the receipt. (this profile)
     pub fn open_with<R: Wait, G: Gate>(
         &self,
         rt: &R,
@@ -49,7 +49,7 @@ impl<T: TypeSet, H: HandleTable, L: Ledger> Shared<T, H, L> {
         }
     }
 
-    /// Runs the parse of an open, and brings it, until there is a reply.
+    /// Runs and brings the parses of an open until there is a reply.
     fn run_on<R: Wait, G: Gate>(
         &self,
         rt: &R,

@@ -1,4 +1,4 @@
-//! Steps under the lock, and what is said of them.
+//! Steps under the lock.
 
 ghost use Rattle.std.specs.Prelude.{◌≡◌, IfOk, IfErr, OnErr};
 ghost use Rattle.ob_model.specs.declared.reply.Event.TheVariants.{Start, Resume};
@@ -10,8 +10,7 @@ ghost use Rattle.std.specs.Arc.{arc_value};
 use ob_base::{Fault, Proc};
 use ob_core::HandleTable;
 use ob_locked::{
-    Asked, Locked, Parsed, Pass, Pending, Prepared, Segment, Started, seal_step, start_prepared,
-    step,
+    Asked, Locked, Parsed, Pass, Pending, Prepared, Segment, Started, seal_step, step,
 };
 use ob_model::Command;
 use ob_types::TypeSet;
@@ -19,7 +18,7 @@ use std::alloc::{AllocError, Global};
 use std::sync::Arc;
 use std::sync::ledger::Ledger;
 
-/// Starts a command, for which this was prepared.
+/// Starts a command with prepared memory.
 pub(crate) fn start_under<T: TypeSet, H: HandleTable, L: Ledger>(
     alloc: Global,
     locked: &mut Locked<T, H, L>,
@@ -35,7 +34,7 @@ pub(crate) fn start_under<T: TypeSet, H: HandleTable, L: Ledger>(
     ensures fault { IfErr result (λ fault. IsNotStarted T.procedures pass.old fault) }
 {
     locked.is_kept();
-    start_prepared(alloc, locked, pass, process, command, prepared)
+    locked.start(alloc, pass, process, command, prepared)
 }
 
 /// Brings a parse.
@@ -62,7 +61,7 @@ pub(crate) fn resume_under<'a, T: TypeSet, H: HandleTable, L: Ledger>(
     }
 }
 
-/// Gives an open up.
+/// Abandons an open.
 pub(crate) fn abandon_under<'a, T: TypeSet, H: HandleTable, L: Ledger>(
     alloc: Global,
     locked: &'a mut Locked<T, H, L>,
@@ -82,7 +81,7 @@ pub(crate) fn abandon_under<'a, T: TypeSet, H: HandleTable, L: Ledger>(
     }
 }
 
-/// Brings a parse, or else gives its open up.
+/// Brings a parse, or abandons its open.
 pub(crate) fn bring_under<'a, T: TypeSet, H: HandleTable, L: Ledger>(
     alloc: Global,
     locked: &'a mut Locked<T, H, L>,

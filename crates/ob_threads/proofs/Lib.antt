@@ -5,3 +5,4 @@ pub mod WorkersPlay
 pub mod Seated
 pub mod Output
 pub mod LentSync
+pub mod InOrder

@@ -1,14 +1,15 @@
 -- What the passes of seats have received, and the entries of their seats in the journal.
-use Rattle.std.proofs.Common.{◌≡◌, ◌∙◌, ◌<◌, ◌≤◌, ◌+◌, ◌==◌, ℕ, zero, suc, cond, Bool, true, false, List, [], ◌∷◌, ◌++◌, All, Some, filter, map, ap, refl, sym, subst, arith, append_assoc, eq-eqb}
+use Rattle.std.proofs.Common.{◌≡◌, ◌∙◌, ◌<◌, ◌≤◌, ◌+◌, ◌==◌, ℕ, zero, suc, cond, Bool, true, false, List, [], ◌∷◌, ◌++◌, All, Some, filter, map, length, take, drop, ap, refl, sym, subst, arith, append_assoc, eq-eqb}
 use Rattle.std.proofs.lemmas.List.{map-append}
+use Rattle.std.proofs.Math.Seq.{take-append_seam, drop-append_seam}
 use Rattle.std.proofs.lemmas.List.Elements.{All-head, All-tail, All-nil, All-cons}
 use Rattle.std.specs.List.{range_with_len}
 use Rattle.ob_standard.specs.Standard.{StandardKind}
 use Rattle.ob_locked.specs.Opened.{fresh_pass}
 use Rattle.ob_locked.specs.Passed.{Passed}
-use Rattle.ob_locked.specs.Settled.{IsSettled, entries_of, passes_of, only}
+use Rattle.ob_settled.specs.Settled.{IsSettled, entries_of, passes_of, only}
 use Rattle.ob_seats.specs.Received.{Entries}
-use Rattle.ob_threads.specs.Played.{ArePasses, ArePassesOf, IsJournalOf, SeatsRelation, entries_from}
+use Rattle.ob_threads.specs.Played.{ArePasses, ArePassesOf, AreReceiptsOf, IsInOrder, IsJournalOf, SeatsRelation, entries_from}
 
 abbrev pub P : Type 0
 P = Passed StandardKind
@@ -89,10 +90,28 @@ seats_below seats from (suc count) (p ∷ ps) e below =
     let tail : map (λ (q : P). q.seat) ps ≡ range_with_len (from + 1) count = cc in
     All-cons (λ (q : P). q.seat < seats) p ps (omega (arith, head, below)) (seats_below seats (from + 1) count ps tail (omega (arith, below)))
 
--- what is so with the receipts of passes is so with the entries of a journal that is settled with them
-pub settled_of : (Is : SeatsRelation) (journal : Entries) (count seats : ℕ) (passes : List P) → seats ≡ count + 1 → ArePasses count passes → IsSettled journal passes seats → ArePassesOf Is passes → IsJournalOf Is count journal
-settled_of Is journal count seats passes all_seats are settled (theirs, own, whole, is) = (
-  subst (λ es. Is es (entries_from journal 1 count)) own_is (subst (Is own.receipts) theirs_are is),
+-- the receipts of seat 0 in two parts
+module _ (count : ℕ) (own begun rest : Entries) (many : length begun ≡ count) (all : own ≡ begun ++ rest) (Is : SeatsRelation) (theirs : List Entries) where
+  first_are : take count own ≡ begun
+  first_are = ap (λ n. take n own) (sym many) ∙ (ap (take (length begun)) all ∙ take-append_seam begun rest)
+
+  last_are : drop count own ≡ rest
+  last_are = ap (λ n. drop n own) (sym many) ∙ (ap (drop (length begun)) all ∙ drop-append_seam begun rest)
+
+  pub cut_receipts : Is begun theirs rest → AreReceiptsOf Is count own theirs
+  cut_receipts is = subst (λ es. Is es theirs (drop count own)) (sym first_are) (subst (Is begun theirs) (sym last_are) is)
+
+  pub of_receipts : AreReceiptsOf Is count own theirs → Is begun theirs rest
+  of_receipts is = subst (Is begun theirs) last_are (subst (λ es. Is es theirs (drop count own)) first_are is)
+
+-- what is so with the receipts of passes is so with the entries of a journal that is settled with them, and in order
+pub settled_of : (Is : SeatsRelation) (journal : Entries) (count seats begun : ℕ) (passes : List P) → seats ≡ count + 1 → ArePasses count passes → IsSettled journal passes seats → IsInOrder begun journal → ArePassesOf Is begun passes
+    → IsJournalOf Is count journal
+settled_of Is journal count seats begun passes all_seats are settled (first, rest, many, ordered) (theirs, own, whole, is) = (
+  first,
+  rest,
+  ordered,
+  of_receipts begun own.receipts first rest many (own_is ∙ ordered.own) Is (entries_from journal 1 count) (subst (AreReceiptsOf Is begun own.receipts) theirs_are is),
   λ seat above. ((settled seat).1 (subst (λ n. n ≤ seat) (sym all_seats) above)).1,
 )
   where

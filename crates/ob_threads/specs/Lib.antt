@@ -4,3 +4,4 @@ pub mod Worked
 pub mod Ended
 pub mod Run
 pub mod Faults
+pub mod Order

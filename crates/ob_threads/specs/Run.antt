@@ -1,9 +1,13 @@
 -- Runs of a script with workers, to the end of its lines or to where seats stop: the entries of each seat, and the end that is told.
 --
 -- Source: this profile.
-use Rattle.std.specs.Prelude.{◌≡◌, ◌⊎◌, ◌+◌, ℕ, List, [], ◌++◌, length, map, All, Err}
+use Rattle.std.specs.Prelude.{◌≡◌, ◌⊎◌, ◌+◌, ℕ, List, [], ◌++◌, length, map, All, Err, OnOk}
 use Rattle.std.specs.List.{AllZip}
 use Rattle.ob_base.specs.declared.fault.Fault.{Fault}
+use Rattle.ob_model.specs.Run.{Run}
+use Rattle.ob_journal.specs.Segments.{Segment, AreSealed, joined, open_after}
+use Rattle.ob_standard.specs.Standard.{Standard, StandardKind, standard}
+use Rattle.ob_standard_core.specs.Machine.{Space}
 use Rattle.ob_requests.specs.Words.{Words, first_words}
 use Rattle.ob_worker_lines.specs.declared.part.Part.{Part}
 use Rattle.ob_worker_lines.specs.declared.script.WorkerScript.{WorkerScript}
@@ -16,7 +20,7 @@ use Rattle.ob_seats.specs.Received.{Entries}
 use Rattle.ob_seats.specs.Stopped.{AreLetGo, IsPartStopped, Known}
 use Rattle.ob_threads.specs.Ended.{SeatOutcome, told_in, told_of}
 use Rattle.ob_threads.specs.Faults.{IsFaultAt}
-use Rattle.ob_threads.specs.Played.{IsJournalOf, SeatsRelation}
+use Rattle.ob_threads.specs.Played.{IsJournalOf, IsPlayedOf, SeatsRelation}
 use Rattle.ob_threads.specs.Worked.{IsSeatRun}
 
 -- some call answered this fault, and handed some pass back
@@ -43,13 +47,10 @@ pub record AreNotBegun {P : Type 0} (gives : P → Fault → Type 0) (before : P
 
 -- Seat 0 plays its lines before the workers. Each worker runs its own, beginning with the variables that seat 0 then has, and seat 0 goes on with the lines
 -- after the workers. Of the ends of both one is told.
-pub record AreBegun (known : Fault → Type 0) (script : WorkerScript) (own : Entries) (theirs : List Entries) (ended : SeatOutcome) : Type 0 where
-  pub begun : Entries
-  pub rest : Entries
+pub record AreBegun (known : Fault → Type 0) (script : WorkerScript) (begun : Entries) (theirs : List Entries) (rest : Entries) (ended : SeatOutcome) : Type 0 where
   pub words : Words
   pub their_end : SeatOutcome
   pub own_end : SeatOutcome
-  pub whole : own ≡ begun ++ rest
   pub first : ArePlayed (lines_in script.before) first_words begun words
   pub workers_run : AreWorkersRun known script.workers.items (for_worker words) theirs their_end
   pub last : IsSeatRun known script.behind words rest own_end
@@ -57,8 +58,9 @@ pub record AreBegun (known : Fault → Type 0) (script : WorkerScript) (own : En
 
 -- A script that was cut is run and this end is told of it: seat 0 stops before the workers, or all seats run.
 abbrev pub AreRun : {P : Type 0} → (P → Known) → WorkerScript → SeatOutcome → SeatsRelation
-AreRun gives script ended own theirs =
-    ((stopped : Stopped) × (ended ≡ Err stopped) × AreNotBegun gives script.before own theirs stopped) ⊎ AreBegun (IsGiven gives) script own theirs ended
+AreRun gives script ended begun theirs rest =
+    ((stopped : Stopped) × (ended ≡ Err stopped) × (rest ≡ []) × AreNotBegun gives script.before begun theirs stopped)
+    ⊎ AreBegun (IsGiven gives) script begun theirs rest ended
 
 -- A journal is that of a run of a script, of which this end is told: its lines are cut into numbered parts for the seats, each seat's entries are those of
 -- its run, and there are no other entries.
@@ -68,3 +70,14 @@ pub record IsRunTo (lines : Lines) (journal : Entries) (seats : ℕ) (ended : Se
   pub numbers : AreNumbered lines script
   pub seated : seats ≡ length script.workers.items + 1
   pub run : IsJournalOf (AreRun IsFaultAt script ended) (length script.workers.items) journal
+
+-- A run of a script that was cut leaves a journal in these segments, of which the last is the open one, and this end is told of it: the journal is a run of the
+-- machine, and that of the seats; where all lines were run, it is what they play.
+pub record IsFinished (script : WorkerScript) (sealed : List (Segment StandardKind)) (last : Segment StandardKind) (ended : SeatOutcome) : Type 0 where
+  pub first : Standard
+  pub state : Space
+  pub machine : Run standard first (joined sealed ++ last.entries) state
+  pub are_sealed : AreSealed 1 1 sealed
+  pub last_is : last ≡ open_after sealed last.entries
+  pub run : IsJournalOf (AreRun IsFaultAt script ended) (length script.workers.items) (joined sealed ++ last.entries)
+  pub played : OnOk ended (IsPlayedOf (lines_in script.before) (map lines_in script.workers.items) (lines_in script.behind) (joined sealed ++ last.entries))

@@ -24,7 +24,7 @@ use Rattle.ob_threads.specs.declared.ends.ThreadsEnding.TheVariants as ending
 use Rattle.ob_threads.specs.Played.{IsPlayed}
 use Rattle.ob_threads.specs.Run.{IsRunTo}
 
--- The journal of a run of the machine, written for so many seats: its sealed segments, and the open one behind them.
+-- The journal of a run of the machine, written for so many seats: its sealed segments, and the open one after them.
 pub record IsJournal (seats : ℕ) (journal : Entries) (text : List ℕ) : Type 0 where
   pub first : Standard
   pub state : Space
@@ -60,7 +60,7 @@ IsCutOff (fault.Read unread) old new text = ⊥
 IsCutOff fault.TooLong old new text = ⊥
 IsCutOff fault.Mismatch old new text = ⊥
 
--- What stands behind a fault: where a write failed, or memory was wanted, a beginning of an output of the script; else nothing.
+-- What was written after a fault: if a write failed, or out of memory, a beginning of an output of the script; else nothing.
 abbrev pub WritesPart : ShellFault → Option (List ℕ) → Option (List ℕ) → List ℕ → Type 0
 WritesPart fault old new script = (new ≡ old) ⊎ ((text : List ℕ) × (end : ThreadsEnding) × IsOutput script end text × IsCutOff fault old new text)
 

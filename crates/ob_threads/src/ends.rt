@@ -12,10 +12,10 @@ pub enum ThreadsEnding {
     Done,
     /// The line of this number, from 1, is the first that is no line of a script with workers, or stands in a wrong place. No line was run.
     BadLine(u64),
-    /// The line of this number, from 1, found no memory, so that the lines behind it of its seat were not run: the least line of any seat.
+    /// The line of this number, from 1, found no memory, so that its seat ran no later line: the least such line of any seat.
     NoMemoryAt(u64),
-    /// A step of the line of this number, from 1, was refused, so that the lines behind it of its seat were not run: the least line of any
-    /// seat, where none found no memory.
+    /// A step of the line of this number, from 1, was refused, so that its seat ran no later line: the least such line of any seat, where none
+    /// found no memory.
     RefusedAt(u64),
 }
 
@@ -32,7 +32,7 @@ pub(crate) fn ending_of(ended: Result<(), Stopped>) -> ThreadsEnding
     }
 }
 
-/// Of the ends of two seats the one that is told: out of memory before a refusal, and of the same kind the least line.
+/// Returns which of the ends of two seats is reported: out of memory before a refusal, and of the same kind the least line.
 pub(crate) fn told_of(one: Result<(), Stopped>, other: Result<(), Stopped>) -> Result<(), Stopped>
     ensures { result ≡ told_of one other }
 {
@@ -49,7 +49,7 @@ pub(crate) fn told_of(one: Result<(), Stopped>, other: Result<(), Stopped>) -> R
     }
 }
 
-/// Whether an end is told before another one.
+/// Returns whether an end is reported before another one.
 fn is_told_first(one: Stopped, other: Stopped) -> bool
     ensures { result ≡ is_told_first one.why other.why one.line other.line }
 {

@@ -70,7 +70,7 @@ fn write_segment<W: Write>(
     Ok(())
 }
 
-/// Writes the line that tells which line of a script is bad. Where a write fails, a beginning of it stands.
+/// Writes the line that reports which line of a script is bad. If a write fails, a beginning of it was written.
 pub(crate) fn write_bad_line<W: Write>(writer: &mut W, number: u64) -> Result<(), Unwritten>
     ensures written { OnOk result (Appends (W.contents writer.old) (W.contents writer.new)
         (output_line number (codes "not a script line"))) }

@@ -38,6 +38,10 @@ impl<'a, H: Wait, L: Ledger> Callers for Lent<'a, H, L> {
         parsing.ticket()
     }
 
+    fn count(pass: &Pass<StandardKind, L>) -> usize {
+        pass.count()
+    }
+
     fn start(
         &self,
         pass: Pass<StandardKind, L>,

@@ -4,6 +4,7 @@
 mod ends;
 mod journal;
 mod lent;
+mod order;
 mod run;
 mod seats;
 mod workers;

@@ -1,26 +1,23 @@
 //! The run of a script with workers.
 
-ghost use Rattle.std.specs.Prelude.{◌≡◌, ◌≢◌, false, ◌⊎◌, ◌≤◌, ◌<◌, ◌+◌, ◌++◌, IfOk, IfErr, IfSome, IsErr, IsErrOf, OnOk, length, map, All};
+ghost use Rattle.std.specs.Prelude.{◌≡◌, ◌≢◌, false, ◌⊎◌, ◌≤◌, ◌<◌, ◌+◌, IfOk, IfErr, IfSome, IsErr, IsErrOf, OnOk, length, map, All};
 ghost use Rattle.std.specs.List.{range_with_len};
 ghost use Rattle.std.specs.Arc.{arc_value};
-ghost use Rattle.ob_journal.specs.Segments.{joined, open_after, AreSealed};
-ghost use Rattle.ob_model.specs.Run.{Run};
-ghost use Rattle.ob_standard.specs.Standard.{Standard as StandardSet, standard};
-ghost use Rattle.ob_standard_core.specs.Machine.{Space};
 ghost use Rattle.ob_locked.specs.Opened.{fresh_pass, fresh_passes, most_seats};
 ghost use Rattle.ob_worker_lines.specs.Parts.{IsFault, lines_in};
 ghost use Rattle.ob_lines.specs.Lines.{lines_of};
 ghost use Rattle.ob_streams.specs.Fault.{is_unwritten};
 ghost use Rattle.ob_streams.specs.Reading.{StopsReading, TakesAtMost};
 ghost use Rattle.ob_threads.specs.Faults.{IsFaultAt};
-ghost use Rattle.ob_threads.specs.Played.{ArePasses, ArePassesOf, ArePlayedBy, IsJournalOf, IsPlayedOf};
-ghost use Rattle.ob_threads.specs.Run.{AreRun};
+ghost use Rattle.ob_threads.specs.Played.{ArePasses, ArePassesOf, IsPlayedBy};
+ghost use Rattle.ob_threads.specs.Run.{AreRun, IsFinished};
 ghost use Rattle.ob_threads.specs.Worked.{CanRun};
 ghost use Rattle.ob_threads.specs.Written.{Writes, WritesPart};
 
 use crate::ends::{ThreadsEnding, ending_of};
 use crate::journal::{write_bad_line, write_journal};
 use crate::lent::Lent;
+use crate::order::is_in_order;
 use crate::seats::{Ran, run_seats};
 use ob_runner::SlabTable;
 use ob_seats::Stopped;
@@ -35,9 +32,10 @@ use std::sync::{Arc, Wait};
 use std::thread::Threads;
 
 /// Reads a script with workers, runs it over a shared namespace in the opening state, with a thread for each worker, and writes the journal;
-/// docs/script.md has the language. The output differs from run to run, since nobody says in which order the steps of several threads come.
+/// docs/script.md has the language. The output differs from run to run, since nobody says in which order the steps of several threads come; but all
+/// of them come after those of seat 0 before the first `thread`, and before those after `join`.
 ///
-/// The script is read whole, and cut, before any line is run. Where a line of it is bad, that is told in one line of output, and nothing is run.
+/// The script is read whole, and cut, before any line is run. If a line of it is bad, one line of output says so, and nothing is run.
 ///
 /// The faults are `Read`, `TooLong` (more than 16,777,216 bytes) and `Mismatch`, after which nothing was written; and `Memory`, for the script, the
 /// seats, the threads or a line of the journal, and `Write`, after which a beginning of the output was written. A line that finds no memory is no
@@ -118,7 +116,7 @@ fn run_text<H: Threads + Wait + Sync, L: Ledger + Send + Sync, W: Write>(
     }
 }
 
-/// Tells why a script was not cut.
+/// Reports why a script was not cut.
 fn tell<W: Write>(
     script: &[u8],
     fault: CutFault,
@@ -172,19 +170,8 @@ fn play<H: Threads + Wait + Sync, L: Ledger + Send + Sync>(
     requires before { CanRun parts.now.before }
     requires workers { All CanRun parts.now.workers.items }
     requires behind { CanRun parts.now.behind }
-    ensures run { IfOk result (λ done. (first : StandardSet) × (state : Space)
-        × Run standard first (joined (map arc_value done.sealed.items) ++ done.last.entries)
-        state) }
-    ensures sealed { IfOk result (λ done. AreSealed 1 1 (map arc_value done.sealed.items)) }
-    ensures last { IfOk result (λ done. done.last
-        ≡ open_after (map arc_value done.sealed.items) done.last.entries) }
-    ensures played { IfOk result (λ done.
-        OnOk done.ended (IsPlayedOf (lines_in parts.now.before)
-        (map lines_in parts.now.workers.items) (lines_in parts.now.behind)
-        (joined (map arc_value done.sealed.items) ++ done.last.entries))) }
-    ensures ended { IfOk result (λ done.
-        IsJournalOf (AreRun IsFaultAt parts.now done.ended) (length parts.now.workers.items)
-        (joined (map arc_value done.sealed.items) ++ done.last.entries)) }
+    ensures finished { IfOk result (λ done.
+        IsFinished parts.now (map arc_value done.sealed.items) done.last done.ended) }
     ensures fault { IfErr result (λ fault. (fault ≡ ShellFault.Memory)
         ⊎ (fault ≡ ShellFault.Mismatch)) }
 {
@@ -194,7 +181,8 @@ fn play<H: Threads + Wait + Sync, L: Ledger + Send + Sync>(
     }
 }
 
-/// Runs a script over a namespace that was just opened, and closes it.
+/// Runs a script over a namespace that was just opened, and closes it. It is a mismatch if the journal differs from the passes, or if its entries don't come
+/// in order; a correct lock causes neither.
 fn play_shared<H: Threads + Wait + Sync, L: Ledger + Send + Sync>(
     rt: &H,
     alloc: Global,
@@ -207,44 +195,56 @@ fn play_shared<H: Threads + Wait + Sync, L: Ledger + Send + Sync>(
     requires before { CanRun parts.now.before }
     requires workers { All CanRun parts.now.workers.items }
     requires behind { CanRun parts.now.behind }
-    ensures run { IfOk result (λ done. (first : StandardSet) × (state : Space)
-        × Run standard first (joined (map arc_value done.sealed.items) ++ done.last.entries)
-        state) }
-    ensures sealed { IfOk result (λ done. AreSealed 1 1 (map arc_value done.sealed.items)) }
-    ensures last { IfOk result (λ done. done.last
-        ≡ open_after (map arc_value done.sealed.items) done.last.entries) }
-    ensures played { IfOk result (λ done.
-        OnOk done.ended (IsPlayedOf (lines_in parts.now.before)
-        (map lines_in parts.now.workers.items) (lines_in parts.now.behind)
-        (joined (map arc_value done.sealed.items) ++ done.last.entries))) }
-    ensures ended { IfOk result (λ done.
-        IsJournalOf (AreRun IsFaultAt parts.now done.ended) (length parts.now.workers.items)
-        (joined (map arc_value done.sealed.items) ++ done.last.entries)) }
+    ensures finished { IfOk result (λ done.
+        IsFinished parts.now (map arc_value done.sealed.items) done.last done.ended) }
     ensures fault { IfErr result (λ fault. (fault ≡ ShellFault.Memory)
         ⊎ (fault ≡ ShellFault.Mismatch)) }
 {
     let mut theirs = passes;
     let own = theirs.remove(0);
     match run_lent(&*rt, alloc, parts, &shared, own, theirs) {
-        Ok((passes, ended)) => match shared.close(passes) {
+        Ok(
+            Returned {
+                passes,
+                begun,
+                ended,
+            },
+        ) => match shared.close(passes) {
             Ok(
                 Ended {
                     core: _,
                     sealed,
-                    journal,
+                    journal: last,
                 },
-            ) => Ok(Finished {
-                sealed,
-                last: journal,
-                ended,
-            }),
+            ) => {
+                if is_in_order(begun, sealed.as_slice(), &last) {
+                    Ok(Finished {
+                        sealed,
+                        last,
+                        ended,
+                    })
+                } else {
+                    Err(ShellFault::Mismatch)
+                }
+            }
             Err(_) => Err(ShellFault::Mismatch),
         },
         Err(fault) => Err(fault),
     }
 }
 
-/// Runs a script over a namespace that is lent to its threads, and gives all passes back: those of the workers, and that of seat 0 behind them.
+/// What the threads of a script give back.
+#[derive(Drop)]
+struct Returned<L: Ledger> {
+    /// All passes: those of the workers, and that of seat 0 after them.
+    passes: Vec<Pass<StandardKind, L>>,
+    /// How many receipts seat 0 had before the workers.
+    begun: usize,
+    /// The end that is reported.
+    ended: Result<(), Stopped>,
+}
+
+/// Runs a script over a namespace that is lent to its threads.
 fn run_lent<'a, H: Threads + Wait + Sync, L: Ledger + Send + Sync>(
     rt: &'a H,
     alloc: Global,
@@ -252,7 +252,7 @@ fn run_lent<'a, H: Threads + Wait + Sync, L: Ledger + Send + Sync>(
     shared: &'a Shared<Standard, SlabTable, L>,
     own: Pass<StandardKind, L>,
     theirs: Vec<Pass<StandardKind, L>>,
-) -> Result<(Vec<Pass<StandardKind, L>>, Result<(), Stopped>), ShellFault>
+) -> Result<Returned<L>, ShellFault>
     requires before { CanRun parts.now.before }
     requires workers { All CanRun parts.now.workers.items }
     requires behind { CanRun parts.now.behind }
@@ -260,20 +260,32 @@ fn run_lent<'a, H: Threads + Wait + Sync, L: Ledger + Send + Sync>(
     requires own { own ≡ fresh_pass 0 }
     requires theirs { theirs.items
         ≡ map fresh_pass (range_with_len 1 (length parts.now.workers.items)) }
-    ensures passes { IfOk result (λ ran. ArePasses (length parts.now.workers.items) (ran.0.items)) }
+    ensures passes { IfOk result (λ ran.
+        ArePasses (length parts.now.workers.items) ran.passes.items) }
     ensures played { IfOk result (λ ran.
-        OnOk (ran.1) (ArePlayedBy (lines_in parts.now.before) (map lines_in parts.now.workers.items)
-        (lines_in parts.now.behind) (ran.0.items))) }
-    ensures ended { IfOk result (λ ran.
-        ArePassesOf (AreRun IsFaultAt parts.now (ran.1)) (ran.0.items)) }
+        OnOk ran.ended (ArePassesOf (IsPlayedBy (lines_in parts.now.before)
+        (map lines_in parts.now.workers.items) (lines_in parts.now.behind)) ran.begun ran.passes.items)) }
+    ensures run { IfOk result (λ ran.
+        ArePassesOf (AreRun IsFaultAt parts.now ran.ended) ran.begun ran.passes.items) }
     ensures fault { IfErr result (λ fault. fault ≡ ShellFault.Memory) }
 {
     let callers = Lent { shared, rt, alloc };
     match run_seats(rt, alloc, &callers, parts, own, theirs) {
-        Ok(Ran { own, theirs, ended }) => {
+        Ok(
+            Ran {
+                own,
+                begun,
+                theirs,
+                ended,
+            },
+        ) => {
             let mut passes = theirs;
             match passes.push(own) {
-                Ok(()) => Ok((passes, ended)),
+                Ok(()) => Ok(Returned {
+                    passes,
+                    begun,
+                    ended,
+                }),
                 Err(_) => Err(ShellFault::Memory),
             }
         }

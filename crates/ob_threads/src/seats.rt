@@ -6,7 +6,7 @@ ghost use Rattle.ob_requests.specs.Tables.{words_in};
 ghost use Rattle.ob_worker_lines.specs.Parts.{lines_in};
 ghost use Rattle.ob_seats.specs.Kept.{AreHeld, for_worker};
 ghost use Rattle.ob_seats.specs.Played.{IsSeatPlayed};
-ghost use Rattle.ob_threads.specs.Played.{IsPlayedBy};
+ghost use Rattle.ob_threads.specs.Played.{AreReceiptsOf, IsPlayedBy};
 ghost use Rattle.ob_threads.specs.Run.{AreRun, AreWorkersRun, IsGiven};
 ghost use Rattle.ob_threads.specs.Worked.{CanRun};
 
@@ -18,11 +18,13 @@ use std::alloc::{AllocError, Global};
 use std::sync::Wait;
 use std::thread::Threads;
 
-/// What a run of all seats gives back: the passes `P`, that of seat 0 apart, and the end that is told.
+/// What a run of all seats gives back: the passes `P`, that of seat 0 apart, and the end that is reported.
 #[derive(Drop)]
 pub struct Ran<P> {
     /// The pass of seat 0.
     pub own: P,
+    /// How many receipts it had when the workers began, or has where none was started.
+    pub begun: usize,
     /// The passes of the workers, in order.
     pub theirs: Vec<P>,
     /// Ok where every line was run; else which line was not, and why.
@@ -30,7 +32,7 @@ pub struct Ran<P> {
 }
 
 /// Runs a script that was cut: the lines before the workers by seat 0; then the workers, each in a thread of its own, all at once; and when all have
-/// ended the lines behind them, by seat 0 again. Where seat 0 stops before the workers, none is started.
+/// ended the lines after the join, by seat 0 again. If seat 0 stops before the workers, none is started.
 ///
 /// The only fault is out of memory for the seats and threads themselves, and then the passes are lost. (this profile)
 pub fn run_seats<H: Threads + Wait + Sync, C: Callers + Sync>(
@@ -51,21 +53,28 @@ pub fn run_seats<H: Threads + Wait + Sync, C: Callers + Sync>(
     ensures seats { IfOk result (λ ran. map C.seat_of ran.theirs.items
         ≡ map C.seat_of theirs.items) }
     ensures played { IfOk result (λ ran.
-        OnOk ran.ended (IsPlayedBy (lines_in script.now.before)
-        (map lines_in script.now.workers.items) (lines_in script.now.behind)
+        OnOk ran.ended (AreReceiptsOf (IsPlayedBy (lines_in script.now.before)
+        (map lines_in script.now.workers.items) (lines_in script.now.behind)) ran.begun
         (C.receipts ran.own) (map C.receipts ran.theirs.items))) }
 
-    // Whether every line was run or a seat stopped: what each seat ran, and the end that is told.
-    ensures run { IfOk result (λ ran. AreRun C.gives_fault script.now ran.ended
+    // Whether every line was run or a seat stopped: what each seat ran, and the end that is reported.
+    ensures run { IfOk result (λ ran. AreReceiptsOf (AreRun C.gives_fault script.now ran.ended) ran.begun
         (C.receipts ran.own) (map C.receipts ran.theirs.items)) }
 {
     let mut seat = Seat::new(alloc)?;
-    let (own, begun) = seat.run_part(rt, callers, own, script.before);
-    if let Err(stopped) = begun {
+    let (own, played) = seat.run_part(rt, callers, own, script.before);
+    if let Err(stopped) = played {
         let (own, _is_whole) = seat.end(callers, own);
+        let begun = C::count(&own);
         let ended = Err(stopped);
-        return Ok(Ran { own, theirs, ended });
+        return Ok(Ran {
+            own,
+            begun,
+            theirs,
+            ended,
+        });
     }
+    let begun = C::count(&own);
     match run_all(rt, alloc, callers, &seat, script.workers.as_slice(), theirs) {
         Err(want) => {
             let (_own, _is_whole) = seat.end(callers, own);
@@ -74,7 +83,12 @@ pub fn run_seats<H: Threads + Wait + Sync, C: Callers + Sync>(
         Ok((theirs, ended)) => {
             let (own, last) = run_seat(rt, callers, seat, own, script.behind);
             let ended = told_of(ended, last);
-            Ok(Ran { own, theirs, ended })
+            Ok(Ran {
+                own,
+                begun,
+                theirs,
+                ended,
+            })
         }
     }
 }

@@ -71,7 +71,7 @@ fn work<H: Wait, C: Callers>(rt: &H, callers: &C, job: Job<'_, C>) -> Worked<C>
     Worked { pass, ended }
 }
 
-/// The passes of workers that were run, and the end that is told of them.
+/// The passes of workers that were run, and the end that is reported of them.
 pub(crate) fn gather<C: Callers>(
     alloc: Global,
     worked: Vec<Worked<C>>,

@@ -36,6 +36,10 @@ impl Callers for Refusing {
         *parsing
     }
 
+    fn count(_pass: &usize) -> usize {
+        0
+    }
+
     fn start(
         &self,
         pass: usize,
@@ -73,7 +77,7 @@ const M: Stop = Stop::Memory;
 
 const R: Stop = Stop::Refused;
 
-/// Two workers, and lines of seat 0 behind them.
+/// Two workers, and lines of seat 0 after them.
 const BOTH: &[u8] = b"# none\nthread\np1 exit\np1 exit\nthread\nstat\np1 exit\njoin\np1 exit\n";
 
 /// The same, and a line of seat 0 before them.

@@ -13,6 +13,24 @@ pub struct ntns {
 
 pub type ntns_status = u32;
 
+#[repr(C)]
+#[derive(Debug, Clone, Copy, Default, PartialEq, Eq)]
+pub struct ntns_row {
+    pub context: u64,
+    pub kind: u32,
+    pub name: u32,
+    pub length: u32,
+}
+
+#[repr(C)]
+#[derive(Debug, Clone, Copy, Default, PartialEq, Eq)]
+pub struct ntns_deletion {
+    pub kind: u32,
+    pub user_data: u64,
+    pub id: u64,
+    pub parsed: bool,
+}
+
 pub const NTNS_STATUS_SUCCESS: u32 = 0x00000000;
 pub const NTNS_STATUS_MORE_ENTRIES: u32 = 0x00000105;
 pub const NTNS_STATUS_OBJECT_NAME_EXISTS: u32 = 0x40000000;
@@ -84,7 +102,7 @@ unsafe extern "C" {
     pub fn ntns_close(ns: *mut ntns);
     pub fn ntns_create_directory(ns: *mut ntns, process: u32, root: u32, name: *const c_char, name_len: usize, attributes: u32, handle: *mut u32) -> ntns_status;
     pub fn ntns_create_link(ns: *mut ntns, process: u32, root: u32, name: *const c_char, name_len: usize, attributes: u32, target: *const c_char, target_len: usize, handle: *mut u32) -> ntns_status;
-    pub fn ntns_create_object(ns: *mut ntns, process: u32, root: u32, name: *const c_char, name_len: usize, attributes: u32, kind: u32, word: u64, handle: *mut u32) -> ntns_status;
+    pub fn ntns_create_object(ns: *mut ntns, process: u32, root: u32, name: *const c_char, name_len: usize, attributes: u32, kind: u32, user_data: u64, handle: *mut u32) -> ntns_status;
     pub fn ntns_open_directory(ns: *mut ntns, process: u32, root: u32, name: *const c_char, name_len: usize, attributes: u32, handle: *mut u32) -> ntns_status;
     pub fn ntns_open_link(ns: *mut ntns, process: u32, root: u32, name: *const c_char, name_len: usize, attributes: u32, handle: *mut u32) -> ntns_status;
     pub fn ntns_open_object(ns: *mut ntns, process: u32, root: u32, name: *const c_char, name_len: usize, attributes: u32, kind: u32, handle: *mut u32) -> ntns_status;
@@ -97,11 +115,12 @@ unsafe extern "C" {
     pub fn ntns_query_file(ns: *mut ntns, process: u32, handle: u32, buffer: *mut c_char, capacity: usize, length: *mut usize) -> ntns_status;
     pub fn ntns_next_entry(ns: *mut ntns, process: u32, handle: u32, context: *mut u64, buffer: *mut c_char, capacity: usize, length: *mut usize, kind: *mut u32) -> ntns_status;
     pub fn ntns_next_page(ns: *mut ntns, process: u32, handle: u32, context: *mut u64, buffer: *mut c_char, capacity: usize, length: *mut usize) -> ntns_status;
+    pub fn ntns_next_rows(ns: *mut ntns, process: u32, handle: u32, context: *mut u64, rows: *mut ntns_row, count: *mut usize, buffer: *mut c_char, capacity: usize) -> ntns_status;
     pub fn ntns_set_device_map(ns: *mut ntns, process: u32, handle: u32) -> ntns_status;
     pub fn ntns_new_process(ns: *mut ntns, process: u32, inherit: bool, child: *mut u32) -> ntns_status;
     pub fn ntns_exit_process(ns: *mut ntns, process: u32) -> ntns_status;
-    pub fn ntns_query_object(ns: *mut ntns, process: u32, handle: u32, kind: *mut u32, word: *mut u64, id: *mut u64) -> ntns_status;
-    pub fn ntns_next_deleted(ns: *mut ntns, kind: *mut u32, word: *mut u64) -> ntns_status;
+    pub fn ntns_query_object(ns: *mut ntns, process: u32, handle: u32, kind: *mut u32, user_data: *mut u64, id: *mut u64) -> ntns_status;
+    pub fn ntns_next_deletion(ns: *mut ntns, deletion: *mut ntns_deletion) -> ntns_status;
     pub fn ntns_status_text(status: ntns_status) -> *const c_char;
     pub fn ntns_type_name(kind: u32) -> *const c_char;
 }

@@ -77,11 +77,13 @@ pub struct Entry {
     pub kind: Type,
 }
 
-/// A deleted object.
+/// A deleted object. The id is that of [`Handle::query`], or 0 where no handle to it was ever given; `parsed` says that an open through a device or a key made it.
 #[derive(Debug, Clone, Copy, PartialEq, Eq)]
 pub struct Deletion {
     pub kind: Type,
     pub user_data: u64,
+    pub id: u64,
+    pub parsed: bool,
 }
 
 /// A namespace with process 1, closed when it is dropped.
@@ -118,9 +120,10 @@ impl Namespace {
     /// Takes the deleted objects of the caller, each once, in order of deletion.
     pub fn deletions(&self) -> impl Iterator<Item = Deletion> + '_ {
         std::iter::from_fn(move || {
-            let (mut kind, mut user_data) = (0, 0);
-            let status = self.call(|space| unsafe { raw::ntns_next_deleted(space, &mut kind, &mut user_data) });
-            status.ok().map(|_| Deletion { kind: Type(kind), user_data })
+            let mut deletion = raw::ntns_deletion::default();
+            self.call(|space| unsafe { raw::ntns_next_deletion(space, &mut deletion) }).ok()?;
+            let raw::ntns_deletion { kind, user_data, id, parsed } = deletion;
+            Some(Deletion { kind: Type(kind), user_data, id, parsed })
         })
     }
 

@@ -12,9 +12,11 @@ fn a_file_on_a_device_is_opened_by_a_drive_and_deleted_with_its_process() -> Res
     assert_eq!((file.query()?.kind, file.query()?.user_data), (Type::FILE, 7));
     assert_eq!((drive.target()?, drive.path()?), (r"\Device\Disk".into(), r"\GLOBAL??\C:".into()));
     assert_eq!(disk.file_text(), Err(Status::OBJECT_TYPE_MISMATCH));
+    let (file_id, disk_id) = (file.query()?.id, disk.query()?.id);
     system.exit()?;
     let deleted: Vec<_> = namespace.deletions().collect();
-    assert_eq!(deleted, [Type::FILE, Type::DEVICE].map(|kind| Deletion { kind, user_data: 7 }));
+    let deletion = |kind, id, parsed| Deletion { kind, user_data: 7, id, parsed };
+    assert_eq!(deleted, [deletion(Type::FILE, file_id, true), deletion(Type::DEVICE, disk_id, false)]);
     assert_eq!(drive.close(), Err(Status::PROCESS_GONE));
     Ok(())
 }

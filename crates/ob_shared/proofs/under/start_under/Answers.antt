@@ -5,9 +5,9 @@ use Rattle.ob_shared.proofs.under.start_under.Goals as goal
 
 pub returns-clause-told : goal.returns-clause-told
 returns-clause-told g c =
-    start_told g.T.TypeSet.procedures c.args.locked.now c.is_kept.ensures.run c.args.pass.now c.start_prepared.new.pass (Start c.args.process c.args.command.now) c.start_prepared.result c.start_prepared.new.locked
-    c.start_prepared.ensures.made c.start_prepared.ensures.admitted c.start_prepared.ensures.waits
+    start_told g.T.TypeSet.procedures c.args.locked.now c.is_kept.ensures.run c.args.pass.now c.start.new.pass (Start c.args.process c.args.command.now) c.start.result c.start.new.self
+    c.start.ensures.made c.start.ensures.admitted c.start.ensures.waits
 
 pub returns-clause-fault : goal.returns-clause-fault
 returns-clause-fault g c =
-    start_refused g.T.TypeSet.procedures c.args.locked.now c.is_kept.ensures.run c.args.pass.now c.start_prepared.new.pass (Start c.args.process c.args.command.now) c.start_prepared.result c.start_prepared.ensures.fault
+    start_refused g.T.TypeSet.procedures c.args.locked.now c.is_kept.ensures.run c.args.pass.now c.start.new.pass (Start c.args.process c.args.command.now) c.start.result c.start.ensures.fault

@@ -9,7 +9,7 @@ use Rattle.ob_locked.specs.Opened.{fresh_pass, fresh_passes}
 use Rattle.ob_locked.specs.Passed.{Passed}
 use Rattle.ob_worker_lines.specs.Parts.{lines_in}
 use Rattle.ob_threads.specs.Faults.{IsFaultAt}
-use Rattle.ob_threads.specs.Played.{IsJournalOf, IsPlayedBy}
+use Rattle.ob_threads.specs.Played.{IsInOrder, IsJournalOf, IsPlayedBy, SeatsRelation}
 use Rattle.ob_threads.specs.Run.{AreRun}
 use Rattle.ob_threads.proofs.Gathered.{then_done}
 use Rattle.ob_threads.proofs.Seated.{settled_of}
@@ -39,18 +39,23 @@ run_lent-requires-clause-passes g c κs within =
     let opened : length c.args.passes.items ≡ length c.args.parts.now.workers.items + 1 = ap length c.requires.passes ∙ length-map-range_with_len fresh_pass 0 (length c.args.parts.now.workers.items + 1) in
     omega (arith, opened, c.remove-own.ensures.len, c.remove-own.new.self.ok.0, c.args.passes.ok.0)
 
-pub returns-in-Ok-close-clause-played : goal.returns-in-Ok-close-clause-played
-returns-in-Ok-close-clause-played g c =
+pub returns-then-is_in_order-clause-finished : goal.returns-then-is_in_order-clause-finished
+returns-then-is_in_order-clause-finished g c =
     let parts = c.args.parts.now in
-    then_done _ _ c.in-Ok.ended
-    (λ played. let is = IsPlayedBy (lines_in parts.before) (map lines_in parts.workers.items) (lines_in parts.behind) in
-    let journal = joined (map arc_value c.in-Ok-close.field-0.sealed.items) ++ c.in-Ok-close.field-0.journal.entries in
-    subst (λ n. IsJournalOf is n journal) (sym (length-map parts.workers.items lines_in))
-    (settled_of is journal (length parts.workers.items) c.args.shared c.in-Ok.passes.items c.requires.seats c.in-Ok.ensures.passes c.in-Ok-close.ensures.settled played))
-    c.in-Ok.ensures.played
-
-pub returns-in-Ok-close-clause-ended : goal.returns-in-Ok-close-clause-ended
-returns-in-Ok-close-clause-ended g c =
-    let parts = c.args.parts.now in
-    settled_of (AreRun IsFaultAt parts c.in-Ok.ended) (joined (map arc_value c.in-Ok-close.field-0.sealed.items) ++ c.in-Ok-close.field-0.journal.entries) (length parts.workers.items) c.args.shared c.in-Ok.passes.items c.requires.seats
-    c.in-Ok.ensures.passes c.in-Ok-close.ensures.settled c.in-Ok.ensures.ended
+    let workers = length parts.workers.items in
+    let returned = c.in-Ok.field-0 in
+    let closed = c.in-Ok-close in
+    let last = closed.field-0.journal in
+    let journal = joined (map arc_value closed.field-0.sealed.items) ++ last.entries in
+    let order : IsInOrder returned.begun journal = subst (λ ss. IsInOrder returned.begun (joined (map arc_value ss) ++ last.entries)) c.as_slice.ensures.value (c.is_in_order.ensures.0 c.if-is_in_order.true) in
+    let is = IsPlayedBy (lines_in parts.before) (map lines_in parts.workers.items) (lines_in parts.behind) in
+    let settled = λ (Is : SeatsRelation). settled_of Is journal workers c.args.shared returned.begun returned.passes.items c.requires.seats c.in-Ok.ensures.passes closed.ensures.settled order in
+    record {
+      first = closed.ensures.run.0;
+      state = closed.field-0.core;
+      machine = closed.ensures.run.1;
+      are_sealed = closed.ensures.sealed;
+      last_is = closed.ensures.open;
+      run = settled (AreRun IsFaultAt parts returned.ended) c.in-Ok.ensures.run;
+      played = then_done _ _ returned.ended (λ played. subst (λ n. IsJournalOf is n journal) (sym (length-map parts.workers.items lines_in)) (settled is played)) c.in-Ok.ensures.played;
+    }

@@ -1,5 +1,5 @@
 -- Seat 0 plays its lines before and behind the workers, and the workers theirs.
-use Rattle.std.proofs.Common.{◌≡◌, ◌∙◌, ◌++◌, [], IfErr, OnOk, inl, inr, map, ap, refl, sym, subst}
+use Rattle.std.proofs.Common.{◌≡◌, ◌∙◌, ◌++◌, [], IfErr, OnOk, Err, inl, inr, map, length, ap, refl, sym, subst, append-nil}
 use Rattle.std.specs.List.{AllZip}
 use Rattle.ob_base.specs.declared.fault.Fault.{Fault}
 use Rattle.ob_requests.specs.Tables.{words_in}
@@ -10,9 +10,10 @@ use Rattle.ob_seats.specs.Kept.{for_worker}
 use Rattle.ob_seats.specs.Played.{ArePlayed, IsSeatPlayed}
 use Rattle.ob_seats.specs.Received.{Entries}
 use Rattle.ob_seats.specs.Stopped.{IsPartStopped}
-use Rattle.ob_threads.specs.Played.{IsPlayedBy}
-use Rattle.ob_threads.specs.Run.{AreWorkersRun, IsGiven}
+use Rattle.ob_threads.specs.Played.{AreReceiptsOf, IsPlayedBy}
+use Rattle.ob_threads.specs.Run.{AreRun, AreWorkersRun, IsGiven}
 use Rattle.ob_threads.proofs.Gathered.{both_done}
+use Rattle.ob_threads.proofs.Seated.{cut_receipts}
 use Rattle.ob_threads.proofs.WorkersPlay.{map_of_all, seat_runs}
 use Rattle.ob_threads.proofs.seats.run_seats.Goals as goal
 
@@ -23,19 +24,19 @@ returns-in-Ok-clause-played g c =
     let words = words_in c.run_part-own.new.self.words in
     let begun = subst (λ r. OnOk r ((entries : Entries) × (receipts c.run_part-own.result.0 ≡ receipts c.args.own ++ entries) × ArePlayed (lines_in script.before) (words_in c.in_ok-seat.seat.words) entries words))
     c.in_default.is c.run_part-own.ensures.played in
-    subst (λ r. OnOk r (IsPlayedBy (lines_in script.before) (map lines_in script.workers.items) (lines_in script.behind) (receipts c.run_seat-own.result.0) (map receipts c.in-Ok.theirs.items))) (sym c.told_of-ended.ensures)
+    let first : receipts c.run_part-own.result.0 ≡ begun.0 = begun.1 ∙ ap (λ es. es ++ begun.0) c.requires.own in
+    let is = IsPlayedBy (lines_in script.before) (map lines_in script.workers.items) (lines_in script.behind) in
+    subst (λ r. OnOk r (AreReceiptsOf is c.count-begun-2.result (receipts c.run_seat-own.result.0) (map receipts c.in-Ok.theirs.items))) (sym c.told_of-ended.ensures)
     (both_done c.in-Ok.ended c.run_seat-own.result.1 _ (λ a b.
     let last = subst (λ r. OnOk r ((entries : Entries) × (receipts c.run_seat-own.result.0 ≡ receipts c.run_part-own.result.0 ++ entries) × IsSeatPlayed (lines_in script.behind) words entries)) b c.run_seat-own.ensures.played in
     let workers = subst (λ r. OnOk r (AllZip (λ (l : Lines) (es : Entries). IsSeatPlayed l (for_worker words) es) (map lines_in c.as_slice.result.now) (map receipts c.in-Ok.theirs.items))) a c.in-Ok.ensures.played in
-    record {
-      begun = begun.0;
-      rest = last.0;
+    cut_receipts c.count-begun-2.result (receipts c.run_seat-own.result.0) begun.0 last.0 (sym (c.count-begun-2.ensures ∙ ap length first)) (last.1 ∙ ap (λ es. es ++ last.0) first) is (map receipts c.in-Ok.theirs.items)
+    (record {
       words = words;
-      whole = last.1 ∙ ap (λ es. es ++ last.0) (begun.1 ∙ ap (λ es. es ++ begun.0) c.requires.own);
       first = subst (λ (w : Words). ArePlayed (lines_in script.before) w begun.0 words) c.in_ok-seat.ensures.first begun.2;
-      last = last.2;
       workers_play = subst (λ ps. AllZip (λ (l : Lines) (es : Entries). IsSeatPlayed l (for_worker words) es) (map lines_in ps) (map receipts c.in-Ok.theirs.items)) c.as_slice.ensures.value workers;
-    }))
+      last = last.2;
+    })))
 
 pub returns-in-Ok-clause-run : goal.returns-in-Ok-clause-run
 returns-in-Ok-clause-run g c =
@@ -46,18 +47,18 @@ returns-in-Ok-clause-run g c =
     let begun = subst (λ r. OnOk r ((entries : Entries) × (receipts c.run_part-own.result.0 ≡ receipts c.args.own ++ entries) × ArePlayed (lines_in script.before) (words_in c.in_ok-seat.seat.words) entries words))
     c.in_default.is c.run_part-own.ensures.played in
     let last = seat_runs known script.behind words (receipts c.run_part-own.result.0) (receipts c.run_seat-own.result.0) c.run_seat-own.result.1 c.run_seat-own.ensures.played c.run_seat-own.ensures.stopped in
-    inr (record {
-      begun = begun.0;
-      rest = last.0;
+    let first : receipts c.run_part-own.result.0 ≡ begun.0 = begun.1 ∙ ap (λ es. es ++ begun.0) c.requires.own in
+    cut_receipts c.count-begun-2.result (receipts c.run_seat-own.result.0) begun.0 last.0 (sym (c.count-begun-2.ensures ∙ ap length first)) (last.1 ∙ ap (λ es. es ++ last.0) first)
+    (AreRun g.C.Callers.gives_fault script c.told_of-ended.result) (map receipts c.in-Ok.theirs.items)
+    (inr (record {
       words = words;
       their_end = c.in-Ok.ended;
       own_end = c.run_seat-own.result.1;
-      whole = last.1 ∙ ap (λ es. es ++ last.0) (begun.1 ∙ ap (λ es. es ++ begun.0) c.requires.own);
       first = subst (λ (w : Words). ArePlayed (lines_in script.before) w begun.0 words) c.in_ok-seat.ensures.first begun.2;
       workers_run = subst (λ ps. AreWorkersRun known ps (for_worker words) (map receipts c.in-Ok.theirs.items) c.in-Ok.ended) c.as_slice.ensures.value c.in-Ok.ensures.run;
       last = last.2;
       told = c.told_of-ended.ensures;
-    })
+    }))
 
 pub returns-in-Err-clause-run : goal.returns-in-Err-clause-run
 returns-in-Err-clause-run g c =
@@ -69,8 +70,11 @@ returns-in-Err-clause-run g c =
     let begun = subst (λ r. IfErr r (λ stopped. (entries : Entries) × (receipts pass ≡ receipts c.args.own ++ entries)
     × IsPartStopped known before.first (lines_in before) (words_in c.in_ok-seat.seat.words) entries stopped words)) c.in-Err.is c.run_part-own.ensures.stopped in
     let ended = c.end-own.ensures.let_go in
-    inl (
+    let own = receipts c.end-own.result.0 in
+    cut_receipts c.count-begun.result own own [] (sym c.count-begun.ensures) (sym (append-nil own)) (AreRun g.C.Callers.gives_fault c.args.script.now (Err c.in-Err.stopped)) (map receipts c.args.theirs.items)
+    (inl (
       c.in-Err.stopped,
+      refl,
       refl,
       record {
         begun = begun.0;
@@ -82,4 +86,4 @@ returns-in-Err-clause-run g c =
         let_go = ended.2;
         idle = map_of_all (λ (es : Entries). es ≡ []) receipts c.args.theirs.items c.requires.theirs;
       },
-    )
+    ))

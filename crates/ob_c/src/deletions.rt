@@ -1,0 +1,79 @@
+//! The export that reports deletions.
+
+ghost use Rattle.std.specs.Prelude.{◌≡◌, Some};
+ghost use Rattle.ob_host.specs.Deletions.{next_deletion};
+ghost use Rattle.ob_c.specs.Deletions.{TellsDeletion, TellsNext, deletion_told, no_deletion};
+
+use crate::Ntns;
+use crate::machine::HostCore;
+use crate::types::type_of_kind;
+use ob_base::Status;
+use ob_host::HostDeletion;
+use std::alloc::Global;
+
+/// A deletion of an object of the caller's, as a caller in C reads it. (this profile)
+#[repr(C)]
+#[derive(Clone, Copy)]
+pub struct Deletion {
+    /// The type's number.
+    pub number: u32,
+    /// The user data of its create, or of the object whose parse made it.
+    pub user_data: u64,
+    /// The id that a query of the object gave; 0 where no handle to it was ever given.
+    pub id: u64,
+    /// 1 where the parse of an open made the object, else 0.
+    pub parsed: u8,
+}
+
+/// Reports the first deletion of an object of the caller's that wasn't reported yet; it is reported once. It takes no memory.
+///
+/// `NoMoreEntries` where none is left, and `InvalidParameter` where the namespace is closed: each field is 0 then, and nothing
+/// changes. (this profile)
+#[unsafe(no_mangle)]
+pub extern "C" fn ntns_next_deletion(ns: &mut Ntns, alloc: Global, deletion: &mut Deletion) -> u32
+    ensures { TellsDeletion ns.old.core ns.new.core result deletion.new }
+{
+    *deletion = no_deletion();
+    let Some(mut core) = ns.take(alloc) else {
+        return Status::InvalidParameter.code();
+    };
+    let status = tell_next(&mut core, deletion);
+    ns.put(core);
+    status
+}
+
+// Reports the first deletion that wasn't reported yet.
+fn tell_next(core: &mut HostCore, deletion: &mut Deletion) -> u32
+    ensures { TellsNext (next_deletion core.old.set) core.old (Some core.new) result deletion.new }
+{
+    let Some(next) = core.take_next() else {
+        *deletion = no_deletion();
+        return Status::NoMoreEntries.code();
+    };
+    *deletion = deletion_told(&next);
+    Status::Success.code()
+}
+
+// A deletion as a caller in C reads it.
+fn deletion_told(deletion: &HostDeletion) -> Deletion
+    ensures { result ≡ deletion_told deletion.now }
+{
+    Deletion {
+        number: type_of_kind(deletion.kind),
+        user_data: deletion.user_data,
+        id: deletion.serial,
+        parsed: if deletion.parsed { 1 } else { 0 },
+    }
+}
+
+// What a caller in C reads where there is no deletion.
+fn no_deletion() -> Deletion
+    ensures { result ≡ no_deletion }
+{
+    Deletion {
+        number: 0,
+        user_data: 0,
+        id: 0,
+        parsed: 0,
+    }
+}
