@@ -1,18 +1,17 @@
 -- How the lines of a session are answered one after another.
-use Rattle.std.proofs.Common.{◌≡◌, ◌∙◌, inl, inr, ℕ, ◌+◌, true, false, List, [], ◌∷◌, ◌++◌, length, Option, Some, None, refl, ap, sym, subst, append_assoc, append-nil, length-append, arith}
+use Rattle.std.proofs.Common.{◌≡◌, ◌∙◌, inr, ℕ, ◌+◌, true, false, List, [], ◌∷◌, ◌++◌, length, Option, Some, None, refl, ap, sym, subst, append_assoc, append-nil, length-append, arith}
 use Rattle.std.specs.Prelude.{IfSome}
 use Rattle.std.specs.Io.KnownBytes.{Appends, Keeps}
 use Rattle.std.proofs.KnownBytes.{Appends-nil, Appends-trans}
 use Rattle.ob_model.specs.Opening.{opening}
 use Rattle.ob_standard.specs.Standard.{Standard, IsFresh}
-use Rattle.ob_streams.specs.Writing.{AppendsFront}
 use Rattle.ob_streams.proofs.Writers.{append-front}
 use Rattle.ob_streams.specs.declared.fault.ShellFault.{ShellFault}
 use Rattle.ob_streams.specs.declared.fault.ShellFault.TheVariants.{Read, Write, TooLong, Memory, Mismatch}
 use Rattle.ob_requests.specs.Words.{Words, first_words}
 use Rattle.ob_effects.specs.Machine.{Space}
 use Rattle.ob_lines.specs.Lines.{lines_of}
-use Rattle.ob_session.specs.Session.{IsAnswered, AreAnswered, IsTurn, IsTurnCut, HasAnswered, IsBegun, BeginsBy, IsConversationCut}
+use Rattle.ob_session.specs.Session.{IsAnswered, AreAnswered, IsTurn, IsTurnCut, HasAnswered, BeginsBy, IsConversationCut}
 use Rattle.ob_session.specs.Taken.{TakesLine}
 
 -- lines are answered, and then one more

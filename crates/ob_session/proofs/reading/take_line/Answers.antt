@@ -1,5 +1,5 @@
 -- What was read through the first LF is a line.
-use Rattle.std.proofs.Common.{◌≡◌, ◌<◌, ◌∙◌, ◌-◌, length, take, ap, sym, rules}
+use Rattle.std.proofs.Common.{◌<◌, ◌∙◌, ◌-◌, length, take, ap, sym, rules}
 use Rattle.ob_session.proofs.Firsts.{has_end, taken_with, taken_without}
 use Rattle.ob_session.proofs.reading.take_line.Goals as goal
 

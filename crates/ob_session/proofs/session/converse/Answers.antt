@@ -1,9 +1,8 @@
 -- One more line is taken and answered, or the session ends.
-use Rattle.std.proofs.Common.{◌≡◌, ◌≤◌, ◌+◌, ◌-◌, ◌<◌, ◌^◌, ℕ, [], Some, IfErr, refl, sym, ◌∙◌, subst, arith, rules}
-use Rattle.std.specs.Vec.{vec_capacity}
-use Rattle.ob_effects.specs.Kept.{IsSession, space_of, words_of}
+use Rattle.std.proofs.Common.{◌-◌, refl, arith, rules}
+use Rattle.ob_effects.specs.Kept.{space_of, words_of}
 use Rattle.ob_session.specs.Session.{IsConversationCut}
-use Rattle.ob_session.proofs.Talks.{HasCome, come_on, come_end, come_cut, come_long}
+use Rattle.ob_session.proofs.Talks.{come_on, come_cut, come_long}
 use Rattle.ob_session.proofs.session.converse.Goals as goal
 
 pub loop-number-preserved : goal.loop-number-preserved
