@@ -8,5 +8,5 @@ use Rattle.ob_session.proofs.session.converse.Given as goal
 abbrev pub invariant-loop-number : goal.invariant-loop-number
 invariant-loop-number g l =
     ((count : ℕ) × (l.number ≡ count + 1) × HasCome (g.R.Read.remaining l.initial.reader) (g.R.Read.remaining l.reader) (words_of l.initial.session) (words_of l.session)
-        (space_of l.initial.session) (space_of l.session) (g.W.Write.contents l.initial.writer) (g.W.Write.contents l.writer) count)
+    (space_of l.initial.session) (space_of l.session) (g.W.Write.contents l.initial.writer) (g.W.Write.contents l.writer) count)
     × (l.block.items ≡ []) × (192 ≤ vec_capacity l.block) × IsSession l.session
