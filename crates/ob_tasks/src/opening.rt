@@ -26,7 +26,7 @@ pub fn perform_opened<H: Threads + Wait + Sync, I: Read + Drop, W: Write, E: Wri
     writer: &mut W,
     errors: &mut E,
 ) -> (Result<Ended, ShellFault>, Result<(), Unwritten>)
-    requires { task.entry ≢ Task.Session }
+    requires { task ≢ Task.Session }
     ensures { Follows (opened_as I.remaining opened) task.entry (result.0) (result.1)
         (W.contents writer.old) (W.contents writer.new)
         (E.contents errors.old) (E.contents errors.new) }

@@ -39,7 +39,7 @@ pub fn perform<H: Threads + Wait + Sync, R: Read, W: Write, E: Write>(
     writer: &mut W,
     errors: &mut E,
 ) -> (Result<Ended, ShellFault>, Result<(), Unwritten>)
-    requires { task.entry ≢ Task.Session }
+    requires { task ≢ Task.Session }
     ensures { Performs task.entry (result.0) (result.1) (R.remaining reader.old)
         (W.contents writer.old) (W.contents writer.new)
         (E.contents errors.old) (E.contents errors.new) }
@@ -76,7 +76,7 @@ fn run_task<H: Threads + Wait + Sync, R: Read, W: Write>(
     reader: &mut R,
     writer: &mut W,
 ) -> Result<Ended, ShellFault>
-    requires { task.entry ≢ Task.Session }
+    requires { task ≢ Task.Session }
     ensures { Runs task.entry result (R.remaining reader.old) (W.contents writer.old)
         (W.contents writer.new) }
 {
