@@ -10,6 +10,7 @@ import sys
 import tempfile
 from pathlib import Path
 
+import sessions
 from crates import ROOT
 from runs import Case, Count, dialogue, run, worked
 
@@ -34,8 +35,8 @@ LINE_LIMIT, JOURNAL_LIMIT = 262_144, 268_435_456
 ENTRY_LIMIT, CLOSES = 1_048_576, 1_048_576 - 33
 
 # arguments of which one is an unknown command, or an unexpected argument, or a mistake that is reported in another way
-UNKNOWN = ("ntns", "RUN", "runs", "thread", "replays")
-UNEXPECTED = (("-x",), ("--other",), ("--run",), *((command, *others) for command in ("run", "threads", "replay") for others in (("-x",), ("a", "b"))))
+UNKNOWN = ("ntns", "RUN", "runs", "thread", "replays", "sessions")
+UNEXPECTED = (("-x",), ("--other",), ("--run",), *((command, *others) for command in ("run", "threads", "replay") for others in (("-x",), ("a", "b"))), ("session", "a"), ("session", "-x"))
 MISTAKEN = (("-",), ("",), ("--", "run", "a"))
 
 
@@ -203,6 +204,7 @@ def main():
         for cases in (arguments, table, journals, sizes):
             for case in cases():
                 count.add(case.shows, [case.fault(program, folder)])
+        count.add("sessions over two pipes, and over input that is there at once", sessions.faults(program))
         for words, says in mistakes():
             count.add(f"{' '.join(words)!r} is a mistake", [fault_of_mistake(program, folder, words, says)])
     return count.end()

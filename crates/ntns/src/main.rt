@@ -4,15 +4,18 @@
 
 use ob_tasks::{refuse, serve, starve};
 use ob_words::unreadable;
-use std::io::ErrorKind;
+use std::io::{BufReader, ErrorKind};
 use std::process::ExitCode;
 use std::{env, fs};
 
 fn main(rt: HostRuntime) -> ExitCode {
     let alloc = rt.alloc();
-    let mut reader = rt.stdin();
     let mut writer = rt.stdout();
     let mut errors = rt.stderr();
+    let Ok(mut reader) = BufReader::new(alloc, rt.stdin()) else {
+        let (end, _told) = starve(&mut errors);
+        return ExitCode::from(end.status());
+    };
     let (end, _told) = match env::args(&rt) {
         Ok(words) => match words.collect::<Vec<String>>(alloc) {
             Ok(words) => serve(

@@ -8,4 +8,5 @@ mod printing;
 mod run;
 
 pub use laws::{offsets_are_added_in_full, shown_law};
-pub use run::{Ending, run_script};
+pub use printing::write_outcome;
+pub use run::{Ending, perform_line, run_script};

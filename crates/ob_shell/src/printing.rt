@@ -24,7 +24,9 @@ const PART: usize = 64;
 // How many bytes the names of an entry have at most that is written at once.
 const SHORT: usize = 32;
 
-// Writes what became of the line of a number, by way of the block.
+/// Writes the outcome of the line of this number, a line of output or none, through a block with room for at least 192 bytes: the block is
+/// written and emptied where it has no room left, and keeps the rest. The fault is that of a write, after which a beginning of block and line was
+/// written. (this profile)
 pub fn write_outcome<W: Write>(
     writer: &mut W,
     block: &mut Vec<u8>,

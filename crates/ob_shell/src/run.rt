@@ -173,8 +173,8 @@ fn play<W: Write>(
     Ok(Ending::Done)
 }
 
-// Does what a line says, whose form is looked for only where it isn't empty and no comment.
-fn perform_line(session: &mut Session, line: &[u8]) -> LineOutcome
+/// Performs a line, given without its LF, in a session. A line that is no script line changes nothing. (this profile)
+pub fn perform_line(session: &mut Session, line: &[u8]) -> LineOutcome
     requires { IsSession session.old }
     ensures kept { IsSession session.new }
     ensures done { (form : Option (Form (List ℕ))) × HasForm line.now form

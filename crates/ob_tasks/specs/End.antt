@@ -4,11 +4,11 @@ use Rattle.std.specs.Prelude.{ℕ, Ok, Err}
 use Rattle.ob_shell.specs.declared.run.Ending.TheVariants as ending
 use Rattle.ob_tasks.specs.declared.end.End.{End}
 use Rattle.ob_tasks.specs.declared.end.End.TheVariants.{Task, Mistake, Help}
-use Rattle.ob_tasks.specs.declared.end.Ended.TheVariants.{Script, Threads, Replay}
+use Rattle.ob_tasks.specs.declared.end.Ended.TheVariants.{Script, Threads, Replay, Session}
 use Rattle.ob_threads.specs.declared.ends.ThreadsEnding.TheVariants as threads
 use Rattle.ob_verdict.specs.declared.verdict.Verdict.TheVariants as verdict
 
--- 0 where the whole script was run, a journal is accepted, or help was written; 2 for a mistake in the words; 3 where a journal is
+-- 0 where the whole script was run, a session came to its end, a journal is accepted, or help was written; 2 for a mistake in the words; 3 where a journal is
 -- refused; else 1
 abbrev pub status_of : End → ℕ
 status_of (Task (Ok (Script ending.Done))) = 0
@@ -20,6 +20,7 @@ status_of (Task (Ok (Threads (threads.NoMemoryAt line)))) = 1
 status_of (Task (Ok (Threads (threads.RefusedAt line)))) = 1
 status_of (Task (Ok (Replay verdict.Accepted))) = 0
 status_of (Task (Ok (Replay verdict.Refused))) = 3
+status_of (Task (Ok Session)) = 0
 status_of (Task (Err fault)) = 1
 status_of Mistake = 2
 status_of Help = 0

@@ -19,7 +19,8 @@ use Rattle.ob_threads.specs.declared.ends.ThreadsEnding.TheVariants as threads
 use Rattle.ob_verdict.specs.Verdict.{Replays}
 use Rattle.ob_verdict.specs.declared.verdict.Verdict.{Verdict}
 use Rattle.ob_words.specs.declared.planning.Task.{Task}
-use Rattle.ob_words.specs.declared.planning.Task.TheVariants.{Script, Run, Threads, Replay}
+use Rattle.ob_session.specs.Session.{IsConversation, IsConversationCut}
+use Rattle.ob_words.specs.declared.planning.Task.TheVariants.{Script, Run, Threads, Replay, Session}
 
 -- the line that tells a text
 abbrev pub line_of : List ℕ → List ℕ
@@ -44,6 +45,7 @@ text_told (Ok (ended.Threads (threads.BadLine line))) = None
 text_told (Ok (ended.Threads (threads.NoMemoryAt line))) = Some (fault_text_of Memory)
 text_told (Ok (ended.Threads (threads.RefusedAt line))) = Some (codes "step refused")
 text_told (Ok (ended.Replay verdict)) = None
+text_told (Ok ended.Session) = None
 text_told (Err fault) = Some (fault_text_of fault)
 
 -- it says that whole, or nothing where there is nothing to say
@@ -77,6 +79,7 @@ abbrev pub OfScript : (Result Ending ShellFault → Type 0) → Result Ended She
 OfScript P (Ok (ended.Script ending)) = P (Ok ending)
 OfScript P (Ok (ended.Threads ending)) = ⊥
 OfScript P (Ok (ended.Replay verdict)) = ⊥
+OfScript P (Ok ended.Session) = ⊥
 OfScript P (Err fault) = P (Err fault)
 
 -- the outcome is that of a run of a script with workers, of which this holds
@@ -84,6 +87,7 @@ abbrev pub OfThreads : (Result ThreadsEnding ShellFault → Type 0) → Result E
 OfThreads P (Ok (ended.Script ending)) = ⊥
 OfThreads P (Ok (ended.Threads ending)) = P (Ok ending)
 OfThreads P (Ok (ended.Replay verdict)) = ⊥
+OfThreads P (Ok ended.Session) = ⊥
 OfThreads P (Err fault) = P (Err fault)
 
 -- the outcome is that of the check of a journal, of which this holds
@@ -91,7 +95,16 @@ abbrev pub OfReplay : (Result Verdict ShellFault → Type 0) → Result Ended Sh
 OfReplay P (Ok (ended.Script ending)) = ⊥
 OfReplay P (Ok (ended.Threads ending)) = ⊥
 OfReplay P (Ok (ended.Replay verdict)) = P (Ok verdict)
+OfReplay P (Ok ended.Session) = ⊥
 OfReplay P (Err fault) = P (Err fault)
+
+-- the outcome is that of a session over the input: all its lines were answered, or a fault cut it
+abbrev pub RunsSession : Result Ended ShellFault → Option (List ℕ) → Option (List ℕ) → Option (List ℕ) → Type 0
+RunsSession (Ok (ended.Script ending)) input written written' = ⊥
+RunsSession (Ok (ended.Threads ending)) input written written' = ⊥
+RunsSession (Ok (ended.Replay verdict)) input written written' = ⊥
+RunsSession (Ok ended.Session) input written written' = IsConversation input written written'
+RunsSession (Err fault) input written written' = IsConversationCut fault input written written'
 
 -- the run or the check that the task asks for, to this outcome, with its input, and the output before and after
 abbrev pub Runs : Task → Result Ended ShellFault → Option (List ℕ) → Option (List ℕ) → Option (List ℕ) → Type 0
@@ -99,6 +112,7 @@ Runs Script outcome input written written' = OfScript (λ ran. RunsScript ran in
 Runs (Run file) outcome input written written' = OfScript (λ ran. RunsScript ran input written written') outcome
 Runs (Threads file) outcome input written written' = OfThreads (λ ran. IsWritten ran input written written') outcome
 Runs (Replay file) outcome input written written' = OfReplay (λ ran. Replays ran input written written') outcome
+Runs Session outcome input written written' = RunsSession outcome input written written'
 
 -- the task, to this outcome, with its input, and what was written before and after
 pub record Performs (task : Task) (outcome : Result Ended ShellFault) (line : Told) (input written written' told told' : Option (List ℕ)) : Type 0 where

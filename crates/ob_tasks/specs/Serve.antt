@@ -13,7 +13,7 @@ use Rattle.ob_tasks.specs.declared.end.End.TheVariants as ends
 use Rattle.ob_tasks.specs.declared.end.Ended.{Ended}
 use Rattle.ob_tasks.specs.Opening.{Follows, Opened, opened_as}
 use Rattle.ob_tasks.specs.Perform.{Performs, Told}
-use Rattle.ob_words.specs.Plan.{Named, named, ntns, replay, script, run, task_of, threads}
+use Rattle.ob_words.specs.Plan.{Named, named, ntns, replay, script, session, run, task_of, threads}
 use Rattle.ob_tasks.specs.Refuse.{Blames, Fails, Helps, IsRequest, Starves}
 use Rattle.ob_words.specs.declared.planning.Task.{Task}
 
@@ -35,6 +35,7 @@ pub record ServesFile (gives : Text → Opened → Type 0) (path : Text) (task :
 -- the task is done over the input, or over the file that it names
 abbrev pub ServesNamed : (Text → Opened → Type 0) → Named → Task → Result Ended ShellFault → Told → Option (List ℕ) → Option (List ℕ) → Option (List ℕ) → Option (List ℕ) → Option (List ℕ) → Type 0
 ServesNamed gives script task outcome line input written written' told told' = Performs task outcome line input written written' told told'
+ServesNamed gives session task outcome line input written written' told told' = Performs task outcome line input written written' told told'
 ServesNamed gives (run path) task outcome line input written written' told told' = ServesFile gives path task outcome line written written' told told'
 ServesNamed gives (threads path) task outcome line input written written' told told' = ServesFile gives path task outcome line written written' told told'
 ServesNamed gives (replay path) task outcome line input written written' told told' = ServesFile gives path task outcome line written written' told told'

@@ -17,6 +17,8 @@ pub enum Ended {
     Threads(ThreadsEnding),
     /// The check of a journal came to this verdict.
     Replay(Verdict),
+    /// The input of a session came to its end.
+    Session,
 }
 
 /// How the program ends. (this profile)
@@ -32,7 +34,7 @@ pub enum End {
 }
 
 impl End {
-    /// The program's status: 0 where the whole script was run, a journal is accepted or help was written, 2 where
+    /// The program's status: 0 where the whole script was run, a session came to its end, a journal is accepted or help was written, 2 where
     /// the words are a mistake, 3 where a journal is refused, and else 1. (this profile)
     pub fn status(&self) -> u8
         ensures { result ≡ status_of self.now }
@@ -47,6 +49,7 @@ impl End {
             End::Task(Ok(Ended::Threads(ThreadsEnding::RefusedAt(_)))) => 1,
             End::Task(Ok(Ended::Replay(Verdict::Accepted))) => 0,
             End::Task(Ok(Ended::Replay(Verdict::Refused))) => 3,
+            End::Task(Ok(Ended::Session)) => 0,
             End::Task(Err(_)) => 1,
             End::Mistake => 2,
             End::Help => 0,

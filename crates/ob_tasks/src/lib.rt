@@ -14,6 +14,6 @@ pub use ob_streams::{ShellFault, Unread, Unwritten};
 pub use ob_threads::ThreadsEnding;
 pub use ob_verdict::Verdict;
 pub use opening::perform_opened;
-pub use performing::{complain, perform, starve};
+pub use performing::{complain, converse, perform, starve};
 pub use refusing::refuse;
 pub use serving::serve;

@@ -1,6 +1,6 @@
 //! Doing a task over the file that was opened for it.
 
-ghost use Rattle.std.specs.Prelude.{◌≡◌};
+ghost use Rattle.std.specs.Prelude.{◌≡◌, ◌≢◌};
 ghost use Rattle.std.specs.IoError.{error_kind};
 ghost use Rattle.ob_tasks.specs.Opening.{Follows, fault_of_opening, opened_as};
 
@@ -26,6 +26,7 @@ pub fn perform_opened<H: Threads + Wait + Sync, I: Read + Drop, W: Write, E: Wri
     writer: &mut W,
     errors: &mut E,
 ) -> (Result<Ended, ShellFault>, Result<(), Unwritten>)
+    requires { task ≢ Task.Session }
     ensures { Follows (opened_as I.remaining opened) task.entry (result.0) (result.1)
         (W.contents writer.old) (W.contents writer.new)
         (E.contents errors.old) (E.contents errors.new) }

@@ -1,6 +1,6 @@
 //! Doing a task over the program's streams.
 
-ghost use Rattle.std.specs.Prelude.{◌≡◌, OnOk, OnErr, Err};
+ghost use Rattle.std.specs.Prelude.{◌≡◌, ◌≢◌, OnOk, OnErr, Err};
 ghost use Rattle.std.specs.Io.KnownBytes.{Appends};
 ghost use Rattle.ob_streams.specs.declared.fault.ShellFault.TheVariants.{Memory};
 ghost use Rattle.ob_streams.specs.Fault.{fault_text_of};
@@ -10,13 +10,14 @@ ghost use Rattle.ob_tasks.specs.Perform.{Complains, Performs, Runs, SaysFront, S
 ghost use Rattle.ob_threads.specs.Written.{IsWritten};
 
 use crate::end::{End, Ended};
+use ob_session::run_session;
 use ob_shell::run_script;
 use ob_streams::{ShellFault, Unwritten, write_out};
 use ob_threads::{ThreadsEnding, run_threads};
 use ob_verdict::run_replay;
 use ob_words::Task;
 use std::alloc::Global;
-use std::io::{Read, Write};
+use std::io::{BufRead, Read, Write};
 use std::marker::Brand;
 use std::sync::Wait;
 use std::sync::ledger::Blank;
@@ -29,7 +30,7 @@ use std::thread::Threads;
 /// the output goes to the writer. To `errors` goes one line, `ntns: ` and the text of the fault that
 /// is answered, or, where a run with workers had a step that found no memory or was refused, a text that says
 /// so; an end that the output tells has none. A fault of writing that line changes no
-/// ending. (this profile)
+/// ending. A session is another call: [`converse`]. (this profile)
 pub fn perform<H: Threads + Wait + Sync, R: Read, W: Write, E: Write>(
     rt: &H,
     alloc: Global,
@@ -38,11 +39,31 @@ pub fn perform<H: Threads + Wait + Sync, R: Read, W: Write, E: Write>(
     writer: &mut W,
     errors: &mut E,
 ) -> (Result<Ended, ShellFault>, Result<(), Unwritten>)
+    requires { task ≢ Task.Session }
     ensures { Performs task.entry (result.0) (result.1) (R.remaining reader.old)
         (W.contents writer.old) (W.contents writer.new)
         (E.contents errors.old) (E.contents errors.new) }
 {
     let outcome = run_task(rt, alloc, task, reader, writer);
+    let told = tell(errors, &outcome);
+    (outcome, told)
+}
+
+/// Runs a session over the reader, and reports as [`perform`] does. (this profile)
+pub fn converse<R: BufRead, W: Write, E: Write>(
+    alloc: Global,
+    reader: &mut R,
+    writer: &mut W,
+    errors: &mut E,
+) -> (Result<Ended, ShellFault>, Result<(), Unwritten>)
+    ensures { Performs Task.Session (result.0) (result.1) (R.remaining reader.old)
+        (W.contents writer.old) (W.contents writer.new)
+        (E.contents errors.old) (E.contents errors.new) }
+{
+    let outcome = match run_session(alloc, reader, writer) {
+        Ok(()) => Ok(Ended::Session),
+        Err(fault) => Err(fault),
+    };
     let told = tell(errors, &outcome);
     (outcome, told)
 }
@@ -55,6 +76,7 @@ fn run_task<H: Threads + Wait + Sync, R: Read, W: Write>(
     reader: &mut R,
     writer: &mut W,
 ) -> Result<Ended, ShellFault>
+    requires { task ≢ Task.Session }
     ensures { Runs task.entry result (R.remaining reader.old) (W.contents writer.old)
         (W.contents writer.new) }
 {
@@ -71,6 +93,7 @@ fn run_task<H: Threads + Wait + Sync, R: Read, W: Write>(
             Ok(verdict) => Ok(Ended::Replay(verdict)),
             Err(fault) => Err(fault),
         },
+        Task::Session => unreachable!(),
     }
 }
 

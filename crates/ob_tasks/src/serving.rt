@@ -5,21 +5,21 @@ ghost use Rattle.ob_tasks.specs.Serve.{AsksFor, Gives, Serves};
 
 use crate::end::End;
 use crate::opening::perform_opened;
-use crate::performing::perform;
+use crate::performing::{converse, perform};
 use crate::refusing::refuse;
 use ob_streams::Unwritten;
 use ob_words::{Task, plan};
 use std::alloc::Global;
 use std::convert::AsStr;
 use std::io;
-use std::io::{Read, Write};
+use std::io::{BufRead, Read, Write};
 use std::sync::Wait;
 use std::thread::Threads;
 
 /// Does what the words ask for, and tells how the program ends, and whether what standard error has to say was
 /// written whole. The first word is the program's name.
 ///
-/// Where the words name a task and have no fault, it is done: `Script` over the reader, and `Run`,
+/// Where the words name a task and have no fault, it is done: `Script` and `Session` over the reader, and `Run`,
 /// `Threads` and `Replay` over the file that `opener` gives for their path. Nothing else is opened: `opener` need only be
 /// callable at the path that the words name, and is called for no script on standard input. A file
 /// that could not be opened is told as `perform_opened` says. A fault of the words is told instead,
@@ -30,7 +30,7 @@ pub fn serve<
     S: AsStr,
     O: FnOnce(&'a str) -> io::Result<I>,
     I: Read + Drop,
-    R: Read,
+    R: BufRead,
     W: Write,
     E: Write,
 >(
@@ -52,6 +52,7 @@ pub fn serve<
         Ok(task) => {
             let (outcome, told) = match task {
                 Task::Script => perform(rt, alloc, task, reader, writer, errors),
+                Task::Session => converse(alloc, reader, writer, errors),
                 Task::Run(file) | Task::Threads(file) | Task::Replay(file) => {
                     let opened = opener(file);
                     perform_opened(rt, alloc, task, opened, writer, errors)

@@ -6,10 +6,11 @@ use Rattle.clap.specs.Faults.{entered_fault, flag_word_fault, level_fault, other
 use Rattle.clap.specs.Kinds.{Kinds, or_else}
 use Rattle.clap.specs.Lexer.{long_of}
 use Rattle.clap.specs.Simple.{Shape, built_leaf, entered, inherited, marked_built, names_of, with_leaf_noted}
-use Rattle.clap.specs.Words.{App, Row, Text, built, fault_of, first_of, is_simple, is_simple_and_free, new_app, subcommand_of, with_rule}
+use Rattle.clap.specs.declared.error.Error.{Error}
+use Rattle.clap.specs.Words.{App, HasKind, Row, Text, built, fault_of, first_of, is_simple, is_simple_and_free, new_app, subcommand_of, with_rule}
 use Rattle.clap.proofs.OnLiterals.{clap_on_literals}
 use Rattle.clap.proofs.WalkLemmas.{walk_stopped}
-use Rattle.ob_words.specs.Plan.{IsFileIn, Named, Spells, file_rule, ntns, replay, run, script, task_of, threads}
+use Rattle.ob_words.specs.Plan.{IsFileIn, IsNothingMore, Named, Spells, file_rule, ntns, replay, run, script, session, task_of, threads}
 use Rattle.ob_words.proofs.Flags.{HasOnlyHelp, help, long_is_plain, or_else_next, or_else_none}
 
 -- the program, as the parser builds it
@@ -30,6 +31,9 @@ threads_word = codes "threads"
 
 abbrev replay_word : Text
 replay_word = codes "replay"
+
+abbrev session_word : Text
+session_word = codes "session"
 
 abbrev help_word : Text
 help_word = codes "help"
@@ -65,42 +69,50 @@ threads_name = (threads_word, [])
 abbrev replay_name : Text × List Text
 replay_name = (replay_word, [])
 
+abbrev session_name : Text × List Text
+session_name = (session_word, [])
+
 abbrev help_name : Text × List Text
 help_name = (help_word, [])
 
 -- the subcommand that a word names, by the names
-abbrev met_by : Bool → Bool → Bool → Bool → Option Text
-met_by is_run is_threads is_replay is_help = option_map (λ s. s.0)
+abbrev met_by : Bool → Bool → Bool → Bool → Bool → Option Text
+met_by is_run is_threads is_replay is_session is_help = option_map (λ s. s.0)
     (if is_run || false then Some run_name else (if is_threads || false then Some threads_name
-    else (if is_replay || false then Some replay_name else (if is_help || false then Some help_name else None))))
+    else (if is_replay || false then Some replay_name else (if is_session || false then Some session_name
+    else (if is_help || false then Some help_name else None)))))
 
--- a first word is `run`, `threads`, `replay` or `--`
-abbrev IsFirst : Bool → Bool → Bool → Text → Type 0
-IsFirst is_run is_threads is_replay word = (is_run ≡ true) ⊎ ((is_threads ≡ true) ⊎ ((is_replay ≡ true) ⊎ (bytes_eq word dashes ≡ true)))
+-- a first word is `run`, `threads`, `replay`, `session` or `--`
+abbrev IsFirst : Bool → Bool → Bool → Bool → Text → Type 0
+IsFirst is_run is_threads is_replay is_session word =
+    (is_run ≡ true) ⊎ ((is_threads ≡ true) ⊎ ((is_replay ≡ true) ⊎ ((is_session ≡ true) ⊎ (bytes_eq word dashes ≡ true))))
 
-first_turn : (is_run is_threads is_replay is_help : Bool) (word : Text)
-    → or_else (other_fault top (met_by is_run is_threads is_replay is_help) word nothing_held)
+first_turn : (is_run is_threads is_replay is_session is_help : Bool) (word : Text)
+    → or_else (other_fault top (met_by is_run is_threads is_replay is_session is_help) word nothing_held)
     (step_fault top 1
-    (subcommand_or_other top.rules (met_by is_run is_threads is_replay is_help) idle 1 word nothing_held).0
-    (subcommand_or_other top.rules (met_by is_run is_threads is_replay is_help) idle 1 word nothing_held).1) ≡ []
-    → IsFirst is_run is_threads is_replay word
-first_turn true is_threads is_replay is_help word none = inl refl
-first_turn false true is_replay is_help word none = inr (inl refl)
-first_turn false false true is_help word none = inr (inr (inl refl))
-first_turn false false false true word none = cc
-first_turn false false false false word none = inr (inr (inr (dashes_first (bytes_eq word dashes) word none)))
+    (subcommand_or_other top.rules (met_by is_run is_threads is_replay is_session is_help) idle 1 word nothing_held).0
+    (subcommand_or_other top.rules (met_by is_run is_threads is_replay is_session is_help) idle 1 word nothing_held).1) ≡ []
+    → IsFirst is_run is_threads is_replay is_session word
+first_turn true is_threads is_replay is_session is_help word none = inl refl
+first_turn false true is_replay is_session is_help word none = inr (inl refl)
+first_turn false false true is_session is_help word none = inr (inr (inl refl))
+first_turn false false false true is_help word none = inr (inr (inr (inl refl)))
+first_turn false false false false true word none = cc
+first_turn false false false false false word none = inr (inr (inr (inr (dashes_first (bytes_eq word dashes) word none))))
 
 -- what a first word without a fault is
 abbrev IsFirstWord : Text → Type 0
-IsFirstWord word = (word ≡ run_word) ⊎ ((word ≡ threads_word) ⊎ ((word ≡ replay_word) ⊎ (word ≡ dashes)))
+IsFirstWord word = (word ≡ run_word) ⊎ ((word ≡ threads_word) ⊎ ((word ≡ replay_word) ⊎ ((word ≡ session_word) ⊎ (word ≡ dashes))))
 
 first_word : (word : Text) → turn_fault top names (walk_from nothing_held) word ≡ [] → IsFirstWord word
-first_word word none = elim (first_turn (bytes_eq run_word word) (bytes_eq threads_word word) (bytes_eq replay_word word) (bytes_eq help_word word) word none) [
-  | inl is_run ↦ inl (sym ((bytes_eq-Decides run_word word).0 is_run))
-  | inr (inl is_threads) ↦ inr (inl (sym ((bytes_eq-Decides threads_word word).0 is_threads)))
-  | inr (inr (inl is_replay)) ↦ inr (inr (inl (sym ((bytes_eq-Decides replay_word word).0 is_replay))))
-  | inr (inr (inr is_dashes)) ↦ inr (inr (inr ((bytes_eq-Decides word dashes).0 is_dashes)))
-]
+first_word word none =
+    elim (first_turn (bytes_eq run_word word) (bytes_eq threads_word word) (bytes_eq replay_word word) (bytes_eq session_word word) (bytes_eq help_word word) word none) [
+      | inl is_run ↦ inl (sym ((bytes_eq-Decides run_word word).0 is_run))
+      | inr (inl is_threads) ↦ inr (inl (sym ((bytes_eq-Decides threads_word word).0 is_threads)))
+      | inr (inr (inl is_replay)) ↦ inr (inr (inl (sym ((bytes_eq-Decides replay_word word).0 is_replay))))
+      | inr (inr (inr (inl is_session))) ↦ inr (inr (inr (inl (sym ((bytes_eq-Decides session_word word).0 is_session)))))
+      | inr (inr (inr (inr is_dashes))) ↦ inr (inr (inr (inr ((bytes_eq-Decides word dashes).0 is_dashes))))
+    ]
 
 -- ---- the words behind a subcommand
 
@@ -227,6 +239,10 @@ left_to_replay : (rest : List Text) → stop_after top.rules names (replay_word 
 unfolding walked
 left_to_replay rest = sym (ap (λ (w : Walk). w.stopped) (walk_stopped top.rules names (walk_from nothing_held) replay_word [] rest))
 
+left_to_session : (rest : List Text) → stop_after top.rules names (session_word ∷ rest) ≡ Some (session_word, rest)
+unfolding walked
+left_to_session rest = sym (ap (λ (w : Walk). w.stopped) (walk_stopped top.rules names (walk_from nothing_held) session_word [] rest))
+
 no_fault_below : (name : Text) (words : List Text) → fault_of ntns (name ∷ words) ≡ [] → entered_fault (built ntns) (stop_after top.rules names words) ≡ []
 no_fault_below name words none = or_else_none _ _ (or_else_next _ _ none)
 
@@ -255,6 +271,54 @@ names_replay name rest none =
     let rows : subcommand_of ntns (name ∷ replay_word ∷ rest) ≡ Some (replay_word, rows_after (inner replay_word).rules [] rest) = ap (entered (built ntns)) (left_to_replay rest) in
     (replay found.0, (ap task_of rows ∙ ap (option_map replay) found.1.0, (refl, found.1.1)))
 
+-- the subcommand `session`, as the parser builds it
+abbrev alone : Shape
+alone = built_leaf (inherited (with_leaf_noted (marked_built ntns.top)) (new_app session_word).top)
+
+alone_has_only_help : HasOnlyHelp alone.rules
+alone_has_only_help = record {
+  by_long = λ name. (has_long help name, refl);
+  by_short = λ letter. (has_short help letter, refl);
+}
+
+stray_alone : (met : Held × Step) → met ≡ (nothing_held, value) → step_fault alone 1 met.0 met.1 ≡ [] → ⊥
+stray_alone met same none = cc
+
+-- a word behind it is `--`
+dashes_alone : (is_dashes : Bool) (word : Text)
+    → or_else (if is_dashes then [] else flag_word_fault alone.rules false (long_of word) word nothing_held)
+    (step_fault alone 1
+    (if is_dashes then (nothing_held, trailing 1) else long_or_other alone.rules idle word (long_of word) nothing_held).0
+    (if is_dashes then (nothing_held, trailing 1) else long_or_other alone.rules idle word (long_of word) nothing_held).1) ≡ []
+    → is_dashes ≡ true
+dashes_alone true word none = refl
+dashes_alone false word none =
+    absurd (stray_alone _ (long_is_plain alone.rules alone_has_only_help None word (long_of word) (or_else_none _ _ none)) (or_else_next _ _ none))
+
+abbrev no_fault_alone : List Text → Type 0
+no_fault_alone words = level_fault alone [] nothing_held words false [] ≡ []
+
+first_alone : (word : Text) (rest : List Text) → no_fault_alone (word ∷ rest) → turn_fault alone [] (walk_from nothing_held) word ≡ []
+unfolding walk_fault
+first_alone word rest none = or_else_none _ _ (or_else_none _ _ none)
+
+dashes_last : (word : Text) (rest : List Text) → no_fault_alone (dashes ∷ word ∷ rest) → ⊥
+unfolding clap_on_literals
+dashes_last word rest none = cc
+
+is_nothing : (words : List Text) → no_fault_alone words → IsNothingMore words
+is_nothing [] none = tt
+is_nothing (word ∷ []) none = (bytes_eq-Decides word dashes).0 (dashes_alone (bytes_eq word dashes) word (first_alone word [] none))
+is_nothing (word ∷ next ∷ rest) none =
+    let same : word ≡ dashes = (bytes_eq-Decides word dashes).0 (dashes_alone (bytes_eq word dashes) word (first_alone word (next ∷ rest) none)) in
+    absurd (dashes_last next rest (subst (λ w. no_fault_alone (w ∷ next ∷ rest)) same none))
+
+names_session : (name : Text) (rest : List Text) → fault_of ntns (name ∷ session_word ∷ rest) ≡ [] → NamesTask (name ∷ session_word ∷ rest)
+names_session name rest none =
+    let below : no_fault_alone rest = subst (λ stop. entered_fault (built ntns) stop ≡ []) (left_to_session rest) (no_fault_below name (session_word ∷ rest) none) in
+    let rows : subcommand_of ntns (name ∷ session_word ∷ rest) ≡ Some (session_word, rows_after alone.rules [] rest) = ap (entered (built ntns)) (left_to_session rest) in
+    (session, (ap task_of rows, (refl, is_nothing rest below)))
+
 names_dashes : (name : Text) (rest : List Text) → fault_of ntns (name ∷ dashes ∷ rest) ≡ [] → NamesTask (name ∷ dashes ∷ rest)
 unfolding clap_on_literals
 names_dashes name [] none = (script, (refl, refl))
@@ -267,7 +331,9 @@ names_by name word rest none (inr (inl same)) =
     subst (λ w. NamesTask (name ∷ w ∷ rest)) (sym same) (names_threads name rest (subst (λ w. fault_of ntns (name ∷ w ∷ rest) ≡ []) same none))
 names_by name word rest none (inr (inr (inl same))) =
     subst (λ w. NamesTask (name ∷ w ∷ rest)) (sym same) (names_replay name rest (subst (λ w. fault_of ntns (name ∷ w ∷ rest) ≡ []) same none))
-names_by name word rest none (inr (inr (inr same))) =
+names_by name word rest none (inr (inr (inr (inl same)))) =
+    subst (λ w. NamesTask (name ∷ w ∷ rest)) (sym same) (names_session name rest (subst (λ w. fault_of ntns (name ∷ w ∷ rest) ≡ []) same none))
+names_by name word rest none (inr (inr (inr (inr same)))) =
     subst (λ w. NamesTask (name ∷ w ∷ rest)) (sym same) (names_dashes name rest (subst (λ w. fault_of ntns (name ∷ w ∷ rest) ≡ []) same none))
 
 first_turn_passes : (name word : Text) (rest : List Text) → fault_of ntns (name ∷ word ∷ rest) ≡ [] → turn_fault top names (walk_from nothing_held) word ≡ []
@@ -286,6 +352,11 @@ pub faultless_as_stated : (app : App) (words : List Text) → app ≡ ntns → (
 faultless_as_stated app words same none =
     let simple : is_simple_and_free app ≡ true = ap is_simple_and_free same in
     subst (λ a. fault_of a words ≡ []) same (none simple)
+
+pub kinds_as_stated : (app : App) (words : List Text) (fault : Error) → app ≡ ntns → (is_simple_and_free app ≡ true → HasKind (fault_of app words) fault) → HasKind (fault_of ntns words) fault
+kinds_as_stated app words fault same has =
+    let simple : is_simple_and_free app ≡ true = ap is_simple_and_free same in
+    subst (λ a. HasKind (fault_of a words) fault) same (has simple)
 
 pub used_as_stated : {X : Type 0} (app : App) (words : List Text) (used : Option (Text × List Row)) → app ≡ ntns
     → (is_simple app ≡ true → X × (used ≡ subcommand_of app words)) → used ≡ subcommand_of ntns words

@@ -27,9 +27,13 @@ threads_app = with_rule (new_app (codes "threads")) file_rule
 abbrev pub replay_app : App
 replay_app = with_rule (new_app (codes "replay")) file_rule
 
--- the program: it has the subcommands `run`, `threads` and `replay`, what the parser adds to ask for help, and nothing else
+-- the subcommand `session`, which takes no word
+abbrev pub session_app : App
+session_app = new_app (codes "session")
+
+-- the program: it has the subcommands `run`, `threads`, `replay` and `session`, what the parser adds to ask for help, and nothing else
 abbrev pub ntns : App
-ntns = with_subcommand (with_subcommand (with_subcommand (new_app (codes "ntns")) run_app.top) threads_app.top) replay_app.top
+ntns = with_subcommand (with_subcommand (with_subcommand (with_subcommand (new_app (codes "ntns")) run_app.top) threads_app.top) replay_app.top) session_app.top
 
 -- a text that help shows, where there is one
 abbrev pub text_of : Option (Bor Text) → Option Text
@@ -52,6 +56,9 @@ threads_about = codes "Runs the script with workers in FILE, and prints its jour
 abbrev pub replay_about : Text
 replay_about = codes "Checks the journal in FILE, and prints the verdict"
 
+abbrev pub session_about : Text
+session_about = codes "Runs each line of standard input as it comes, and prints its reply before it reads the next one"
+
 abbrev pub file_help : Text
 file_help = codes "The path of the file, taken as it is"
 
@@ -61,19 +68,22 @@ pub data Named : Type 0 where
   run : Text → Named
   threads : Text → Named
   replay : Text → Named
+  session : Named
 
 abbrev pub named : Task → Named
 named task.Script = script
 named (task.Run file) = run file.now
 named (task.Threads file) = threads file.now
 named (task.Replay file) = replay file.now
+named task.Session = session
 
 -- the task that a subcommand names, where there is one
 abbrev pub task_of : Option (Text × List Row) → Option Named
 task_of None = Some script
 task_of (Some used) = if bytes_eq used.0 (codes "run") then option_map run (first_of (codes "FILE") used.1)
     else (if bytes_eq used.0 (codes "threads") then option_map threads (first_of (codes "FILE") used.1)
-    else (if bytes_eq used.0 (codes "replay") then option_map replay (first_of (codes "FILE") used.1) else None))
+    else (if bytes_eq used.0 (codes "replay") then option_map replay (first_of (codes "FILE") used.1)
+    else (if bytes_eq used.0 (codes "session") then Some session else None)))
 
 -- no word stands behind the program's name, or `--` alone, which ends the flags
 abbrev pub IsBare : List Text → Type 0
@@ -95,12 +105,25 @@ IsOverFile command file [] = ⊥
 IsOverFile command file (name ∷ []) = ⊥
 IsOverFile command file (name ∷ word ∷ rest) = (word ≡ command) × IsFileIn file rest
 
+-- nothing stands behind a subcommand that takes no word, or `--` alone
+abbrev pub IsNothingMore : List Text → Type 0
+IsNothingMore [] = Unit {0}
+IsNothingMore (word ∷ []) = word ≡ codes "--"
+IsNothingMore (word ∷ next ∷ rest) = ⊥
+
+-- the words are the program's name and the subcommand's
+abbrev pub IsAlone : Text → List Text → Type 0
+IsAlone command [] = ⊥
+IsAlone command (name ∷ []) = ⊥
+IsAlone command (name ∷ word ∷ rest) = (word ≡ command) × IsNothingMore rest
+
 -- the words that name the task
 abbrev pub Spells : List Text → Named → Type 0
 Spells words script = IsBare words
 Spells words (run file) = IsOverFile (codes "run") file words
 Spells words (threads file) = IsOverFile (codes "threads") file words
 Spells words (replay file) = IsOverFile (codes "replay") file words
+Spells words session = IsAlone (codes "session") words
 
 -- a mistake in the words, or want of memory
 abbrev pub IsMistakeOrWant : ErrorKind → Type 0

@@ -3,7 +3,7 @@
 ghost use Rattle.std.specs.Prelude.{◌≡◌, ◌≤◌, true, false, Some, IfOk, IfErr, length, map, option_map};
 ghost use Rattle.clap.specs.Words.{FailsBy, app_of, fault_of, kind_of, rule_of, subcommand_of, subcommand_rows_of, takes};
 ghost use Rattle.clap.specs.declared.builder.command.Command.TheViews.{out-Command as fields_of};
-ghost use Rattle.ob_words.specs.Plan.{IsMistakeOrWant, Spells, about_of, file_help, file_rule, named, ntns, ntns_about, replay_about, replay_app, run_about, run_app, task_of, text_of, threads_about, threads_app};
+ghost use Rattle.ob_words.specs.Plan.{IsMistakeOrWant, Spells, about_of, file_help, file_rule, named, ntns, ntns_about, replay_about, replay_app, run_about, run_app, session_about, session_app, task_of, text_of, threads_about, threads_app};
 
 use clap::error::ErrorKind;
 use clap::{Arg, ArgMatches, Command, Error};
@@ -21,13 +21,15 @@ pub enum Task<'a> {
     Threads(&'a str),
     /// Check the journal in the file of this path, and print the verdict.
     Replay(&'a str),
+    /// Run each line of standard input as it comes, and print its reply before the next one is read.
+    Session,
 }
 
 /// The task that the words ask for. The first word is the program's name.
 ///
 /// It is `Script` where no word stands behind the program's name, or `--` alone, and `Run` where
 /// these are `run` and a path, which is taken as it is, with `--` before or behind it or without;
-/// so it is `Threads` where they are `threads` and a path, and `Replay` where they are `replay` and a path. The task is what the parser
+/// so it is `Threads` where they are `threads` and a path, `Replay` where they are `replay` and a path, and `Session` where they are `session` alone. The task is what the parser
 /// `clap` states for these words and the program as `ntns` describes it. The faults are clap's: of the kinds that clap states for the words, which are mistakes, or
 /// the request for help; or out of memory, which alone can refuse words that name a task, as no
 /// words behind the program's name do. (this profile)
@@ -71,6 +73,7 @@ fn task_in<'a>(matches: &ArgMatches<'a>) -> Option<Task<'a>>
             Some(file) => Some(Task::Replay(file)),
             None => None,
         },
+        Some((name, _)) if name == "session" => Some(Task::Session),
         Some(_) => None,
     }
 }
@@ -99,10 +102,12 @@ fn program<'a>(alloc: Global) -> Result<Command<'a>, AllocError>
     let run = run_command(alloc)?;
     let threads = threads_command(alloc)?;
     let replay = replay_command(alloc)?;
+    let session = session_command(alloc);
     let program = Command::new(alloc, "ntns")
         .subcommand(run)?
         .subcommand(threads)?
-        .subcommand(replay)?;
+        .subcommand(replay)?
+        .subcommand(session)?;
     Ok(program.about(
         "Runs a script of namespace commands, by default from standard input, and prints one reply a line",
     ))
@@ -136,6 +141,17 @@ fn replay_command<'a>(alloc: Global) -> Result<Command<'a>, AllocError>
 {
     let replay = Command::new(alloc, "replay").arg(file_argument(alloc))?;
     Ok(replay.about("Checks the journal in FILE, and prints the verdict"))
+}
+
+// The subcommand `session`.
+fn session_command<'a>(alloc: Global) -> Command<'a>
+    ensures app { app_of result ≡ session_app }
+    ensures local { (fields_of result).has_globals ≡ false }
+    ensures about { about_of result ≡ Some session_about }
+{
+    Command::new(alloc, "session").about(
+        "Runs each line of standard input as it comes, and prints its reply before it reads the next one",
+    )
 }
 
 // The path that a subcommand takes.

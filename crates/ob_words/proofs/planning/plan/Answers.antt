@@ -1,6 +1,6 @@
 use Rattle.std.proofs.Common.{map}
 use Rattle.clap.specs.Words.{subcommand_rows_of}
-use Rattle.ob_words.proofs.Faults.{faultless_as_stated, some_task, task_is_spelled, used_as_stated}
+use Rattle.ob_words.proofs.Faults.{faultless_as_stated, kinds_as_stated, some_task, task_is_spelled, used_as_stated}
 use Rattle.ob_words.proofs.Words.{takes_alone, takes_as_stated}
 use Rattle.ob_words.specs.Plan.{named}
 use Rattle.ob_words.proofs.planning.plan.Goals as goal
@@ -21,3 +21,6 @@ returns-in-Err-try_get_matches_from-clause-memory g c = takes_as_stated _ _ _ c.
 pub returns-in-Err-try_get_matches_from-clause-alone : goal.returns-in-Err-try_get_matches_from-clause-alone
 returns-in-Err-try_get_matches_from-clause-alone g c =
     λ short. takes_as_stated _ _ _ c.in-Ok.ensures.app c.in-Err-try_get_matches_from.ensures.passes (takes_alone g.S.AsStr.text c.args.words.now short)
+
+pub returns-in-Err-try_get_matches_from-clause-kinds : goal.returns-in-Err-try_get_matches_from-clause-kinds
+returns-in-Err-try_get_matches_from-clause-kinds g c = kinds_as_stated _ _ c.in-Err-try_get_matches_from.fault c.in-Ok.ensures.app c.in-Err-try_get_matches_from.ensures.kinds

@@ -17,5 +17,6 @@ pub returns-clause-app : goal.returns-clause-app
 returns-clause-app c =
     let run = added _ _ _ _ _ c.in_ok-subcommand.ensures c.new.ensures.app c.in_ok-run.ensures.app c.in_ok-run.ensures.local in
     let threads = added _ _ _ _ _ c.in_ok-subcommand-2.ensures run c.in_ok-threads.ensures.app c.in_ok-threads.ensures.local in
-    let replay = added _ _ _ _ _ c.in_ok-program.ensures threads c.in_ok-replay.ensures.app c.in_ok-replay.ensures.local in
-    ap app_of_fields c.about.ensures ∙ replay
+    let replay = added _ _ _ _ _ c.in_ok-subcommand-3.ensures threads c.in_ok-replay.ensures.app c.in_ok-replay.ensures.local in
+    let session = added _ _ _ _ _ c.in_ok-program.ensures replay c.session_command-session.ensures.app c.session_command-session.ensures.local in
+    ap app_of_fields c.about.ensures ∙ session

@@ -1,0 +1,3 @@
+pub mod Runs
+pub mod Firsts
+pub mod Talks

@@ -1,0 +1,125 @@
+//! The run of a session.
+
+ghost use Rattle.std.specs.Prelude.{◌≡◌, ◌≤◌, ◌<◌, ◌^◌, [], vec_capacity, IfErr, IfOk};
+ghost use Rattle.std.specs.Io.KnownBytes.{Appends};
+ghost use Rattle.ob_streams.specs.Writing.{AppendsFront};
+ghost use Rattle.ob_shell.specs.Running.{outcome_text};
+ghost use Rattle.ob_effects.specs.Kept.{IsFirst, IsSession, space_of, words_of};
+ghost use Rattle.ob_session.specs.Session.{HasAnswered, IsConversation, IsConversationCut, IsTurn, IsTurnCut};
+
+use crate::reading::take_line;
+use ob_effects::{LineOutcome, Session};
+use ob_shell::{perform_line, write_outcome};
+use ob_streams::{ShellFault, Unwritten, write_out};
+use std::alloc::Global;
+use std::io::{BufRead, Write};
+
+// The bytes of output that are written at once.
+const BLOCK: usize = 65_536;
+
+/// Reads lines of a script, and performs each and writes its reply before it reads the next one, from the opening state with the standard set of
+/// types, until the reader is at its end; docs/script.md has the language. Opens that are pending then are abandoned.
+///
+/// A line that is no script line, or that finds no memory, has such a reply, and the session goes on. So a session ends with a fault alone: `Read`
+/// and `Memory`, after which each line that was taken has its reply, and `Write`, after which a beginning of the last one's was written. A line
+/// that finds no memory while it is read is the fault `Memory`. A session of 2^64 - 2 lines ends with `TooLong`. The writer is not flushed.
+/// (this profile)
+pub fn run_session<R: BufRead, W: Write>(
+    alloc: Global,
+    reader: &mut R,
+    writer: &mut W,
+) -> Result<(), ShellFault>
+    ensures played { IfOk result (λ _. IsConversation (R.remaining reader.old)
+        (W.contents writer.old) (W.contents writer.new)) }
+    ensures cut { IfErr result (λ fault. IsConversationCut fault (R.remaining reader.old)
+        (W.contents writer.old) (W.contents writer.new)) }
+{
+    let mut session = Session::new(alloc)?;
+    let ended = converse(alloc, &mut session, reader, writer);
+    session.end();
+    ended
+}
+
+/// Runs the lines in a session in which nothing was done.
+fn converse<R: BufRead, W: Write>(
+    alloc: Global,
+    session: &mut Session,
+    reader: &mut R,
+    writer: &mut W,
+) -> Result<(), ShellFault>
+    requires first { IsFirst session.old }
+    requires kept { IsSession session.old }
+    ensures kept { IsSession session.new }
+    ensures played { IfOk result (λ _. HasAnswered (words_of session.old) (space_of session.old)
+        (R.remaining reader.old) (W.contents writer.old) (W.contents writer.new)
+        (words_of session.new) (space_of session.new)) }
+    ensures cut { IfErr result (λ fault. IsConversationCut fault (R.remaining reader.old)
+        (W.contents writer.old) (W.contents writer.new)) }
+{
+    let mut line = Vec::new(alloc);
+    let mut block = Vec::with_capacity(alloc, BLOCK)?;
+    for number in 1..u64::MAX {
+        if !answer_next(session, reader, writer, &mut line, &mut block, number)? {
+            return Ok(());
+        }
+    }
+    Err(ShellFault::TooLong)
+}
+
+/// Takes the reader's next line, performs it in a session, and writes its reply, under this number: all before it returns, so before another
+/// line is taken. `false` if the reader is at its end, and then nothing is done. The block has room for at least 192 bytes and is empty before and
+/// after; the line's bytes are put into `line`.
+///
+/// The faults are `Read` and `Memory`, after which nothing was done but for bytes that were taken, and `Write`, after which the line was performed, and a
+/// beginning of its reply was written. (this profile)
+pub fn answer_next<R: BufRead, W: Write>(
+    session: &mut Session,
+    reader: &mut R,
+    writer: &mut W,
+    line: &mut Vec<u8>,
+    block: &mut Vec<u8>,
+    number: u64,
+) -> Result<bool, ShellFault>
+    requires kept { IsSession session.old }
+    requires empty { block.old.items ≡ [] }
+    requires capacity { 192 ≤ vec_capacity block.old }
+    ensures kept { IsSession session.new }
+    ensures empty { IfOk result (λ _. block.new.items ≡ []) }
+    ensures capacity { vec_capacity block.old ≤ vec_capacity block.new }
+    ensures turn { IfOk result (λ there. IsTurn there number (R.remaining reader.old)
+        (R.remaining reader.new) (words_of session.old) (space_of session.old)
+        (W.contents writer.old) (W.contents writer.new) (words_of session.new)
+        (space_of session.new)) }
+    ensures cut { IfErr result (λ fault. IsTurnCut fault number (R.remaining reader.old)
+        (words_of session.old) (space_of session.old) (W.contents writer.old)
+        (W.contents writer.new)) }
+{
+    if !take_line(reader, line)? {
+        return Ok(false);
+    }
+    let outcome = perform_line(session, line.as_slice());
+    write_answer(writer, block, number, &outcome)?;
+    Ok(true)
+}
+
+/// Writes the outcome of the line of this number, a line of output or none, by way of the block.
+fn write_answer<W: Write>(
+    writer: &mut W,
+    block: &mut Vec<u8>,
+    number: u64,
+    outcome: &LineOutcome,
+) -> Result<(), Unwritten>
+    requires empty { block.old.items ≡ [] }
+    requires capacity { 192 ≤ vec_capacity block.old }
+    ensures ok { IfOk result (λ _. Appends (W.contents writer.old) (W.contents writer.new)
+        (outcome_text number outcome.now)) }
+    ensures front { IfErr result (λ _. AppendsFront (W.contents writer.old)
+        (W.contents writer.new) (outcome_text number outcome.now)) }
+    ensures empty { IfOk result (λ _. block.new.items ≡ []) }
+    ensures capacity { vec_capacity block.old ≤ vec_capacity block.new }
+{
+    write_outcome(writer, block, number, outcome)?;
+    write_out(writer, block.as_slice())?;
+    block.clear();
+    Ok(())
+}
