@@ -47,12 +47,14 @@ class Case:
 
 
 def run(words, script=b"", folder=None, **how):
-    """What a program leaves in a folder."""
-    with tempfile.NamedTemporaryFile() as file:
+    """What a program leaves in a folder. Its input is a file, so that a read takes as much in each run."""
+    with tempfile.NamedTemporaryFile() as file, tempfile.TemporaryFile() as given:
         if "FILE" in words:
             Path(file.name).write_bytes(script)
             words, script = [file.name if word == "FILE" else word for word in words], b""
-        ran = subprocess.run(words, input=script, capture_output=True, cwd=folder, timeout=SECONDS, check=False, **how)
+        given.write(script)
+        given.seek(0)
+        ran = subprocess.run(words, stdin=given, capture_output=True, cwd=folder, timeout=SECONDS, check=False, **how)
     return Left(ran.returncode, ran.stdout, ran.stderr)
 
 
