@@ -14,6 +14,7 @@ from pathlib import Path
 import c
 import crates
 import edits
+import library
 import refusals
 from crates import ROOT
 from runs import Count, Left, parted
@@ -109,6 +110,8 @@ def of_documents():
         shown = re.findall(rf"\n```{language}\n(.*?)```\n", (ROOT / document).read_text(), re.DOTALL)
         yield f"what {document} shows stands in {folder}", [text for text in shown if text not in source], []
         yield f"{document} shows code", len(shown), pieces
+    count = len(crates.with_dependencies(library.CRATE))
+    yield f"README.md says that the library has {count} crates", f"the {count} crates of the static library" in (ROOT / "README.md").read_text(), True
     texts = itertools.chain.from_iterable(ROOT.glob(it) for it in ("*.md", "docs/*.md", *(f"crates/*/{part}/**/*" for part in ("src", "specs", "proofs"))))
     yield "none has the marks of a merge", [path for path in texts if path.is_file() and MERGED.search(path.read_text())], []
 
