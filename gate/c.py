@@ -183,9 +183,10 @@ class Bench:
         if status or not passed or failed:
             raise Fault("\n".join([f"it ended with {status}", *lines[:20]]))
 
-    def example(self, *before, flags=()):
+    def example(self, *before, language=C, flags=()):
         """The system calls of `examples/nt`, perhaps under another program."""
-        status, passed, failed, lines = checked([*before, self.made("nt", [EXAMPLE / "main.c", EXAMPLE / "nt.c"], *flags)])
+        program = self.made("nt", sorted(EXAMPLE.glob("*.c")), "-pthread", *flags, language=language)
+        status, passed, failed, lines = checked([*before, program])
         if status or not passed or failed:
             raise Fault("\n".join([f"it ended with {status}", *lines[:20]]))
 
@@ -258,7 +259,8 @@ def parts():
     yield "texts and statuses of Windows in C99", lambda bench: bench.client("windows", language=C99)
     yield "texts and statuses of Windows in C++11", lambda bench: bench.client("windows", language=CXX11)
     yield "texts and statuses of Windows under the sanitizers", lambda bench: bench.client("windows", language=C99, flags=SANITIZED)
-    yield "system calls over the library", Bench.example
+    yield "system calls over the library in C", Bench.example
+    yield "system calls over the library in C++", lambda bench: bench.example(language=CXX)
     yield "system calls under the sanitizers", lambda bench: bench.example(flags=SANITIZED)
     yield "what is timed is answered as it should be", Bench.timed
     under_valgrind = {

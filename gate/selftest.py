@@ -14,6 +14,7 @@ from pathlib import Path
 import c
 import crates
 import edits
+import library
 import refusals
 from crates import ROOT
 from runs import Count, Left, parted
@@ -94,12 +95,23 @@ def of_edits():
 MERGED = re.compile(r"^(?:<{7}|>{7}) ", re.MULTILINE)
 
 
+# the documents that show code: its language, the folder of the files that it stands in, and how many pieces there are
+SHOWN = [
+    ("docs/threads.md", "rust", "crates/callers/src", 3),
+    ("docs/emulator.md", "c", "examples/nt", 9),
+    ("README.md", "rust", "crates/ob_standard_core/src", 1),
+]
+
+
 def of_documents():
     """The code in documents, and the marks of a merge."""
-    for document, crate, pieces in (("docs/threads.md", "callers", 3), ("README.md", "ob_standard_core", 1)):
-        source = "".join(path.read_text() for path in sorted((ROOT / "crates" / crate / "src").glob("*.rt")))
-        shown = re.findall(r"\n```rust\n(.*?)```\n", (ROOT / document).read_text(), re.DOTALL)
-        yield f"what {document} shows is the source of {crate}", [text in source for text in shown], [True] * pieces
+    for document, language, folder, pieces in SHOWN:
+        source = "".join(path.read_text() for path in sorted((ROOT / folder).glob("*.*")))
+        shown = re.findall(rf"\n```{language}\n(.*?)```\n", (ROOT / document).read_text(), re.DOTALL)
+        yield f"what {document} shows stands in {folder}", [text for text in shown if text not in source], []
+        yield f"{document} shows code", len(shown), pieces
+    count = len(crates.with_dependencies(library.CRATE))
+    yield f"README.md says that the library has {count} crates", f"the {count} crates of the static library" in (ROOT / "README.md").read_text(), True
     texts = itertools.chain.from_iterable(ROOT.glob(it) for it in ("*.md", "docs/*.md", *(f"crates/*/{part}/**/*" for part in ("src", "specs", "proofs"))))
     yield "none has the marks of a merge", [path for path in texts if path.is_file() and MERGED.search(path.read_text())], []
 

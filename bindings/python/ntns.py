@@ -21,9 +21,11 @@ import os
 from ctypes import POINTER, byref, c_bool, c_char_p, c_size_t, c_uint32, c_uint64
 from typing import Iterator, NamedTuple, Optional, Union
 
-__all__ = ["Attribute", "Deletion", "Entry", "Handle", "Namespace", "NtError", "Object", "Process", "Status", "Type"]
+__all__ = ["Attribute", "Deletion", "Entry", "Handle", "Namespace", "NtError", "Object", "Process", "Row", "Status", "Type", "VERSION"]
 
-# constants of ntns.h, written by bindings/generate.py
+# ntns.h, written by bindings/generate.py
+
+VERSION = 1
 
 
 class Status(enum.IntEnum):
@@ -105,7 +107,54 @@ class Type(enum.IntEnum):
     WMI_GUID = 38
 
 
-# end of constants
+class _Ntns(ctypes.Structure):
+    """A namespace: all zeros before it is opened and after it is closed. It may be moved between calls, and isn't copied."""
+
+    _fields_ = [("words", c_size_t * 2)]
+
+
+class _Row(ctypes.Structure):
+    """A row of a listing."""
+
+    _fields_ = [("context", c_uint64), ("type", c_uint32), ("name", c_uint32), ("length", c_uint32)]
+
+
+class _Deletion(ctypes.Structure):
+    """An object of the caller's that was deleted."""
+
+    _fields_ = [("type", c_uint32), ("user_data", c_uint64), ("id", c_uint64), ("parsed", c_bool)]
+
+
+# the result and the parameters of each call
+_CALLS = {
+    "ntns_open": (c_uint32, [POINTER(_Ntns)]),
+    "ntns_close": (None, [POINTER(_Ntns)]),
+    "ntns_create_directory": (c_uint32, [POINTER(_Ntns), c_uint32, c_uint32, c_char_p, c_size_t, c_uint32, POINTER(c_uint32)]),
+    "ntns_create_link": (c_uint32, [POINTER(_Ntns), c_uint32, c_uint32, c_char_p, c_size_t, c_uint32, c_char_p, c_size_t, POINTER(c_uint32)]),
+    "ntns_create_object": (c_uint32, [POINTER(_Ntns), c_uint32, c_uint32, c_char_p, c_size_t, c_uint32, c_uint32, c_uint64, POINTER(c_uint32)]),
+    "ntns_open_directory": (c_uint32, [POINTER(_Ntns), c_uint32, c_uint32, c_char_p, c_size_t, c_uint32, POINTER(c_uint32)]),
+    "ntns_open_link": (c_uint32, [POINTER(_Ntns), c_uint32, c_uint32, c_char_p, c_size_t, c_uint32, POINTER(c_uint32)]),
+    "ntns_open_object": (c_uint32, [POINTER(_Ntns), c_uint32, c_uint32, c_char_p, c_size_t, c_uint32, c_uint32, POINTER(c_uint32)]),
+    "ntns_close_handle": (c_uint32, [POINTER(_Ntns), c_uint32, c_uint32]),
+    "ntns_duplicate": (c_uint32, [POINTER(_Ntns), c_uint32, c_uint32, c_uint32, c_bool, POINTER(c_uint32)]),
+    "ntns_make_temporary": (c_uint32, [POINTER(_Ntns), c_uint32, c_uint32]),
+    "ntns_make_permanent": (c_uint32, [POINTER(_Ntns), c_uint32, c_uint32]),
+    "ntns_query_link": (c_uint32, [POINTER(_Ntns), c_uint32, c_uint32, c_char_p, c_size_t, POINTER(c_size_t)]),
+    "ntns_query_name": (c_uint32, [POINTER(_Ntns), c_uint32, c_uint32, c_char_p, c_size_t, POINTER(c_size_t)]),
+    "ntns_query_file": (c_uint32, [POINTER(_Ntns), c_uint32, c_uint32, c_char_p, c_size_t, POINTER(c_size_t)]),
+    "ntns_next_entry": (c_uint32, [POINTER(_Ntns), c_uint32, c_uint32, POINTER(c_uint64), c_char_p, c_size_t, POINTER(c_size_t), POINTER(c_uint32)]),
+    "ntns_next_page": (c_uint32, [POINTER(_Ntns), c_uint32, c_uint32, POINTER(c_uint64), c_char_p, c_size_t, POINTER(c_size_t)]),
+    "ntns_next_rows": (c_uint32, [POINTER(_Ntns), c_uint32, c_uint32, POINTER(c_uint64), POINTER(_Row), POINTER(c_size_t), c_char_p, c_size_t]),
+    "ntns_set_device_map": (c_uint32, [POINTER(_Ntns), c_uint32, c_uint32]),
+    "ntns_new_process": (c_uint32, [POINTER(_Ntns), c_uint32, c_bool, POINTER(c_uint32)]),
+    "ntns_exit_process": (c_uint32, [POINTER(_Ntns), c_uint32]),
+    "ntns_query_object": (c_uint32, [POINTER(_Ntns), c_uint32, c_uint32, POINTER(c_uint32), POINTER(c_uint64), POINTER(c_uint64)]),
+    "ntns_next_deletion": (c_uint32, [POINTER(_Ntns), POINTER(_Deletion)]),
+    "ntns_status_text": (c_char_p, [c_uint32]),
+    "ntns_type_name": (c_char_p, [c_uint32]),
+}
+
+# end of ntns.h
 
 Text = Union[str, bytes]
 
@@ -133,6 +182,14 @@ class Entry(NamedTuple):
     type: Type
 
 
+class Row(NamedTuple):
+    """A directory's entry, and the context that a listing goes on from after it."""
+
+    name: str
+    type: Type
+    context: int
+
+
 class Deletion(NamedTuple):
     """A deleted object. The id is that of `Handle.query`, or 0 where no handle to it was ever given; `parsed` says that an open through a device or a key made it."""
 
@@ -142,49 +199,11 @@ class Deletion(NamedTuple):
     parsed: bool
 
 
-class _Space(ctypes.Structure):
-    _fields_ = [("words", ctypes.c_size_t * 2)]
-
-
-class _Deletion(ctypes.Structure):
-    _fields_ = [("type", c_uint32), ("user_data", c_uint64), ("id", c_uint64), ("parsed", c_bool)]
-
-
 _LIBRARY = ctypes.CDLL(os.environ.get("NTNS_LIBRARY", "libntns.so.1"))
 
-_NAME = (c_char_p, c_size_t)
-_HANDLE = (c_uint32, c_uint32)
-_NUMBER = POINTER(c_uint32)
-_BUFFER = (c_char_p, c_size_t, POINTER(c_size_t))
-
-# the parameters of each call after the namespace
-_PARAMETERS = {
-    "open": (),
-    "close": (),
-    "create_directory": (*_HANDLE, *_NAME, c_uint32, _NUMBER),
-    "create_link": (*_HANDLE, *_NAME, c_uint32, *_NAME, _NUMBER),
-    "create_object": (*_HANDLE, *_NAME, c_uint32, c_uint32, c_uint64, _NUMBER),
-    "open_directory": (*_HANDLE, *_NAME, c_uint32, _NUMBER),
-    "open_link": (*_HANDLE, *_NAME, c_uint32, _NUMBER),
-    "open_object": (*_HANDLE, *_NAME, c_uint32, c_uint32, _NUMBER),
-    "close_handle": _HANDLE,
-    "duplicate": (*_HANDLE, c_uint32, c_bool, _NUMBER),
-    "make_temporary": _HANDLE,
-    "make_permanent": _HANDLE,
-    "query_link": (*_HANDLE, *_BUFFER),
-    "query_name": (*_HANDLE, *_BUFFER),
-    "query_file": (*_HANDLE, *_BUFFER),
-    "next_entry": (*_HANDLE, POINTER(c_uint64), *_BUFFER, _NUMBER),
-    "set_device_map": _HANDLE,
-    "new_process": (c_uint32, c_bool, _NUMBER),
-    "exit_process": (c_uint32,),
-    "query_object": (*_HANDLE, _NUMBER, POINTER(c_uint64), POINTER(c_uint64)),
-    "next_deletion": (POINTER(_Deletion),),
-}
-
-for _call, _types in _PARAMETERS.items():
-    _function = getattr(_LIBRARY, f"ntns_{_call}")
-    _function.argtypes, _function.restype = (POINTER(_Space), *_types), None if _call == "close" else c_uint32
+for _call, (_result, _parameters) in _CALLS.items():
+    _function = getattr(_LIBRARY, _call)
+    _function.restype, _function.argtypes = _result, _parameters
 
 
 def _named(text: Optional[Text]):
@@ -193,11 +212,18 @@ def _named(text: Optional[Text]):
     return encoded, len(encoded or b"")
 
 
+def _fitting(value, kind):
+    """A number, which has to be one of a kind."""
+    if not 0 <= value < 2 ** (8 * ctypes.sizeof(kind)):
+        raise ValueError(f"{value} is no number of {8 * ctypes.sizeof(kind)} bits")
+    return value
+
+
 class Namespace:
     """A namespace with process 1, open until it is closed. A context manager."""
 
     def __init__(self):
-        self._space = _Space()
+        self._space = _Ntns()
         self._call("open")
 
     def __enter__(self):
@@ -225,9 +251,9 @@ class Namespace:
 
     def _status(self, call, *arguments):
         """The status of a call, which has to succeed or to be NO_MORE_ENTRIES or BUFFER_TOO_SMALL."""
-        for kind, value in zip(_PARAMETERS[call], arguments):
-            if kind in (c_uint32, c_uint64) and not 0 <= value < 2 ** (8 * ctypes.sizeof(kind)):
-                raise ValueError(f"{value} is no number of {8 * ctypes.sizeof(kind)} bits")
+        for kind, value in zip(_CALLS[f"ntns_{call}"][1][1:], arguments):
+            if kind in (c_uint32, c_uint64):
+                _fitting(value, kind)
         status = Status(getattr(_LIBRARY, f"ntns_{call}")(byref(self._space), *arguments))
         if status >= 0x80000000 and status not in (Status.NO_MORE_ENTRIES, Status.BUFFER_TOO_SMALL):
             raise NtError(status)
@@ -380,6 +406,20 @@ class Handle:
                 room = length.value
             else:
                 yield Entry(buffer.raw[: length.value].decode(), Type(kind.value))
+
+    def rows(self, context: int = 0) -> Iterator[Row]:
+        """NtQueryDirectoryObject: the entries of the directory after a context, each with its own; 0 is the beginning.
+
+        A call of the library gives up to 64, as the directory is at one moment. Each that stays throughout comes once.
+        """
+        place, count, rows, buffer = c_uint64(_fitting(context, c_uint64)), c_size_t(), (_Row * 64)(), ctypes.create_string_buffer(65536)
+        while True:
+            count.value = len(rows)
+            arguments = (byref(place), rows, byref(count), buffer, len(buffer))
+            if self.process.namespace._status("next_rows", *self._arguments, *arguments) is Status.NO_MORE_ENTRIES:
+                return
+            names = buffer.raw
+            yield from [Row(names[it.name : it.name + it.length].decode(), Type(it.type), it.context) for it in rows[: count.value]]
 
     @property
     def _arguments(self):

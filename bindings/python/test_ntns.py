@@ -1,11 +1,10 @@
 """Tests of the binding, over the library that NTNS_LIBRARY names or the system finds."""
 
-import ctypes
 import doctest
 import unittest
 
 import ntns
-from ntns import Attribute, Deletion, Entry, Namespace, NtError, Status, Type
+from ntns import Attribute, Deletion, Entry, Namespace, NtError, Row, Status, Type
 
 
 class Bound(unittest.TestCase):
@@ -37,6 +36,11 @@ class Objects(Bound):
         self.system.exit()
         self.assertEqual(list(self.namespace.deletions()), [Deletion(*opened, True), Deletion(*disk, False)])
         self.assertEqual(list(self.namespace.deletions()), [])
+
+    def test_a_file_that_no_one_got_is_deleted_without_an_id(self):
+        self.system.create_object(Type.DEVICE, r"\Device\Disk", user_data=7)
+        self.refused(Status.OBJECT_TYPE_MISMATCH, self.system.open, r"\Device\Disk\a.txt", Type.EVENT)
+        self.assertEqual(list(self.namespace.deletions()), [Deletion(Type.FILE, 7, 0, True)])
 
     def test_ids_tell_objects_apart(self):
         first, second = (self.system.create_object(Type.EVENT, user_data=1) for _ in range(2))
@@ -110,6 +114,20 @@ class Texts(Bound):
                 self.system.create_object(Type.EVENT, name, root=directory)
             self.assertEqual(list(directory), [Entry(name, Type.EVENT) for name in names])
 
+    def test_rows_have_contexts_to_go_on_from(self):
+        with self.system.create_directory(r"\A") as directory:
+            names = [f"e{number:03}" for number in range(200)] + ["x" * 32_764]
+            events = [self.system.create_object(Type.EVENT, name, root=directory) for name in names]
+            rows = list(directory.rows())
+            self.assertEqual([Entry(*row[:2]) for row in rows], list(directory))
+            self.assertEqual(list(directory.rows(rows[99].context)), rows[100:])
+            for event in events[:150]:
+                event.close()
+            self.assertEqual(next(directory.rows(rows[99].context)), Row("e150", Type.EVENT, rows[150].context))
+            self.assertEqual(list(directory.rows(rows[-1].context)), [])
+            self.assertRaises(ValueError, next, directory.rows(2**64))
+            self.refused(Status.OBJECT_TYPE_MISMATCH, next, events[-1].rows())
+
     def test_a_long_target_is_read_whole(self):
         target = "\\" + "t" * 32_766
         self.assertEqual(self.system.create_link(r"\L", target).target(), target)
@@ -140,7 +158,6 @@ class Ends(Bound):
         with Namespace() as other:
             self.refused(Status.OBJECT_NAME_NOT_FOUND, other.process().open, r"\A")
 
-
     def test_handles_of_others_are_no_roots(self):
         with Namespace() as other:
             root = other.process().create_directory(r"\A")
@@ -153,12 +170,10 @@ class Ends(Bound):
 class Constants(unittest.TestCase):
     def test_statuses_have_the_names_of_the_library(self):
         text = ntns._LIBRARY.ntns_status_text
-        text.argtypes, text.restype = [ctypes.c_uint32], ctypes.c_char_p
         self.assertEqual([text(status) for status in Status], [status.name.encode() for status in Status])
 
     def test_types_are_those_of_the_library(self):
         name = ntns._LIBRARY.ntns_type_name
-        name.argtypes, name.restype = [ctypes.c_uint32], ctypes.c_char_p
         known = [number for number in range(1, 100) if name(number)]
         self.assertEqual(known, [kind for kind in Type if kind is not Type.ANY])
 

@@ -1,148 +1,5 @@
 /* See nt.h. */
-#include "nt.h"
-
-#include <stdlib.h>
-#include <string.h>
-
-/* the character that stands before a unit of UTF-16 that isn't one of a name of ntns.h */
-static const char ESCAPE = '%';
-
-/* the longest name in bytes */
-enum { NAME_ROOM = 32767, ROW_ROOM = 64, BYTES_ROOM = 65536 };
-
-/* What the host keeps of an object: whether an event is set, and where a file is read. */
-struct body {
-	struct body *next;
-	uint64_t id, position;
-	bool is_set;
-};
-
-/* A name as the calls of ntns.h take it. */
-struct name {
-	const char *text; /* NULL for none */
-	size_t length;
-	char bytes[NAME_ROOM];
-};
-
-/* The name of an OBJECT_ATTRIBUTES, which may be NULL. */
-static NTSTATUS take_name(const OBJECT_ATTRIBUTES *attributes, struct name *name)
-{
-	const UNICODE_STRING *given = attributes ? attributes->ObjectName : NULL;
-
-	name->text = NULL;
-	name->length = 0;
-	if (!given || given->Length == 0)
-		return NTNS_STATUS_SUCCESS;
-	NTSTATUS status = ntns_from_utf16(given->Buffer, given->Length / 2, ESCAPE, name->bytes, sizeof name->bytes, &name->length);
-	name->text = name->bytes;
-	return status == NTNS_STATUS_BUFFER_TOO_SMALL ? NTNS_STATUS_NAME_TOO_LONG : status;
-}
-
-static uint32_t root_of(const OBJECT_ATTRIBUTES *attributes)
-{
-	return attributes ? (uint32_t)attributes->RootDirectory : 0;
-}
-
-static uint32_t flags_of(const OBJECT_ATTRIBUTES *attributes)
-{
-	return attributes ? NTNS_ATTRIBUTES(attributes->Attributes) : 0;
-}
-
-/* The place of the pointer to what is kept of an object, or of the end of the list. A host with many objects has a hash table. */
-static struct body **body_of(struct host *host, uint64_t id)
-{
-	struct body **place = &host->bodies;
-
-	while (*place && (*place)->id != id)
-		place = &(*place)->next;
-	return place;
-}
-
-/* Frees what is kept at a place. */
-static void free_body(struct host *host, struct body **place)
-{
-	struct body *body = *place;
-
-	*place = body->next;
-	free(body);
-	host->freed++;
-}
-
-/* Frees what is kept of a deleted object, if anything is: nothing of a device, and of a file that never had a handle. */
-static void free_deleted(struct host *host, const struct ntns_deletion *deletion)
-{
-	struct body **place = body_of(host, deletion->id);
-
-	if (*place)
-		free_body(host, place);
-}
-
-/* Ends a call: frees what it deleted; its status as a guest knows it. */
-static NTSTATUS end(struct host *host, ntns_status status)
-{
-	struct ntns_deletion deletion;
-
-	while (ntns_next_deletion(&host->ns, &deletion) == NTNS_STATUS_SUCCESS)
-		free_deleted(host, &deletion);
-	return ntns_guest_status(status);
-}
-
-/* What is kept of the object of a handle, where that has this type. */
-static NTSTATUS look(struct host *host, uint32_t process, HANDLE handle, uint32_t wanted, struct body **body)
-{
-	uint32_t type;
-	uint64_t user_data, id;
-	NTSTATUS status = ntns_query_object(&host->ns, process, (uint32_t)handle, &type, &user_data, &id);
-
-	if (status == NTNS_STATUS_SUCCESS && type != wanted)
-		status = NTNS_STATUS_OBJECT_TYPE_MISMATCH;
-	*body = status == NTNS_STATUS_SUCCESS ? *body_of(host, id) : NULL;
-	return status;
-}
-
-/* Begins to keep something of a new object. Where that isn't possible its handle is closed again. */
-static NTSTATUS add_body(struct host *host, uint32_t process, uint32_t *handle, bool is_set)
-{
-	struct body *body = malloc(sizeof *body);
-	uint32_t type;
-	uint64_t user_data, id;
-
-	if (!body) {
-		ntns_close_handle(&host->ns, process, *handle);
-		*handle = 0;
-		return NTNS_STATUS_NO_MEMORY;
-	}
-	ntns_query_object(&host->ns, process, *handle, &type, &user_data, &id);
-	*body = (struct body){ .next = host->bodies, .id = id, .is_set = is_set };
-	host->bodies = body;
-	host->made++;
-	return NTNS_STATUS_SUCCESS;
-}
-
-NTSTATUS host_open(struct host *host)
-{
-	static const char device[] = "\\Device\\Disk", drive[] = "\\??\\C:";
-	uint32_t handle;
-
-	*host = (struct host){ .ns = NTNS_CLOSED };
-	NTSTATUS status = ntns_open(&host->ns);
-	if (status == NTNS_STATUS_SUCCESS)
-		status = ntns_create_object(&host->ns, 1, 0, device, sizeof device - 1, NTNS_OBJ_PERMANENT, NTNS_TYPE_DEVICE, 0, &handle);
-	if (status == NTNS_STATUS_SUCCESS)
-		ntns_close_handle(&host->ns, 1, handle);
-	if (status == NTNS_STATUS_SUCCESS)
-		status = ntns_create_link(&host->ns, 1, 0, drive, sizeof drive - 1, NTNS_OBJ_PERMANENT, device, sizeof device - 1, &handle);
-	if (status == NTNS_STATUS_SUCCESS)
-		ntns_close_handle(&host->ns, 1, handle);
-	return status;
-}
-
-void host_close(struct host *host)
-{
-	ntns_close(&host->ns);
-	while (host->bodies)
-		free_body(host, &host->bodies);
-}
+#include "host.h"
 
 NTSTATUS NtCreateEvent(struct host *host, uint32_t process, HANDLE *event, const OBJECT_ATTRIBUTES *attributes, bool is_set)
 {
@@ -150,8 +7,9 @@ NTSTATUS NtCreateEvent(struct host *host, uint32_t process, HANDLE *event, const
 	uint32_t handle = 0;
 	NTSTATUS status = take_name(attributes, &name);
 
+	begin(host);
 	if (status == NTNS_STATUS_SUCCESS)
-		status = ntns_create_object(&host->ns, process, root_of(attributes), name.text, name.length, flags_of(attributes), NTNS_TYPE_EVENT, 0, &handle);
+		status = ntns_create_object(&host->ns, process, name.root, name.text, name.length, flags_of(attributes, false), NTNS_TYPE_EVENT, 0, &handle);
 	if (status == NTNS_STATUS_SUCCESS)
 		status = add_body(host, process, &handle, is_set);
 	*event = handle;
@@ -164,8 +22,9 @@ NTSTATUS NtOpenEvent(struct host *host, uint32_t process, HANDLE *event, const O
 	uint32_t handle = 0;
 	NTSTATUS status = take_name(attributes, &name);
 
+	begin(host);
 	if (status == NTNS_STATUS_SUCCESS)
-		status = ntns_open_object(&host->ns, process, root_of(attributes), name.text, name.length, flags_of(attributes), NTNS_TYPE_EVENT, &handle);
+		status = ntns_open_object(&host->ns, process, name.root, name.text, name.length, flags_of(attributes, false), NTNS_TYPE_EVENT, &handle);
 	*event = handle;
 	return end(host, status);
 }
@@ -173,8 +32,9 @@ NTSTATUS NtOpenEvent(struct host *host, uint32_t process, HANDLE *event, const O
 NTSTATUS NtSetEvent(struct host *host, uint32_t process, HANDLE event, bool *was_set)
 {
 	struct body *body;
-	NTSTATUS status = look(host, process, event, NTNS_TYPE_EVENT, &body);
 
+	begin(host);
+	NTSTATUS status = look(host, process, event, NTNS_TYPE_EVENT, &body);
 	if (body) {
 		*was_set = body->is_set;
 		body->is_set = true;
@@ -182,25 +42,38 @@ NTSTATUS NtSetEvent(struct host *host, uint32_t process, HANDLE event, bool *was
 	return end(host, status);
 }
 
-NTSTATUS NtOpenFile(struct host *host, uint32_t process, HANDLE *file, const OBJECT_ATTRIBUTES *attributes)
+NTSTATUS NtCreateFile(struct host *host, uint32_t process, HANDLE *file, const OBJECT_ATTRIBUTES *attributes, ULONG disposition, ULONG *information)
 {
 	struct name name;
 	uint32_t handle = 0;
 	NTSTATUS status = take_name(attributes, &name);
 
+	begin(host);
 	if (status == NTNS_STATUS_SUCCESS)
-		status = ntns_open_object(&host->ns, process, root_of(attributes), name.text, name.length, flags_of(attributes), NTNS_TYPE_FILE, &handle);
+		status = take_file_root(host, process, &name);
+	if (status == NTNS_STATUS_SUCCESS)
+		status = ntns_open_object(&host->ns, process, name.root, name.text, name.length, flags_of(attributes, true), NTNS_TYPE_FILE, &handle);
+	if (status == NTNS_STATUS_SUCCESS)
+		status = open_stored(host, process, &handle, disposition, information);
 	if (status == NTNS_STATUS_SUCCESS)
 		status = add_body(host, process, &handle, false);
 	*file = handle;
 	return end(host, status);
 }
 
+NTSTATUS NtOpenFile(struct host *host, uint32_t process, HANDLE *file, const OBJECT_ATTRIBUTES *attributes)
+{
+	ULONG information;
+
+	return NtCreateFile(host, process, file, attributes, FILE_OPEN, &information);
+}
+
 NTSTATUS NtSetFilePosition(struct host *host, uint32_t process, HANDLE file, uint64_t position)
 {
 	struct body *body;
-	NTSTATUS status = look(host, process, file, NTNS_TYPE_FILE, &body);
 
+	begin(host);
+	NTSTATUS status = look(host, process, file, NTNS_TYPE_FILE, &body);
 	if (body)
 		body->position = position;
 	return end(host, status);
@@ -209,11 +82,39 @@ NTSTATUS NtSetFilePosition(struct host *host, uint32_t process, HANDLE file, uin
 NTSTATUS NtQueryFilePosition(struct host *host, uint32_t process, HANDLE file, uint64_t *position)
 {
 	struct body *body;
-	NTSTATUS status = look(host, process, file, NTNS_TYPE_FILE, &body);
 
+	begin(host);
+	NTSTATUS status = look(host, process, file, NTNS_TYPE_FILE, &body);
 	if (body)
 		*position = body->position;
 	return end(host, status);
+}
+
+/* Opens a key, or creates it below a key that is there. */
+static NTSTATUS open_key(struct host *host, uint32_t process, HANDLE *key, const OBJECT_ATTRIBUTES *attributes, ULONG disposition)
+{
+	struct name name;
+	uint32_t handle = 0;
+	ULONG information;
+	NTSTATUS status = take_name(attributes, &name);
+
+	begin(host);
+	if (status == NTNS_STATUS_SUCCESS)
+		status = ntns_open_object(&host->ns, process, name.root, name.text, name.length, flags_of(attributes, true), NTNS_TYPE_KEY, &handle);
+	if (status == NTNS_STATUS_SUCCESS)
+		status = open_stored(host, process, &handle, disposition, &information);
+	*key = handle;
+	return end(host, status);
+}
+
+NTSTATUS NtCreateKey(struct host *host, uint32_t process, HANDLE *key, const OBJECT_ATTRIBUTES *attributes)
+{
+	return open_key(host, process, key, attributes, FILE_OPEN_IF);
+}
+
+NTSTATUS NtOpenKey(struct host *host, uint32_t process, HANDLE *key, const OBJECT_ATTRIBUTES *attributes)
+{
+	return open_key(host, process, key, attributes, FILE_OPEN);
 }
 
 NTSTATUS NtCreateDirectoryObject(struct host *host, uint32_t process, HANDLE *directory, const OBJECT_ATTRIBUTES *attributes)
@@ -222,8 +123,9 @@ NTSTATUS NtCreateDirectoryObject(struct host *host, uint32_t process, HANDLE *di
 	uint32_t handle = 0;
 	NTSTATUS status = take_name(attributes, &name);
 
+	begin(host);
 	if (status == NTNS_STATUS_SUCCESS)
-		status = ntns_create_directory(&host->ns, process, root_of(attributes), name.text, name.length, flags_of(attributes), &handle);
+		status = ntns_create_directory(&host->ns, process, name.root, name.text, name.length, flags_of(attributes, true), &handle);
 	*directory = handle;
 	return end(host, status);
 }
@@ -234,113 +136,117 @@ NTSTATUS NtOpenDirectoryObject(struct host *host, uint32_t process, HANDLE *dire
 	uint32_t handle = 0;
 	NTSTATUS status = take_name(attributes, &name);
 
+	begin(host);
 	if (status == NTNS_STATUS_SUCCESS)
-		status = ntns_open_directory(&host->ns, process, root_of(attributes), name.text, name.length, flags_of(attributes), &handle);
+		status = ntns_open_directory(&host->ns, process, name.root, name.text, name.length, flags_of(attributes, true), &handle);
 	*directory = handle;
 	return end(host, status);
 }
 
-/* The rows of a listing, and their names. */
-struct listing {
-	struct ntns_row rows[ROW_ROOM];
-	size_t count;
-	char names[BYTES_ROOM];
-};
-
-/* The bytes that the strings of a row take in a guest's buffer, each with a zero after it. */
-static size_t strings_of(const struct listing *listing, size_t row)
+NTSTATUS NtCreateSymbolicLinkObject(struct host *host, uint32_t process, HANDLE *link, const OBJECT_ATTRIBUTES *attributes, const UNICODE_STRING *target)
 {
-	uint16_t units[NAME_ROOM];
-	size_t length = 0;
+	OBJECT_ATTRIBUTES named = { sizeof named, 0, target, 0, NULL, NULL };
+	struct name name, leads;
+	uint32_t handle = 0;
+	NTSTATUS status = take_name(attributes, &name);
 
-	ntns_to_utf16(listing->names + listing->rows[row].name, listing->rows[row].length, ESCAPE, units, NAME_ROOM, &length);
-	return 2 * (length + 1 + strlen(ntns_type_name(listing->rows[row].type)) + 1);
-}
-
-/* How many rows fit into a guest's buffer: each takes a structure and its strings, and a structure of zeros ends them. */
-static size_t rows_that_fit(const struct listing *listing, size_t most, uint32_t length)
-{
-	size_t rows = 0, used = sizeof(OBJECT_DIRECTORY_INFORMATION);
-
-	for (; rows < listing->count && rows < most; rows++) {
-		used += sizeof(OBJECT_DIRECTORY_INFORMATION) + strings_of(listing, rows);
-		if (used > length)
-			break;
-	}
-	return rows;
-}
-
-/* Writes a string and a zero at a place of a guest's buffer; the place behind them. */
-static char *put_string(const char *text, size_t bytes, char *place, UNICODE_STRING *string)
-{
-	uint16_t *units = (uint16_t *)(void *)place;
-	size_t length = 0;
-
-	ntns_to_utf16(text, bytes, ESCAPE, units, NAME_ROOM, &length);
-	units[length] = 0;
-	*string = (UNICODE_STRING){ .Length = (uint16_t)(2 * length), .MaximumLength = (uint16_t)(2 * length + 2), .Buffer = units };
-	return place + 2 * length + 2;
-}
-
-/* Writes rows into a guest's buffer, whose end is told. */
-static void put_rows(const struct listing *listing, size_t rows, void *buffer, uint32_t *returned)
-{
-	OBJECT_DIRECTORY_INFORMATION *entry = buffer;
-	char *place = (char *)(entry + rows + 1);
-
-	for (size_t row = 0; row < rows; row++, entry++) {
-		const char *type = ntns_type_name(listing->rows[row].type);
-		place = put_string(listing->names + listing->rows[row].name, listing->rows[row].length, place, &entry->Name);
-		place = put_string(type, strlen(type), place, &entry->TypeName);
-	}
-	memset(entry, 0, sizeof *entry);
-	*returned = (uint32_t)(place - (char *)buffer);
-}
-
-NTSTATUS NtQueryDirectoryObject(struct host *host, uint32_t process, HANDLE directory, void *buffer, uint32_t length, bool is_single, bool restarts,
-				uint64_t *context, uint32_t *returned)
-{
-	struct listing *listing = malloc(sizeof *listing);
-	uint64_t place = restarts ? 0 : *context;
-
-	*returned = 0;
-	if (!listing)
-		return NTNS_STATUS_NO_MEMORY;
-	listing->count = ROW_ROOM;
-	NTSTATUS status = ntns_next_rows(&host->ns, process, (uint32_t)directory, &place, listing->rows, &listing->count, listing->names, sizeof listing->names);
-	size_t rows = rows_that_fit(listing, is_single ? 1 : ROW_ROOM, length);
-	if (NTNS_SUCCEEDED(status) && rows == 0)
-		status = NTNS_STATUS_BUFFER_TOO_SMALL;
-	if (NTNS_SUCCEEDED(status)) {
-		put_rows(listing, rows, buffer, returned);
-		*context = listing->rows[rows - 1].context;
-		if (rows < listing->count)
-			status = is_single ? NTNS_STATUS_SUCCESS : NTNS_STATUS_MORE_ENTRIES;
-	}
-	free(listing);
+	begin(host);
+	if (status == NTNS_STATUS_SUCCESS)
+		status = take_name(&named, &leads);
+	if (status == NTNS_STATUS_SUCCESS)
+		status = ntns_create_link(&host->ns, process, name.root, name.text, name.length, flags_of(attributes, true), leads.text, leads.length, &handle);
+	*link = handle;
 	return end(host, status);
 }
 
-NTSTATUS NtDuplicateObject(struct host *host, uint32_t process, HANDLE source, uint32_t to, HANDLE *target, bool inherits)
+NTSTATUS NtSetDeviceMap(struct host *host, uint32_t process, HANDLE directory)
 {
-	uint32_t handle = 0;
-	NTSTATUS status = ntns_duplicate(&host->ns, process, (uint32_t)source, to, inherits, &handle);
+	begin(host);
+	return end(host, ntns_set_device_map(&host->ns, process, value_of(directory)));
+}
 
+uint32_t owner_of(struct host *host, uint32_t process, HANDLE handle, uint32_t *value)
+{
+	struct guest *guest = handle == NtCurrentProcess() ? guest_of(host, process) : NULL;
+
+	*value = guest ? guest->object : value_of(handle);
+	return guest ? 1 : process;
+}
+
+/* The number of the process that a handle leads to. */
+static ntns_status process_of(struct host *host, uint32_t process, HANDLE handle, uint32_t *number)
+{
+	uint32_t value, type, owner = owner_of(host, process, handle, &value);
+	uint64_t user_data, id;
+	ntns_status status = ntns_query_object(&host->ns, owner, value, &type, &user_data, &id);
+
+	*number = (uint32_t)user_data;
+	return status == NTNS_STATUS_SUCCESS && type != NTNS_TYPE_PROCESS ? NTNS_STATUS_OBJECT_TYPE_MISMATCH : status;
+}
+
+NTSTATUS NtDuplicateObject(struct host *host, uint32_t process, HANDLE source_process, HANDLE source, HANDLE target_process, HANDLE *target,
+			   ULONG attributes, ULONG options)
+{
+	uint32_t from, to = 0, owner, value, handle = 0;
+
+	*target = 0;
+	if (options & DUPLICATE_SAME_ATTRIBUTES)
+		return STATUS_NOT_SUPPORTED;
+	begin(host);
+	NTSTATUS status = process_of(host, process, source_process, &from);
+	if (status != NTNS_STATUS_SUCCESS)
+		return end(host, status);
+	owner = owner_of(host, from, source, &value);
+	if (target_process || !(options & DUPLICATE_CLOSE_SOURCE)) {
+		status = process_of(host, process, target_process, &to);
+		if (status == NTNS_STATUS_SUCCESS)
+			status = ntns_duplicate(&host->ns, owner, value, to, attributes & NTNS_OBJ_INHERIT, &handle);
+	}
+	if ((options & DUPLICATE_CLOSE_SOURCE) && !IS_PSEUDO(source))
+		ntns_close_handle(&host->ns, from, value);
 	*target = handle;
 	return end(host, status);
 }
 
 NTSTATUS NtClose(struct host *host, uint32_t process, HANDLE handle)
 {
-	return end(host, ntns_close_handle(&host->ns, process, (uint32_t)handle));
+	if (IS_PSEUDO(handle))
+		return NTNS_STATUS_SUCCESS;
+	begin(host);
+	return end(host, ntns_close_handle(&host->ns, process, value_of(handle)));
 }
 
-NTSTATUS NtCreateUserProcess(struct host *host, uint32_t process, bool inherits, uint32_t *child)
+NTSTATUS NtCreateUserProcess(struct host *host, uint32_t process, bool inherits, HANDLE *handle, uint32_t *child)
 {
-	return end(host, ntns_new_process(&host->ns, process, inherits, child));
+	uint32_t given = 0;
+
+	begin(host);
+	NTSTATUS status = ntns_new_process(&host->ns, process, inherits, child);
+	if (status != NTNS_STATUS_SUCCESS)
+		return end(host, status);
+	status = add_guest(host, *child);
+	if (status == NTNS_STATUS_SUCCESS) {
+		status = ntns_duplicate(&host->ns, 1, guest_of(host, *child)->object, process, false, &given);
+		if (status != NTNS_STATUS_SUCCESS)
+			drop_guest(host, *child);
+	}
+	if (status != NTNS_STATUS_SUCCESS)
+		ntns_exit_process(&host->ns, *child);
+	*handle = given;
+	return end(host, status);
 }
 
-NTSTATUS NtTerminateProcess(struct host *host, uint32_t process)
+NTSTATUS NtTerminateProcess(struct host *host, uint32_t process, HANDLE target)
 {
-	return end(host, ntns_exit_process(&host->ns, process));
+	uint32_t number;
+
+	begin(host);
+	NTSTATUS status = process_of(host, process, target, &number);
+	if (status == NTNS_STATUS_SUCCESS && number == 1)
+		status = NTNS_STATUS_ACCESS_DENIED;
+	if (status == NTNS_STATUS_SUCCESS)
+		status = ntns_exit_process(&host->ns, number);
+	if (status == NTNS_STATUS_SUCCESS)
+		drop_guest(host, number);
+	return end(host, status);
 }

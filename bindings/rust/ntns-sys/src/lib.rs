@@ -4,15 +4,17 @@
 
 use core::ffi::c_char;
 
-/// A namespace: all zeros before it is opened and after it is closed.
+/// An NTSTATUS. Those with 0xE in front are this library's own.
+pub type ntns_status = u32;
+
+/// A namespace: all zeros before it is opened and after it is closed. It may be moved between calls, and isn't copied.
 #[repr(C)]
 #[derive(Debug, Default)]
 pub struct ntns {
     pub words: [usize; 2],
 }
 
-pub type ntns_status = u32;
-
+/// A row of a listing.
 #[repr(C)]
 #[derive(Debug, Clone, Copy, Default, PartialEq, Eq)]
 pub struct ntns_row {
@@ -22,6 +24,7 @@ pub struct ntns_row {
     pub length: u32,
 }
 
+/// An object of the caller's that was deleted.
 #[repr(C)]
 #[derive(Debug, Clone, Copy, Default, PartialEq, Eq)]
 pub struct ntns_deletion {
@@ -31,6 +34,7 @@ pub struct ntns_deletion {
     pub parsed: bool,
 }
 
+pub const NTNS_VERSION: u32 = 1;
 pub const NTNS_STATUS_SUCCESS: u32 = 0x00000000;
 pub const NTNS_STATUS_MORE_ENTRIES: u32 = 0x00000105;
 pub const NTNS_STATUS_OBJECT_NAME_EXISTS: u32 = 0x40000000;

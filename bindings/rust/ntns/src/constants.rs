@@ -2,6 +2,9 @@
 
 use crate::{Attribute, Status, Type};
 
+/// `NTNS_VERSION` of the header that the crate is for.
+pub const VERSION: u32 = 1;
+
 impl Status {
     pub const SUCCESS: Status = Status(0x00000000);
     pub const MORE_ENTRIES: Status = Status(0x00000105);

@@ -48,6 +48,7 @@ use std::cell::UnsafeCell;
 use std::ffi::{c_char, CStr};
 use std::fmt;
 
+pub use constants::VERSION;
 pub use create::Create;
 
 /// An NTSTATUS. As an error it is that of a refused call.
@@ -75,6 +76,14 @@ pub struct Object {
 pub struct Entry {
     pub name: String,
     pub kind: Type,
+}
+
+/// An entry of a directory, and the context that a listing goes on from after it.
+#[derive(Debug, Clone, PartialEq, Eq)]
+pub struct Row {
+    pub name: String,
+    pub kind: Type,
+    pub context: u64,
 }
 
 /// A deleted object. The id is that of [`Handle::query`], or 0 where no handle to it was ever given; `parsed` says that an open through a device or a key made it.
@@ -309,6 +318,40 @@ impl<'a> Handle<'a> {
                 name => Some(name.map(|name| Entry { name, kind: Type(kind) })),
             }
         })
+    }
+
+    /// NtQueryDirectoryObject: the entries of the directory after a context, each with its own; 0 is the beginning. A call of the library gives up to 64, as the
+    /// directory is at one moment. Each that stays throughout comes once. A refusal is the last item.
+    pub fn rows(&self, context: u64) -> impl Iterator<Item = Result<Row, Status>> + '_ {
+        let (mut context, mut rows, mut is_over) = (context, Vec::new().into_iter(), false);
+        std::iter::from_fn(move || {
+            if rows.len() == 0 && !is_over {
+                match self.next_rows(&mut context) {
+                    Ok(next) => rows = next.into_iter(),
+                    Err(status) => {
+                        is_over = true;
+                        return (status != Status::NO_MORE_ENTRIES).then_some(Err(status));
+                    }
+                }
+            }
+            rows.next().map(Ok)
+        })
+    }
+
+    /// The rows that a call gives, with room for any name.
+    fn next_rows(&self, context: &mut u64) -> Result<Vec<Row>, Status> {
+        let (mut rows, mut names) = ([raw::ntns_row::default(); 64], vec![0u8; 65536]);
+        let (mut count, buffer, capacity) = (rows.len(), names.as_mut_ptr().cast(), names.len());
+        self.call(|space, process, value| unsafe {
+            raw::ntns_next_rows(space, process, value, context, rows.as_mut_ptr(), &mut count, buffer, capacity)
+        })?;
+        Ok(rows[..count]
+            .iter()
+            .map(|row| {
+                let name = &names[row.name as usize..][..row.length as usize];
+                Row { name: String::from_utf8(name.into()).expect("names of a namespace are ASCII"), kind: Type(row.kind), context: row.context }
+            })
+            .collect())
     }
 
     /// Makes a call with the process and the value.

@@ -1,6 +1,6 @@
 //! Calls of a namespace, each against what the library answers.
 
-use ntns::{Attribute, Deletion, Entry, Namespace, Status, Type};
+use ntns::{Attribute, Deletion, Entry, Namespace, Row, Status, Type};
 
 #[test]
 fn a_file_on_a_device_is_opened_by_a_drive_and_deleted_with_its_process() -> Result<(), Status> {
@@ -18,6 +18,16 @@ fn a_file_on_a_device_is_opened_by_a_drive_and_deleted_with_its_process() -> Res
     let deletion = |kind, id, parsed| Deletion { kind, user_data: 7, id, parsed };
     assert_eq!(deleted, [deletion(Type::FILE, file_id, true), deletion(Type::DEVICE, disk_id, false)]);
     assert_eq!(drive.close(), Err(Status::PROCESS_GONE));
+    Ok(())
+}
+
+#[test]
+fn a_file_that_no_one_got_is_deleted_without_an_id() -> Result<(), Status> {
+    let namespace = Namespace::open()?;
+    let system = namespace.process(1);
+    let _disk = system.object(Type::DEVICE, 7).create(r"\Device\Disk")?;
+    assert_eq!(system.open(Type::EVENT, r"\Device\Disk\a.txt").unwrap_err(), Status::OBJECT_TYPE_MISMATCH);
+    assert_eq!(namespace.deletions().collect::<Vec<_>>(), [Deletion { kind: Type::FILE, user_data: 7, id: 0, parsed: true }]);
     Ok(())
 }
 
@@ -46,6 +56,24 @@ fn a_directory_lists_its_entries_in_order() -> Result<(), Status> {
     let wanted: Vec<_> = names.into_iter().map(|name| Entry { name, kind: Type::EVENT }).collect();
     assert_eq!(listed, wanted);
     assert_eq!(events[0].entries().collect::<Vec<_>>(), [Err(Status::OBJECT_TYPE_MISMATCH)]);
+    Ok(())
+}
+
+#[test]
+fn rows_have_contexts_to_go_on_from() -> Result<(), Status> {
+    let namespace = Namespace::open()?;
+    let system = namespace.process(1);
+    let directory = system.directory().create(r"\A")?;
+    let names: Vec<_> = (0..200).map(|number| format!("e{number:03}")).chain(["x".repeat(32_764)]).collect();
+    let mut events = names.iter().map(|name| system.object(Type::EVENT, 0).root(&directory).create(name)).collect::<Result<Vec<_>, _>>()?;
+    let rows: Vec<_> = directory.rows(0).collect::<Result<_, _>>()?;
+    let entries: Vec<_> = rows.iter().map(|row| Entry { name: row.name.clone(), kind: row.kind }).collect();
+    assert_eq!(entries, directory.entries().collect::<Result<Vec<_>, _>>()?);
+    assert_eq!(directory.rows(rows[99].context).collect::<Result<Vec<_>, _>>()?, rows[100..]);
+    drop(events.drain(..150));
+    assert_eq!(directory.rows(rows[99].context).next(), Some(Ok(Row { name: "e150".into(), kind: Type::EVENT, context: rows[150].context })));
+    assert_eq!(directory.rows(rows[200].context).next(), None);
+    assert_eq!(events[0].rows(0).collect::<Vec<_>>(), [Err(Status::OBJECT_TYPE_MISMATCH)]);
     Ok(())
 }
 
