@@ -43,6 +43,7 @@ bench: build lib
 	@gate/build.py callers
 	bench/lines.py crates/ntns/out/ntns
 	bench/instructions.py crates/ntns/out/ntns
+	bench/growth.py crates/ntns/out/ntns
 	bench/journal.py crates/ntns/out/ntns
 	bench/threads.py crates/callers/out/callers
 	bench/calls.py 100000
