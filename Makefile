@@ -8,14 +8,16 @@
 # make bench   times the built program and the library, and fails nothing
 # make lib     the static library for C and C++, out/libntns.a, and its headers; the first build proves every crate below it
 # make shared  the shared library too, out/libntns.so.1
-# make install puts both, the headers, and files for pkg-config and CMake below PREFIX, /usr/local by default, and that below DESTDIR
+# make install puts both libraries, the headers, and files for pkg-config and CMake below PREFIX, /usr/local by default, and that below DESTDIR
+# make install-program  puts the program into bin/ there and its manual page into share/man/man1/; the first build proves every crate below the program,
+#              so `make install` leaves both out
 
 SCRIPT ?= examples/first.ntns
 COMMANDS ?= 1000000
 PREFIX ?= /usr/local
 PLACE = $(DESTDIR)$(PREFIX)
 
-.PHONY: try run test wrong definitions random bench hostile build lib shared install
+.PHONY: try run test wrong definitions random bench hostile build lib shared install install-program
 
 try:
 	@echo "make try: compiled without proofs, which takes a minute or two; nothing of it is proved" >&2
@@ -43,6 +45,7 @@ bench: build lib
 	@gate/build.py callers
 	bench/lines.py crates/ntns/out/ntns
 	bench/instructions.py crates/ntns/out/ntns
+	bench/growth.py crates/ntns/out/ntns
 	bench/journal.py crates/ntns/out/ntns
 	bench/threads.py crates/callers/out/callers
 	bench/calls.py 100000
@@ -64,3 +67,8 @@ install: shared
 	ln -sf libntns.so.1 "$(PLACE)/lib/libntns.so"
 	install -m 644 lib/ntns.pc "$(PLACE)/lib/pkgconfig/"
 	install -m 644 lib/ntns-config.cmake lib/ntns-config-version.cmake "$(PLACE)/lib/cmake/ntns/"
+
+install-program: build
+	install -d "$(PLACE)/bin" "$(PLACE)/share/man/man1"
+	install -m 755 crates/ntns/out/ntns "$(PLACE)/bin/"
+	install -m 644 lib/ntns.1 "$(PLACE)/share/man/man1/"

@@ -6,6 +6,8 @@ No contract says what `main` alone does: that the arguments are the process's, t
     gate/program.py PROGRAM
 """
 
+import re
+import subprocess
 import sys
 import tempfile
 from pathlib import Path
@@ -18,6 +20,9 @@ from runs import Case, Count, dialogue, run, worked
 EXAMPLES = ROOT / "examples"
 SCRIPT = (EXAMPLES / "first.ntns").read_bytes()
 SHOWN = (EXAMPLES / "first.out").read_bytes()
+
+# the manual page
+MANUAL = ROOT / "lib" / "ntns.1"
 BAD = b'p1 dir "\\A" - =a\nno line\np1 close a\n'
 
 # the files that arguments name, beside `long`, which is longer than a journal may be, and `missing`
@@ -36,7 +41,7 @@ ENTRY_LIMIT, CLOSES = 1_048_576, 1_048_576 - 33
 
 # arguments of which one is an unknown command, or an unexpected argument, or a mistake that is reported in another way
 UNKNOWN = ("ntns", "RUN", "runs", "thread", "replays", "sessions")
-UNEXPECTED = (("-x",), ("--other",), ("--run",), *((command, *others) for command in ("run", "threads", "replay") for others in (("-x",), ("a", "b"))), ("session", "a"), ("session", "-x"))
+UNEXPECTED = (("-x",), ("--other",), ("--run",), *((command, *others) for command in ("run", "threads", "replay") for others in (("-x",), ("--version",), ("a", "b"))), ("session", "a"), ("session", "-x"))
 MISTAKEN = (("-",), ("",), ("--", "run", "a"))
 
 
@@ -191,6 +196,18 @@ def fault_of_mistake(program, folder, words, says):
     return "" if left[:2] == (2, b"") and left.errors.startswith(f"error: {says}".encode()) else f"it left {str(left)[:2000]}"
 
 
+def faults_of_texts(program):
+    """What is wrong with the version, and what the manual page lacks of the tasks, options and examples that help names."""
+    kit = subprocess.run(["rt", "version"], capture_output=True, text=True, check=True).stdout.strip()
+    says = run([program, "--version"]).output.decode()
+    yield "" if says.endswith(f" ({kit})\n") else f"the version is {says!r}, and the kit {kit}"
+    shown, manual = run([program, "--help"]).output.decode(), MANUAL.read_text()
+    tasks, options, examples = (re.findall(row, shown, re.MULTILINE) for row in (r"^  (?!ntns)([a-z]+) ", r"^  -(.), --([a-z]+)", r"^  (ntns .*?)  "))
+    lines = [f".It Cm {task}" for task in tasks] + [f".It Fl {short} , Fl -{long}" for short, long in options] + [f".Dl {example}" for example in examples]
+    yield "" if (len(tasks), len(options), len(examples)) == (5, 2, 5) else f"help names {len(tasks)} tasks, {len(options)} options and {len(examples)} examples"
+    yield from ("" if f"\n{line}" in manual else f"the manual page has no line {line!r}" for line in lines)
+
+
 def main():
     if len(sys.argv) != 2:
         sys.exit("usage: gate/program.py PROGRAM")
@@ -205,6 +222,7 @@ def main():
             for case in cases():
                 count.add(case.shows, [case.fault(program, folder)])
         count.add("sessions over two pipes, and over input that is there at once", sessions.faults(program))
+        count.add("the version and the manual page", faults_of_texts(program))
         for words, says in mistakes():
             count.add(f"{' '.join(words)!r} is a mistake", [fault_of_mistake(program, folder, words, says)])
     return count.end()

@@ -84,6 +84,7 @@ def cases(journal):
     yield Case("a script that is no journal", ("replay", "FILE"), BAD, "other")
     yield Case("a file that isn't there", ("run", "missing"), kind="other")
     yield Case("help", ("--help",), kind="other")
+    yield Case("the version", ("--version",), kind="other")
     yield Case("a mistake in the arguments", ("other",), kind="other")
 
 

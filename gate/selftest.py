@@ -16,7 +16,8 @@ import crates
 import edits
 import library
 import refusals
-from crates import ROOT
+import rooms
+from crates import ROOT, listed
 from runs import Count, Left, parted
 from wrong import judge, verdicts, without_answers
 
@@ -103,8 +104,27 @@ SHOWN = [
 ]
 
 
+def anchors(page):
+    """The places in a page that a link may lead to: its headings, as they are spelled in a link."""
+    return {re.sub(r"[^\w -]", "", it.lower()).replace(" ", "-") for it in re.findall(r"^#+ (.*)$", page.read_text(), re.MULTILINE)}
+
+
+def broken_links():
+    """The links of the pages that lead to no file of the repository, or to no heading of it."""
+    for page in (*ROOT.glob("*.md"), *ROOT.glob("docs/*.md")):
+        for link in re.findall(r"\]\(([^)\s]+)\)", page.read_text()):
+            path, _, anchor = link.partition("#")
+            target = page.parent / path if path else page
+            if "://" not in link and (not target.exists() or (anchor and anchor not in anchors(target))):
+                yield f"{page.name}: {link}"
+
+
 def of_documents():
-    """The code in documents, and the marks of a merge."""
+    """The code in documents, their links and their diagram, and the marks of a merge."""
+    map_page = (ROOT / "docs/ARCHITECTURE.md").read_text()
+    yield "the diagram of the crates is that of crates.txt", rooms.diagram() in map_page, True
+    yield "the map names each crate", [it for it in listed() if it not in map_page and not it.endswith("_tests")], []
+    yield "each link leads somewhere", [*broken_links()], []
     for document, language, folder, pieces in SHOWN:
         source = "".join(path.read_text() for path in sorted((ROOT / folder).glob("*.*")))
         shown = re.findall(rf"\n```{language}\n(.*?)```\n", (ROOT / document).read_text(), re.DOTALL)

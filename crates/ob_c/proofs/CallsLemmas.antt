@@ -8,7 +8,7 @@ use Rattle.ob_model.specs.declared.reply.Reply.{Reply}
 use Rattle.ob_host.specs.declared.kind.Kind.{Kind}
 use Rattle.ob_c.specs.Machine.{Space}
 use Rattle.ob_c.specs.Calls.{HasBytes, Ends, Calls, Does, DoesOfAnyType, EndsMade, CallsMade}
-use Rattle.ob_c.specs.Types.{type_of_kind}
+use Rattle.ob_numbers.specs.Types.{type_of_kind}
 
 module _ {E : Type 0} (p : ℕ) where
   -- what was taken out of a caller's struct tells whether it was open

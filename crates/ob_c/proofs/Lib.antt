@@ -1,7 +1,6 @@
 pub mod CallerSteps
 pub mod CallsLemmas
 pub mod ToldLemmas
-pub mod KindLemmas
 pub mod OneStep
 pub mod PagesLemmas
 pub mod RowsLemmas

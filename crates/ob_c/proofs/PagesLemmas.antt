@@ -7,7 +7,7 @@ use borrow.Rule.Slice.PartMut.{put_mid, same_len_mid}
 use Rattle.ob_model.specs.Enumeration.{Shown, fitting, listed, room_of}
 use Rattle.ob_model.specs.declared.entries.Listed.{Listed}
 use Rattle.ob_c.specs.Pages.{entry_bytes, page_bytes, room_left, PagesFit}
-use Rattle.ob_c.specs.Texts.{zero_ended}
+use Rattle.ob_numbers.specs.Texts.{zero_ended}
 
 page_append : (a b : List Listed) → page_bytes (a ++ b) ≡ page_bytes a ++ page_bytes b
 page_append [] b = refl

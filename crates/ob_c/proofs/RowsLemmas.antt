@@ -7,8 +7,8 @@ use Rattle.ob_base.specs.declared.status.Status.{Status}
 use Rattle.ob_model.specs.declared.entries.Listed.{Listed}
 use Rattle.ob_model.specs.declared.reply.Reply.{Reply}
 use Rattle.ob_c.specs.Machine.{Space}
-use Rattle.ob_c.specs.Rows.{Asks, FillsRows, IsRead, IsTooMuch, Leaves, Read, Reads, Takes, TellsProgress, entry_in, names_of, names_room, rows_status, status_of}
-use Rattle.ob_c.specs.Types.{TellsType}
+use Rattle.ob_c.specs.Rows.{Asks, IsRead, Read, Reads, Takes, entry_in, names_of, names_room}
+use Rattle.ob_numbers.specs.Types.{IsTypeNumber}
 use Rattle.ob_c.specs.declared.rows.Row.{Row}
 use Rattle.ob_c.specs.declared.rows.Progress.{Progress}
 
@@ -114,28 +114,6 @@ module _ (process handle : ℕ) where
         names_more : (reads : List Read) (read : Read) → names_of reads ++ read.name ≡ names_of (reads ++ read ∷ [])
         names_more reads read = sym (names_append reads (read ∷ []) ∙ ap (λ z. names_of reads ++ z) (append_nothing read.name))
 
-    -- no further entry is taken, and the rows are told
-    pub all_read : (room : ℕ) (progress' : Progress) (rows'' : List Row) (buffer'' : List ℕ) (status context' told : ℕ) (is : Result Status Status) (A : Type 0) (took : Bool) → took ≡ false
-        → room ≡ names_room (length buffer) → MatchBool took A (Leaves (entry_in ended) room progress progress' rows' rows'' buffer' buffer'')
-        → is ≡ rows_status (entry_in ended) progress'.filled (status_of ended) → TellsProgress is progress' status context context' told
-        → FillsRows process handle s t status context context' rows rows'' buffer buffer'' told
-    all_read room progress' rows'' buffer'' status context' told is A true is_false is_room leaves ends tells = cc
-    all_read room progress' rows'' buffer'' status context' told is A false is_false is_room leaves ends tells = (
-      at.reads,
-      progress,
-      ended,
-      at.before,
-      at.so_far,
-      at.asked,
-      leaves.1 ∙ at.rows_are,
-      leaves.2 ∙ at.bytes_are,
-      at.bytes_fit,
-      subst (λ (n : ℕ). IsTooMuch n (names_room (length buffer)) progress (entry_in ended)) same_rows
-          (subst (λ (n : ℕ). IsTooMuch (length rows') n progress (entry_in ended)) is_room leaves.3),
-      subst (λ (x : Progress). TellsProgress (rows_status (entry_in ended) x.filled (status_of ended)) x status context context' told) leaves.0
-          (subst (λ (x : Result Status Status). TellsProgress x progress' status context context' told) ends tells),
-    )
-
   -- nothing was read yet
   pub at_first : (s t : Space) (context : ℕ) (rows : List Row) (buffer : List ℕ) (ended : Result Reply Status) → Asks process handle context s ended t
       → IsAt s context rows buffer (record { filled = 0; place = 0; context = context }) ended t rows buffer
@@ -154,7 +132,7 @@ module _ (process handle : ℕ) where
 
 -- an entry that a query gave is taken
 pub takes_entry : (given : Option (Listed × ℕ)) (entry : Listed) (room context number : ℕ) (old : Progress) (rows rows' : List Row) (name buffer buffer' : List ℕ)
-    → Some (entry, context) ≡ given → name ≡ entry.name → TellsType entry.type_name number → old.filled < length rows → old.place + length name ≤ room
+    → Some (entry, context) ≡ given → name ≡ entry.name → IsTypeNumber entry.type_name number → old.filled < length rows → old.place + length name ≤ room
     → rows' ≡ take old.filled rows ++ record { context = context; number = number; name = old.place; length = length name } ∷ drop (old.filled + 1) rows
     → buffer' ≡ take old.place buffer ++ name ++ drop (old.place + length name) buffer
     → Takes given room old (record { filled = old.filled + 1; place = old.place + length name; context = context }) rows rows' buffer buffer'

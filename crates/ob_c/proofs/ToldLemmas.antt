@@ -1,15 +1,15 @@
--- What is told of a page from what is told of its first entry.
+-- The report of a page from the report of its first entry.
 use Rattle.std.proofs.Common.{◌≡◌, ℕ, List, [], ◌∷◌, Some, length, nat_le, if◌then◌else◌, slice_get, subst}
 use Rattle.ob_base.specs.declared.status.Status.{Status}
 use Rattle.ob_model.specs.declared.entries.Listed.{Listed}
 use Rattle.ob_c.specs.Told.{Fills, TellsFirst}
-use Rattle.ob_c.specs.Types.{TellsType}
+use Rattle.ob_numbers.specs.Types.{IsTypeNumber}
 
 one_entry : (a b : Listed) → Some a ≡ Some b → a ≡ b
 one_entry a b e = cc
 
 module _ (status : ℕ) (ended : Status) (behind context context' : ℕ) (old new : List ℕ) (told type : ℕ) where
-  pub tells_first : (entries : List Listed) (entry : Listed) → Some entry ≡ slice_get entries 0 → Fills status entry.name ended old new told → TellsType entry.type_name type
+  pub tells_first : (entries : List Listed) (entry : Listed) → Some entry ≡ slice_get entries 0 → Fills status entry.name ended old new told → IsTypeNumber entry.type_name type
       → context' ≡ (if nat_le (length entry.name) (length old) then behind else context) → TellsFirst status ended entries behind context context' old new told type
   tells_first [] entry is fills tells moves = cc
   tells_first (e ∷ es) entry is fills tells moves =

@@ -1,4 +1,4 @@
--- What the struct of a caller in C owns: nothing where it is closed, else the block of its core.
+-- The struct of a caller in C owns nothing if it is closed, else the block of its core.
 --
 -- Source: this profile.
 use Rattle.std.specs.Prelude.{ℕ, Bool, true, false, Option, None, Some}
@@ -20,12 +20,12 @@ abbrev pub is_open : Option the_row.Denot → Bool
 is_open None = false
 is_open (Some core) = true
 
--- the second word of the struct: 0 where it is closed, 1 where it is open
+-- the second word of the struct: 0 if it is closed, 1 if it is open
 abbrev pub flag_of : Option the_row.Denot → ℕ
 flag_of None = 0
 flag_of (Some core) = 1
 
--- the block behind the pointer, where there is one
+-- the block that the pointer leads to, if there is one
 abbrev pub holds_block : Global → Ptr → Option the_row.Denot → Fml
 holds_block alloc p None = ftrue
 holds_block alloc p (Some core) = box_owns (ghosts.dealloc_token alloc) the_row p core

@@ -1,7 +1,7 @@
--- What a call of a caller in C does: a command of a process, run to its reply in an open namespace.
+-- A call of a caller in C runs a command of a process to its reply in an open namespace.
 --
 -- Source: Windows Internals, Object Manager (parse methods), for opens that are run on; that a closed namespace refuses,
--- and that a call which wants memory says so, are this profile.
+-- and that a call reports that it is out of memory, are this profile.
 use Rattle.std.specs.Prelude.{◌≡◌, ℕ, zero, suc, Bool, true, false, List, ◌⊎◌, Option, None, Some, Result, Ok, Err}
 use Rattle.std.specs.Int.{w64, to_le_bytes}
 use Rattle.ob_base.specs.declared.status.Status.{Status}
@@ -20,14 +20,14 @@ use Rattle.ob_runner.specs.Completes.{Made, Completes, MayFalter, Falters}
 use Rattle.ob_host.specs.Deletions.{unused}
 use Rattle.ob_host.specs.declared.kind.Kind.{Kind}
 use Rattle.ob_c.specs.Machine.{Space, host}
-use Rattle.ob_c.specs.Types.{type_of_kind}
+use Rattle.ob_numbers.specs.Types.{type_of_kind}
 
 -- a handle that a name is relative to: 0 is none
 abbrev pub root_of : ℕ → Option ℕ
 root_of zero = None
 root_of (suc n) = Some (suc n)
 
--- where a create puts what it makes, with a name and without one
+-- the place of a create, with a name and without one
 abbrev pub place_of : (named : Bool) → ℕ → List ℕ → Place
 place_of true root name = At (root_of root) name
 place_of false root name = Unnamed
@@ -79,14 +79,14 @@ abbrev pub Runs : ℕ → Command Kind → (waits : Bool) → Space → Reply �
 Runs p command true s reply t = (steps : List (Made Kind)) × Completes host (Start p command) steps s reply t
 Runs p command false s reply t = Step host s (Start p command) (Done reply) t
 
--- A command finds no memory: an open before its first step, or behind steps, and then it is given up; any other before its
--- one step, and nothing has changed.
+-- A command is out of memory: an open before its first step, or after steps, and then it is abandoned; any other before
+-- its one step, and nothing has changed.
 abbrev pub Wants : ℕ → Command Kind → (waits : Bool) → Space → Space → Type 0
 Wants p command true s t = (steps : List (Made Kind)) × Falters host (Start p command) steps s t
 Wants p command false s t = (t ≡ s) × MayFalter host s (Start p command)
 
--- A command of a process is run to its reply, or finds no memory, for its steps, or for a copy of the bytes that it is
--- handed in with, and then nothing has changed.
+-- A command of a process is run to its reply; or it is out of memory, in its steps, or for a copy of the bytes that it
+-- is handed in with, and then nothing has changed.
 abbrev pub Ends : ℕ → Command Kind → Space → Result Reply Status → Space → Type 0
 Ends p command s (Ok reply) t = Runs p command (may_wait command) s reply t
 Ends p command s (Err status) t = (status ≡ NoMemory) × (Wants p command (may_wait command) s t ⊎ (HasBytes command × (t ≡ s)))
@@ -96,7 +96,7 @@ abbrev pub Calls : ℕ → Command Kind → Option Space → Result Reply Status
 Calls p command None ended new = (ended ≡ Err InvalidParameter) × (new ≡ None)
 Calls p command (Some s) ended new = (t : Space) × (new ≡ Some t) × Ends p command s ended t
 
--- a call does this command, and tells so of how that ends
+-- a call does this command, and makes such a report of how it ends
 abbrev pub Does : ℕ → Command Kind → (old new : Option Space) → (Result Reply Status → Type 0) → Type 0
 Does p command old new Tells = (ended : Result Reply Status) × Calls p command old ended new × Tells ended
 
@@ -109,7 +109,7 @@ abbrev pub CallsMade : {E : Type 0} → ℕ → Result (Command Kind) E → Opti
 CallsMade p made None ended new = (ended ≡ Err InvalidParameter) × (new ≡ None)
 CallsMade p made (Some s) ended new = (t : Space) × (new ≡ Some t) × EndsMade p made s ended t
 
--- A call does the command of the kind that has this number; where none has it, the call is refused and nothing changes.
+-- A call does the command of the kind that has this number; if none has it, the call is refused and nothing changes.
 abbrev pub DoesOfType : ℕ → ℕ → (Kind → Command Kind) → (old new : Option Space) → (Result Reply Status → Type 0) → Type 0
 DoesOfType type p command old new Tells =
     ((kind : Kind) × (type ≡ type_of_kind kind) × Does p (command kind) old new Tells)
@@ -120,7 +120,8 @@ abbrev pub DoesOfAnyType : ℕ → ℕ → (Option Kind → Command Kind) → (o
 DoesOfAnyType zero p command old new Tells = Does p (command None) old new Tells
 DoesOfAnyType (suc n) p command old new Tells = DoesOfType (suc n) p (λ kind. command (Some kind)) old new Tells
 
--- a closed namespace is opened, or memory is wanted and it stays closed; an open one is refused and stays as it is
+-- a closed namespace is opened, or the call is out of memory and it stays closed; an open one is refused and stays
+-- as it is
 abbrev pub IsOpened : (old new : Option Space) → ℕ → Type 0
 IsOpened None new status = ((new ≡ Some (opening unused)) × (status ≡ code_of Success)) ⊎ ((new ≡ None) × (status ≡ code_of NoMemory))
 IsOpened (Some s) new status = (new ≡ Some s) × (status ≡ code_of InvalidParameter)

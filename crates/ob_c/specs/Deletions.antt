@@ -8,15 +8,15 @@ use Rattle.ob_drains.specs.Unnoticed.{with_change}
 use Rattle.ob_host.specs.Deletions.{next_deletion, behind_next}
 use Rattle.ob_host.specs.declared.deletion.HostDeletion.{HostDeletion}
 use Rattle.ob_c.specs.Machine.{Space}
-use Rattle.ob_c.specs.Types.{type_of_kind}
+use Rattle.ob_numbers.specs.Types.{type_of_kind}
 use Rattle.ob_c.specs.declared.deletions.Deletion.{Deletion}
 
--- a deletion as a caller in C reads it: the id is the serial that the object's first open drew, 0 where it was never opened
+-- a deletion as a caller in C reads it: the id is the serial that the object's first open drew, 0 if it was never opened
 abbrev pub deletion_told : HostDeletion → Deletion
 deletion_told deletion =
     record { number = type_of_kind deletion.kind; user_data = deletion.user_data; id = deletion.serial; parsed = if deletion.parsed then 1 else 0 }
 
--- what a caller in C reads where there is none
+-- the fields where there is none
 abbrev pub no_deletion : Deletion
 no_deletion = record { number = 0; user_data = 0; id = 0; parsed = 0 }
 

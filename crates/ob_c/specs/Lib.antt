@@ -1,6 +1,6 @@
 pub mod Machine
 pub mod Caller
-pub mod Types
+pub mod Referents
 pub mod Calls
 pub mod Told
 pub mod Objects

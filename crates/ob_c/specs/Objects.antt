@@ -1,4 +1,4 @@
--- What is told of the object of a handle.
+-- Reports of the object of a handle.
 --
 -- Source: ObReferenceObjectByHandle (Windows Driver Kit); user data, ids and texts are this profile.
 use Rattle.std.specs.Prelude.{◌≡◌, ℕ, List, Bool, ◌||◌, Option, None, Some, MatchBool}
@@ -14,9 +14,9 @@ use Rattle.ob_host.specs.declared.kind.Kind.TheVariants.{File, Key}
 use Rattle.ob_host.specs.declared.object.HostObject.{HostObject}
 use Rattle.ob_c.specs.Machine.{Space}
 use Rattle.ob_c.specs.Told.{Fills, FillsNothing}
-use Rattle.ob_c.specs.Types.{id_of_body, type_of_body, user_data_of_body}
+use Rattle.ob_c.specs.Referents.{id_of_body, type_of_body, user_data_of_body}
 
--- a number and an object are told, or a refusal with zeros
+-- a status and an object are reported, or a refusal with zeros
 abbrev pub TellsZeros : (status code type user_data id : ℕ) → Type 0
 TellsZeros status code type user_data id = (status ≡ code) × (type ≡ 0) × (user_data ≡ 0) × (id ≡ 0)
 

@@ -1,4 +1,4 @@
--- A page of a directory as a caller in C reads it: of each entry its name and the name of its type, a byte 0 behind each.
+-- A page of a directory as a caller in C reads it: of each entry its name and the name of its type, a byte 0 after each.
 --
 -- Source: ZwQueryDirectoryObject (Windows Driver Kit), for a page, its status and its context; the bytes are this profile.
 use Rattle.std.specs.Prelude.{◌≡◌, ◌≤◌, ℕ, ◌-◌, List, [], ◌∷◌, ◌++◌, length, drop, map, nat_le, if◌then◌else◌, Option, None, Some, Result, Ok, Err, MatchBool}
@@ -11,7 +11,7 @@ use Rattle.ob_model.specs.declared.reply.Given.{Given}
 use Rattle.ob_model.specs.declared.reply.Given.TheVariants.{Nothing, Handle, Text, Process, Page}
 use Rattle.ob_model.specs.declared.reply.Reply.{Reply}
 use Rattle.ob_c.specs.Told.{FillsNothing}
-use Rattle.ob_c.specs.Texts.{zero_ended}
+use Rattle.ob_numbers.specs.Texts.{zero_ended}
 
 -- the room of a page for a buffer of so many bytes
 abbrev pub room_within : ℕ → ℕ
@@ -21,7 +21,7 @@ room_within capacity = if nat_le largest_room capacity then largest_room else ca
 abbrev pub entry_bytes : Listed → List ℕ
 entry_bytes e = zero_ended e.name ++ zero_ended e.type_name
 
--- entries, one behind another
+-- entries, one after another
 abbrev pub page_bytes : List Listed → List ℕ
 page_bytes [] = []
 page_bytes (e ∷ es) = entry_bytes e ++ page_bytes es
@@ -30,23 +30,23 @@ page_bytes (e ∷ es) = entry_bytes e ++ page_bytes es
 abbrev pub PagesFit : Type 0
 PagesFit = (room : ℕ) (entries : List Shown) → length (page_bytes (map listed (fitting room entries))) ≤ room
 
--- what is left of a room behind so many bytes; none where they don't fit
+-- the rest of a room after this many bytes; none if they don't fit
 abbrev pub room_left : (room needed : ℕ) → Option ℕ
 room_left room needed = if nat_le needed room then Some (room - needed) else None
 
--- no page is told, and the context stays
+-- no page is reported, and the context stays
 abbrev pub TellsNoPage : (status : ℕ) → ℕ → (context context' : ℕ) → (old new : List ℕ) → (told : ℕ) → Type 0
 TellsNoPage status code context context' old new told = FillsNothing status code old new told × (context' ≡ context)
 
--- Entries are told, and the context behind them: they stand in the front of a buffer, and the rest of it stays. In one that is
--- too small nothing is written.
+-- Entries are written, and the context after them reported: they are the beginning of a buffer, and the rest of it stays. In
+-- one that is too small nothing is written.
 abbrev pub TellsEntries : (status : ℕ) → Status → List Listed → (behind context context' : ℕ) → (old new : List ℕ) → (told : ℕ) → Type 0
 TellsEntries status ended entries behind context context' old new told =
     MatchBool (nat_le (length (page_bytes entries)) (length old))
     ((status ≡ code_of ended) × (new ≡ page_bytes entries ++ drop (length (page_bytes entries)) old) × (told ≡ length (page_bytes entries)) × (context' ≡ behind))
     (TellsNoPage status (code_of BufferTooSmall) context context' old new told)
 
--- what is told of a page that a reply gives
+-- the report of a page that a reply gives
 abbrev pub TellsPageOf : (status : ℕ) → Status → Given → (context context' : ℕ) → (old new : List ℕ) → (told : ℕ) → Type 0
 TellsPageOf status ended Nothing context context' old new told = TellsNoPage status (code_of ended) context context' old new told
 TellsPageOf status ended (Handle value) context context' old new told = TellsNoPage status (code_of ended) context context' old new told

@@ -15,7 +15,7 @@ use Rattle.ob_model.specs.declared.reply.Reply.{Reply}
 use Rattle.ob_c.specs.Machine.{Space}
 use Rattle.ob_c.specs.Calls.{Ends}
 use Rattle.ob_c.specs.Told.{given_in}
-use Rattle.ob_c.specs.Types.{TellsType}
+use Rattle.ob_numbers.specs.Types.{IsTypeNumber}
 use Rattle.ob_c.specs.declared.rows.Row.{Row}
 use Rattle.ob_c.specs.declared.rows.Progress.{Progress}
 
@@ -60,7 +60,7 @@ names_of (read ∷ reads) = read.name ++ names_of reads
 abbrev pub IsRead : ℕ → Option (Listed × ℕ) → Read → Type 0
 IsRead place None read = ⊥
 IsRead place (Some entry) read =
-    (read.name ≡ entry.0.name) × (read.row.context ≡ entry.1) × TellsType entry.0.type_name read.row.number × (read.row.name ≡ place)
+    (read.name ≡ entry.0.name) × (read.row.context ≡ entry.1) × IsTypeNumber entry.0.type_name read.row.number × (read.row.name ≡ place)
     × (read.row.length ≡ length entry.0.name)
 
 -- Entries are read by one query after another, from this progress to the other.
@@ -70,12 +70,13 @@ Reads process handle from s (read ∷ reads) to t =
     (ended : Result Reply Status) × (u : Space) × Asks process handle from.context s ended u × IsRead from.place (entry_in ended) read
     × Reads process handle (record { filled = from.filled + 1; place = from.place + length read.name; context = read.row.context }) u reads to t
 
--- an entry that no row is left for, or whose name doesn't fit
+-- an entry for which there is no row more, or whose name doesn't fit
 abbrev pub IsTooMuch : (rows room : ℕ) → Progress → Option (Listed × ℕ) → Type 0
 IsTooMuch rows room progress None = Unit {0}
 IsTooMuch rows room progress (Some entry) = (progress.filled ≡ rows) ⊎ (room < progress.place + length entry.0.name)
 
--- The status of a call that filled so many rows before a query ended: others are left, or none is; an error where it is refused.
+-- The status of a call that filled this many rows before a query ended: other entries follow, or none; an error if it is
+-- refused.
 abbrev pub none_left : Status → Result Status Status
 none_left NoMoreEntries = Ok Success
 none_left status = Err status
@@ -92,15 +93,16 @@ abbrev pub rows_status : Option (Listed × ℕ) → (filled : ℕ) → Status �
 rows_status None filled status = status_without filled status
 rows_status (Some entry) filled status = status_with filled
 
--- the rows are told with the context after them; or the call is refused, none is told, and the context stays
-abbrev pub TellsProgress : Result Status Status → Progress → (status context context' told : ℕ) → Type 0
-TellsProgress (Ok is) progress status context context' told = (status ≡ code_of is) × (context' ≡ progress.context) × (told ≡ progress.filled)
-TellsProgress (Err is) progress status context context' told = (status ≡ code_of is) × (context' ≡ context) × (told ≡ 0)
+-- the number of rows and the context after them are reported; or the call is refused, the number is 0, and
+-- the context stays
+abbrev pub TellsProgress : Result Status Status → Progress → (status context context' filled : ℕ) → Type 0
+TellsProgress (Ok is) progress status context context' filled = (status ≡ code_of is) × (context' ≡ progress.context) × (filled ≡ progress.filled)
+TellsProgress (Err is) progress status context context' filled = (status ≡ code_of is) × (context' ≡ context) × (filled ≡ 0)
 
--- Rows are filled from a state on: these entries are read, in whose rows and buffer they stand, and the query after them gives
--- none, or one that is too much.
-abbrev pub FillsRows : (process handle : ℕ) → (s t : Space) → (status context context' : ℕ) → (rows rows' : List Row) → (buffer buffer' : List ℕ) → (told : ℕ) → Type 0
-FillsRows process handle s t status context context' rows rows' buffer buffer' told =
+-- Rows are filled from a state on: these entries are read into the rows and the buffer, and the query after them gives none,
+-- or one that is too much.
+abbrev pub FillsRows : (process handle : ℕ) → (s t : Space) → (status context context' : ℕ) → (rows rows' : List Row) → (buffer buffer' : List ℕ) → (filled : ℕ) → Type 0
+FillsRows process handle s t status context context' rows rows' buffer buffer' filled =
     (reads : List Read) × (progress : Progress) × (ended : Result Reply Status) × (u : Space)
     × Reads process handle (record { filled = 0; place = 0; context = context }) s reads progress u
     × Asks process handle progress.context u ended t
@@ -108,16 +110,16 @@ FillsRows process handle s t status context context' rows rows' buffer buffer' t
     × (buffer' ≡ names_of reads ++ drop progress.place buffer)
     × (progress.place ≤ names_room (length buffer))
     × IsTooMuch (length rows) (names_room (length buffer)) progress (entry_in ended)
-    × TellsProgress (rows_status (entry_in ended) progress.filled (status_of ended)) progress status context context' told
+    × TellsProgress (rows_status (entry_in ended) progress.filled (status_of ended)) progress status context context' filled
 
 -- the same in a namespace that may be closed
-abbrev pub TellsRows : (process handle : ℕ) → (old new : Option Space) → (status context context' : ℕ) → (rows rows' : List Row) → (buffer buffer' : List ℕ) → (told : ℕ) → Type 0
-TellsRows process handle None new status context context' rows rows' buffer buffer' told =
-    (new ≡ None) × (status ≡ code_of InvalidParameter) × (context' ≡ context) × (rows' ≡ rows) × (buffer' ≡ buffer) × (told ≡ 0)
-TellsRows process handle (Some s) new status context context' rows rows' buffer buffer' told =
-    (t : Space) × (new ≡ Some t) × FillsRows process handle s t status context context' rows rows' buffer buffer' told
+abbrev pub TellsRows : (process handle : ℕ) → (old new : Option Space) → (status context context' : ℕ) → (rows rows' : List Row) → (buffer buffer' : List ℕ) → (filled : ℕ) → Type 0
+TellsRows process handle None new status context context' rows rows' buffer buffer' filled =
+    (new ≡ None) × (status ≡ code_of InvalidParameter) × (context' ≡ context) × (rows' ≡ rows) × (buffer' ≡ buffer) × (filled ≡ 0)
+TellsRows process handle (Some s) new status context context' rows rows' buffer buffer' filled =
+    (t : Space) × (new ≡ Some t) × FillsRows process handle s t status context context' rows rows' buffer buffer' filled
 
--- an entry is taken into a row and a buffer
+-- an entry is written to a row and a buffer
 abbrev pub Takes : Option (Listed × ℕ) → (room : ℕ) → (old new : Progress) → (rows rows' : List Row) → (buffer buffer' : List ℕ) → Type 0
 Takes entry room old new rows rows' buffer buffer' =
     (read : Read) × IsRead old.place entry read × (old.filled < length rows) × (old.place + length read.name ≤ room)

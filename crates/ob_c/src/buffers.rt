@@ -1,15 +1,15 @@
-//! A caller's buffers, and what is told in them.
+//! What calls write to a caller's buffers.
 
 ghost use Rattle.std.specs.Prelude.{◌≡◌, if◌then◌else◌, length, nat_le};
 ghost use Rattle.ob_c.specs.Told.{Fills, TellsText, TellsEntry, TellsFirst};
 ghost use Rattle.ob_base.specs.Status.{code_of};
 
-use crate::types::type_named;
 use ob_base::Status;
 use ob_core::{Entries, Given, Reply};
+use ob_numbers::type_named;
 
-/// Writes a text to the front of a buffer, and tells its length and a status. Where it doesn't fit, nothing is written, and
-/// the status is `BufferTooSmall`.
+/// Writes a text to the beginning of a buffer, and reports its length and a status. If it doesn't fit, nothing is written,
+/// and the status is `BufferTooSmall`.
 pub(crate) fn fill(text: &[u8], status: Status, buffer: &mut [u8], length: &mut usize) -> u32
     ensures { Fills result text.now status buffer.old buffer.new length.new }
 {
@@ -21,7 +21,7 @@ pub(crate) fn fill(text: &[u8], status: Status, buffer: &mut [u8], length: &mut 
     status.code()
 }
 
-/// Tells a status and no text: the length is 0.
+/// Reports a status and no text: the length is 0.
 pub(crate) fn fill_nothing(status: Status, length: &mut usize) -> u32
     ensures status { result ≡ code_of status }
     ensures length { length.new ≡ 0 }
@@ -30,7 +30,7 @@ pub(crate) fn fill_nothing(status: Status, length: &mut usize) -> u32
     status.code()
 }
 
-/// Tells the text that a call gives.
+/// Reports the text that a call gives.
 pub(crate) fn tell_text(ended: &Result<Reply, Status>, buffer: &mut [u8], length: &mut usize) -> u32
     ensures { TellsText result buffer.old buffer.new length.new ended.now }
 {
@@ -43,7 +43,7 @@ pub(crate) fn tell_text(ended: &Result<Reply, Status>, buffer: &mut [u8], length
     }
 }
 
-/// Tells the first entry of the page that a call gives.
+/// Reports the first entry of the page that a call gives.
 pub(crate) fn tell_entry(
     ended: &Result<Reply, Status>,
     context: &mut u64,
@@ -75,7 +75,7 @@ pub(crate) fn tell_entry(
     }
 }
 
-// Tells the first of these entries, behind which this context is.
+// Reports the first of these entries, after which this context is.
 fn tell_first(
     status: Status,
     entries: &Entries,
@@ -98,7 +98,7 @@ fn tell_first(
     fill(name, status, buffer, length)
 }
 
-// The context behind an entry whose name fits the buffer; else the context as it is.
+// The context after an entry whose name fits the buffer; else the context as it is.
 fn context_after(name: &[u8], buffer: &[u8], behind: u64, context: u64) -> u64
     ensures { result
         ≡ (if nat_le (length name.now) (length buffer.now) then behind else context) }

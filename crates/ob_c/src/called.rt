@@ -1,4 +1,4 @@
-//! Calls of commands, and what is told of how they end.
+//! Calls of commands, and the reports of how they end.
 
 ghost use Rattle.std.specs.Prelude.{◌≡◌};
 ghost use Rattle.ob_c.specs.Calls.{CallsMade};
@@ -10,8 +10,8 @@ use ob_core::{Command, Given, Reply};
 use ob_host::Kind;
 use std::alloc::{AllocError, Global};
 
-/// Runs a command of a process to its reply, where the namespace is open. The errors are `InvalidParameter`, where it is
-/// closed, and `NoMemory`, where the command could not be made, or could not be run to its reply, for want of memory.
+/// Runs a command of a process to its reply, if the namespace is open. The errors are `InvalidParameter`, if it is
+/// closed, and `NoMemory`, if memory ran out while the command was made or run to its reply.
 pub(crate) fn call(
     ns: &mut Ntns,
     alloc: Global,
@@ -38,7 +38,7 @@ pub(crate) fn status_in(ended: &Result<Reply, Status>) -> u32
     }
 }
 
-/// Tells the handle that a call gives, 0 where it gives none; the number of the status is answered.
+/// Reports the handle that a call gives, 0 if it gives none; returns the number of the status.
 pub(crate) fn tell_handle(ended: &Result<Reply, Status>, handle: &mut u32) -> u32
     ensures { TellsHandle result handle.new ended.now }
 {
@@ -46,7 +46,7 @@ pub(crate) fn tell_handle(ended: &Result<Reply, Status>, handle: &mut u32) -> u3
     status_in(ended)
 }
 
-/// The value of the handle that a call gives; 0 where it gives none.
+/// The value of the handle that a call gives; 0 if it gives none.
 fn handle_in(ended: &Result<Reply, Status>) -> u32
     ensures { result ≡ handle_in ended.now }
 {
@@ -59,7 +59,7 @@ fn handle_in(ended: &Result<Reply, Status>) -> u32
     }
 }
 
-/// The number of the process that a call gives; 0 where it gives none.
+/// The number of the process that a call gives; 0 if it gives none.
 pub(crate) fn process_in(ended: &Result<Reply, Status>) -> u32
     ensures { result ≡ process_in ended.now }
 {

@@ -11,10 +11,10 @@ use std::alloc::Global;
 use std::marker::Model;
 use std::{mem, ptr};
 
-/// A namespace as a caller in C holds it: two words, which are zeros where it is closed. The first points to what it owns
-/// where it is open, and is the library's own.
+/// A namespace as a caller in C holds it: two machine words, which are zeros if it is closed. If it is open, the first
+/// points to what it owns, and is the library's own.
 ///
-/// A contract sees the state of the abstract machine where it is open, and `None` where it is closed. (this profile)
+/// A contract sees the state of the abstract machine if it is open, and `None` if it is closed. (this profile)
 #[repr(C)]
 #[derive(Drop)]
 pub struct Ntns {
@@ -104,7 +104,7 @@ impl Ntns {
         *self = Ntns::of_parts(Parts::of(core));
     }
 
-    /// Takes the core out of the struct, which is closed then; `None` where it was closed. No memory is taken.
+    /// Takes the core out of the struct, which is closed then; `None` if it was closed.
     pub(crate) fn take(&mut self, alloc: Global) -> Option<Box<HostCore>>
         ensures closed { self.new.core ≡ None }
         ensures taken { option_map (λ core. core.value) result ≡ self.old.core }

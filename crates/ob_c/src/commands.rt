@@ -9,14 +9,14 @@ use ob_core::{Bytes, Command, Place};
 use ob_host::Kind;
 use std::alloc::{AllocError, Global};
 
-// The handle that a name is relative to: none where it is 0.
+// The handle that a name is relative to; none if it is 0.
 fn root_of(root: u32) -> Option<Handle>
     ensures { result ≡ root_of root }
 {
     if root == 0 { None } else { Some(Handle(root)) }
 }
 
-// Where a create puts what it makes. The only error is out of memory.
+// The place of a create. The only error is out of memory.
 fn place_of(alloc: Global, root: u32, named: bool, name: &[u8]) -> Result<Place, AllocError>
     ensures { IfOk result (λ place. place ≡ place_of named root name.now) }
 {

@@ -6,9 +6,9 @@ ghost use Rattle.ob_c.specs.Deletions.{TellsDeletion, TellsNext, deletion_told, 
 
 use crate::Ntns;
 use crate::machine::HostCore;
-use crate::types::type_of_kind;
 use ob_base::Status;
 use ob_host::HostDeletion;
+use ob_numbers::type_of_kind;
 use std::alloc::Global;
 
 /// A deletion of an object of the caller's, as a caller in C reads it. (this profile)
@@ -19,15 +19,15 @@ pub struct Deletion {
     pub number: u32,
     /// The user data of its create, or of the object whose parse made it.
     pub user_data: u64,
-    /// The id that a query of the object gave; 0 where no handle to it was ever given.
+    /// The id that a query of the object gave; 0 if no handle to it was ever given.
     pub id: u64,
-    /// 1 where the parse of an open made the object, else 0.
+    /// 1 if the parse of an open made the object, else 0.
     pub parsed: u8,
 }
 
 /// Reports the first deletion of an object of the caller's that wasn't reported yet; it is reported once. It takes no memory.
 ///
-/// `NoMoreEntries` where none is left, and `InvalidParameter` where the namespace is closed: each field is 0 then, and nothing
+/// `NoMoreEntries` if none is left, and `InvalidParameter` if the namespace is closed: each field is 0 then, and nothing
 /// changes. (this profile)
 #[unsafe(no_mangle)]
 pub extern "C" fn ntns_next_deletion(ns: &mut Ntns, alloc: Global, deletion: &mut Deletion) -> u32
@@ -66,7 +66,7 @@ fn deletion_told(deletion: &HostDeletion) -> Deletion
     }
 }
 
-// What a caller in C reads where there is no deletion.
+// The fields where there is no deletion: zeros.
 fn no_deletion() -> Deletion
     ensures { result ≡ no_deletion }
 {

@@ -13,7 +13,7 @@ use std::alloc::Global;
 /// Closes a handle of a process. The low two bits of its value are ignored, here and in each call below. It takes no
 /// memory.
 ///
-/// The statuses are those of the command `Close`, in its order; `InvalidParameter` where the namespace is closed. Source:
+/// The statuses are those of the command `Close`, in its order; `InvalidParameter` if the namespace is closed. Source:
 /// ZwClose (Windows Driver Kit).
 #[unsafe(no_mangle)]
 pub extern "C" fn ntns_close_handle(ns: &mut Ntns, alloc: Global, process: u32, handle: u32) -> u32
@@ -25,11 +25,11 @@ pub extern "C" fn ntns_close_handle(ns: &mut Ntns, alloc: Global, process: u32, 
     status_in(&call(ns, alloc, process, Ok(close)))
 }
 
-/// Duplicates a handle of a process into another, or the same, whose children inherit the copy where `inherit` is true. The
-/// copy is told, 0 where none is given.
+/// Duplicates a handle of a process into another, or the same, whose children inherit the copy if `inherit` is true. `copy`
+/// receives its value, 0 if none is given.
 ///
-/// The statuses are those of the command `Duplicate`, in its order; `InvalidParameter` where the namespace is closed,
-/// and `NoMemory` where memory is wanted, and then nothing has changed. Source: ZwDuplicateObject (Windows Driver Kit).
+/// The statuses are those of the command `Duplicate`, in its order; `InvalidParameter` if the namespace is closed, and
+/// `NoMemory` if out of memory; nothing has changed then. Source: ZwDuplicateObject (Windows Driver Kit).
 #[unsafe(no_mangle)]
 pub extern "C" fn ntns_duplicate(
     ns: &mut Ntns,
@@ -51,9 +51,10 @@ pub extern "C" fn ntns_duplicate(
     tell_handle(&call(ns, alloc, process, Ok(duplicate)), copy)
 }
 
-/// Makes the object of a handle of a process temporary: its name goes when it has no handle. It takes no memory.
+/// Makes the object of a process's handle temporary: its name is removed when it has no handle. It takes no
+/// memory.
 ///
-/// The statuses are those of the command `MakeTemporary`, in its order; `InvalidParameter` where the namespace is closed.
+/// The statuses are those of the command `MakeTemporary`, in its order; `InvalidParameter` if the namespace is closed.
 /// Source: ZwMakeTemporaryObject (Windows Driver Kit).
 #[unsafe(no_mangle)]
 pub extern "C" fn ntns_make_temporary(
@@ -70,10 +71,10 @@ pub extern "C" fn ntns_make_temporary(
     status_in(&call(ns, alloc, process, Ok(turn)))
 }
 
-/// Makes the object of a handle of a process permanent, where it has a name: then the name stays, also without a handle. It
-/// takes no memory.
+/// Makes the object of a process's handle permanent, if it has a name: the name then remains without a handle. It takes no
+/// memory.
 ///
-/// The statuses are those of the command `MakePermanent`, in its order; `InvalidParameter` where the namespace is closed.
+/// The statuses are those of the command `MakePermanent`, in its order; `InvalidParameter` if the namespace is closed.
 /// Source: ZwMakePermanentObject (Windows Driver Kit).
 #[unsafe(no_mangle)]
 pub extern "C" fn ntns_make_permanent(
@@ -92,8 +93,8 @@ pub extern "C" fn ntns_make_permanent(
 
 /// Makes the directory of a handle of a process the local directory of its device map.
 ///
-/// The statuses are those of the command `SetDeviceMap`, in its order; `InvalidParameter` where the namespace is closed,
-/// and `NoMemory` where memory is wanted, and then nothing has changed. Source: NtSetInformationProcess (ProcessDeviceMap).
+/// The statuses are those of the command `SetDeviceMap`, in its order; `InvalidParameter` if the namespace is closed, and
+/// `NoMemory` if out of memory; nothing has changed then. Source: NtSetInformationProcess (ProcessDeviceMap).
 #[unsafe(no_mangle)]
 pub extern "C" fn ntns_set_device_map(
     ns: &mut Ntns,

@@ -22,9 +22,9 @@ mod pages;
 mod parts;
 mod processes;
 mod queries;
+mod referents;
 mod rows;
 mod texts;
-mod types;
 
 pub use caller::Ntns;
 pub use deletions::Deletion;

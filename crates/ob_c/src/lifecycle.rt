@@ -10,8 +10,8 @@ use std::alloc::Global;
 
 /// Opens a namespace: the opening state, with process 1 alone, in which nothing was opened or deleted.
 ///
-/// `Success`; `InvalidParameter` where it is open already, and then it stays as it is; and `NoMemory` where memory is wanted,
-/// and then it stays closed. (this profile)
+/// `Success`; `InvalidParameter` if it is open already, and then it stays as it is; and `NoMemory` if out of memory, and then
+/// it stays closed. (this profile)
 #[unsafe(no_mangle)]
 pub extern "C" fn ntns_open(ns: &mut Ntns, alloc: Global) -> u32
     ensures { IsOpened ns.old.core ns.new.core result }

@@ -42,9 +42,9 @@ impl HostCore {
         }
     }
 
-    /// Runs a command of a process to its reply, and each parse that it waits for meanwhile; where it could not be made
-    /// for want of memory, nothing is done. `NoMemory`, and no other error, where memory is wanted: before the first step,
-    /// where nothing has changed, or behind steps that give the open up.
+    /// Runs a command of a process to its reply, and each parse that it waits for meanwhile; if it could not be made
+    /// because memory ran out, nothing is done. The only error is `NoMemory`: before the first step, and then nothing has
+    /// changed, or after steps that abandon the open.
     ///
     /// Source: Windows Internals, Object Manager (parse methods); that a parse is run between two steps is this profile.
     pub(crate) fn run(
@@ -61,7 +61,7 @@ impl HostCore {
         }
     }
 
-    // Runs a command of a process to its reply, or to want of memory.
+    // Runs a command of a process to its reply, or until memory runs out.
     fn run_lent(
         &mut self,
         alloc: Global,
@@ -76,8 +76,8 @@ impl HostCore {
         Ok(reply)
     }
 
-    /// What a handle of a process leads to, whose low two bits are ignored: the object's id, and what it is. `None` exactly
-    /// where the process has no such handle. Takes no memory.
+    /// The object of a process's handle, whose low two bits are ignored: its id, and what it is. `None` exactly if the
+    /// process has no such handle. Takes no memory.
     ///
     /// Source: ObReferenceObjectByHandle (Windows Driver Kit).
     pub(crate) fn referent(
@@ -91,7 +91,7 @@ impl HostCore {
         self.core.referent(Proc(process), Handle(handle))
     }
 
-    /// Takes the first deletion that wasn't taken yet; `None` where none is left, and then nothing changes. Takes no
+    /// Takes the first deletion that wasn't taken yet; `None` if none is left, and then nothing changes. Takes no
     /// memory. (this profile)
     pub(crate) fn take_next(&mut self) -> Option<HostDeletion>
         ensures told { result ≡ next_deletion self.old.set }

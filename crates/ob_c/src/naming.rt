@@ -7,15 +7,15 @@ ghost use Rattle.ob_c.specs.Told.{TellsHandle};
 use crate::Ntns;
 use crate::called::{call, tell_handle};
 use crate::commands::{create_directory, create_link, create_object};
-use crate::types::kind_of;
 use ob_base::Status;
+use ob_numbers::kind_of;
 use std::alloc::Global;
 
-/// Creates a directory at a name, or without one where `named` is false, and opens a handle to it. `root` is the handle that
-/// the name is relative to, 0 for none. The handle is told, 0 where none is given.
+/// Creates a directory at a name, or without one if `named` is false, and opens a handle to it. `root` is the handle that
+/// the name is relative to, 0 for none. `handle` receives the new handle, 0 if none is given.
 ///
-/// The statuses are those of the command `CreateDirectory`, in its order; `InvalidParameter` where the namespace is closed,
-/// and `NoMemory` where memory is wanted, and then nothing has changed. Source: ZwCreateDirectoryObject (Windows Driver Kit).
+/// The statuses are those of the command `CreateDirectory`, in its order; `InvalidParameter` if the namespace is closed, and
+/// `NoMemory` if out of memory; nothing has changed then. Source: ZwCreateDirectoryObject (Windows Driver Kit).
 #[unsafe(no_mangle)]
 pub extern "C" fn ntns_create_directory_raw(
     ns: &mut Ntns,
@@ -34,12 +34,11 @@ pub extern "C" fn ntns_create_directory_raw(
     tell_handle(&call(ns, alloc, process, made), handle)
 }
 
-/// Creates a symbolic link to a target, at a name, or without one where `named` is false, and opens a handle to it. `root`
-/// is the handle that the name is relative to, 0 for none. The handle is told, 0 where none is given.
+/// Creates a symbolic link to a target, at a name, or without one if `named` is false, and opens a handle to it. `root` is
+/// the handle that the name is relative to, 0 for none. `handle` receives the new handle, 0 if none is given.
 ///
-/// The statuses are those of the command `CreateLink`, in its order; `InvalidParameter` where the namespace is closed,
-/// and `NoMemory` where memory is wanted, and then nothing has changed. Source: ZwCreateSymbolicLinkObject (Windows Driver
-/// Kit).
+/// The statuses are those of the command `CreateLink`, in its order; `InvalidParameter` if the namespace is closed, and
+/// `NoMemory` if out of memory; nothing has changed then. Source: ZwCreateSymbolicLinkObject (Windows Driver Kit).
 #[unsafe(no_mangle)]
 pub extern "C" fn ntns_create_link_raw(
     ns: &mut Ntns,
@@ -59,13 +58,13 @@ pub extern "C" fn ntns_create_link_raw(
     tell_handle(&call(ns, alloc, process, made), handle)
 }
 
-/// Creates an object of the kind of a type's number, with user data of the caller's, at a name, or without one where `named` is
-/// false, and opens a handle to it. `root` is the handle that the name is relative to, 0 for none. The handle is told, 0
-/// where none is given.
+/// Creates an object of the kind of a type's number, with user data of the caller's, at a name, or without one if `named` is
+/// false, and opens a handle to it. `root` is the handle that the name is relative to, 0 for none. `handle` receives the new
+/// handle, 0 if none is given.
 ///
-/// The statuses are those of the command `CreateObject`, in its order; `InvalidParameter` where the namespace is closed, or
-/// no kind has the number, and `NoMemory` where memory is wanted, and then nothing has changed. Source: ZwCreateEvent and its
-/// like (Windows Driver Kit); user data is this profile.
+/// The statuses are those of the command `CreateObject`, in its order; `InvalidParameter` if the namespace is closed or no
+/// kind has the number, and `NoMemory` if out of memory; nothing has changed then. Source: ZwCreateEvent and its like
+/// (Windows Driver Kit); user data is this profile.
 #[unsafe(no_mangle)]
 pub extern "C" fn ntns_create_object_raw(
     ns: &mut Ntns,

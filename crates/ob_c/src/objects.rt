@@ -1,4 +1,4 @@
-//! Exports that tell what a handle leads to.
+//! Exports that report the object of a handle.
 
 ghost use Rattle.std.specs.Prelude.{◌≡◌};
 ghost use Rattle.ob_core.specs.Referent.{referent_at};
@@ -7,19 +7,19 @@ ghost use Rattle.ob_c.specs.Objects.{has_text, TellsFile, TellsObject, TellsRefe
 use crate::Ntns;
 use crate::buffers::{fill, fill_nothing};
 use crate::machine::HostCore;
-use crate::types::{id_of, type_of, user_data_of};
+use crate::referents::{id_of, type_of, user_data_of};
 use ob_base::Status;
 use ob_core::Referent;
 use ob_host::Kind;
 use std::alloc::Global;
 
-/// Tells the type's number, the user data and the id of what a handle of a process leads to. The user data of a directory and of
-/// a symbolic link is 0, and their ids are from 2^63 on; those of the caller's objects are 1, 2, 3 and so on, in the order of
+/// Reports the type's number, the user data and the id of the object of a process's handle. The user data of a directory and of
+/// a symbolic link is 0, and their ids begin at 2^63; those of the caller's objects are 1, 2, 3 and so on, in the order of
 /// their first opens. It takes no memory, and changes nothing.
 ///
-/// `InvalidParameter` where the namespace is closed, and `InvalidHandle` where the process, which may be gone, has no such
-/// handle: all three are 0 then. Source: ObReferenceObjectByHandle (Windows Driver Kit); user data and ids
-/// are this profile.
+/// `InvalidParameter` if the namespace is closed, and `InvalidHandle` if the process, which may be gone, has no such
+/// handle: all three are 0 then. Source: ObReferenceObjectByHandle (Windows Driver Kit); user data and ids are this
+/// profile.
 #[unsafe(no_mangle)]
 pub extern "C" fn ntns_query_object(
     ns: &mut Ntns,
@@ -44,7 +44,7 @@ pub extern "C" fn ntns_query_object(
     status
 }
 
-// Tells what a handle of a process leads to; three zeros where it has no such handle.
+// Reports the object of a process's handle; three zeros if it has no such handle.
 fn tell_object(
     core: &HostCore,
     process: u32,
@@ -68,12 +68,12 @@ fn tell_object(
     Status::Success.code()
 }
 
-/// Writes the text of the file or the key of a handle of a process into a buffer, and tells its length: where a parse made
-/// it, the rest of the name that the parse took, else the empty text. Where it doesn't fit, nothing is written, and the
+/// Writes the text of the file or the key of a handle of a process into a buffer, and reports its length: if a parse made
+/// it, the rest of the name that the parse took, else the empty text. If it doesn't fit, nothing is written, and the
 /// status is `BufferTooSmall`. It takes no memory, and changes nothing.
 ///
-/// `InvalidParameter` where the namespace is closed, `InvalidHandle` where the process, which may be gone, has no such handle,
-/// and `ObjectTypeMismatch` of any other object: nothing is written then, and the length is 0. (this profile)
+/// `InvalidParameter` if the namespace is closed, `InvalidHandle` if the process, which may be gone, has no such handle, and
+/// `ObjectTypeMismatch` of any other object: nothing is written then, and the length is 0. (this profile)
 #[unsafe(no_mangle)]
 pub extern "C" fn ntns_query_file_raw(
     ns: &mut Ntns,
@@ -94,7 +94,7 @@ pub extern "C" fn ntns_query_file_raw(
     status
 }
 
-// Tells the text of what a handle of a process leads to.
+// Reports the text of the object of a process's handle.
 fn tell_file(
     core: &HostCore,
     process: u32,

@@ -7,16 +7,16 @@ ghost use Rattle.ob_c.specs.Told.{TellsHandle};
 use crate::Ntns;
 use crate::called::{call, tell_handle};
 use crate::commands::{open_directory, open_link, open_object};
-use crate::types::kind_of;
 use ob_base::Status;
 use ob_host::Kind;
+use ob_numbers::kind_of;
 use std::alloc::Global;
 
 /// Opens a handle to the directory that a name leads to. `root` is the handle that the name is relative to, 0 for none.
-/// The handle is told, 0 where none is given.
+/// `handle` receives the new handle, 0 if none is given.
 ///
-/// The statuses are those of the command `OpenDirectory`, in its order; `InvalidParameter` where the namespace is closed,
-/// and `NoMemory` where memory is wanted. Source: ZwOpenDirectoryObject (Windows Driver Kit).
+/// The statuses are those of the command `OpenDirectory`, in its order; `InvalidParameter` if the namespace is closed,
+/// and `NoMemory` if out of memory. Source: ZwOpenDirectoryObject (Windows Driver Kit).
 #[unsafe(no_mangle)]
 pub extern "C" fn ntns_open_directory_raw(
     ns: &mut Ntns,
@@ -35,10 +35,10 @@ pub extern "C" fn ntns_open_directory_raw(
 }
 
 /// Opens a handle to the symbolic link that a name leads to, which is not followed. `root` is the handle that the name is
-/// relative to, 0 for none. The handle is told, 0 where none is given.
+/// relative to, 0 for none. `handle` receives the new handle, 0 if none is given.
 ///
-/// The statuses are those of the command `OpenLink`, in its order; `InvalidParameter` where the namespace is closed,
-/// and `NoMemory` where memory is wanted. Source: ZwOpenSymbolicLinkObject (Windows Driver Kit).
+/// The statuses are those of the command `OpenLink`, in its order; `InvalidParameter` if the namespace is closed,
+/// and `NoMemory` if out of memory. Source: ZwOpenSymbolicLinkObject (Windows Driver Kit).
 #[unsafe(no_mangle)]
 pub extern "C" fn ntns_open_link_raw(
     ns: &mut Ntns,
@@ -56,13 +56,13 @@ pub extern "C" fn ntns_open_link_raw(
     tell_handle(&call(ns, alloc, process, made), handle)
 }
 
-/// Opens a handle to the object that a name leads to, of the kind of a type's number, or of any type where that is 0. A
-/// parse that the open waits for is run, and so is each that follows it, until the open has its reply. `root` is the handle
-/// that the name is relative to, 0 for none. The handle is told, 0 where none is given.
+/// Opens a handle to the object that a name leads to, of the kind of a type's number, or of any type if that is 0. Each
+/// parse that the open waits for is run, one after another, until the open has its reply. `root` is the handle that the
+/// name is relative to, 0 for none. `handle` receives the new handle, 0 if none is given.
 ///
-/// The statuses are those of the command `OpenObject`, in its order; `InvalidParameter` where the namespace is closed, or
-/// no kind has the number, and `NoMemory` where memory is wanted: then the open is given up, where it waits. Source:
-/// ZwOpenEvent and its like (Windows Driver Kit); Windows Internals, Object Manager (parse methods).
+/// The statuses are those of the command `OpenObject`, in its order; `InvalidParameter` if the namespace is closed or no
+/// kind has the number, and `NoMemory` if out of memory: an open that is pending is then abandoned. Source: ZwOpenEvent
+/// and its like (Windows Driver Kit); Windows Internals, Object Manager (parse methods).
 #[unsafe(no_mangle)]
 pub extern "C" fn ntns_open_object_raw(
     ns: &mut Ntns,
@@ -97,7 +97,7 @@ pub extern "C" fn ntns_open_object_raw(
     )
 }
 
-// Opens a handle to the object that a name leads to, of a kind where one is given.
+// Opens a handle to the object that a name leads to, of a kind if one is given.
 fn open_wanted(
     ns: &mut Ntns,
     alloc: Global,

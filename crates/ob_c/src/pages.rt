@@ -4,7 +4,7 @@ ghost use Rattle.std.specs.Prelude.{◌≡◌, ◌+◌, ◌<◌, ◌≤◌, ◌+
 ghost use Rattle.ob_model.specs.declared.command.Command.TheVariants.{QueryDirectory};
 ghost use Rattle.ob_c.specs.Calls.{Does};
 ghost use Rattle.ob_c.specs.Pages.{PagesFit, TellsEntries, TellsPage, entry_bytes, page_bytes, room_left, room_within};
-ghost use Rattle.ob_c.specs.Texts.{zero_ended};
+ghost use Rattle.ob_numbers.specs.Texts.{zero_ended};
 
 use crate::Ntns;
 use crate::buffers::fill_nothing;
@@ -15,15 +15,14 @@ use ob_core::{Command, Given, Reply};
 use ob_model::Listed;
 use std::alloc::Global;
 
-/// Writes a page of the directory of a handle of a process into a buffer, and tells how many bytes it is: of each entry its name
-/// and the name of its type, a byte 0 behind each. The entries are those behind a context, which is 0 at first, and becomes that
-/// of the last one told: as many as fit where 4 bytes more than both names are reckoned for each, in a room of 1,048,576
-/// bytes at most. The status is `MoreEntries` where others are left behind them.
+/// Writes a page of the directory of a handle of a process into a buffer, and reports how many bytes it has: of each entry its
+/// name and the name of its type, a byte 0 after each. The entries are those after a context, which is 0 at first, and becomes
+/// that of the last one written: as many as fit if each takes 4 bytes more than its two names, in a room of 1,048,576 bytes at
+/// most. The status is `MoreEntries` if others follow them.
 ///
-/// The other statuses are those of the command `QueryDirectory`, in its order: `NoMoreEntries` where no entry is left, and
-/// `BufferTooSmall` where the first doesn't fit; `InvalidParameter` where the namespace is closed, and `NoMemory` where memory
-/// is wanted. With these nothing is written, the context stays, and the length is 0. Source: ZwQueryDirectoryObject (Windows
-/// Driver Kit).
+/// The other statuses are those of the command `QueryDirectory`, in its order: `NoMoreEntries` if no entry is left, and
+/// `BufferTooSmall` if the first doesn't fit; `InvalidParameter` if the namespace is closed, and `NoMemory` if out of memory.
+/// With these nothing is written, the context stays, and the length is 0. Source: ZwQueryDirectoryObject (Windows Driver Kit).
 #[unsafe(no_mangle)]
 pub extern "C" fn ntns_next_page_raw(
     ns: &mut Ntns,
@@ -64,8 +63,8 @@ pub fn pages_fit()
     ensures { PagesFit }
 {}
 
-/// Tells the entries of the page that a call gives, and how many bytes of a buffer they are: of each its name and the name of
-/// its type, a byte 0 behind each. Where they don't fit, nothing is written, and the status is `BufferTooSmall`.
+/// Writes the entries of the page that a call gives, and reports how many bytes of a buffer they take: of each its name and
+/// the name of its type, a byte 0 after each. If they don't fit, nothing is written, and the status is `BufferTooSmall`.
 pub(crate) fn tell_page(
     ended: &Result<Reply, Status>,
     context: &mut u64,
@@ -93,7 +92,7 @@ pub(crate) fn tell_page(
     }
 }
 
-// Tells these entries, behind which this context is.
+// Writes these entries, after which this context is.
 fn tell_entries(
     status: Status,
     entries: &[Listed],
@@ -114,7 +113,7 @@ fn tell_entries(
     status.code()
 }
 
-// What is left of a room behind entries; `None` where they don't fit.
+// The rest of a room after entries; `None` if they don't fit.
 fn room_behind(entries: &[Listed], room: usize) -> Option<usize>
     ensures { result ≡ room_left room (length (page_bytes entries.now)) }
 {
@@ -125,7 +124,7 @@ fn room_behind(entries: &[Listed], room: usize) -> Option<usize>
     Some(left)
 }
 
-// What is left of a room behind an entry; `None` where it doesn't fit.
+// The rest of a room after an entry; `None` if it doesn't fit.
 fn room_behind_entry(entry: &Listed, room: usize) -> Option<usize>
     ensures { result ≡ room_left room (length (entry_bytes entry.now)) }
 {
@@ -134,7 +133,7 @@ fn room_behind_entry(entry: &Listed, room: usize) -> Option<usize>
     behind_type.checked_sub(2)
 }
 
-// Writes entries to the front of a buffer.
+// Writes entries to the beginning of a buffer.
 fn write_entries(entries: &[Listed], buffer: &mut [u8])
     requires { length (page_bytes entries.now) ≤ length buffer.old }
     ensures { buffer.new
@@ -147,7 +146,7 @@ fn write_entries(entries: &[Listed], buffer: &mut [u8])
     }
 }
 
-// Writes a text, and a byte 0 behind it, at a place of a buffer; the place behind that.
+// Writes a text, and a byte 0 after it, at a place of a buffer; returns the place after that.
 fn write_text(text: &[u8], buffer: &mut [u8], place: usize) -> usize
     requires { place + length text.now < length buffer.old }
     ensures place { result ≡ place + length text.now + 1 }

@@ -5,16 +5,16 @@ ghost use Rattle.std.specs.Box.Ownership.{box_owns};
 use std::alloc::Allocator;
 use std::marker::Model;
 
-/// What a `Box` is made of: the pointer to its block, and the allocator that the block is of. It owns the block, and isn't let go:
-/// it ends as a box again, or by its fields, whose taker then owns the block.
+/// The parts of a `Box`: the pointer to its block, and the allocator that the block is of. It owns the block, and isn't
+/// dropped: it becomes a box again, or is taken apart, and whoever takes its fields then owns the block.
 ///
-/// A contract sees what stands in the block. (this profile)
+/// A contract sees the block's value. (this profile)
 pub struct Parts<T, A: Allocator> {
     /// Where the block begins.
     pub(crate) ptr: *mut T,
     /// What the block is freed by.
     pub(crate) alloc: A,
-    /// What stands in the block.
+    /// The block's value.
     pub ghost value: { T },
 }
 

@@ -9,11 +9,11 @@ use crate::called::{call, process_in, status_in};
 use ob_core::Command;
 use std::alloc::Global;
 
-/// Makes a child of a process, which inherits that one's handles that can be inherited where `inherit` is true, each under
-/// the same value. The child's number is told, 0 where none is given.
+/// Makes a child of a process. If `inherit` is true, the child inherits the process's inheritable handles, each under the
+/// same value. `child` receives the child's number, 0 if no child is made.
 ///
-/// The statuses are those of the command `NewProcess`, in its order; `InvalidParameter` where the namespace is closed,
-/// and `NoMemory` where memory is wanted, and then nothing has changed. Source: Windows Internals, Processes.
+/// The statuses are those of the command `NewProcess`, in its order; `InvalidParameter` if the namespace is closed,
+/// and `NoMemory` if out of memory; nothing has changed then. Source: Windows Internals, Processes.
 #[unsafe(no_mangle)]
 pub extern "C" fn ntns_new_process(
     ns: &mut Ntns,
@@ -30,9 +30,10 @@ pub extern "C" fn ntns_new_process(
     status_in(&ended)
 }
 
-/// Ends a process: each of its handles is closed, and it is live no longer. It takes no memory.
+/// Ends a process: closes each of its handles, and the process is live no longer. It takes no
+/// memory.
 ///
-/// The statuses are those of the command `ExitProcess`, in its order; `InvalidParameter` where the namespace is closed.
+/// The statuses are those of the command `ExitProcess`, in its order; `InvalidParameter` if the namespace is closed.
 /// Source: Windows Internals, Processes.
 #[unsafe(no_mangle)]
 pub extern "C" fn ntns_exit_process(ns: &mut Ntns, alloc: Global, process: u32) -> u32

@@ -16,12 +16,12 @@ use std::alloc::Global;
 /// The greatest room that a page may be asked for, in bytes: each entry fits.
 pub(crate) const LARGEST_ROOM: u32 = 1_048_576;
 
-/// Writes the target of the symbolic link of a handle of a process into a buffer, and tells its length. Where it doesn't
+/// Writes the target of the symbolic link of a handle of a process into a buffer, and reports its length. If it doesn't
 /// fit, nothing is written, and the status is `BufferTooSmall`.
 ///
-/// The other statuses are those of the command `QueryLink`, in its order; `InvalidParameter` where the namespace is closed,
-/// and `NoMemory` where memory is wanted. With these nothing is written, and the length is 0. Source:
-/// ZwQuerySymbolicLinkObject (Windows Driver Kit).
+/// The other statuses are those of the command `QueryLink`, in its order; `InvalidParameter` if the namespace is closed,
+/// and `NoMemory` if out of memory. With these nothing is written, and the length is 0. Source: ZwQuerySymbolicLinkObject
+/// (Windows Driver Kit).
 #[unsafe(no_mangle)]
 pub extern "C" fn ntns_query_link_raw(
     ns: &mut Ntns,
@@ -40,12 +40,12 @@ pub extern "C" fn ntns_query_link_raw(
     tell_text(&call(ns, alloc, process, Ok(query)), buffer, length)
 }
 
-/// Writes the path of the object of a handle of a process into a buffer, and tells its length; it is empty where no path
-/// leads to the object. Where it doesn't fit, nothing is written, and the status is `BufferTooSmall`.
+/// Writes the path of the object of a handle of a process into a buffer, and reports its length; it is empty if no path
+/// leads to the object. If it doesn't fit, nothing is written, and the status is `BufferTooSmall`.
 ///
-/// The other statuses are those of the command `QueryName`, in its order; `InvalidParameter` where the namespace is closed,
-/// and `NoMemory` where memory is wanted. With these nothing is written, and the length is 0. Source: ObQueryNameString
-/// (Windows Driver Kit).
+/// The other statuses are those of the command `QueryName`, in its order; `InvalidParameter` if the namespace is closed,
+/// and `NoMemory` if out of memory. With these nothing is written, and the length is 0. Source: ObQueryNameString (Windows
+/// Driver Kit).
 #[unsafe(no_mangle)]
 pub extern "C" fn ntns_query_name_raw(
     ns: &mut Ntns,
@@ -64,13 +64,13 @@ pub extern "C" fn ntns_query_name_raw(
     tell_text(&call(ns, alloc, process, Ok(query)), buffer, length)
 }
 
-/// Writes the name of the next entry of the directory of a handle of a process into a buffer, and tells its length and the
-/// number of its object's type. The entry is the first behind a context, which is 0 at first, and becomes that of the entry.
-/// Where the name doesn't fit, nothing is written, the context stays, and the status is `BufferTooSmall`.
+/// Writes the name of the next entry of the directory of a handle of a process into a buffer, and reports its length and the
+/// number of its object's type. The entry is the first after a context, which is 0 at first, and becomes that of the entry.
+/// If the name doesn't fit, nothing is written, the context stays, and the status is `BufferTooSmall`.
 ///
-/// The other statuses are those of the command `QueryDirectory`, in its order, `NoMoreEntries` where no entry is left;
-/// `InvalidParameter` where the namespace is closed, and `NoMemory` where memory is wanted. With these nothing is written, the
-/// context stays, and length and type are 0. Source: ZwQueryDirectoryObject (Windows Driver Kit).
+/// The other statuses are those of the command `QueryDirectory`, in its order, `NoMoreEntries` if no entry is left;
+/// `InvalidParameter` if the namespace is closed, and `NoMemory` if out of memory. With these nothing is written, the context
+/// stays, and length and type are 0. Source: ZwQueryDirectoryObject (Windows Driver Kit).
 #[unsafe(no_mangle)]
 pub extern "C" fn ntns_next_entry_raw(
     ns: &mut Ntns,

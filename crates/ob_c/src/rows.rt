@@ -7,10 +7,10 @@ ghost use Rattle.ob_c.specs.Rows.{Asks, FillsRows, Leaves, Takes, TellsProgress,
 use crate::Ntns;
 use crate::machine::HostCore;
 use crate::queries::LARGEST_ROOM;
-use crate::types::type_named;
 use ob_base::{Handle, Status};
 use ob_core::{Command, Given, Reply};
 use ob_model::Listed;
+use ob_numbers::type_named;
 use std::alloc::Global;
 
 /// A row of a directory's listing, as a caller in C reads it. (this profile)
@@ -27,7 +27,7 @@ pub struct Row {
     pub length: u32,
 }
 
-// How far a listing was read: so many rows, so many bytes of names, and the context after them.
+// How far a listing was read: rows filled, bytes of names, and the context after them.
 #[derive(Clone, Copy)]
 pub(crate) struct Progress {
     pub(crate) filled: usize,
@@ -35,15 +35,15 @@ pub(crate) struct Progress {
     pub(crate) context: u64,
 }
 
-/// Fills rows with the entries of the directory of a handle of a process that follow a context, which is 0 at first and becomes that
-/// of the last row, and a buffer with their names, one after another; tells how many rows are filled. It stops where no entry is
-/// left, where the rows are full, and where a name doesn't fit. Of a buffer the first 4,294,967,295 bytes are used. The status is
-/// `MoreEntries` where others are left.
+/// Fills rows with the entries of the directory of a handle of a process that follow a context, which is 0 at first and becomes
+/// that of the last row, and writes their names to a buffer, one after another. `filled` receives how many rows were filled. It
+/// stops when no entry follows, when the rows are full, and at a name that doesn't fit. Of a buffer the first 4,294,967,295
+/// bytes are used. The status is `MoreEntries` if other entries follow.
 ///
-/// The other statuses are those of the command `QueryDirectory`, in its order: `NoMoreEntries` where no entry follows the context;
-/// `BufferTooSmall` where there is no row, or the first name doesn't fit; `InvalidParameter` where the namespace is closed, and
-/// `NoMemory` where memory is wanted. With these the context stays, and no row is told. Source: ZwQueryDirectoryObject
-/// (Windows Driver Kit); rows are this profile.
+/// The other statuses are those of the command `QueryDirectory`, in its order: `NoMoreEntries` if no entry follows the context;
+/// `BufferTooSmall` if there is no row or the first name doesn't fit; `InvalidParameter` if the namespace is closed, and
+/// `NoMemory` if out of memory. With these the context stays, and no row is filled. Source: ZwQueryDirectoryObject (Windows
+/// Driver Kit); rows are this profile.
 #[unsafe(no_mangle)]
 pub extern "C" fn ntns_next_rows_raw(
     ns: &mut Ntns,
@@ -53,17 +53,17 @@ pub extern "C" fn ntns_next_rows_raw(
     context: &mut u64,
     rows: &mut [Row],
     buffer: &mut [u8],
-    told: &mut usize,
+    filled: &mut usize,
 ) -> u32
     ensures { TellsRows process handle ns.old.core ns.new.core result context.old context.new
-        rows.old rows.new buffer.old buffer.new told.new }
+        rows.old rows.new buffer.old buffer.new filled.new }
 {
-    *told = 0;
+    *filled = 0;
     let Some(mut core) = ns.take(alloc) else {
         return Status::InvalidParameter.code();
     };
     let status = fill_rows(
-        &mut core, alloc, process, handle, context, rows, buffer, told,
+        &mut core, alloc, process, handle, context, rows, buffer, filled,
     );
     ns.put(core);
     status
@@ -78,10 +78,10 @@ fn fill_rows(
     context: &mut u64,
     rows: &mut [Row],
     buffer: &mut [u8],
-    told: &mut usize,
+    filled: &mut usize,
 ) -> u32
     ensures { FillsRows process handle core.old core.new result context.old context.new rows.old
-        rows.new buffer.old buffer.new told.new }
+        rows.new buffer.old buffer.new filled.new }
 {
     let mut progress = Progress {
         filled: 0,
@@ -97,7 +97,7 @@ fn fill_rows(
         rows_status(&ended, progress.filled),
         &progress,
         context,
-        told,
+        filled,
     )
 }
 
@@ -144,7 +144,8 @@ fn entry_in(ended: &Result<Reply, Status>) -> Option<(&Listed, u64)>
     }
 }
 
-// Takes the entry that a query gave into the next row and the buffer, where there is one and both have room; whether it does.
+// Writes the entry that a query gave to the next row and to the buffer, if there is one and both have room; returns whether
+// it did.
 fn take_row(
     ended: &Result<Reply, Status>,
     room: usize,
@@ -214,7 +215,8 @@ fn status_of(ended: &Result<Reply, Status>) -> Status
     }
 }
 
-// The status of a call that filled so many rows before a query ended: others are left, or none is; an error where it is refused.
+// The status of a call that filled this many rows before a query ended: other entries follow, or none; an error if it is
+// refused.
 fn rows_status(ended: &Result<Reply, Status>, filled: usize) -> Result<Status, Status>
     ensures { result ≡ rows_status (entry_in ended.now) filled (status_of ended.now) }
 {
@@ -226,7 +228,7 @@ fn rows_status(ended: &Result<Reply, Status>, filled: usize) -> Result<Status, S
     }
 }
 
-// The status of a call that filled rows, where a query after them ended without an entry.
+// The status of a call that filled rows before a query ended without an entry.
 fn none_left(status: Status) -> Result<Status, Status>
     ensures { result ≡ none_left status }
 {
@@ -236,23 +238,23 @@ fn none_left(status: Status) -> Result<Status, Status>
     }
 }
 
-// Tells the rows that were filled and the context after them, or that the call is refused.
+// Reports how many rows were filled and the context after them, or that the call is refused.
 fn tell_progress(
     is: Result<Status, Status>,
     progress: &Progress,
     context: &mut u64,
-    told: &mut usize,
+    filled: &mut usize,
 ) -> u32
-    ensures { TellsProgress is progress.now result context.old context.new told.new }
+    ensures { TellsProgress is progress.now result context.old context.new filled.new }
 {
     match is {
         Ok(status) => {
             *context = progress.context;
-            *told = progress.filled;
+            *filled = progress.filled;
             status.code()
         }
         Err(status) => {
-            *told = 0;
+            *filled = 0;
             status.code()
         }
     }

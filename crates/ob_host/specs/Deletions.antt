@@ -24,7 +24,7 @@ next_of (Keeps []) = None
 next_of (Keeps (deletion ∷ left)) = Some deletion
 next_of (Passes more) = None
 
--- what is left after it; where there is none, one delete more is passed over
+-- the deletions after it; if there is none, one more delete is passed over
 abbrev pub after_next : Deletions → Deletions
 after_next (Keeps []) = Passes zero
 after_next (Keeps (deletion ∷ left)) = Keeps left

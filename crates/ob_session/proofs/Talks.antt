@@ -24,7 +24,7 @@ one_more [] number last line words w words' s t s' output text (none, same_w, sa
 one_more (first ∷ lines) number last line words w words' s t s' output text (shown, rest, u, v, here, out, more) is one =
     (shown, rest ++ text, u, v, here, ap (λ l. l ++ text) out ∙ append_assoc shown rest text, one_more lines (number + 1) last line u w words' v t s' rest text more (omega (arith, is)) one)
 
--- What a session has come to: these lines were taken and answered, and what is left of its input has the other ones.
+-- How far a session is: these lines were read and answered, and the rest of its input has the others.
 pub record HasCome (input left : Option (List ℕ)) (words words' : Words) (s s' : Space) (old new : Option (List ℕ)) (count : ℕ) : Type 0 where
   pub lines : List (List ℕ)
   pub output : List ℕ

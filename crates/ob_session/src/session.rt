@@ -70,8 +70,8 @@ fn converse<R: BufRead, W: Write>(
 /// line is taken. `false` if the reader is at its end, and then nothing is done. The block has room for at least 192 bytes and is empty before and
 /// after; the line's bytes are put into `line`.
 ///
-/// The faults are `Read` and `Memory`, after which nothing was done but for bytes that were taken, and `Write`, after which the line was performed, and a
-/// beginning of its reply was written. (this profile)
+/// The faults are `Read` and `Memory`, after which only bytes of the reader were consumed, and `Write`, after which the line
+/// was performed and a beginning of its reply was written. (this profile)
 pub fn answer_next<R: BufRead, W: Write>(
     session: &mut Session,
     reader: &mut R,

@@ -8,7 +8,7 @@ use Rattle.ob_tasks.specs.declared.end.Ended.TheVariants.{Script, Threads, Repla
 use Rattle.ob_threads.specs.declared.ends.ThreadsEnding.TheVariants as threads
 use Rattle.ob_verdict.specs.declared.verdict.Verdict.TheVariants as verdict
 
--- 0 where the whole script was run, a session came to its end, a journal is accepted, or help was written; 2 for a mistake in the words; 3 where a journal is
+-- 0 where the whole script was run, a session came to its end, a journal is accepted, or help or the version was written; 2 for a mistake in the words; 3 where a journal is
 -- refused; else 1
 abbrev pub status_of : End → ℕ
 status_of (Task (Ok (Script ending.Done))) = 0

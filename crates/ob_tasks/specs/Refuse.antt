@@ -32,20 +32,20 @@ pub record Blames (end : End) (line : Told) (written written' told told' : Optio
   pub told_mistake : OnOk line (Writes told told')
   pub told_part : OnErr line (WritesFront told told')
 
--- help that was asked for, with text on standard output alone
+-- help or the version that was asked for, with text on standard output alone
 pub record Helps (end : End) (line : Told) (written written' told told' : Option (List ℕ)) : Type 0 where
   pub ended : end ≡ Help
   pub nothing_owed : line ≡ Ok tt
   pub told_help : Writes written written'
   pub silent : Keeps told told'
 
--- help that could not be written, as a write told, and standard error says so
+-- help or the version that could not be written, as a write reported, and standard error says so
 pub record Fails (end : End) (line : Told) (written written' told told' : Option (List ℕ)) : Type 0 where
   pub unwritten : Unwritten
   pub ended : end ≡ Task (Err (Write unwritten))
   pub told_part : WritesFront written written'
   pub complained : Complains (Write unwritten) line told told'
 
--- what the words asked for: help or the version
+-- what the arguments asked for: help or the version
 abbrev pub IsRequest : ErrorKind → Type 0
 IsRequest k = (k ≡ kind.DisplayHelp) ⊎ (k ≡ kind.DisplayVersion)

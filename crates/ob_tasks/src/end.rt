@@ -25,16 +25,16 @@ pub enum Ended {
 #[derive(PartialEq, Eq, Debug, Drop)]
 pub enum End {
     /// A task was done to this ending, or a fault ended it. Memory that was wanting before there was a
-    /// task, a file that could not be opened and help that could not be written are such faults too.
+    /// task, a file that could not be opened, and help or a version that could not be written are such faults too.
     Task(Result<Ended, ShellFault>),
     /// The words are a mistake.
     Mistake,
-    /// Help that the words asked for was written.
+    /// Help or the version that the arguments asked for was written.
     Help,
 }
 
 impl End {
-    /// The program's status: 0 where the whole script was run, a session came to its end, a journal is accepted or help was written, 2 where
+    /// The program's status: 0 where the whole script was run, a session came to its end, a journal is accepted, or help or the version was written, 2 where
     /// the words are a mistake, 3 where a journal is refused, and else 1. (this profile)
     pub fn status(&self) -> u8
         ensures { result ≡ status_of self.now }

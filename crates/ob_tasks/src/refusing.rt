@@ -15,10 +15,10 @@ use std::io::Write;
 /// Tells the fault of the words, and how the program ends with it; and whether what standard error has to say was
 /// written whole.
 ///
-/// Want of memory, of the parser or for the text, is the fault `Memory`, told on `errors`. Help that
-/// was asked for goes to the writer; where it cannot be written, that is the fault `Write`. The text
-/// of any other fault, a mistake, goes to `errors`, and is the same end where it cannot be written.
-/// (this profile)
+/// Out of memory, in the parser or for the text, is the fault `Memory`, reported on `errors`. Help or
+/// the version that was asked for goes to the writer; where it cannot be written, that is the fault
+/// `Write`. The text of any other fault, a mistake, goes to `errors`, and is the same end where it
+/// cannot be written. (this profile)
 pub fn refuse<W: Write, E: Write>(
     alloc: Global,
     fault: &Error,

@@ -56,14 +56,14 @@ pub record AreBegun (known : Fault → Type 0) (script : WorkerScript) (begun : 
   pub last : IsSeatRun known script.behind words rest own_end
   pub told : ended ≡ told_of their_end own_end
 
--- A script that was cut is run and this end is told of it: seat 0 stops before the workers, or all seats run.
+-- A script that was cut is run, and this end is reported: seat 0 stops before the workers, or all seats run.
 abbrev pub AreRun : {P : Type 0} → (P → Known) → WorkerScript → SeatOutcome → SeatsRelation
 AreRun gives script ended begun theirs rest =
     ((stopped : Stopped) × (ended ≡ Err stopped) × (rest ≡ []) × AreNotBegun gives script.before begun theirs stopped)
     ⊎ AreBegun (IsGiven gives) script begun theirs rest ended
 
--- A journal is that of a run of a script, of which this end is told: its lines are cut into numbered parts for the seats, each seat's entries are those of
--- its run, and there are no other entries.
+-- A journal is that of a run of a script, of which this end is reported: its lines are cut into numbered parts for the seats, each seat's entries are
+-- those of its run, and there are no other entries.
 pub record IsRunTo (lines : Lines) (journal : Entries) (seats : ℕ) (ended : SeatOutcome) : Type 0 where
   pub script : WorkerScript
   pub cut : IsCut lines (lines_in script.before) (map lines_in script.workers.items) (lines_in script.behind)
@@ -71,8 +71,8 @@ pub record IsRunTo (lines : Lines) (journal : Entries) (seats : ℕ) (ended : Se
   pub seated : seats ≡ length script.workers.items + 1
   pub run : IsJournalOf (AreRun IsFaultAt script ended) (length script.workers.items) journal
 
--- A run of a script that was cut leaves a journal in these segments, of which the last is the open one, and this end is told of it: the journal is a run of the
--- machine, and that of the seats; where all lines were run, it is what they play.
+-- A run of a script that was cut leaves a journal in these segments, of which the last is the open one, and this end is reported: the journal is a run of the
+-- machine, and that of the seats; if all lines were run, it is what they play.
 pub record IsFinished (script : WorkerScript) (sealed : List (Segment StandardKind)) (last : Segment StandardKind) (ended : SeatOutcome) : Type 0 where
   pub first : Standard
   pub state : Space

@@ -11,7 +11,7 @@ use Rattle.clap.specs.Words.{App, HasKind, Row, Text, built, fault_of, first_of,
 use Rattle.clap.proofs.OnLiterals.{clap_on_literals}
 use Rattle.clap.proofs.WalkLemmas.{walk_stopped}
 use Rattle.ob_words.specs.Plan.{IsFileIn, IsNothingMore, Named, Spells, file_rule, ntns, replay, run, script, session, task_of, threads}
-use Rattle.ob_words.proofs.Flags.{HasOnlyHelp, help, long_is_plain, or_else_next, or_else_none}
+use Rattle.ob_words.proofs.Flags.{HasOnlyRequests, dashes, dashes_alone, help, long_is_plain, or_else_next, or_else_none, version}
 
 -- the program, as the parser builds it
 abbrev top : Shape
@@ -19,9 +19,6 @@ top = (built ntns).top
 
 abbrev names : Names
 names = names_of (built ntns)
-
-abbrev dashes : Text
-dashes = 45 ∷ 45 ∷ []
 
 abbrev run_word : Text
 run_word = codes "run"
@@ -38,26 +35,11 @@ session_word = codes "session"
 abbrev help_word : Text
 help_word = codes "help"
 
-top_has_only_help : HasOnlyHelp top.rules
-top_has_only_help = record {
-  by_long = λ name. (has_long help name, refl);
-  by_short = λ letter. (has_short help letter, refl);
+top_has_only_requests : HasOnlyRequests top.rules
+top_has_only_requests = record {
+  by_long = λ name. (has_long help name, (has_long version name, refl));
+  by_short = λ letter. (has_short help letter, (has_short version letter, refl));
 }
-
--- a word that no flag is, where no positional takes it, is a fault
-stray_top : (met : Held × Step) → met ≡ (nothing_held, value) → step_fault top 1 met.0 met.1 ≡ [] → ⊥
-stray_top met same none = cc
-
--- a first word that names no subcommand is `--`
-dashes_first : (is_dashes : Bool) (word : Text)
-    → or_else (if is_dashes then [] else flag_word_fault top.rules false (long_of word) word nothing_held)
-    (step_fault top 1
-    (if is_dashes then (nothing_held, trailing 1) else long_or_other top.rules idle word (long_of word) nothing_held).0
-    (if is_dashes then (nothing_held, trailing 1) else long_or_other top.rules idle word (long_of word) nothing_held).1) ≡ []
-    → is_dashes ≡ true
-dashes_first true word none = refl
-dashes_first false word none =
-    absurd (stray_top _ (long_is_plain top.rules top_has_only_help None word (long_of word) (or_else_none _ _ none)) (or_else_next _ _ none))
 
 -- the names of the subcommands, which have no others
 abbrev run_name : Text × List Text
@@ -85,7 +67,7 @@ met_by is_run is_threads is_replay is_session is_help = option_map (λ s. s.0)
 -- a first word is `run`, `threads`, `replay`, `session` or `--`
 abbrev IsFirst : Bool → Bool → Bool → Bool → Text → Type 0
 IsFirst is_run is_threads is_replay is_session word =
-    (is_run ≡ true) ⊎ ((is_threads ≡ true) ⊎ ((is_replay ≡ true) ⊎ ((is_session ≡ true) ⊎ (bytes_eq word dashes ≡ true))))
+    (is_run ≡ true) ⊎ ((is_threads ≡ true) ⊎ ((is_replay ≡ true) ⊎ ((is_session ≡ true) ⊎ (word ≡ dashes))))
 
 first_turn : (is_run is_threads is_replay is_session is_help : Bool) (word : Text)
     → or_else (other_fault top (met_by is_run is_threads is_replay is_session is_help) word nothing_held)
@@ -98,7 +80,7 @@ first_turn false true is_replay is_session is_help word none = inr (inl refl)
 first_turn false false true is_session is_help word none = inr (inr (inl refl))
 first_turn false false false true is_help word none = inr (inr (inr (inl refl)))
 first_turn false false false false true word none = cc
-first_turn false false false false false word none = inr (inr (inr (inr (dashes_first (bytes_eq word dashes) word none))))
+first_turn false false false false false word none = inr (inr (inr (inr (dashes_alone top top_has_only_requests 1 refl None word none))))
 
 -- what a first word without a fault is
 abbrev IsFirstWord : Text → Type 0
@@ -111,7 +93,7 @@ first_word word none =
       | inr (inl is_threads) ↦ inr (inl (sym ((bytes_eq-Decides threads_word word).0 is_threads)))
       | inr (inr (inl is_replay)) ↦ inr (inr (inl (sym ((bytes_eq-Decides replay_word word).0 is_replay))))
       | inr (inr (inr (inl is_session))) ↦ inr (inr (inr (inl (sym ((bytes_eq-Decides session_word word).0 is_session)))))
-      | inr (inr (inr (inr is_dashes))) ↦ inr (inr (inr (inr ((bytes_eq-Decides word dashes).0 is_dashes))))
+      | inr (inr (inr (inr is_dashes))) ↦ inr (inr (inr (inr is_dashes)))
     ]
 
 -- ---- the words behind a subcommand
@@ -121,10 +103,10 @@ module _ (command : Text) where
   abbrev inner : Shape
   inner = built_leaf (inherited (with_leaf_noted (marked_built ntns.top)) (with_rule (new_app command) file_rule).top)
 
-  inner_has_only_help : HasOnlyHelp inner.rules
-  inner_has_only_help = record {
-    by_long = λ name. (has_long help name, refl);
-    by_short = λ letter. (has_short help letter, refl);
+  inner_has_only_requests : HasOnlyRequests inner.rules
+  inner_has_only_requests = record {
+    by_long = λ name. (has_long help name, (false, refl));
+    by_short = λ letter. (has_short help letter, (false, refl));
   }
 
   -- where the walk over them stands after a word that is the path
@@ -135,7 +117,7 @@ module _ (command : Text) where
       → or_else (if is_dashes then [] else flag_word_fault inner.rules false (long_of word) word nothing_held) more ≡ []
       → (is_dashes ≡ true) ⊎ ((if is_dashes then (nothing_held, trailing 1) else long_or_other inner.rules idle word (long_of word) nothing_held) ≡ (nothing_held, value))
   dashes_or_plain true word more none = inl refl
-  dashes_or_plain false word more none = inr (long_is_plain inner.rules inner_has_only_help None word (long_of word) (or_else_none _ _ none))
+  dashes_or_plain false word more none = inr (long_is_plain inner.rules inner_has_only_requests None word (long_of word) (or_else_none _ _ none))
 
   -- the first of them is `--` or the path
   inner_word : (word : Text) → turn_fault inner [] (walk_from nothing_held) word ≡ []
@@ -146,22 +128,9 @@ module _ (command : Text) where
     | inr same ↦ inr (ap (λ (met : Held × Step). after_step inner.rules word (walk_from nothing_held) met.0 met.1) same)
   ]
 
-  stray_inner : (h : Held) (met : Held × Step) → met ≡ (h, value) → step_fault inner 2 met.0 met.1 ≡ [] → ⊥
-  stray_inner h met same none = cc
-
-  dashes_next : (is_dashes : Bool) (file word : Text)
-      → or_else (if is_dashes then [] else flag_word_fault inner.rules false (long_of word) word (after_file file).held)
-      (step_fault inner 2
-      (if is_dashes then ((after_file file).held, trailing 2) else long_or_other inner.rules idle word (long_of word) (after_file file).held).0
-      (if is_dashes then ((after_file file).held, trailing 2) else long_or_other inner.rules idle word (long_of word) (after_file file).held).1) ≡ []
-      → is_dashes ≡ true
-  dashes_next true file word none = refl
-  dashes_next false file word none =
-      absurd (stray_inner _ _ (long_is_plain inner.rules inner_has_only_help (Some (codes "FILE", file ∷ [])) word (long_of word) (or_else_none _ _ none)) (or_else_next _ _ none))
-
   -- a word behind the path is `--`
   next_word : (file word : Text) → turn_fault inner [] (after_file file) word ≡ [] → word ≡ dashes
-  next_word file word none = (bytes_eq-Decides word dashes).0 (dashes_next (bytes_eq word dashes) file word none)
+  next_word file word none = dashes_alone inner inner_has_only_requests 2 refl (Some (codes "FILE", file ∷ [])) word none
 
   -- and a word behind that is a fault
   last_is_fault : (file last : Text) (rest : List Text) → walk_fault inner [] (walked inner.rules [] (after_file file) dashes) (last ∷ rest) ≡ [] → ⊥
@@ -275,25 +244,15 @@ names_replay name rest none =
 abbrev alone : Shape
 alone = built_leaf (inherited (with_leaf_noted (marked_built ntns.top)) (new_app session_word).top)
 
-alone_has_only_help : HasOnlyHelp alone.rules
-alone_has_only_help = record {
-  by_long = λ name. (has_long help name, refl);
-  by_short = λ letter. (has_short help letter, refl);
+alone_has_only_requests : HasOnlyRequests alone.rules
+alone_has_only_requests = record {
+  by_long = λ name. (has_long help name, (false, refl));
+  by_short = λ letter. (has_short help letter, (false, refl));
 }
 
-stray_alone : (met : Held × Step) → met ≡ (nothing_held, value) → step_fault alone 1 met.0 met.1 ≡ [] → ⊥
-stray_alone met same none = cc
-
--- a word behind it is `--`
-dashes_alone : (is_dashes : Bool) (word : Text)
-    → or_else (if is_dashes then [] else flag_word_fault alone.rules false (long_of word) word nothing_held)
-    (step_fault alone 1
-    (if is_dashes then (nothing_held, trailing 1) else long_or_other alone.rules idle word (long_of word) nothing_held).0
-    (if is_dashes then (nothing_held, trailing 1) else long_or_other alone.rules idle word (long_of word) nothing_held).1) ≡ []
-    → is_dashes ≡ true
-dashes_alone true word none = refl
-dashes_alone false word none =
-    absurd (stray_alone _ (long_is_plain alone.rules alone_has_only_help None word (long_of word) (or_else_none _ _ none)) (or_else_next _ _ none))
+-- an argument after it is `--`
+word_alone : (word : Text) → turn_fault alone [] (walk_from nothing_held) word ≡ [] → word ≡ dashes
+word_alone word none = dashes_alone alone alone_has_only_requests 1 refl None word none
 
 abbrev no_fault_alone : List Text → Type 0
 no_fault_alone words = level_fault alone [] nothing_held words false [] ≡ []
@@ -308,9 +267,9 @@ dashes_last word rest none = cc
 
 is_nothing : (words : List Text) → no_fault_alone words → IsNothingMore words
 is_nothing [] none = tt
-is_nothing (word ∷ []) none = (bytes_eq-Decides word dashes).0 (dashes_alone (bytes_eq word dashes) word (first_alone word [] none))
+is_nothing (word ∷ []) none = word_alone word (first_alone word [] none)
 is_nothing (word ∷ next ∷ rest) none =
-    let same : word ≡ dashes = (bytes_eq-Decides word dashes).0 (dashes_alone (bytes_eq word dashes) word (first_alone word (next ∷ rest) none)) in
+    let same : word ≡ dashes = word_alone word (first_alone word (next ∷ rest) none) in
     absurd (dashes_last next rest (subst (λ w. no_fault_alone (w ∷ next ∷ rest)) same none))
 
 names_session : (name : Text) (rest : List Text) → fault_of ntns (name ∷ session_word ∷ rest) ≡ [] → NamesTask (name ∷ session_word ∷ rest)

@@ -1,16 +1,28 @@
--- Words that are flags: where the one flag is the one for help, each of them is a fault.
-use Rattle.std.proofs.Common.{◌≡◌, ℕ, Bool, true, false, if◌then◌else◌, List, [], ◌∷◌, length, Option, Some, None, refl, subst, slice_get, chars}
+-- Arguments that are flags: where the only flags are those that ask for help and for the version, each of them is a fault.
+use Rattle.std.proofs.Common.{◌≡◌, ℕ, Bool, true, false, if◌then◌else◌, List, [], ◌∷◌, length, Option, Some, None, refl, subst, bytes_eq, slice_get, chars}
+use Rattle.std.proofs.lemmas.Slice.Eq.{bytes_eq-Decides}
 use Rattle.std.specs.Option.{option_map_or}
-use Rattle.clap.specs.Walk.{Held, after_flag, arg_by_long, arg_by_short, bundle_met, bundle_step, idle, long_or_other, plain, settled, short_or_plain, short_word, value}
-use Rattle.clap.specs.Faults.{bundle_fault, bundle_step_fault, flag_word_fault, flags_fault, long_fault, react_fault, settle_fault, short_fault, use_fault}
+use Rattle.clap.specs.Walk.{Held, Step, after_flag, arg_by_index, arg_by_long, arg_by_short, bundle_met, bundle_step, idle, long_or_other, plain, settled, short_or_plain, short_word, trailing, value}
+use Rattle.clap.specs.Faults.{bundle_fault, bundle_step_fault, flag_word_fault, flags_fault, long_fault, positional_fault, react_fault, settle_fault, short_fault, step_fault, stray_fault, use_fault}
 use Rattle.clap.specs.Kinds.{Kinds, or_else}
-use Rattle.clap.specs.Lexer.{short_of}
-use Rattle.clap.specs.Simple.{filled, help_rule, with_index}
+use Rattle.clap.specs.Lexer.{long_of, short_of}
+use Rattle.clap.specs.Simple.{Shape, filled, help_rule, version_rule, with_index}
 use Rattle.clap.specs.Words.{Row, Rule, Text}
 
--- the flag for help
+-- the argument `--`, which ends the flags
+abbrev pub dashes : Text
+dashes = 45 ∷ 45 ∷ []
+
+-- the flags that ask for help and for the version
 abbrev pub help : Rule
 help = with_index 1 (filled help_rule)
+
+abbrev pub version : Rule
+version = with_index 1 (filled version_rule)
+
+-- the flag that a name finds, if it is the name of one
+abbrev pub flag_by : Bool → Bool → Option Rule
+flag_by is_help is_version = if is_help then Some help else (if is_version then Some version else None)
 
 -- the walk holds no row yet, and what waits for its values
 abbrev pub held : Option (Text × List Text) → Held
@@ -24,35 +36,44 @@ pub or_else_next : (x y : Kinds) → or_else x y ≡ [] → y ≡ []
 or_else_next [] y none = none
 or_else_next (k ∷ ks) y none = cc
 
--- a use of the flag for help is a fault
-use_is_fault : (rows : List Row) → use_fault false help [] rows ≡ [] → ⊥
-use_is_fault rows none = cc
+-- a use of either flag is a fault
+help_use_is_fault : (rows : List Row) → use_fault false help [] rows ≡ [] → ⊥
+help_use_is_fault rows none = cc
+
+version_use_is_fault : (rows : List Row) → use_fault false version [] rows ≡ [] → ⊥
+version_use_is_fault rows none = cc
 
 help_is_fault : (c : List Rule) (h : Held) → react_fault c false help [] h ≡ [] → ⊥
-help_is_fault c h none = use_is_fault (settled c h).rows (or_else_next (settle_fault c false h) (use_fault false help [] (settled c h).rows) none)
+help_is_fault c h none = help_use_is_fault (settled c h).rows (or_else_next (settle_fault c false h) (use_fault false help [] (settled c h).rows) none)
+
+version_is_fault : (c : List Rule) (h : Held) → react_fault c false version [] h ≡ [] → ⊥
+version_is_fault c h none = version_use_is_fault (settled c h).rows (or_else_next (settle_fault c false h) (use_fault false version [] (settled c h).rows) none)
 
 -- `--name` is a fault, known or not
-long_is_fault : (c : List Rule) (known : Bool) (text : Option Text) (h : Held) → long_fault c false (if known then Some help else None) text h ≡ [] → ⊥
-long_is_fault c true (Some v) h none = cc
-long_is_fault c true None h none = help_is_fault c h none
-long_is_fault c false text h none = cc
+long_is_fault : (c : List Rule) (is_help is_version : Bool) (text : Option Text) (h : Held) → long_fault c false (flag_by is_help is_version) text h ≡ [] → ⊥
+long_is_fault c true is_version (Some v) h none = cc
+long_is_fault c true is_version None h none = help_is_fault c h none
+long_is_fault c false true (Some v) h none = cc
+long_is_fault c false true None h none = version_is_fault c h none
+long_is_fault c false false text h none = cc
 
 -- `-c` is a fault, known or not
-short_is_fault : (c : List Rule) (known : Bool) (rest : Text) (h : Held) (next : Held → Kinds) → short_fault c false (if known then Some help else None) rest h next ≡ [] → ⊥
-short_is_fault c true rest h next none = help_is_fault c h (or_else_none (react_fault c false help [] h) _ none)
-short_is_fault c false rest h next none = cc
+short_is_fault : (c : List Rule) (is_help is_version : Bool) (rest : Text) (h : Held) (next : Held → Kinds) → short_fault c false (flag_by is_help is_version) rest h next ≡ [] → ⊥
+short_is_fault c true is_version rest h next none = help_is_fault c h (or_else_none (react_fault c false help [] h) _ none)
+short_is_fault c false true rest h next none = version_is_fault c h (or_else_none (react_fault c false version [] h) _ none)
+short_is_fault c false false rest h next none = cc
 
 -- so it is where the argument is found by a name
-short_found_is_fault : (c : List Rule) (found : Option Rule) (known : Bool) → found ≡ (if known then Some help else None)
+short_found_is_fault : (c : List Rule) (found : Option Rule) (is_help is_version : Bool) → found ≡ flag_by is_help is_version
     → (rest : Text) (h : Held) (next : Held → Kinds) → short_fault c false found rest h next ≡ [] → ⊥
-short_found_is_fault c found known same rest h next none = short_is_fault c known rest h next (subst (λ f. short_fault c false f rest h next ≡ []) same none)
+short_found_is_fault c found is_help is_version same rest h next none = short_is_fault c is_help is_version rest h next (subst (λ f. short_fault c false f rest h next ≡ []) same none)
 
--- the one flag of the rules is the one for help
-pub record HasOnlyHelp (c : List Rule) : Type 0 where
-  pub by_long : (name : Text) → (known : Bool) × (arg_by_long c name ≡ (if known then Some help else None))
-  pub by_short : (letter : ℕ) → (known : Bool) × (arg_by_short c letter ≡ (if known then Some help else None))
+-- a flag of the rules asks for help or for the version
+pub record HasOnlyRequests (c : List Rule) : Type 0 where
+  pub by_long : (name : Text) → (is_help : Bool) × ((is_version : Bool) × (arg_by_long c name ≡ flag_by is_help is_version))
+  pub by_short : (letter : ℕ) → (is_help : Bool) × ((is_version : Bool) × (arg_by_short c letter ≡ flag_by is_help is_version))
 
-module _ (c : List Rule) (only : HasOnlyHelp c) (pending : Option (Text × List Text)) (word : Text) where
+module _ (c : List Rule) (only : HasOnlyRequests c) (pending : Option (Text × List Text)) (word : Text) where
   -- a word that is no fault is plain, from the first character behind a hyphen on
   first_is_plain : (first : Option ℕ) (byte : ℕ) (flags : Text) → bundle_step_fault c false first (byte ∷ flags) 0 (held pending) (flags_fault c false (length flags)) ≡ []
       → after_flag c idle word (bundle_step c first (byte ∷ flags) 0 plain (held pending) (bundle_met c (length flags))).0 (bundle_step c first (byte ∷ flags) 0 plain (held pending) (bundle_met c (length flags))).1
@@ -60,7 +81,7 @@ module _ (c : List Rule) (only : HasOnlyHelp c) (pending : Option (Text × List 
   first_is_plain None byte flags none = refl
   first_is_plain (Some letter) byte flags none =
       let known = only.by_short letter in
-      absurd (short_found_is_fault c (arg_by_short c letter) known.0 known.1 _ (held pending) _ none)
+      absurd (short_found_is_fault c (arg_by_short c letter) known.0 known.1.0 known.1.1 _ (held pending) _ none)
 
   bundle_is_plain : (flags : Text) → bundle_fault c false flags (held pending) ≡ [] → short_word c idle word flags (held pending) ≡ (held pending, value)
   unfolding flags_fault bundle_met
@@ -77,4 +98,30 @@ module _ (c : List Rule) (only : HasOnlyHelp c) (pending : Option (Text × List 
   long_is_plain None none = short_is_plain (short_of word) none
   long_is_plain (Some p) none =
       let known = only.by_long p.0 in
-      absurd (long_is_fault c known.0 p.1 (held pending) (subst (λ found. long_fault c false found p.1 (held pending) ≡ []) known.1 none))
+      absurd (long_is_fault c known.0 known.1.0 p.1 (held pending) (subst (λ found. long_fault c false found p.1 (held pending) ≡ []) known.1.1 none))
+
+-- an argument that no positional takes is a fault
+stray_is_fault : (s : Shape) (is_leaf : Bool) → stray_fault (record s { is_leaf = is_leaf }) ≡ [] → ⊥
+stray_is_fault s true none = cc
+stray_is_fault s false none = cc
+
+module _ (s : Shape) (only : HasOnlyRequests s.rules) (position : ℕ) (untaken : arg_by_index s.rules position ≡ None) (pending : Option (Text × List Text)) where
+  plain_is_fault : (met : Held × Step) → met ≡ (held pending, value) → step_fault s position met.0 met.1 ≡ [] → ⊥
+  plain_is_fault met same none =
+      let plain : step_fault s position (held pending) value ≡ [] = subst (λ (m : Held × Step). step_fault s position m.0 m.1 ≡ []) same none in
+      stray_is_fault s s.is_leaf (subst (λ (found : Option Rule). option_map_or (λ a. positional_fault s.rules s.args_override_self a (held pending)) found (stray_fault s) ≡ []) untaken plain)
+
+  -- the faults of an argument that names no subcommand, by whether it is `--`
+  abbrev faults_by : Bool → Text → Kinds
+  faults_by is_dashes word =
+      let met : Held × Step = if is_dashes then (held pending, trailing position) else long_or_other s.rules idle word (long_of word) (held pending) in
+      or_else (if is_dashes then [] else flag_word_fault s.rules false (long_of word) word (held pending)) (step_fault s position met.0 met.1)
+
+  faultless_is_dashes : (is_dashes : Bool) (word : Text) → faults_by is_dashes word ≡ [] → is_dashes ≡ true
+  faultless_is_dashes true word none = refl
+  faultless_is_dashes false word none =
+      absurd (plain_is_fault _ (long_is_plain s.rules only pending word (long_of word) (or_else_none _ _ none)) (or_else_next _ _ none))
+
+  -- so where no positional takes it, an argument without a fault is `--`
+  pub dashes_alone : (word : Text) → faults_by (bytes_eq word dashes) word ≡ [] → word ≡ dashes
+  dashes_alone word none = (bytes_eq-Decides word dashes).0 (faultless_is_dashes (bytes_eq word dashes) word none)

@@ -3,6 +3,7 @@
 use Rattle.std.specs.Prelude.{◌≡◌, ◌⊎◌, List, [], ◌∷◌, Option, Some, None, codes, if◌then◌else◌, option_map, true}
 use Rattle.std.specs.Borrow.{Bor}
 use Rattle.std.specs.Str.{bytes_eq}
+use Rattle.clap.specs.Simple.{on_top}
 use Rattle.clap.specs.Words.{App, Row, Rule, Text, first_of, new_app, new_rule, with_rule, with_subcommand}
 use Rattle.clap.specs.declared.builder.command.Command.{Command}
 use Rattle.clap.specs.declared.builder.command.Command.TheViews.{out-Command}
@@ -31,9 +32,13 @@ replay_app = with_rule (new_app (codes "replay")) file_rule
 abbrev pub session_app : App
 session_app = new_app (codes "session")
 
--- the program: it has the subcommands `run`, `threads`, `replay` and `session`, what the parser adds to ask for help, and nothing else
+-- a command that has a version: the parser adds the flags `--version` and `-V` to it, and to none of its subcommands
+abbrev pub with_version : App → App
+with_version app = on_top (λ shape. record shape { has_version = true }) app
+
+-- the program: it has the subcommands `run`, `threads`, `replay` and `session`, a version, what the parser adds to ask for help, and nothing else
 abbrev pub ntns : App
-ntns = with_subcommand (with_subcommand (with_subcommand (with_subcommand (new_app (codes "ntns")) run_app.top) threads_app.top) replay_app.top) session_app.top
+ntns = with_version (with_subcommand (with_subcommand (with_subcommand (with_subcommand (new_app (codes "ntns")) run_app.top) threads_app.top) replay_app.top) session_app.top)
 
 -- a text that help shows, where there is one
 abbrev pub text_of : Option (Bor Text) → Option Text
@@ -43,9 +48,25 @@ text_of text = option_map (λ t. t.now) text
 abbrev pub about_of : Command → Option Text
 about_of command = text_of (out-Command command).about
 
--- so it says of the program, of each subcommand, and of the path
+-- what help says at its end
+abbrev pub examples_of : Command → Option Text
+examples_of command = text_of (out-Command command).after_help
+
+-- what `--version` prints after a command's name
+abbrev pub version_of : Command → Option Text
+version_of command = text_of (out-Command command).version
+
+-- the program's version, and the kit and the logic that it is proved with
+abbrev pub ntns_version : Text
+ntns_version = codes "1.0.0 (rattle-kit-13f logic dac8208d650f15bf)"
+
+-- what help says of the program, of each subcommand, and of the path
 abbrev pub ntns_about : Text
 ntns_about = codes "Runs a script of namespace commands, by default from standard input, and prints one reply a line"
+
+-- an example of each task
+abbrev pub ntns_examples : Text
+ntns_examples = codes "Examples:\n  ntns < script.ntns                       Runs the script on standard input\n  ntns run script.ntns                     Runs the script in a file\n  ntns threads workers.ntns > journal.txt  Runs a script with workers, and keeps its journal\n  ntns replay journal.txt                  Checks that journal\n  ntns session                             Replies to each line as it is typed"
 
 abbrev pub run_about : Text
 run_about = codes "Runs the script in FILE"

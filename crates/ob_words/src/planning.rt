@@ -3,7 +3,7 @@
 ghost use Rattle.std.specs.Prelude.{◌≡◌, ◌≤◌, true, false, Some, IfOk, IfErr, length, map, option_map};
 ghost use Rattle.clap.specs.Words.{FailsBy, app_of, fault_of, kind_of, rule_of, subcommand_of, subcommand_rows_of, takes};
 ghost use Rattle.clap.specs.declared.builder.command.Command.TheViews.{out-Command as fields_of};
-ghost use Rattle.ob_words.specs.Plan.{IsMistakeOrWant, Spells, about_of, file_help, file_rule, named, ntns, ntns_about, replay_about, replay_app, run_about, run_app, session_about, session_app, task_of, text_of, threads_about, threads_app};
+ghost use Rattle.ob_words.specs.Plan.{IsMistakeOrWant, Spells, about_of, examples_of, file_help, file_rule, named, ntns, ntns_about, ntns_examples, ntns_version, replay_about, replay_app, run_about, run_app, session_about, session_app, task_of, text_of, threads_about, threads_app, version_of};
 
 use clap::error::ErrorKind;
 use clap::{Arg, ArgMatches, Command, Error};
@@ -31,7 +31,7 @@ pub enum Task<'a> {
 /// these are `run` and a path, which is taken as it is, with `--` before or behind it or without;
 /// so it is `Threads` where they are `threads` and a path, `Replay` where they are `replay` and a path, and `Session` where they are `session` alone. The task is what the parser
 /// `clap` states for these words and the program as `ntns` describes it. The faults are clap's: of the kinds that clap states for the words, which are mistakes, or
-/// the request for help; or out of memory, which alone can refuse words that name a task, as no
+/// the request for help or for the version; or out of memory, which alone can refuse words that name a task, as no
 /// words behind the program's name do. (this profile)
 pub fn plan<'a, S: AsStr>(alloc: Global, words: &'a [S]) -> Result<Task<'a>, Error>
     ensures task { IfOk result (λ task.
@@ -98,6 +98,8 @@ pub fn unreadable(alloc: Global) -> Error
 fn program<'a>(alloc: Global) -> Result<Command<'a>, AllocError>
     ensures app { IfOk result (λ command. app_of command ≡ ntns) }
     ensures about { IfOk result (λ command. about_of command ≡ Some ntns_about) }
+    ensures examples { IfOk result (λ command. examples_of command ≡ Some ntns_examples) }
+    ensures version { IfOk result (λ command. version_of command ≡ Some ntns_version) }
 {
     let run = run_command(alloc)?;
     let threads = threads_command(alloc)?;
@@ -108,9 +110,21 @@ fn program<'a>(alloc: Global) -> Result<Command<'a>, AllocError>
         .subcommand(threads)?
         .subcommand(replay)?
         .subcommand(session)?;
-    Ok(program.about(
-        "Runs a script of namespace commands, by default from standard input, and prints one reply a line",
-    ))
+    Ok(
+        program
+            .about(
+                "Runs a script of namespace commands, by default from standard input, and prints one reply a line",
+            )
+            .version("1.0.0 (rattle-kit-13f logic dac8208d650f15bf)")
+            .after_help(
+                "Examples:
+  ntns < script.ntns                       Runs the script on standard input
+  ntns run script.ntns                     Runs the script in a file
+  ntns threads workers.ntns > journal.txt  Runs a script with workers, and keeps its journal
+  ntns replay journal.txt                  Checks that journal
+  ntns session                             Replies to each line as it is typed",
+            ),
+    )
 }
 
 // The subcommand `run`.

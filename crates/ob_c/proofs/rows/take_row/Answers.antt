@@ -1,6 +1,6 @@
 use Rattle.std.proofs.Common.{ℕ, ◌+◌, List, sym, subst, arith}
 use Rattle.ob_c.specs.Rows.{Takes, entry_in}
-use Rattle.ob_c.specs.Types.{TellsType}
+use Rattle.ob_numbers.specs.Types.{IsTypeNumber}
 use Rattle.ob_c.specs.declared.rows.Progress.{Progress}
 use Rattle.ob_c.proofs.RowsLemmas.{takes_entry}
 use Rattle.ob_c.proofs.rows.take_row.Goals as goal
@@ -8,7 +8,7 @@ use Rattle.ob_c.proofs.rows.take_row.Goals as goal
 pub returns : goal.returns
 returns c =
     let old = c.args.progress.now in
-    let tells = subst (λ (name : List ℕ). TellsType name c.type_named.result) c.as_str.ensures c.type_named.ensures in
+    let tells = subst (λ (name : List ℕ). IsTypeNumber name c.type_named.result) c.as_str.ensures c.type_named.ensures in
     let takes =
     takes_entry (entry_in c.args.ended.now) c.in-Some.entry.now c.args.room c.in-Some.context c.type_named.result old c.args.rows.now c.put_row.new.rows
     c.as_slice-name.result.now c.args.buffer.now c.put_name-end.new.buffer c.in-Some.ensures c.as_slice-name.ensures tells

@@ -1,10 +1,12 @@
--- Each subcommand is added to the app, of which what help says is no part.
+-- Each subcommand is added to the app, and that it has a version. The texts are not part of the app.
 use Rattle.std.proofs.Common.{◌≡◌, ◌∙◌, ap, false}
 use Rattle.clap.specs.Built.{AddsSubcommand}
 use Rattle.clap.specs.Simple.{app_of_fields, shape_of}
 use Rattle.clap.specs.Words.{App, app_of, with_subcommand}
 use Rattle.clap.specs.declared.builder.command.Command.{Command}
 use Rattle.clap.specs.declared.builder.command.Command.TheViews.{out-Command}
+use Rattle.clap.specs.declared.builder.command.Command.TheOpen.{Command-F}
+use Rattle.ob_words.specs.Plan.{text_of, with_version}
 use Rattle.ob_words.proofs.planning.program.Goals as goal
 
 -- an app to which a subcommand without arguments for all is added
@@ -19,4 +21,7 @@ returns-clause-app c =
     let threads = added _ _ _ _ _ c.in_ok-subcommand-2.ensures run c.in_ok-threads.ensures.app c.in_ok-threads.ensures.local in
     let replay = added _ _ _ _ _ c.in_ok-subcommand-3.ensures threads c.in_ok-replay.ensures.app c.in_ok-replay.ensures.local in
     let session = added _ _ _ _ _ c.in_ok-program.ensures replay c.session_command-session.ensures.app c.session_command-session.ensures.local in
-    ap app_of_fields c.about.ensures ∙ session
+    ap app_of_fields c.after_help.ensures ∙ (ap app_of_fields c.version.ensures ∙ ap with_version (ap app_of_fields c.about.ensures ∙ session))
+
+pub returns-clause-examples : goal.returns-clause-examples
+returns-clause-examples c = ap (λ (fields : Command-F Command). text_of fields.after_help) c.after_help.ensures

@@ -1,6 +1,6 @@
 use Rattle.std.proofs.Common.{refl, arith}
-use Rattle.ob_c.proofs.KindLemmas.{is_few, none_more}
-use Rattle.ob_c.proofs.types.kind_named.Goals as goal
+use Rattle.ob_numbers.proofs.KindLemmas.{is_few, none_more}
+use Rattle.ob_numbers.proofs.types.kind_named.Goals as goal
 
 pub loop-kind-init : goal.loop-kind-init
 loop-kind-init c = λ kind low same. absurd (omega (arith, low))

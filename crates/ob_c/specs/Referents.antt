@@ -1,24 +1,12 @@
--- The numbers of types: 0 is any type, 1 a directory, 2 a symbolic link, and then the kinds of a caller's objects in
--- their order.
+-- The object of a handle, as a caller in C reads it: the number of its type, its user data, and its id.
 --
--- Source: this profile; the names are those of Windows Internals, Object Manager (object types).
-use Rattle.std.specs.Prelude.{◌≡◌, ℕ, ◌+◌, ◌%◌, ◌^◌, List, ◌⊎◌, codes}
-use Rattle.ob_host.specs.Kinds.{index_of, name_of}
-use Rattle.ob_host.specs.declared.kind.Kind.{Kind}
+-- Source: this profile.
+use Rattle.std.specs.Prelude.{ℕ, ◌+◌, ◌%◌, ◌^◌}
 use Rattle.ob_model.specs.declared.state.Body.{Body}
 use Rattle.ob_model.specs.declared.state.Body.TheVariants.{Directory, Link, Other}
 use Rattle.ob_host.specs.Kept.{Kept}
 use Rattle.ob_host.specs.declared.object.HostObject.{HostObject}
-
-abbrev pub directory_type : ℕ
-directory_type = 1
-
-abbrev pub link_type : ℕ
-link_type = 2
-
--- the number of a kind
-abbrev pub type_of_kind : Kind → ℕ
-type_of_kind kind = index_of kind + 3
+use Rattle.ob_numbers.specs.Types.{directory_type, link_type, type_of_kind}
 
 -- the number of what an object is
 abbrev pub type_of_body : Body HostObject Kept → ℕ
@@ -41,13 +29,3 @@ abbrev pub id_of_body : ℕ → Body HostObject Kept → ℕ
 id_of_body object Directory = own_id object
 id_of_body object (Link target) = own_id object
 id_of_body object (Other face inner) = inner.serial
-
--- a type has this name and this number
-abbrev pub IsType : List ℕ → ℕ → Type 0
-IsType name n =
-    ((name ≡ codes "Directory") × (n ≡ directory_type)) ⊎ ((name ≡ codes "SymbolicLink") × (n ≡ link_type))
-    ⊎ ((kind : Kind) × (name ≡ name_of kind) × (n ≡ type_of_kind kind))
-
--- the number of the type of a name; 0 where no type has that name
-abbrev pub TellsType : List ℕ → ℕ → Type 0
-TellsType name n = IsType name n ⊎ ((n ≡ 0) × ((k : ℕ) → IsType name k → ⊥))
