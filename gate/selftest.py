@@ -218,6 +218,8 @@ def of_c():
         yield "a README without one is a fault", type(fault), c.Fault
     yield "the calls that a header declares", c.declared_in(HEADER), {"ntns_open", "ntns_close"}
     yield "what an archive defines, and needs of others", c.names_in(NAMES), ({"ntns_open"}, {"malloc", "hook"})
+    page = (ROOT / "docs" / "c.md").read_text()
+    yield "docs/c.md names what the archive may need", [name for name in sorted(c.NEEDED) if f"`{name}`" not in page], []
     source = (c.CLIENTS / "wrong.c").read_text()
     found = [macro for macro, _ in c.wrong_libraries(source)]
     yield "each wrong library is tried", found, re.findall(r"defined (\w+)$", source, re.MULTILINE)
