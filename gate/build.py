@@ -33,7 +33,7 @@ LOG = ROOT / MADE / "build.log"
 # the sum of the files of the last `rt ci` in the work tree whose libraries all stand there
 PROVED = ROOT / MADE / "proved.sum"
 
-DONE = re.compile(r"rt: (\w+) (?:proved|is kept)$")
+DONE = re.compile(r"rt: (\w+) (?:proved$|is kept\b)")
 FAULT = re.compile(r"error|^(fn|impl|struct|enum) \S+: (no proof|not proved|could not tell)|NOT PROVED|^rt: ")
 
 
