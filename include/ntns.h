@@ -25,7 +25,7 @@
  *     pthread_mutex_unlock(&lock);
  *
  * No call blocks, prints or ends the process. Names, targets and texts are bytes with a length, without a terminator. Whatever is
- * refused, out of memory too, leaves the namespace as it was; the exceptions stand in docs/c.md.
+ * refused, out of memory too, leaves the namespace as it was; docs/c.md has the exceptions.
  *
  * Process 1 is there from the open on; ntns_new_process gives others.
  *
@@ -61,7 +61,7 @@ typedef uint32_t ntns_status;
 #define NTNS_SUCCEEDED(status) ((ntns_status)(status) < 0x80000000u)
 
 #define NTNS_STATUS_SUCCESS                ((ntns_status)0x00000000u)
-#define NTNS_STATUS_MORE_ENTRIES           ((ntns_status)0x00000105u) /* of a page: others are left behind it */
+#define NTNS_STATUS_MORE_ENTRIES           ((ntns_status)0x00000105u) /* of a page: other entries follow it */
 #define NTNS_STATUS_OBJECT_NAME_EXISTS     ((ntns_status)0x40000000u) /* with OPENIF: what is there was opened */
 #define NTNS_STATUS_NO_MORE_ENTRIES        ((ntns_status)0x8000001Au)
 #define NTNS_STATUS_INVALID_HANDLE         ((ntns_status)0xC0000008u)
@@ -136,17 +136,17 @@ enum ntns_type {
 
 /*
  * Opens a namespace: the root, \GLOBAL??, \DosDevices (a link to \??), \Device, \BaseNamedObjects and \Sessions, and process 1.
- * INVALID_PARAMETER where it is open already, NO_MEMORY; then `ns` is as it was.
+ * INVALID_PARAMETER if it is open already, NO_MEMORY; then `ns` is as it was.
  */
 ntns_status ntns_open(ntns *ns);
 
-/* Closes a namespace: all memory that it owns is freed, and `ns` is all zeros. Nothing is told as deleted. A closed one stays closed. */
+/* Closes a namespace: all memory that it owns is freed, and `ns` is all zeros. Nothing is reported as deleted. A closed one stays closed. */
 void ntns_close(ntns *ns);
 
 /*
  * Creates. `root` is the handle of a directory that the name is relative to, or 0 for an absolute name; with `name` NULL the object has
  * no name. `handle` is given a handle of the process on success, and else 0. With OPENIF an object of that type that is there is
- * opened: OBJECT_NAME_EXISTS. The statuses, the first that holds being told:
+ * opened: OBJECT_NAME_EXISTS. The statuses, of which the first that holds is returned:
  *
  *     INVALID_PARAMETER        `ns` is closed; of an object, the type is none or isn't the caller's to make
  *     PROCESS_GONE             the process isn't live
@@ -180,7 +180,7 @@ ntns_status ntns_create_object(ntns *ns, uint32_t process, uint32_t root, const 
 
 /*
  * Opens. `handle` is given a handle of the process on success, and else 0. A name that leads through a device or a key is parsed to
- * its end within the call; `root` may then be a handle to one. The statuses, the first that holds being told:
+ * its end within the call; `root` may then be a handle to one. The statuses, of which the first that holds is returned:
  *
  *     INVALID_PARAMETER        `ns` is closed; of an object, a type that is neither NTNS_TYPE_ANY nor the caller's to make
  *     PROCESS_GONE, INVALID_PARAMETER, OBJECT_NAME_INVALID, NAME_TOO_LONG, INVALID_HANDLE, OBJECT_PATH_SYNTAX_BAD,
@@ -202,7 +202,7 @@ ntns_status ntns_open_link(ntns *ns, uint32_t process, uint32_t root, const char
 
 /*
  * NtOpenEvent, NtOpenFile, NtOpenKey and so on; with NTNS_TYPE_ANY whatever the name leads to, also a directory, and with OPENLINK a
- * link. What lies behind a device is a new file, what lies behind a key a new key, each with the user data of the device or key and
+ * link. A name through a device leads to a new file, one through a key to a new key, each with the user data of the device or key and
  * the rest of the name as its text (ntns_query_file). The empty rest of a key is the key itself, of a device a file too.
  */
 ntns_status ntns_open_object(ntns *ns, uint32_t process, uint32_t root, const char *name, size_t name_len, uint32_t attributes,
@@ -229,12 +229,12 @@ ntns_status ntns_make_temporary(ntns *ns, uint32_t process, uint32_t handle);
 ntns_status ntns_make_permanent(ntns *ns, uint32_t process, uint32_t handle);
 
 /*
- * Texts. On success `length` is that of the text, whose bytes stand in `buffer`; where that is too small nothing is written into it,
+ * Texts. On success `length` is that of the text, whose bytes are in `buffer`; if that is too small nothing is written into it,
  * and `length` is what is needed; on any other status it is 0. What of the buffer isn't needed stays as it was.
  *
  * NtQuerySymbolicLinkObject: the target of a link, as it was given.
- * ObQueryNameString: the path of an object; empty where it or a directory above it has no name.
- * ntns_query_file: of a file or a key, what the parse took: the text behind its device or key, empty of one that was created.
+ * ObQueryNameString: the path of an object; empty if it or a directory above it has no name.
+ * ntns_query_file: of a file or a key, what the parse took: the text after its device or key, empty of one that was created.
  *
  * INVALID_PARAMETER (closed), PROCESS_GONE, INVALID_HANDLE, OBJECT_TYPE_MISMATCH (no link; no file or key), NAME_TOO_LONG (a path above
  * 32,767 bytes), NO_MEMORY, BUFFER_TOO_SMALL. ntns_query_file takes no memory, and of a process that is gone answers INVALID_HANDLE.
@@ -244,25 +244,25 @@ ntns_status ntns_query_name(ntns *ns, uint32_t process, uint32_t handle, char *b
 ntns_status ntns_query_file(ntns *ns, uint32_t process, uint32_t handle, char *buffer, size_t capacity, size_t *length);
 
 /*
- * NtQueryDirectoryObject, one entry a call: the name and the type of the first entry behind `context`, which is 0 for the first of all
- * and is then left at the entry that was shown. Entries stand in the order in which they were made; those that come or go between
+ * NtQueryDirectoryObject, one entry a call: the name and the type of the first entry after `context`, which is 0 for the first of all
+ * and is then left at the entry that was shown. Entries are in the order in which they were made; those that come or go between
  * calls don't disturb the others. `length` and `buffer` are as of texts; where the buffer is too small `context` stays, and `type` is
- * told all the same. On any other refusal `type` is 0.
+ * reported all the same. On any other refusal `type` is 0.
  *
- * INVALID_PARAMETER (closed), PROCESS_GONE, INVALID_HANDLE, OBJECT_TYPE_MISMATCH (no directory), NO_MEMORY, NO_MORE_ENTRIES (behind
+ * INVALID_PARAMETER (closed), PROCESS_GONE, INVALID_HANDLE, OBJECT_TYPE_MISMATCH (no directory), NO_MEMORY, NO_MORE_ENTRIES (after
  * the last), BUFFER_TOO_SMALL.
  */
 ntns_status ntns_next_entry(ntns *ns, uint32_t process, uint32_t handle, uint64_t *context, char *buffer, size_t capacity, size_t *length,
 			    uint32_t *type);
 
 /*
- * NtQueryDirectoryObject, a page a call: as many entries as fit behind `context`, which is as above and is left at the last that was shown.
- * `buffer` has, one behind another, the name of each entry and the name of its type, as "Directory", each with a 0 behind it, and
+ * NtQueryDirectoryObject, a page a call: as many entries as fit after `context`, which is as above and is left at the last that was shown.
+ * `buffer` has, one after another, the name of each entry and the name of its type, as "Directory", each with a 0 after it, and
  * `length` is how many bytes these are. Of the room, at most 1,048,576 bytes, each entry counts for 4 bytes more than both names:
- * 33,000 bytes have room for any. Where not even the first fits nothing is written, and ntns_next_entry tells how long its name is.
+ * 33,000 bytes have room for any. If not even the first fits nothing is written, and ntns_next_entry reports how long its name is.
  *
  * SUCCESS (no entry is left), MORE_ENTRIES (others are), which are both successes; INVALID_PARAMETER (closed), PROCESS_GONE,
- * INVALID_HANDLE, OBJECT_TYPE_MISMATCH (no directory), NO_MEMORY, NO_MORE_ENTRIES (behind the last), BUFFER_TOO_SMALL. On a refusal
+ * INVALID_HANDLE, OBJECT_TYPE_MISMATCH (no directory), NO_MEMORY, NO_MORE_ENTRIES (after the last), BUFFER_TOO_SMALL. On a refusal
  * `length` is 0, and `context` and `buffer` stay.
  */
 ntns_status ntns_next_page(ntns *ns, uint32_t process, uint32_t handle, uint64_t *context, char *buffer, size_t capacity, size_t *length);
@@ -283,7 +283,7 @@ struct ntns_row {
  * context of the last row that it took. The call is as many queries of one entry, with no other call between them.
  *
  * SUCCESS (no entry is left), MORE_ENTRIES (others are), which are both successes; INVALID_PARAMETER (closed), PROCESS_GONE,
- * INVALID_HANDLE, OBJECT_TYPE_MISMATCH (no directory), NO_MEMORY, NO_MORE_ENTRIES (behind the last), BUFFER_TOO_SMALL (no place for a
+ * INVALID_HANDLE, OBJECT_TYPE_MISMATCH (no directory), NO_MEMORY, NO_MORE_ENTRIES (after the last), BUFFER_TOO_SMALL (no place for a
  * row, or the first name doesn't fit). On a refusal `count` is 0 and `context` stays; after NO_MEMORY rows and buffer may have changed.
  */
 ntns_status ntns_next_rows(ntns *ns, uint32_t process, uint32_t handle, uint64_t *context, struct ntns_row *rows, size_t *count, char *buffer,
@@ -318,7 +318,7 @@ ntns_status ntns_query_object(ntns *ns, uint32_t process, uint32_t handle, uint3
 struct ntns_deletion {
 	uint32_t type;
 	uint64_t user_data; /* of its create, or of the device or key through which it was opened */
-	uint64_t id;        /* that of ntns_query_object; 0 where no handle to it was ever given */
+	uint64_t id;        /* that of ntns_query_object; 0 if no handle to it was ever given */
 	bool parsed;        /* an open through a device or a key made it */
 };
 
@@ -330,7 +330,7 @@ struct ntns_deletion {
  */
 ntns_status ntns_next_deletion(ntns *ns, struct ntns_deletion *deletion);
 
-/* The status's name, as "OBJECT_NAME_NOT_FOUND"; NULL where it is none of this library's. */
+/* The status's name, as "OBJECT_NAME_NOT_FOUND"; NULL if it is none of this library's. */
 const char *ntns_status_text(ntns_status status);
 
 /* The type's name, as Windows spells it: "Directory", "ALPC Port"; NULL where there is no such type. */

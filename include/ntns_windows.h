@@ -58,7 +58,7 @@ static inline bool ntns_is_plain_unit(uint16_t unit, char escape)
 	return unit >= 0x20 && unit <= 0x7E && unit != (unsigned char)escape;
 }
 
-/* How many bytes a unit takes: 0 where it can't be written. */
+/* How many bytes a unit takes: 0 if it can't be written. */
 static inline size_t ntns_unit_bytes(uint16_t unit, char escape)
 {
 	if (ntns_is_plain_unit(unit, escape))
@@ -93,7 +93,7 @@ static inline unsigned ntns_digit_value(char digit)
 	return 16;
 }
 
-/* Reads the unit at the beginning of a text that isn't empty; how many bytes it takes, 0 where none is written so. */
+/* Reads the unit at the beginning of a text that isn't empty; how many bytes it takes, 0 if none is written so. */
 static inline size_t ntns_get_unit(const char *text, size_t bytes, char escape, uint16_t *unit)
 {
 	unsigned value = 0;
@@ -116,7 +116,7 @@ static inline size_t ntns_get_unit(const char *text, size_t bytes, char escape, 
 /*
  * The bytes of `units` units of UTF-16, as of a UNICODE_STRING with twice that Length. `escape` is 0 for none.
  *
- * On success `length` is how many bytes stand in `buffer`; where it is too small nothing is written into it, and `length` is what is
+ * On success `length` is how many bytes are in `buffer`; if it is too small nothing is written into it, and `length` is what is
  * needed; on any other refusal it is 0. What of the buffer isn't needed stays as it was.
  *
  * INVALID_PARAMETER (an escape that ntns_is_escape refuses), OBJECT_NAME_INVALID (without an escape: a unit outside 0x20 to 0x7E),
