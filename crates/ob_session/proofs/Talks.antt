@@ -11,7 +11,7 @@ use Rattle.ob_streams.specs.declared.fault.ShellFault.TheVariants.{Read, Write, 
 use Rattle.ob_requests.specs.Words.{Words, first_words}
 use Rattle.ob_effects.specs.Machine.{Space}
 use Rattle.ob_lines.specs.Lines.{lines_of}
-use Rattle.ob_session.specs.Session.{IsAnswered, AreAnswered, IsTurn, IsTurnCut, HasAnswered, BeginsBy, IsConversationCut}
+use Rattle.ob_session.specs.Session.{IsAnswered, AreAnswered, IsTurn, IsTurnCut, HasAnswered, BeginsBy, IsBegun, IsConversationCut, most_lines}
 use Rattle.ob_session.specs.Taken.{TakesLine}
 
 -- lines are answered, and then one more
@@ -95,17 +95,20 @@ come_end input left left' words w words' s t s' old mid new count number come (e
 module _ (input left : Option (List ℕ)) (words w : Words) (s t : Space) (old mid : Option (List ℕ)) (count : ℕ) (come : HasCome input left words w s t old mid count)
     (are_first : words ≡ first_words) (first : Standard) (fresh : IsFresh first) (is_opening : s ≡ opening first) where
   -- the lines so far are the input's first ones, answered from the opening state on
-  begun : BeginsBy input come.output
-  begun = (come.lines, w, t, (first, fresh, subst (λ x. AreAnswered 1 come.lines first_words x come.output w t) is_opening (subst (λ x. AreAnswered 1 come.lines x s come.output w t) are_first come.answered), known input come.others))
+  is_begun : IsBegun input come.lines come.output w t
+  is_begun = (first, fresh, subst (λ x. AreAnswered 1 come.lines first_words x come.output w t) is_opening (subst (λ x. AreAnswered 1 come.lines x s come.output w t) are_first come.answered), known input come.others)
     where
       known : (input : Option (List ℕ)) → IfSome input (λ bytes. (rest : List ℕ) × (left ≡ Some rest) × (lines_of bytes ≡ come.lines ++ lines_of rest))
           → IfSome input (λ bytes. (rest : List ℕ) × (lines_of bytes ≡ come.lines ++ lines_of rest))
       known None others = tt
       known (Some bytes) (rest, is, all) = (rest, all)
 
+  begun : BeginsBy input come.output
+  begun = (come.lines, w, t, is_begun)
+
   -- a session of the greatest number of lines
-  pub come_long : IsConversationCut TooLong input old mid
-  come_long = (come.output, begun, come.shown)
+  pub come_long : count ≡ most_lines → IsConversationCut TooLong input old mid
+  come_long most = (come.lines, come.output, w, t, is_begun, sym come.counted ∙ most, come.shown)
 
   -- a fault of a turn
   pub come_cut : (fault : ShellFault) (number : ℕ) (new : Option (List ℕ)) → number ≡ count + 1 → IsTurnCut fault number left w t mid new → IsConversationCut fault input old new

@@ -1,7 +1,7 @@
 -- A session: its lines are performed one after another, and each is answered by a line of output, or by none, before the next one is taken.
 --
 -- Source: this profile.
-use Rattle.std.specs.Prelude.{◌≡◌, ◌⊎◌, ℕ, ◌+◌, Bool, true, false, List, [], ◌∷◌, ◌++◌, Option, Some, None, IfSome}
+use Rattle.std.specs.Prelude.{◌≡◌, ◌⊎◌, ℕ, ◌+◌, ◌-◌, ◌^◌, Bool, true, false, List, [], ◌∷◌, ◌++◌, length, Option, Some, None, IfSome}
 use Rattle.std.specs.Io.KnownBytes.{Appends, Keeps}
 use Rattle.ob_model.specs.Opening.{opening}
 use Rattle.ob_model.specs.Run.{Run}
@@ -72,13 +72,19 @@ IsBegun input lines output words s =
 abbrev pub BeginsBy : (input : Option (List ℕ)) → List ℕ → Type 0
 BeginsBy input output = (lines : List (List ℕ)) × (words : Words) × (s : Space) × IsBegun input lines output words s
 
+-- the most lines that a session answers
+abbrev pub most_lines : ℕ
+most_lines = 2 ^ 64 - 2
+
 -- A session that a fault ended: the lines taken before are answered whole; after a fault of a write, a beginning of the output of one more is
--- written too. At `Memory` there may have been no session yet.
+-- written too. At `Memory` there may have been no session yet, and `TooLong` comes after the most lines alone.
 abbrev pub IsConversationCut : ShellFault → (input written written' : Option (List ℕ)) → Type 0
 IsConversationCut (Write unwritten) input written written' = (output : List ℕ) × BeginsBy input output × AppendsFront written written' output
 IsConversationCut (Read unread) input written written' = (output : List ℕ) × BeginsBy input output × Appends written written' output
 IsConversationCut Memory input written written' = Keeps written written' ⊎ ((output : List ℕ) × BeginsBy input output × Appends written written' output)
-IsConversationCut TooLong input written written' = (output : List ℕ) × BeginsBy input output × Appends written written' output
+IsConversationCut TooLong input written written' =
+    (lines : List (List ℕ)) × (output : List ℕ) × (words : Words) × (s : Space) × IsBegun input lines output words s × (length lines ≡ most_lines)
+    × Appends written written' output
 IsConversationCut Mismatch input written written' = ⊥
 
 -- what lines of a session do from the opening state on is a run of the abstract machine, whose entries are of seat 0

@@ -40,3 +40,4 @@ returns-clause-cut g c =
     come_long (g.R.Read.remaining c.args.reader.now) (g.R.Read.remaining c.loop-number.reader)
     (words_of c.args.session.now) (words_of c.loop-number.session) (space_of c.args.session.now) (space_of c.loop-number.session)
     (g.W.Write.contents c.args.writer.now) (g.W.Write.contents c.loop-number.writer) old.0.0 old.0.2 begun.0 begun.1.0 begun.1.1 begun.1.2
+    (omega (arith, c.loop-number-test.false, c.loop-number.auto.number-end, old.0.1))
