@@ -9,7 +9,7 @@ use Rattle.ob_base.specs.Attrs.{has_flag, open_if_flag}
 use Rattle.ob_base.specs.Handle.{key_of}
 use Rattle.ob_model.specs.declared.command.Place.{Place}
 use Rattle.ob_model.specs.declared.command.Place.TheVariants as place
-use Rattle.ob_model.specs.declared.command.Command.TheVariants.{CreateDirectory, CreateLink, CreateObject, OpenDirectory, OpenLink, OpenObject, Close, QueryLink, QueryName, QueryDirectory, Duplicate, MakeTemporary, MakePermanent, SetDeviceMap, NewProcess, ExitProcess}
+use Rattle.ob_model.specs.declared.command.Command.TheVariants.{CreateDirectory, CreateShadowed, CreateLink, CreateObject, OpenDirectory, OpenLink, OpenObject, Close, QueryLink, QueryName, QueryDirectory, Duplicate, MakeTemporary, MakePermanent, SetDeviceMap, NewProcess, ExitProcess}
 use Rattle.ob_model.specs.declared.command.Command.{Command}
 use Rattle.ob_model.specs.declared.reply.Answer.{Answer}
 use Rattle.ob_model.specs.declared.reply.Answer.TheVariants.{Done, Ticket}
@@ -44,7 +44,7 @@ use Rattle.ob_model.specs.Creates.{Making, MakesDirectory, MakesLink, MakesObjec
 use Rattle.ob_model.specs.Naming.{path_text, target_of, TellsName, TellsTarget}
 use Rattle.ob_model.specs.Enumeration.{enumerated, context_used, page_answer}
 use Rattle.ob_model.specs.Processes.{values_in, is_crowded, begun, ended}
-use Rattle.ob_model.specs.Step.{WithHandle, WithRoot, CreatesIn, CreatesAt, OpensName, Turns, SetsMap, page_refusals, TellsPage, QueriesDirectory, Step}
+use Rattle.ob_model.specs.Step.{WithHandle, WithRoot, shadow_refusals, WithShadow, CreatesIn, CreatesAt, OpensName, Turns, SetsMap, page_refusals, TellsPage, QueriesDirectory, Step}
 
 -- what is given is no child
 abbrev pub IsNoChild : Given → Type 0
@@ -102,6 +102,13 @@ module _ {K T F I : Type 0} (g : Procedures K T F I) (s : State K T F I) (P : An
   with_root_told t p (Some handle) answer Does does h =
       held_told t (option_and_then (held_of s p) (key_of handle)) answer (λ x. Does (Some x.object)) (λ x. does (Some x.object)) h
 
+  with_shadow_told : (t : State K T F I) (p : ℕ) (shadow : Option ℕ) (answer : Answer) (Does : Option ℕ → Type 0)
+      → ((d : Option ℕ) → Does d → P answer t) → WithShadow s p shadow answer t Does → P answer t
+  with_shadow_told t p None answer Does does h = does None h
+  with_shadow_told t p (Some handle) answer Does does h =
+      held_told t (option_and_then (held_of s p) (key_of handle)) answer (λ x. Unless (shadow_refusals s x.object) s answer t (Does (Some x.object)))
+      (λ x. unless_told (shadow_refusals s x.object) t answer (Does (Some x.object)) (λ e. does (Some x.object))) h
+
   granted_told : (t u : State K T F I) (p o : ℕ) (asked : GrantOptions) (reason : Reason) (status : Status) (answer : Answer) (result : Result ℕ Status) → Grants g s p o asked reason result u
       → MatchResult result (λ value. (answer ≡ gives status (Handle value)) × (t ≡ settle g u)) (λ refusal. IsRefused s refusal answer t) → P answer t
   granted_told t u p o asked reason status answer (Ok value) granted h =
@@ -150,17 +157,22 @@ module _ {K T F I : Type 0} (g : Procedures K T F I) (s : State K T F I) (P : An
   creates_told t p attrs making (Parse o rest n) answer h = absurd h
   creates_told t p attrs making (Vacant d c) answer h = makes_told t p attrs making (Some (d, c)) answer h
 
-  creates_in_told : (t : State K T F I) (p : ℕ) (where_to : Place) (attrs : ℕ) (making : Making K) (answer : Answer) → CreatesIn g s p where_to attrs making answer t → P answer t
-  creates_in_told t p (place.At root name) attrs making answer h =
-      with_root_told t p root answer
-      (λ at. (look : Look) × LooksUp g s p (create_mode attrs) most_reparses at name look × Creates g s p attrs making look answer t)
-      (λ at does. creates_told t p attrs making does.0 answer does.2) h
-  creates_in_told t p place.Unnamed attrs making answer h = makes_told t p attrs making None answer h
+  creates_in_told : (t : State K T F I) (p : ℕ) (where_to : Place) (attrs : ℕ) (shadow : Option ℕ) (making : Option ℕ → Making K) (answer : Answer)
+      → CreatesIn g s p where_to attrs shadow making answer t → P answer t
+  creates_in_told t p (place.At root name) attrs shadow making answer h =
+      with_root_told t p root answer (λ at. WithShadow s p shadow answer t (Does at))
+      (λ at. with_shadow_told t p shadow answer (Does at) (λ d does. creates_told t p attrs (making d) does.0 answer does.2)) h
+    where
+      Does : Option ℕ → Option ℕ → Type 0
+      Does at d = (look : Look) × LooksUp g s p (create_mode attrs) most_reparses at name look × Creates g s p attrs (making d) look answer t
+  creates_in_told t p place.Unnamed attrs shadow making answer h =
+      with_shadow_told t p shadow answer (λ d. Makes g s p attrs (making d) None answer t) (λ d. makes_told t p attrs (making d) None answer) h
 
-  creates_at_told : (t : State K T F I) (p : ℕ) (where_to : Place) (attrs : ℕ) (making : Making K) (answer : Answer) → CreatesAt g s p where_to attrs making answer t → P answer t
-  creates_at_told t p where_to attrs making answer h =
-      unless_told (create_refusals (is_live s p) (is_fit making) where_to attrs) t answer (CreatesIn g s p where_to attrs making answer t)
-      (λ e. creates_in_told t p where_to attrs making answer) h
+  creates_at_told : (t : State K T F I) (p : ℕ) (where_to : Place) (attrs : ℕ) (shadow : Option ℕ) (making : Option ℕ → Making K) (answer : Answer)
+      → CreatesAt g s p where_to attrs shadow making answer t → P answer t
+  creates_at_told t p where_to attrs shadow making answer h =
+      unless_told (create_refusals (is_live s p) (is_fit (making None)) where_to attrs) t answer (CreatesIn g s p where_to attrs shadow making answer t)
+      (λ e. creates_in_told t p where_to attrs shadow making answer) h
 
   turns_told : (t : State K T F I) (p handle : ℕ) (permanent : Bool) (answer : Answer) → Turns g s p handle permanent answer t → P answer t
   turns_told t p handle permanent answer h =
@@ -243,9 +255,10 @@ module _ {K T F I : Type 0} (g : Procedures K T F I) (s : State K T F I) (P : An
         Does at = (look : Look) × LooksUp g s p (open_mode wanted attrs) most_reparses at name look × Opens g s p attrs wanted look answer t
 
     pub start_told : (t : State K T F I) (command : Command K) → asked ≡ command → (answer : Answer) → Step g s (Start p command) answer t → P answer t
-    start_told t (CreateDirectory where_to attrs) is answer h = creates_at_told t p where_to attrs MakesDirectory answer h
-    start_told t (CreateLink where_to attrs target) is answer h = creates_at_told t p where_to attrs (MakesLink target) answer h
-    start_told t (CreateObject where_to attrs kind args) is answer h = creates_at_told t p where_to attrs (MakesObject kind args) answer h
+    start_told t (CreateDirectory where_to attrs) is answer h = creates_at_told t p where_to attrs None MakesDirectory answer h
+    start_told t (CreateShadowed where_to attrs shadow) is answer h = creates_at_told t p where_to attrs (Some shadow) MakesDirectory answer h
+    start_told t (CreateLink where_to attrs target) is answer h = creates_at_told t p where_to attrs None (λ shadow. MakesLink target) answer h
+    start_told t (CreateObject where_to attrs kind args) is answer h = creates_at_told t p where_to attrs None (λ shadow. MakesObject kind args) answer h
     start_told t (OpenDirectory root name attrs) is answer h = opens_name_told t root name attrs wanted.Directory answer h
     start_told t (OpenLink root name attrs) is answer h = opens_name_told t root name attrs wanted.Link answer h
     start_told t (OpenObject root name attrs want) is answer h = opens_name_told t root name attrs (type_wanted want) answer h

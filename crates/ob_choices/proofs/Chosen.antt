@@ -30,7 +30,7 @@ use Rattle.ob_model.specs.Parses.{EndsOpen}
 use Rattle.ob_model.specs.Opens.{GivesHandle, OpensAt, Opens, options_by, open_mode}
 use Rattle.ob_model.specs.Creates.{Making, is_fit, create_mode, type_made, Spot, room_refusals, make_refusal, body_made, with_object, with_row, created, dropped, MakesInRoom, Makes, Creates}
 use Rattle.ob_model.specs.Processes.{Duplicates}
-use Rattle.ob_model.specs.Step.{WithRoot, CreatesIn, CreatesAt, OpensName}
+use Rattle.ob_model.specs.Step.{WithRoot, shadow_refusals, WithShadow, CreatesIn, CreatesAt, OpensName}
 use Rattle.ob_model.specs.Alike.{handle_given, process_given}
 use Rattle.ob_choices.specs.Choice.{answer_under, revalued}
 use Rattle.ob_choices.proofs.Revalued.{granted-revalued}
@@ -90,6 +90,13 @@ module _ {K T F I : Type 0} (s : State K T F I) (p : ℕ) (Sole : Type 0) where
       → WithRoot s q root a u (λ at. R at a u) → Chooses s p Sole (λ b v. WithRoot s q root b v (λ at. R at b v)) a u
   root_chooses q None R a u does h = does None h
   root_chooses q (Some handle) R a u does h = found_chooses (option_and_then (held_of s q) (key_of handle)) (λ x. R (Some x.object)) a u (λ x. does (Some x.object)) h
+
+  shadow_chooses : (q : ℕ) (shadow : Option ℕ) (R : Option ℕ → Answer → State K T F I → Type 0) (a : Answer) (u : State K T F I) → ((d : Option ℕ) → R d a u → Chooses s p Sole (R d) a u)
+      → WithShadow s q shadow a u (λ d. R d a u) → Chooses s p Sole (λ b v. WithShadow s q shadow b v (λ d. R d b v)) a u
+  shadow_chooses q None R a u does h = does None h
+  shadow_chooses q (Some handle) R a u does h =
+      found_chooses (option_and_then (held_of s q) (key_of handle)) (λ x b v. Unless (shadow_refusals s x.object) s b v (R (Some x.object) b v)) a u
+      (λ x. unless_chooses (shadow_refusals s x.object) (R (Some x.object)) a u (does (Some x.object))) h
 
 module _ {K T F I : Type 0} (g : Procedures K T F I) (s : State K T F I) (p : ℕ) (Sole : Type 0) where
   -- a handle comes to a state whose other handles are those from before, which then settles
@@ -171,22 +178,26 @@ module _ {K T F I : Type 0} (g : Procedures K T F I) (s : State K T F I) (p : �
   creates_chooses attrs making (Parse o rest n) a u h = absurd h
   creates_chooses attrs making (Vacant d c) a u h = makes_chooses attrs making (Some (d, c)) a u h
 
-  creates_in_chooses : (where_to : Place) (attrs : ℕ) (making : Making K) (a : Answer) (u : State K T F I)
-      → CreatesIn g s p where_to attrs making a u → Chooses s p Sole (CreatesIn g s p where_to attrs making) a u
-  creates_in_chooses (place.At root name) attrs making a u h =
-      root_chooses s p Sole p root Does a u
-      (λ at does.
-      onward s p Sole (Creates g s p attrs making does.0) (Does at) a u (λ b v k. (does.0, does.1, k)) (creates_chooses attrs making does.0 a u does.2)) h
+  creates_in_chooses : (where_to : Place) (attrs : ℕ) (shadow : Option ℕ) (making : Option ℕ → Making K) (a : Answer) (u : State K T F I)
+      → CreatesIn g s p where_to attrs shadow making a u → Chooses s p Sole (CreatesIn g s p where_to attrs shadow making) a u
+  creates_in_chooses (place.At root name) attrs shadow making a u h =
+      root_chooses s p Sole p root (λ at b v. WithShadow s p shadow b v (λ d. Does at d b v)) a u
+      (λ at.
+      shadow_chooses s p Sole p shadow (Does at) a u
+      (λ d does.
+      onward s p Sole (Creates g s p attrs (making d) does.0) (Does at d) a u (λ b v k. (does.0, does.1, k)) (creates_chooses attrs (making d) does.0 a u does.2))) h
     where
-      Does : Option ℕ → Answer → State K T F I → Type 0
-      Does at b v = (look : Look) × LooksUp g s p (create_mode attrs) most_reparses at name look × Creates g s p attrs making look b v
-  creates_in_chooses place.Unnamed attrs making a u h = makes_chooses attrs making None a u h
+      Does : Option ℕ → Option ℕ → Answer → State K T F I → Type 0
+      Does at d b v = (look : Look) × LooksUp g s p (create_mode attrs) most_reparses at name look × Creates g s p attrs (making d) look b v
+  creates_in_chooses place.Unnamed attrs shadow making a u h =
+      shadow_chooses s p Sole p shadow (λ d. Makes g s p attrs (making d) None) a u (λ d. makes_chooses attrs (making d) None a u) h
 
   -- a create
-  pub creates_at_chooses : (where_to : Place) (attrs : ℕ) (making : Making K) (a : Answer) (u : State K T F I)
-      → CreatesAt g s p where_to attrs making a u → Chooses s p Sole (CreatesAt g s p where_to attrs making) a u
-  creates_at_chooses where_to attrs making a u h =
-      unless_chooses s p Sole (create_refusals (is_live s p) (is_fit making) where_to attrs) (CreatesIn g s p where_to attrs making) a u (creates_in_chooses where_to attrs making a u) h
+  pub creates_at_chooses : (where_to : Place) (attrs : ℕ) (shadow : Option ℕ) (making : Option ℕ → Making K) (a : Answer) (u : State K T F I)
+      → CreatesAt g s p where_to attrs shadow making a u → Chooses s p Sole (CreatesAt g s p where_to attrs shadow making) a u
+  creates_at_chooses where_to attrs shadow making a u h =
+      unless_chooses s p Sole (create_refusals (is_live s p) (is_fit (making None)) where_to attrs) (CreatesIn g s p where_to attrs shadow making) a u
+      (creates_in_chooses where_to attrs shadow making a u) h
 
   -- a duplicate into this process
   pub duplicates_chooses : (from handle : ℕ) (inherit : Bool) (a : Answer) (u : State K T F I)

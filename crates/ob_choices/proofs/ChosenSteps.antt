@@ -5,7 +5,7 @@ use Rattle.ob_base.specs.declared.status.Status.{Status}
 use Rattle.ob_base.specs.declared.status.Status.TheVariants.{Success, InvalidHandle, InsufficientResources, NameTooLong, ObjectTypeMismatch, ProcessGone}
 use Rattle.ob_base.specs.Handle.{key_of}
 use Rattle.ob_model.specs.declared.command.Command.{Command}
-use Rattle.ob_model.specs.declared.command.Command.TheVariants.{CreateDirectory, CreateLink, CreateObject, OpenDirectory, OpenLink, OpenObject, Close, QueryLink, QueryName, QueryDirectory, Duplicate, MakeTemporary, MakePermanent, SetDeviceMap, NewProcess, ExitProcess}
+use Rattle.ob_model.specs.declared.command.Command.TheVariants.{CreateDirectory, CreateShadowed, CreateLink, CreateObject, OpenDirectory, OpenLink, OpenObject, Close, QueryLink, QueryName, QueryDirectory, Duplicate, MakeTemporary, MakePermanent, SetDeviceMap, NewProcess, ExitProcess}
 use Rattle.ob_model.specs.declared.reply.Answer.{Answer}
 use Rattle.ob_model.specs.declared.reply.Event.{Event}
 use Rattle.ob_model.specs.declared.reply.Event.TheVariants.{Start, Resume, Abandon}
@@ -147,10 +147,12 @@ module _ {K T F I : Type 0} (g : Procedures K T F I) (s : State K T F I) where
 
   -- a command
   start_chooses : (p : ℕ) (c : Command K) (a : Answer) (u : State K T F I) → Starts g s p c a u → Chooses s (receiver p c) (IsSole (Start p c) a) (Starts g s p c) a u
-  start_chooses p (CreateDirectory where_to attrs) a u h = creates_at_chooses g s p (IsSole (Start p (CreateDirectory where_to attrs)) a) where_to attrs MakesDirectory a u h
-  start_chooses p (CreateLink where_to attrs target) a u h = creates_at_chooses g s p (IsSole (Start p (CreateLink where_to attrs target)) a) where_to attrs (MakesLink target) a u h
+  start_chooses p (CreateDirectory where_to attrs) a u h = creates_at_chooses g s p (IsSole (Start p (CreateDirectory where_to attrs)) a) where_to attrs None MakesDirectory a u h
+  start_chooses p (CreateShadowed where_to attrs shadow) a u h =
+      creates_at_chooses g s p (IsSole (Start p (CreateShadowed where_to attrs shadow)) a) where_to attrs (Some shadow) MakesDirectory a u h
+  start_chooses p (CreateLink where_to attrs target) a u h = creates_at_chooses g s p (IsSole (Start p (CreateLink where_to attrs target)) a) where_to attrs None (λ shadow. MakesLink target) a u h
   start_chooses p (CreateObject where_to attrs kind args) a u h =
-      creates_at_chooses g s p (IsSole (Start p (CreateObject where_to attrs kind args)) a) where_to attrs (MakesObject kind args) a u h
+      creates_at_chooses g s p (IsSole (Start p (CreateObject where_to attrs kind args)) a) where_to attrs None (λ shadow. MakesObject kind args) a u h
   start_chooses p (OpenDirectory root name attrs) a u h = opens_name_chooses g s p (IsSole (Start p (OpenDirectory root name attrs)) a) root name attrs wanted.Directory a u h
   start_chooses p (OpenLink root name attrs) a u h = opens_name_chooses g s p (IsSole (Start p (OpenLink root name attrs)) a) root name attrs wanted.Link a u h
   start_chooses p (OpenObject root name attrs want) a u h = opens_name_chooses g s p (IsSole (Start p (OpenObject root name attrs want)) a) root name attrs (type_wanted want) a u h

@@ -4,7 +4,7 @@ use Rattle.std.specs.Option.{option_map}
 use Rattle.ob_model.specs.declared.command.Place.{Place}
 use Rattle.ob_model.specs.declared.command.Place.TheVariants as place
 use Rattle.ob_model.specs.declared.command.Command.{Command}
-use Rattle.ob_model.specs.declared.command.Command.TheVariants.{CreateDirectory, CreateLink, CreateObject, OpenDirectory, OpenLink, OpenObject, Close, QueryLink, QueryName, QueryDirectory, Duplicate, MakeTemporary, MakePermanent, SetDeviceMap, NewProcess, ExitProcess}
+use Rattle.ob_model.specs.declared.command.Command.TheVariants.{CreateDirectory, CreateShadowed, CreateLink, CreateObject, OpenDirectory, OpenLink, OpenObject, Close, QueryLink, QueryName, QueryDirectory, Duplicate, MakeTemporary, MakePermanent, SetDeviceMap, NewProcess, ExitProcess}
 use Rattle.ob_model.specs.declared.reply.Answer.{Answer}
 use Rattle.ob_model.specs.declared.reply.Answer.TheVariants.{Done, Ticket}
 use Rattle.ob_model.specs.declared.reply.Reply.{Reply}
@@ -20,7 +20,7 @@ use Rattle.ob_model.specs.Parses.{Abandons}
 use Rattle.ob_model.specs.Grants.{IsFreeValue}
 use Rattle.ob_model.specs.Sound.{IsSound}
 use Rattle.ob_model.specs.Step.{Step}
-use Rattle.ob_model.specs.Alike.{unvalued_given, AreAlikeAnswers, handle_in, process_in, handle_given, process_given, receiver, AreAlikeRoots, no_root, roots, AreAlikePlaces, no_name, names, AreAlikeCommands, create_directories, create_links, create_objects, open_directories, open_links, open_objects, closes, queries_of_links, queries_of_names, queries_of_directories, duplicates, temporaries, permanents, device_maps, new_processes, exits}
+use Rattle.ob_model.specs.Alike.{unvalued_given, AreAlikeAnswers, handle_in, process_in, handle_given, process_given, receiver, AreAlikeRoots, no_root, roots, AreAlikePlaces, no_name, names, AreAlikeCommands, create_directories, create_shadowed, create_links, create_objects, open_directories, open_links, open_objects, closes, queries_of_links, queries_of_names, queries_of_directories, duplicates, temporaries, permanents, device_maps, new_processes, exits}
 use Rattle.ob_model.proofs.Alike.{EndAlike}
 use Rattle.ob_model.proofs.AlikeSteps.{steps_stay}
 use Rattle.ob_model.proofs.AlikeResumes.{resume_stays}
@@ -95,6 +95,7 @@ module _ {K T F I : Type 0} (s : State K T F I) (p : ℕ) where
 
   command_itself : (c : Command K) → AreAlikeCommands s s p c c
   command_itself (CreateDirectory where_to attrs) = create_directories (place_itself where_to)
+  command_itself (CreateShadowed where_to attrs shadow) = create_shadowed (place_itself where_to) refl
   command_itself (CreateLink where_to attrs target) = create_links (place_itself where_to)
   command_itself (CreateObject where_to attrs kind args) = create_objects (place_itself where_to)
   command_itself (OpenDirectory root name attrs) = open_directories (roots_itself root)

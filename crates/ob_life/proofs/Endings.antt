@@ -16,9 +16,9 @@ use Rattle.ob_model.specs.State.{State, root_id, global_id, body_of, is_director
 use Rattle.ob_model.specs.Procedures.{Procedures}
 use Rattle.ob_model.specs.Closing.{is_handle, closed_body, closed_object, closed_set, closed_handle, without_handle}
 use Rattle.ob_model.specs.Processes.{handles_in, closed_in_turn, without_process, ended}
-use Rattle.ob_model.specs.Settle.{is_permanent, has_handle, is_kept, is_mapped, is_pinned, has_name, IsSettled}
+use Rattle.ob_model.specs.Settle.{has_shadow, is_alive_itself, is_permanent, has_handle, is_kept, is_mapped, is_pinned, has_name, IsSettled}
 use Rattle.ob_model.specs.Sound.{IsSound, IsDirectory, HasSoundMap}
-use Rattle.ob_model.proofs.Soundness.{closed_sound, find_id-map, is_directory-map, closed_object-id, closed_object-is_directory}
+use Rattle.ob_model.proofs.Soundness.{closed_sound, find_id-map, is_directory-map, closed_object-id, closed_object-is_directory, closed_object-shadow}
 use Rattle.ob_model.proofs.Finds.{filter_all, filter_none, not_found, list_any_weaker}
 use Rattle.ob_objects.specs.Store.{Entries, objects_of, rows_of}
 use Rattle.ob_objects.specs.Changes.{with_closed, set_after_close}
@@ -29,7 +29,7 @@ use Rattle.ob_processes.proofs.Entries.{filter_both, find_first}
 use Rattle.ob_processes.proofs.Seen.{none_passes}
 use Rattle.ob_space.specs.Namespace.{Parts, state_of}
 use Rattle.ob_space.specs.Orderly.{IsOrderly}
-use Rattle.ob_life.specs.Settling.{is_held_up, StaysBut}
+use Rattle.ob_life.specs.Settling.{is_shadow, is_held_up, StaysBut}
 use Rattle.ob_life.proofs.HandleClosed.{held_alone}
 use Rattle.ob_space.proofs.Handles.{few_of_all}
 use Rattle.ob_life.proofs.Judged.{all_found}
@@ -186,7 +186,8 @@ module _ {K T F I : Type 0} (g : Procedures K T F I) where
           All-map (λ x. touched x.id ≡ false → (directory ≡ Some x.id → ⊥) → is_held_up t x.id ≡ true) f s.objects
           (λ k d below. subst (λ n. touched n ≡ false → (directory ≡ Some n → ⊥) → is_held_up t n ≡ true) (sym (same_id (get_or s.objects k d)))
           (λ free out. (λ i. ((get_or s.objects k d).id == root_id) || has_handle s (get_or s.objects k d).id || is_pinned s (get_or s.objects k d).id || is_mapped s (get_or s.objects k d).id
-          || (permanent (get_or s.objects k d).id i && has_name s (get_or s.objects k d).id) || list_any (λ r. r.directory == (get_or s.objects k d).id) s.rows)
+          || (permanent (get_or s.objects k d).id i && has_name s (get_or s.objects k d).id) || list_any (λ r. r.directory == (get_or s.objects k d).id) s.rows
+          || shaded (get_or s.objects k d).id s.objects i)
           ∙ stays.objects k d below free out));
       directory = go directory stays.directory;
     }
@@ -199,6 +200,11 @@ module _ {K T F I : Type 0} (g : Procedures K T F I) where
 
         same_id : (x : Object F I) → (f x).id ≡ x.id
         same_id x = closed_object-id g s.set o process_left system_left x
+
+        -- each is the shadow of as many
+        shaded : (m : ℕ) (xs : List (Object F I)) → is_shadow (map f xs) m ≡ is_shadow xs m
+        shaded m [] = refl
+        shaded m (x ∷ xs) = λ i. option_map_or (λ n. n == m) (closed_object-shadow g s.set o process_left system_left x i) false || shaded m xs i
 
         same_directory : (x : Object F I) → is_directory_body (f x).body ≡ is_directory_body x.body
         same_directory x = closed_object-is_directory g s.set o process_left system_left x
@@ -273,9 +279,11 @@ module _ {K T F I : Type 0} (s : State K T F I) (p : ℕ) (sound : IsSound s) (s
   parted_stays = record {
     names = λ k d below free. ap (λ b. is_permanent s (get_or s.rows k d).object || b) (still_held (get_or s.rows k d).object free) ∙ settled.names k d below;
     objects = λ k x below free out.
-        up ((get_or s.objects k x).id == root_id) _ _ _ _ _ _ _ _ (still_held (get_or s.objects k x).id free) (still_mapped (get_or s.objects k x).id out)
+        up ((get_or s.objects k x).id == root_id) _ _ _ _ _ _ _ _ _ _ (still_held (get_or s.objects k x).id free) (still_mapped (get_or s.objects k x).id out)
         (list_any_weaker (λ r. (r.directory == (get_or s.objects k x).id) && is_kept s r) (λ r. r.directory == (get_or s.objects k x).id) s.rows
         (λ j y within both. first ((get_or s.rows j y).directory == (get_or s.objects k x).id) (is_kept s (get_or s.rows j y)) both))
+        (list_any_weaker (λ y. has_shadow (get_or s.objects k x).id y.body && is_alive_itself s y.id) (λ y. has_shadow (get_or s.objects k x).id y.body) s.objects
+        (λ j y within both. first (has_shadow (get_or s.objects k x).id (get_or s.objects j y).body) (is_alive_itself s (get_or s.objects j y).id) both))
         (settled.objects k x below);
     directory = subst (λ o. MatchOption o (Unit {0}) (IsDirectory s)) (sym is_map) (go (process_of s p) refl);
   }
@@ -284,13 +292,16 @@ module _ {K T F I : Type 0} (s : State K T F I) (p : ℕ) (sound : IsSound s) (s
       first true b h = refl
       first false b h = cc
 
-      up : (a b b' pin c c' d e f : Bool) → b' ≡ b → c' ≡ c → (e ≡ true → f ≡ true) → (a || b || pin || c || d || e) ≡ true → (a || b' || pin || c' || d || f) ≡ true
-      up a b b' pin c c' d e f held mapped last alive =
-          (λ i. a || held i || pin || mapped i || d || f) ∙ go (a || b || pin || c || d) e f last alive
+      up : (a b b' pin c c' d e f shade shadow : Bool) → b' ≡ b → c' ≡ c → (e ≡ true → f ≡ true) → (shade ≡ true → shadow ≡ true)
+          → (a || b || pin || c || d || e || shade) ≡ true → (a || b' || pin || c' || d || f || shadow) ≡ true
+      up a b b' pin c c' d e f shade shadow held mapped holds shades alive =
+          (λ i. a || held i || pin || mapped i || d || f || shadow) ∙ go (a || b || pin || c || d) e f shade shadow holds shades alive
         where
-          go : (x e f : Bool) → (e ≡ true → f ≡ true) → (x || e) ≡ true → (x || f) ≡ true
-          go true e f last h = refl
-          go false e f last h = last h
+          go : (x e f g h : Bool) → (e ≡ true → f ≡ true) → (g ≡ true → h ≡ true) → (x || e || g) ≡ true → (x || f || h) ≡ true
+          go true e f g h more others alive = refl
+          go false true f g h more others alive = ap (λ b. b || h) (more refl)
+          go false false true g h more others alive = refl
+          go false false false g h more others alive = others alive
 
       go : (o : Option Process) → process_of s p ≡ o → MatchOption (option_and_then (λ x. x.map) o) (Unit {0}) (IsDirectory s)
       go None e = tt

@@ -16,24 +16,24 @@ use Rattle.ob_model.specs.declared.state.Process.{Process}
 use Rattle.ob_model.specs.Procedures.{Procedures}
 use Rattle.ob_model.specs.Sound.{Stands}
 use Rattle.ob_model.specs.State.{State, root_id, global_id}
-use Rattle.ob_model.specs.Settle.{is_kept, is_alive, is_permanent, has_handle, has_name, is_pinned, is_mapped, holds_kept, deleted_one, deleted_all, settle}
+use Rattle.ob_model.specs.Settle.{has_shadow, is_kept, is_alive_itself, is_shadowing, is_alive, is_permanent, has_handle, has_name, is_pinned, is_mapped, holds_kept, deleted_one, deleted_all, settle}
 use Rattle.ob_model.proofs.Finds.{filter_all, filter_none, find-filter, not_found}
 use Rattle.ob_space.specs.Orderly.{IsIdleUnheld}
-use Rattle.ob_life.specs.Settling.{is_held_up, without_names, without_object, settled_one, MaySettle}
+use Rattle.ob_life.specs.Settling.{is_shadow, is_held_up, without_names, without_object, settled_one, MaySettle}
 use Rattle.ob_space.proofs.Handles.{found_passes}
 use Rattle.ob_space.proofs.Orders.{any_stays, none_pass as none_passes}
 
 -- ---- lists
 
--- a test of one row among those that stay
-any_kept_step : (k t : Bool) (r : Row) (test : Row → Bool) (rs : List Row) (rest : Bool) → test r ≡ t → list_any test rs ≡ rest → list_any test (cond k (r ∷ rs) rs) ≡ ((t && k) || rest)
+-- a test of one element among those that stay
+any_kept_step : {X : Type 0} (k t : Bool) (r : X) (test : X → Bool) (rs : List X) (rest : Bool) → test r ≡ t → list_any test rs ≡ rest → list_any test (cond k (r ∷ rs) rs) ≡ ((t && k) || rest)
 any_kept_step true true r test rs rest e h = ap (λ b. b || list_any test rs) e
 any_kept_step true false r test rs rest e h = ap (λ b. b || list_any test rs) e ∙ h
 any_kept_step false true r test rs rest e h = h
 any_kept_step false false r test rs rest e h = h
 
--- a test of the rows that stay, in one pass over all
-any_kept : (kept test : Row → Bool) (rows : List Row) → list_any test (filter kept rows) ≡ list_any (λ r. test r && kept r) rows
+-- a test of the elements that stay, in one pass over all
+any_kept : {X : Type 0} (kept test : X → Bool) (rows : List X) → list_any test (filter kept rows) ≡ list_any (λ r. test r && kept r) rows
 any_kept kept test [] = refl
 any_kept kept test (r ∷ rs) = any_kept_step (kept r) (test r) r test (filter kept rs) _ refl (any_kept kept test rs)
 
@@ -122,6 +122,10 @@ last_false : (a b : Bool) → (a || b) ≡ false → b ≡ false
 last_false true b h = cc
 last_false false b h = h
 
+first_false : (a b : Bool) → (a || b) ≡ false → a ≡ false
+first_false true b h = cc
+first_false false b h = refl
+
 pub or_none : (b : Bool) → (b || false) ≡ b
 or_none true = refl
 or_none false = refl
@@ -162,7 +166,7 @@ module _ {K T F I : Type 0} (g : Procedures K T F I) where
           (rest found goes (λ k d below. behind (suc k) d (omega (arith, below))))
 
   -- a delete of a directory changes nothing
-  plain_deleted : (up : ℕ → Bool) (set : T) (id : ℕ) (xs : List (Object F I)) → All (λ x. (x.id == id) ≡ true → x.body ≡ Directory) xs
+  plain_deleted : (up : ℕ → Bool) (set : T) (id : ℕ) (xs : List (Object F I)) → All (λ x. (x.id == id) ≡ true → (shadow : Option ℕ) × (x.body ≡ Directory shadow)) xs
       → deleted_all g set (filter (λ x. not (up x.id)) (filter (λ x. not (x.id == id)) xs)) ≡ deleted_all g set (filter (λ x. not (up x.id)) xs)
   plain_deleted up set id [] plain = refl
   plain_deleted up set id (x ∷ xs) plain =
@@ -174,9 +178,9 @@ module _ {K T F I : Type 0} (g : Procedures K T F I) where
       dead : List (Object F I) → List (Object F I)
       dead ys = filter (λ y. not (up y.id)) ys
 
-      go : (b c : Bool) → (x.id == id) ≡ b → not (up x.id) ≡ c → (b ≡ true → x.body ≡ Directory) → deleted_all g set (dead others) ≡ deleted_all g set (dead xs)
+      go : (b c : Bool) → (x.id == id) ≡ b → not (up x.id) ≡ c → (b ≡ true → (shadow : Option ℕ) × (x.body ≡ Directory shadow)) → deleted_all g set (dead others) ≡ deleted_all g set (dead xs)
           → deleted_all g set (dead (cond (not b) (x ∷ others) others)) ≡ deleted_all g set (cond c (x ∷ dead xs) (dead xs))
-      go true true e f body rest = rest ∙ ap (λ y. deleted_one g y (deleted_all g set (dead xs))) (sym (body refl))
+      go true true e f body rest = rest ∙ ap (λ y. deleted_one g y (deleted_all g set (dead xs))) (sym (body refl).1)
       go true false e f body rest = rest
       go false true e f body rest = ap (λ b. deleted_all g set (cond b (x ∷ dead others) (dead others))) f ∙ ap (deleted_one g x.body) rest
       go false false e f body rest = ap (λ b. deleted_all g set (cond b (x ∷ dead others) (dead others))) f ∙ rest
@@ -298,20 +302,22 @@ module _ {K T F I : Type 0} (g : Procedures K T F I) (s : State K T F I) where
         (subst (AllPairs (λ a b. a.id < b.id)) (sym judged.objects) (AllPairs-filter (λ a b. a.id < b.id) (λ y. is_alive s y.id || not (done y.id)) s.objects rising)) e goes behind
 
     -- and where it is a directory, of whose delete no set is told
-    pub directory_first : (id : ℕ) → All (λ x. (x.id == id) ≡ true → x.body ≡ Directory) s.objects → IsDeletedFirst id
+    pub directory_first : (id : ℕ) → All (λ x. (x.id == id) ≡ true → (shadow : Option ℕ) × (x.body ≡ Directory shadow)) s.objects → IsDeletedFirst id
     directory_first id plain goes x e =
         ap (λ body. deleted_all g (deleted_one g body t.set) (filter (λ y. not (is_alive s y.id)) (filter (λ y. not (y.id == id)) t.objects)))
-        (all_found (λ y. (y.id == id) ≡ true → y.body ≡ Directory) (λ y. y.id == id) t.objects x left e (found_passes (λ y. y.id == id) t.objects x e))
+        (all_found (λ y. (y.id == id) ≡ true → (shadow : Option ℕ) × (y.body ≡ Directory shadow)) (λ y. y.id == id) t.objects x left e (found_passes (λ y. y.id == id) t.objects x e)).1
         ∙ plain_deleted g (is_alive s) t.set id t.objects left
       where
-        left : All (λ y. (y.id == id) ≡ true → y.body ≡ Directory) t.objects
+        left : All (λ y. (y.id == id) ≡ true → (shadow : Option ℕ) × (y.body ≡ Directory shadow)) t.objects
         left =
-            subst (λ (xs : List (Object F I)). All (λ y. (y.id == id) ≡ true → y.body ≡ Directory) xs) (sym judged.objects)
-            (All-filter (λ y. is_alive s y.id || not (done y.id)) (λ y. (y.id == id) ≡ true → y.body ≡ Directory) s.objects plain)
+            subst (λ (xs : List (Object F I)). All (λ y. (y.id == id) ≡ true → (shadow : Option ℕ) × (y.body ≡ Directory shadow)) xs) (sym judged.objects)
+            (All-filter (λ y. is_alive s y.id || not (done y.id)) (λ y. (y.id == id) ≡ true → (shadow : Option ℕ) × (y.body ≡ Directory shadow)) s.objects plain)
 
-    -- one object more is judged: each name in it is of one that was, and it is the first to be deleted
+    -- one object more is judged: each name in it is of one that was, so was each directory that has it as its shadow, and has
+    -- no directory as its own, and it is the first to be deleted
     module _ (id : ℕ) (new : done id ≡ false)
         (inside : All (λ r. (r.directory == id) ≡ true → (is_kept s r || (done r.object || (r.object == id))) ≡ true) s.rows)
+        (shadowed : All (λ x. has_shadow id x.body ≡ true → ((is_alive s x.id || done x.id) ≡ true) × (is_shadowing s x.id ≡ false)) s.objects)
         (first : IsDeletedFirst id) where
       abbrev pub next : ℕ → Bool
       next o = done o || (o == id)
@@ -347,11 +353,22 @@ module _ {K T F I : Type 0} (g : Procedures K T F I) (s : State K T F I) where
               (λ k d below. goes_done (is_kept s (get_or s.rows k d)) (done (get_or s.rows k d).object) ((get_or s.rows k d).object == id) (kept_as k d false e))
 
       -- it is judged as it was at first
-      held_same : is_held_up (without_names t id) id ≡ is_alive s id
+      pub held_same : is_held_up (without_names t id) id ≡ is_alive s id
       held_same =
-          (λ i. (id == root_id) || handle_same i || pinned_same i || mapped_same i || (permanent_same i && list_any (λ r. r.object == id) (rows_next i)) || list_any (λ r. r.directory == id) (rows_next i))
-          ∙ (λ i. (id == root_id) || has_handle s id || is_pinned s id || is_mapped s id || named (is_permanent s id) refl i || holds i)
+          (λ i. (id == root_id) || handle_same i || pinned_same i || mapped_same i || (permanent_same i && list_any (λ r. r.object == id) (rows_next i)) || list_any (λ r. r.directory == id) (rows_next i) || is_shadow t.objects id)
+          ∙ (λ i. (id == root_id) || has_handle s id || is_pinned s id || is_mapped s id || named (is_permanent s id) refl i || holds i || shades i)
         where
+          shades : is_shadow t.objects id ≡ is_shadowing s id
+          shades =
+              ap (list_any (λ x. has_shadow id x.body)) judged.objects
+              ∙ any_kept (λ x. is_alive s x.id || not (done x.id)) (λ x. has_shadow id x.body) s.objects
+              ∙ any_agrees (λ x. has_shadow id x.body && (is_alive s x.id || not (done x.id))) (λ x. has_shadow id x.body && is_alive_itself s x.id) s.objects
+              (λ k d below. living (has_shadow id (get_or s.objects k d).body) (is_alive_itself s (get_or s.objects k d).id) (is_shadowing s (get_or s.objects k d).id) (done (get_or s.objects k d).id) (shadowed k d below))
+            where
+              living : (h itself shadow d : Bool) → (h ≡ true → (((itself || shadow) || d) ≡ true) × (shadow ≡ false)) → (h && ((itself || shadow) || not d)) ≡ (h && itself)
+              living true itself shadow d fits = let parts = fits refl in done_left (itself || shadow) d parts.0 ∙ ap (λ b. itself || b) parts.1 ∙ or_none itself
+              living false itself shadow d fits = refl
+
           named : (b : Bool) → is_permanent s id ≡ b → (b && list_any (λ r. r.object == id) (filter (λ r. is_kept s r || not (next r.object)) s.rows)) ≡ (b && has_name s id)
           named true e =
               any_stays (λ r. r.object == id) (λ r. is_kept s r || not (next r.object)) s.rows
@@ -375,7 +392,9 @@ module _ {K T F I : Type 0} (g : Procedures K T F I) (s : State K T F I) where
           none_inside goes =
               filter_all (λ r. not (r.directory == id)) (without_names t id).rows
               (λ k d below. ap not (none_passes (λ r. r.directory == id) (without_names t id).rows (last_false ((id == root_id) || has_handle (without_names t id) id || is_pinned (without_names t id) id || is_mapped (without_names t id) id || (is_permanent (without_names t id) id && has_name (without_names t id) id))
-              (list_any (λ r. r.directory == id) (without_names t id).rows) (held_same ∙ goes)) k d below))
+              (list_any (λ r. r.directory == id) (without_names t id).rows) (first_false
+              ((id == root_id) || has_handle (without_names t id) id || is_pinned (without_names t id) id || is_mapped (without_names t id) id || (is_permanent (without_names t id) id && has_name (without_names t id) id)
+              || list_any (λ r. r.directory == id) (without_names t id).rows) (is_shadow t.objects id) (held_same ∙ goes))) k d below))
 
           deletes : is_alive s id ≡ false → (x : Option (Object F I)) → find (λ y. y.id == id) t.objects ≡ x
               → deleted_all g (option_map_or (λ body. deleted_one g body t.set) (option_map (λ y. y.body) x) t.set) (filter (λ y. not (is_alive s y.id)) (filter (λ y. not (y.id == id)) t.objects))

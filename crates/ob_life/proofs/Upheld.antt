@@ -9,7 +9,7 @@ use Rattle.ob_model.specs.declared.state.Held.{Held}
 use Rattle.ob_model.specs.declared.state.Row.{Row}
 use Rattle.ob_model.specs.Procedures.{Procedures}
 use Rattle.ob_model.specs.State.{State, root_id}
-use Rattle.ob_model.specs.Settle.{is_kept, is_alive, is_permanent, has_handle, has_name, is_pinned, is_mapped, holds_kept, settle, IsSettled}
+use Rattle.ob_model.specs.Settle.{has_shadow, is_kept, is_alive_itself, is_alive, is_permanent, has_handle, has_name, is_pinned, is_mapped, holds_kept, settle, IsSettled}
 use Rattle.ob_model.proofs.Staying.{settled_itself}
 use Rattle.ob_objects.specs.declared.standing.Standing.{Standing}
 use Rattle.ob_objects.specs.Named.{place_of}
@@ -75,12 +75,15 @@ module _ {K T F I : Type 0} (s : State K T F I) (o : ℕ) (upheld : is_upheld s 
   abbrev stays_by : ℕ → Bool → Bool
   stays_by x b = (x == root_id) || b || is_pinned s x || is_mapped s x || (is_permanent s x && has_name s x) || holds_kept s x
 
-  alive_as : (x : ℕ) → is_alive (with_handle_to s o) x ≡ is_alive s x
-  alive_as x = ap (λ b. (x == root_id) || has_handle (with_handle_to s o) x || is_pinned s x || is_mapped s x || (is_permanent s x && has_name s x) || b) (holds_as x) ∙ go (o == x) refl
+  itself_as : (x : ℕ) → is_alive_itself (with_handle_to s o) x ≡ is_alive_itself s x
+  itself_as x = ap (λ b. (x == root_id) || has_handle (with_handle_to s o) x || is_pinned s x || is_mapped s x || (is_permanent s x && has_name s x) || b) (holds_as x) ∙ go (o == x) refl
     where
       go : (b : Bool) → (o == x) ≡ b → stays_by x (has_handle (with_handle_to s o) x) ≡ stays_by x (has_handle s x)
       go true e = ap (stays_by x) (one x e) ∙ alive_both (x == root_id) (has_handle s x) (is_pinned s x) (is_mapped s x) (is_permanent s x && has_name s x) (holds_kept s x) (at x e)
       go false e = ap (stays_by x) (other x e)
+
+  alive_as : (x : ℕ) → is_alive (with_handle_to s o) x ≡ is_alive s x
+  alive_as x = λ i. itself_as x i || list_any (λ y. has_shadow x y.body && itself_as y.id i) s.objects
 
   settled_as : IsSettled (with_handle_to s o) → IsSettled s
   settled_as settled = record {

@@ -1,9 +1,9 @@
 -- What the calls of settling make of a namespace: one object forgotten, deleted and settled; and the two that
 -- may go after a close.
-use Rattle.std.proofs.Common.{◌≡◌, ℕ, ◌<◌, Bool, true, false, not, ◌||◌, ◌&&◌, ◌==◌, cond, List, [], ◌∷◌, suc, get_or, find, refl, ap, ◌∙◌, sym, subst, arith, filter, All, eq-eqb, eqb-true}
+use Rattle.std.proofs.Common.{◌≡◌, ℕ, ◌<◌, ◌≤◌, Bool, true, false, not, ◌||◌, ◌&&◌, ◌==◌, cond, List, [], ◌∷◌, suc, get_or, find, refl, ap, ◌∙◌, sym, subst, arith, filter, All, eq-eqb, eqb-true, inr}
 use Rattle.std.specs.Prelude.{Option, None, Some, option_map, MatchOption}
 use Rattle.std.specs.List.{list_any}
-use Rattle.std.specs.Option.{option_map_or, is_some}
+use Rattle.std.specs.Option.{option_and_then, option_map_or, is_some}
 use Rattle.std.proofs.lemmas.Bool.{false≢true, ne_eqb}
 use Rattle.std.proofs.lemmas.List.Elements.{All-filter}
 use Rattle.std.proofs.lemmas.List.Folds.{list_any-append}
@@ -11,9 +11,9 @@ use Rattle.ob_model.specs.declared.state.Row.{Row}
 use Rattle.ob_model.specs.declared.state.Held.{Held}
 use Rattle.ob_model.specs.declared.state.Object.{Object}
 use Rattle.ob_model.specs.Procedures.{Procedures}
-use Rattle.ob_model.specs.State.{State, root_id, body_of}
-use Rattle.ob_model.specs.Settle.{is_kept, is_alive, is_permanent, has_handle, has_name, is_pinned, is_mapped, holds_kept, deleted_one, settle, IsSettled}
-use Rattle.ob_model.proofs.Finds.{filter_all}
+use Rattle.ob_model.specs.State.{State, root_id, body_of, shadow_in, shadow_of}
+use Rattle.ob_model.specs.Settle.{has_shadow, is_alive_itself, is_shadowing, is_kept, is_alive, is_permanent, has_handle, has_name, is_pinned, is_mapped, holds_kept, deleted_one, settle, IsSettled}
+use Rattle.ob_model.proofs.Finds.{filter_all, list_any_weaker}
 use Rattle.ob_objects.specs.declared.named.EntryPlace.{EntryPlace}
 use Rattle.ob_objects.specs.declared.object.StoredObject.{StoredObject}
 use Rattle.ob_objects.specs.declared.standing.Standing.{Standing}
@@ -26,9 +26,9 @@ use Rattle.ob_objects.proofs.Shown.{names_change_no_object, rows_go_with_directo
 use Rattle.ob_objects.proofs.Stands.{any_found, is_mapped_some, name_goes, no_name, one_directory, placed}
 use Rattle.ob_space.specs.Namespace.{Parts, state_of}
 use Rattle.ob_space.specs.Orderly.{IsIdleBody, IsIdleUnheld, IsOrderly}
-use Rattle.ob_life.specs.Settling.{is_held_up, held_up_by, without_names, with_handle_to, without_object, settled_one, settled_unless, AreSettled, MaySettle}
-use Rattle.ob_space.proofs.Handles.{found_passes}
-use Rattle.ob_life.proofs.Judged.{Judged, none_judged, all_judged, one_judged, greatest_first, may_left, or_none, any_agrees, all_pass, all_found, left_stays, some_done}
+use Rattle.ob_life.specs.Settling.{is_shadow, is_held_up, held_up_by, without_names, with_handle_to, without_object, settled_one, settled_unless, shadow_left, shadow_left_unless, with_shadow_settled, AreSettled, MaySettle, StaysBut, AreShadowsFit}
+use Rattle.ob_life.proofs.Judged.{or_none, all_found}
+use Rattle.ob_life.proofs.Turns.{no_map, any_turn, all_turned}
 use Rattle.ob_space.proofs.Orders.{settled_orderly}
 use Rattle.ob_space.proofs.Stored.{body_is}
 
@@ -83,11 +83,11 @@ others_lie (r ∷ rs) id descending = go (r.object == id) refl (others_lie rs id
 module _ {K T F I : Type 0} (s : State K T F I) (id : ℕ) (unheld : has_handle s id ≡ false) (descending : All (λ r. r.directory < r.object) s.rows) where
   -- whether it stays, by what is told of it
   pub stays_as_told : (standing : Standing) → standing ≡ standing_among s.objects s.rows id
-      → held_up_by (record { processes = s.processes; handles = s.handles }) s.pending id standing ≡ is_held_up (without_names s id) id
+      → held_up_by s.objects (record { processes = s.processes; handles = s.handles }) s.pending id standing ≡ is_held_up (without_names s id) id
   stays_as_told standing told =
-      ap (held_up_by (record { processes = s.processes; handles = s.handles }) s.pending id) told
-      ∙ in_turn (id == root_id) (is_permanent s id && is_some (option_map place_of (find (λ r. r.object == id) s.rows))) (list_any (λ r. r.directory == id) s.rows) (is_mapped s id) (is_pinned s id)
-      ∙ (λ i. (id == root_id) || sym unheld i || is_pinned s id || is_mapped s id || named (is_permanent s id) i || holds (is_permanent s id) i)
+      ap (held_up_by s.objects (record { processes = s.processes; handles = s.handles }) s.pending id) told
+      ∙ ap (λ b. b || is_shadow s.objects id) (in_turn (id == root_id) (is_permanent s id && is_some (option_map place_of (find (λ r. r.object == id) s.rows))) (list_any (λ r. r.directory == id) s.rows) (is_mapped s id) (is_pinned s id)
+      ∙ (λ i. (id == root_id) || sym unheld i || is_pinned s id || is_mapped s id || named (is_permanent s id) i || holds (is_permanent s id) i))
     where
       -- its name, by whether it is permanent
       named : (p : Bool) → (p && is_some (option_map place_of (find (λ r. r.object == id) s.rows)))
@@ -142,6 +142,12 @@ module _ (K : Type 0) {T F I : Type 0} (g : Procedures K T F I) (a : Parts K T F
     forgotten : state_of K (record a { store = store }) ≡ without_names (state_of K a) id
     forgotten = λ i. record (state_of K a) { objects = name_left.0 i; rows = name_left.1 i }
 
+    -- whether it stays is told from the objects that are there
+    pub held_told : All (λ r. r.directory < r.object) (rows_of a.store) → (result b : Bool) → result ≡ held_up_by (objects_of store) a.processes a.pending id standing → result ≡ b → is_held_up (without_names (state_of K a) id) id ≡ b
+    held_told descending result b tells is =
+        sym (stays_as_told (state_of K a) id unheld descending standing told)
+        ∙ ap (λ (xs : List (Object F I)). held_up_by xs a.processes a.pending id standing) (sym name_left.0) ∙ sym tells ∙ is
+
     pub settled_gone : (u : State K T F I) → u ≡ without_object g (state_of K (record a { store = store })) id → is_held_up (without_names (state_of K a) id) id ≡ false → u ≡ settled_one g (state_of K a) id
     settled_gone u is up =
         is ∙ ap (λ t. without_object g t id) forgotten
@@ -149,6 +155,19 @@ module _ (K : Type 0) {T F I : Type 0} (g : Procedures K T F I) (a : Parts K T F
 
     pub settled_there : is_held_up (without_names (state_of K a) id) id ≡ true → state_of K (record a { store = store }) ≡ settled_one g (state_of K a) id
     settled_there up = forgotten ∙ sym (ap (λ b. cond b (without_names (state_of K a) id) (without_object g (without_names (state_of K a) id) id)) up)
+
+    -- and its shadow is told
+    pub shadow_gone : (o : Option ℕ) → o ≡ option_and_then (λ x. shadow_in x.body) (find (λ x. x.id == id) (objects_of store)) → is_held_up (without_names (state_of K a) id) id ≡ false → o ≡ shadow_left (state_of K a) id
+    shadow_gone o is up =
+        is ∙ ap (λ (xs : List (Object F I)). option_and_then (λ x. shadow_in x.body) (find (λ x. x.id == id) xs)) name_left.0 ∙ through (find (λ x. x.id == id) (objects_of a.store))
+        ∙ sym (ap (λ b. cond b None (shadow_of (state_of K a) id)) up)
+      where
+        through : (x : Option (Object F I)) → option_and_then (λ y. shadow_in y.body) x ≡ option_and_then shadow_in (option_map (λ y. y.body) x)
+        through None = refl
+        through (Some x) = refl
+
+    pub shadow_there : is_held_up (without_names (state_of K a) id) id ≡ true → None ≡ shadow_left (state_of K a) id
+    shadow_there up = sym (ap (λ b. cond b None (shadow_of (state_of K a) id)) up)
 
     pub idle_there : (idle : I → Type 0) → All (IsIdleUnheld idle a.processes.handles) (objects_of a.store) → MatchOption (body_of (state_of K (record a { store = store })) id) (Unit {0}) (IsIdleBody idle)
     idle_there idle unheld_idle =
@@ -179,6 +198,19 @@ may_then {K} {T} {F} {I} g idle s o may t is = subst (MaySettle idle) (sym is) (
       descending = All-filter (λ r. not (r.directory == o)) (λ r. r.directory < r.object) (without_names s o).rows (named (is_permanent s o || has_handle s o));
     }
 
+pub may_unless : {K T F I : Type 0} (g : Procedures K T F I) (idle : I → Type 0) (s : State K T F I) (touched : ℕ → Bool) (o : ℕ) → MaySettle idle s
+    → (t : State K T F I) → t ≡ settled_unless g touched s o → MaySettle idle t
+may_unless {K} {T} {F} {I} g idle s touched o may t is = subst (MaySettle idle) (sym is) (go (touched o))
+  where
+    go : (b : Bool) → MaySettle idle (cond b s (settled_one g s o))
+    go true = may
+    go false = may_then g idle s o may (settled_one g s o) refl
+
+pub may_shadow : {K T F I : Type 0} (g : Procedures K T F I) (idle : I → Type 0) (s : State K T F I) (touched : ℕ → Bool) (shadow : Option ℕ) → MaySettle idle s
+    → (t : State K T F I) → t ≡ with_shadow_settled g touched s shadow → MaySettle idle t
+may_shadow g idle s touched None may t is = subst (MaySettle idle) (sym is) may
+may_shadow g idle s touched (Some o) may t is = may_unless g idle s touched o may t is
+
 -- of an orderly state each object may
 pub may_orderly : {K T F I : Type 0} (idle : I → Type 0) (s : State K T F I) → IsOrderly idle s → MaySettle idle s
 may_orderly idle s orderly = record { unheld = orderly.unheld; descending = orderly.descending }
@@ -195,52 +227,49 @@ module _ {K T F I : Type 0} (s : State K T F I) (store : Entries F I) (shows : S
   found_shown = ap (λ (rows : List Row). option_map place_of (find (λ (r : Row). r.object == id) rows)) (sym shows.rows)
 
 module _ {K T F I : Type 0} (g : Procedures K T F I) (s : State K T F I) (store : Entries F I) (shows : Shows s store) (stores : IsStore store) (touched : ℕ → Bool) (id : ℕ)
-    (t : State K T F I) (first : t ≡ settled_one g s id) where
+    (t : State K T F I) (first : t ≡ settled_one g s id) (own : Option ℕ) (own_is : own ≡ shadow_left s id) where
   Found : State K T F I → Option Row → Type 0
   Found u o =
-      MatchOption o ((u ≡ settled_one g s id) × All (λ q. (q.object == id) ≡ false) s.rows)
-      (λ r. (u ≡ settled_unless g touched (settled_one g s id) r.directory) × All (λ q. (q.object == id) ≡ true → q.directory ≡ r.directory) s.rows)
+      MatchOption o ((u ≡ with_shadow_settled g touched (settled_one g s id) (shadow_left s id)) × All (λ q. (q.object == id) ≡ false) s.rows)
+      (λ r. (u ≡ with_shadow_settled g touched (with_shadow_settled g touched (settled_unless g touched (settled_one g s id) r.directory) (shadow_left s id)) (shadow_left_unless touched (settled_one g s id) r.directory))
+      × All (λ q. (q.object == id) ≡ true → q.directory ≡ r.directory) s.rows)
 
-  pub named_settled : (p : EntryPlace) → place_at store id ≡ Some p → (u : State K T F I) → u ≡ settled_unless g touched t p.directory → AreSettled g s touched id u
+  pub named_settled : (p : EntryPlace) → place_at store id ≡ Some p → (d : State K T F I) → d ≡ settled_unless g touched t p.directory → (other : Option ℕ) → other ≡ shadow_left_unless touched t p.directory
+      → (u : State K T F I) → u ≡ with_shadow_settled g touched (with_shadow_settled g touched d own) other → AreSettled g s touched id u
   unfolding Found
-  named_settled p at u then =
+  named_settled p at d d_is other other_is u then =
       let found = placed (find (λ (r : Row). r.object == id) s.rows) p (sym (found_shown s store shows stores id) ∙ at) in
       let there : p.directory ≡ found.0.directory = ap (λ (x : EntryPlace). x.directory) found.2 in
+      let directory : d ≡ settled_unless g touched (settled_one g s id) found.0.directory = d_is ∙ (λ i. settled_unless g touched (first i) (there i)) in
+      let shadow : other ≡ shadow_left_unless touched (settled_one g s id) found.0.directory = other_is ∙ (λ i. shadow_left_unless touched (first i) (there i)) in
       subst (Found u) (sym found.1) (
-        then ∙ (λ i. settled_unless g touched (first i) (there i)),
-        λ k d below own. one_shown s store shows stores id p at k d below own ∙ there,
+        then ∙ (λ i. with_shadow_settled g touched (with_shadow_settled g touched (directory i) (own_is i)) (shadow i)),
+        λ k x below of. one_shown s store shows stores id p at k x below of ∙ there,
       )
 
-  pub unnamed_settled : place_at store id ≡ None → AreSettled g s touched id t
+  pub unnamed_settled : place_at store id ≡ None → (u : State K T F I) → u ≡ with_shadow_settled g touched t own → AreSettled g s touched id u
   unfolding Found
-  unnamed_settled none = go (find (λ (r : Row). r.object == id) s.rows) (sym (found_shown s store shows stores id) ∙ none)
+  unnamed_settled none u then = go (find (λ (r : Row). r.object == id) s.rows) (sym (found_shown s store shows stores id) ∙ none)
     where
-      go : (o : Option Row) → option_map place_of o ≡ None → Found t o
-      go None e = (first, no_name_shown s store shows stores id none)
+      go : (o : Option Row) → option_map place_of o ≡ None → Found u o
+      go None e = (then ∙ (λ i. with_shadow_settled g touched (first i) (own_is i)), no_name_shown s store shows stores id none)
       go (Some r) e = cc
 
--- ---- the two after a close
+-- ---- the ones after a close
 
 turned : (a b : ℕ) → (a == b) ≡ false → (b == a) ≡ false
 turned a b other = ne_eqb b a (λ same. false≢true (sym other ∙ eq-eqb a b (sym same)))
 
-not_both : (a b : Bool) → (a ≡ true → b ≡ true → ⊥) → (a && b) ≡ false
-not_both true true h = absurd (h refl refl)
-not_both true false h = refl
-not_both false b h = refl
+-- the tests of staying, and those of being held up
+up : (x e f g h : Bool) → (e ≡ true → f ≡ true) → (g ≡ true → h ≡ true) → (x || e || g) ≡ true → (x || f || h) ≡ true
+up true e f g h more others alive = refl
+up false true f g h more others alive = ap (λ c. c || h) (more refl)
+up false false true g h more others alive = refl
+up false false false g h more others alive = others alive
 
-and_false : (b : Bool) → (b && false) ≡ false
-and_false true = refl
-and_false false = refl
-
-or_true : (k : Bool) → (k || true) ≡ true
-or_true true = refl
-or_true false = refl
-
-more_done : (k a b : Bool) → (k || a) ≡ true → (k || (a || b)) ≡ true
-more_done true a b h = refl
-more_done false true b h = refl
-more_done false false b h = cc
+both_first : (a b : Bool) → (a && b) ≡ true → a ≡ true
+both_first true b h = refl
+both_first false b h = cc
 
 module _ {K T F I : Type 0} (g : Procedures K T F I) (idle : I → Type 0) (s : State K T F I) (orderly : IsOrderly idle s) where
   pub settled_is_orderly : (t : State K T F I) → t ≡ settle g s → IsOrderly idle t
@@ -248,7 +277,7 @@ module _ {K T F I : Type 0} (g : Procedures K T F I) (idle : I → Type 0) (s : 
 
   -- ---- after a close
 
-  module _ (object : ℕ) (settled : IsSettled (with_handle_to s object)) where
+  module _ (sound : AreShadowsFit s) (object : ℕ) (settled : IsSettled (with_handle_to s object)) where
     -- one handle more leads to this object, and to no other
     handle_more : (o : ℕ) → has_handle (with_handle_to s object) o ≡ (has_handle s o || ((object == o) || false))
     handle_more o = list_any-append (λ (h : Held). h.object == o) s.handles _
@@ -256,104 +285,33 @@ module _ {K T F I : Type 0} (g : Procedures K T F I) (idle : I → Type 0) (s : 
     handle_same : (o : ℕ) → (o == object) ≡ false → has_handle (with_handle_to s object) o ≡ has_handle s o
     handle_same o other = handle_more o ∙ ap (λ b. has_handle s o || (b || false)) (turned o object other) ∙ or_none (has_handle s o)
 
-    kept_same : (r : Row) → (r.object == object) ≡ false → is_kept (with_handle_to s object) r ≡ is_kept s r
-    kept_same r other = ap (λ b. is_permanent s r.object || b) (handle_same r.object other)
+    abbrev pub is_closed : ℕ → Bool
+    is_closed o = o == object
 
-    -- names of other objects stay
-    kept_others : All (λ r. (is_kept s r || (r.object == object)) ≡ true) s.rows
-    kept_others k d below = go (get_or s.rows k d) ((get_or s.rows k d).object == object) refl (settled.names k d below)
+    -- only the object may go, the directory of its name, and the shadows of both
+    loss_stays : StaysBut s is_closed None
+    loss_stays = record {
+      names = λ k d below free. ap (λ b. is_permanent s (get_or s.rows k d).object || b) (sym (handle_same (get_or s.rows k d).object free)) ∙ settled.names k d below;
+      objects = λ k d below free out. one (get_or s.objects k d).id free (settled.objects k d below);
+      directory = tt;
+    }
       where
-        go : (r : Row) (b : Bool) → (r.object == object) ≡ b → is_kept (with_handle_to s object) r ≡ true → (is_kept s r || b) ≡ true
-        go r true e kept = some_done (is_kept s r) true refl
-        go r false e kept = ap (λ b. b || false) (sym (kept_same r e) ∙ kept)
+        one : (m : ℕ) → (m == object) ≡ false → is_alive (with_handle_to s object) m ≡ true → is_held_up s m ≡ true
+        one m free alive =
+            up ((m == root_id) || has_handle s m || is_pinned s m || is_mapped s m || (is_permanent s m && has_name s m))
+            (holds_kept (with_handle_to s object) m) (list_any (λ r. r.directory == m) s.rows) (is_shadowing (with_handle_to s object) m) (is_shadow s.objects m)
+            (list_any_weaker (λ r. (r.directory == m) && is_kept (with_handle_to s object) r) (λ r. r.directory == m) s.rows
+            (λ j y within both. both_first ((get_or s.rows j y).directory == m) (is_kept (with_handle_to s object) (get_or s.rows j y)) both))
+            (list_any_weaker (λ y. has_shadow m y.body && is_alive_itself (with_handle_to s object) y.id) (λ y. has_shadow m y.body) s.objects
+            (λ j y within both. both_first (has_shadow m (get_or s.objects j y).body) (is_alive_itself (with_handle_to s object) (get_or s.objects j y).id) both))
+            ((λ i. (m == root_id) || sym (handle_same m free) i || is_pinned s m || is_mapped s m || (is_permanent s m && has_name s m) || holds_kept (with_handle_to s object) m || is_shadowing (with_handle_to s object) m) ∙ alive)
 
-    -- an object in which no name of this one lies stays as it did
-    alive_others : (m : ℕ) → (m == object) ≡ false → All (λ r. ((r.directory == m) && (r.object == object)) ≡ false) s.rows → is_alive (with_handle_to s object) m ≡ is_alive s m
-    alive_others m other none = λ i. (m == root_id) || handle_same m other i || is_pinned s m || is_mapped s m || (is_permanent s m && has_name s m) || holds i
-      where
-        agree : (r : Row) (b : Bool) → ((b && (r.object == object)) ≡ false) → (b && is_kept (with_handle_to s object) r) ≡ (b && is_kept s r)
-        agree r true apart = kept_same r apart
-        agree r false apart = refl
+    is_last : (o : ℕ) → is_closed o ≡ true → o ≤ object
+    is_last o e = omega (arith, eqb-true o object e)
 
-        holds : list_any (λ r. (r.directory == m) && is_kept (with_handle_to s object) r) s.rows ≡ holds_kept s m
-        holds =
-            any_agrees (λ r. (r.directory == m) && is_kept (with_handle_to s object) r) (λ r. (r.directory == m) && is_kept s r) s.rows
-            (λ k d below. agree (get_or s.rows k d) ((get_or s.rows k d).directory == m) (none k d below))
-
-    first_judged : Judged g s (λ o. false || (o == object)) (settled_one g s object)
-    first_judged =
-        one_judged g s (λ o. false) s (none_judged g s (λ o. false) (λ k d below. or_true (is_alive s (get_or s.objects k d).id)) (λ k d below. or_true (is_kept s (get_or s.rows k d)))) object refl
-        (λ k d below here. kept_others k d below)
-        (greatest_first g s (λ o. false) s (none_judged g s (λ o. false) (λ k d below. or_true (is_alive s (get_or s.objects k d).id)) (λ k d below. or_true (is_kept s (get_or s.rows k d)))) object orderly.rising (λ k d below later. sym (alive_others (get_or s.objects k d).id (ne_eqb (get_or s.objects k d).id object (λ same. omega (arith, later, same)))
-        (λ j e within. not_both ((get_or s.rows j e).directory == (get_or s.objects k d).id) ((get_or s.rows j e).object == object)
-        (λ inside of. omega (arith, later, orderly.descending j e within, eqb-true (get_or s.rows j e).directory (get_or s.objects k d).id inside, eqb-true (get_or s.rows j e).object object of))))
-        ∙ settled.objects k d below))
-
-    -- where it has no name, no other goes
-    pub closed_alone : (t : State K T F I) → t ≡ settled_one g s object → (store : Entries F I) → Shows s store → IsStore store → place_at store object ≡ None → t ≡ settle g s
-    closed_alone t is store shows stores none =
-        all_judged g s (λ o. false || (o == object)) t
-        (λ k d below. go (get_or s.objects k d).id ((get_or s.objects k d).id == object) refl (settled.objects k d below))
-        kept_others (subst (Judged g s (λ o. false || (o == object))) (sym is) first_judged)
-      where
-        go : (m : ℕ) (b : Bool) → (m == object) ≡ b → is_alive (with_handle_to s object) m ≡ true → (is_alive s m || (false || b)) ≡ true
-        go m true e alive = some_done (is_alive s m) true refl
-        go m false e alive =
-            ap (λ b. b || false) (sym (alive_others m e (λ j x within. ap (λ b. ((get_or s.rows j x).directory == m) && b) (no_name_shown s store shows stores object none j x within) ∙ and_false ((get_or s.rows j x).directory == m))) ∙ alive)
-
-    -- where it has one, the directory of its name may go
-    module _ (store : Entries F I) (shows : Shows s store) (stores : IsStore store) (p : EntryPlace) (at : place_at store object ≡ Some p) where
-      in_one : All (λ r. (r.object == object) ≡ true → r.directory ≡ p.directory) s.rows
-      in_one = one_shown s store shows stores object p at
-
-      before : p.directory < object
-      before =
-          let found = placed (find (λ (r : Row). r.object == object) s.rows) p (sym (found_shown s store shows stores object) ∙ at) in
-          let same : found.0.object ≡ object = eqb-true found.0.object object (found_passes (λ (r : Row). r.object == object) s.rows found.0 found.1) in
-          let less : found.0.directory < found.0.object = all_found (λ (r : Row). r.directory < r.object) (λ r. r.object == object) s.rows found.0 orderly.descending found.1 in
-          let stands : p.directory ≡ found.0.directory = ap (λ (x : EntryPlace). x.directory) found.2 in
-          omega (arith, same, less, stands)
-
-      elsewhere : (m : ℕ) → (m == p.directory) ≡ false → All (λ r. ((r.directory == m) && (r.object == object)) ≡ false) s.rows
-      elsewhere m other k d below =
-          not_both ((get_or s.rows k d).directory == m) ((get_or s.rows k d).object == object)
-          (λ inside of. false≢true (sym other ∙ eq-eqb m p.directory (sym (eqb-true (get_or s.rows k d).directory m inside) ∙ in_one k d below of)))
-
-      module _ (t : State K T F I) (is : t ≡ settled_one g s object) where
-        judged : Judged g s (λ o. false || (o == object)) t
-        judged = subst (Judged g s (λ o. false || (o == object))) (sym is) first_judged
-
-        pub closed_may : MaySettle idle t
-        closed_may = may_left g s (λ o. false || (o == object)) t judged idle (may_orderly idle s orderly)
-
-        behind : All (λ x. p.directory < x.id → is_alive s x.id ≡ true) t.objects
-        behind k d below later = go (get_or t.objects k d).id ((get_or t.objects k d).id == object) refl later (left k d below) (alive k d below)
-          where
-            left : All (λ x. (is_alive s x.id || not (false || (x.id == object))) ≡ true) t.objects
-            left =
-                subst (λ (xs : List (Object F I)). All (λ x. (is_alive s x.id || not (false || (x.id == object))) ≡ true) xs) (sym judged.objects)
-                (all_pass (λ x. is_alive s x.id || not (false || (x.id == object))) s.objects)
-
-            alive : All (λ x. is_alive (with_handle_to s object) x.id ≡ true) t.objects
-            alive =
-                subst (λ (xs : List (Object F I)). All (λ x. is_alive (with_handle_to s object) x.id ≡ true) xs) (sym judged.objects)
-                (All-filter (λ x. is_alive s x.id || not (false || (x.id == object))) (λ x. is_alive (with_handle_to s object) x.id ≡ true) s.objects settled.objects)
-
-            go : (m : ℕ) (b : Bool) → (m == object) ≡ b → p.directory < m → (is_alive s m || not (false || b)) ≡ true → is_alive (with_handle_to s object) m ≡ true → is_alive s m ≡ true
-            go m true e later left alive = left_stays (is_alive s m) true left refl
-            go m false e later left alive = sym (alive_others m e (elsewhere m (ne_eqb m p.directory (λ same. omega (arith, later, same))))) ∙ alive
-
-        pub closed_both : (u : State K T F I) → u ≡ settled_one g t p.directory → u ≡ settle g s
-        closed_both u then =
-            all_judged g s (λ o. (false || (o == object)) || (o == p.directory)) u
-            (λ k d below. go (get_or s.objects k d).id ((get_or s.objects k d).id == object) ((get_or s.objects k d).id == p.directory) refl refl (settled.objects k d below))
-            (λ k d below. more_done (is_kept s (get_or s.rows k d)) ((get_or s.rows k d).object == object) ((get_or s.rows k d).object == p.directory) (kept_others k d below))
-            (subst (Judged g s (λ o. (false || (o == object)) || (o == p.directory))) (sym then)
-            (one_judged g s (λ o. false || (o == object)) t judged p.directory (ne_eqb p.directory object (λ same. omega (arith, before, same)))
-            (λ k d below here. more_done (is_kept s (get_or s.rows k d)) ((get_or s.rows k d).object == object) ((get_or s.rows k d).object == p.directory) (kept_others k d below))
-            (greatest_first g s (λ o. false || (o == object)) t judged p.directory orderly.rising behind)))
-          where
-            go : (m : ℕ) (b c : Bool) → (m == object) ≡ b → (m == p.directory) ≡ c → is_alive (with_handle_to s object) m ≡ true → (is_alive s m || ((false || b) || c)) ≡ true
-            go m true c e f alive = some_done (is_alive s m) true refl
-            go m false true e f alive = some_done (is_alive s m) true refl
-            go m false false e f alive = ap (λ b. b || false) (sym (alive_others m e (elsewhere m f)) ∙ alive)
+    -- the object has its turn, and no other
+    pub closed_settled : (u : State K T F I) → AreSettled g s is_closed object u → u ≡ settle g s
+    closed_settled u are =
+        all_turned g idle s orderly sound is_closed None loss_stays object (λ o e. omega (arith, eqb-true o object e)) u
+        (any_turn g idle s orderly sound is_closed None loss_stays (suc object) object (eq-eqb object object refl) (omega arith) (λ o e less. is_last o e) s
+        (no_map g idle s orderly sound is_closed None loss_stays (suc object) (λ o less e. omega (arith, eqb-true o object e)) refl) u (inr are))

@@ -1,31 +1,36 @@
 -- Which objects stay, told from the names that stay; what settling makes of one object, and asks of a state; what was
 -- settled before one handle was closed; and what a process that ends leaves to be settled.
-use Rattle.std.specs.Prelude.{◌≡◌, ◌⊎◌, ℕ, ◌<◌, Bool, true, false, ◌&&◌, ◌||◌, ◌==◌, not, if◌then◌else◌, [], ◌∷◌, ◌++◌, filter, All, List, Option, Some, MatchOption}
+use Rattle.std.specs.Prelude.{◌≡◌, ◌⊎◌, ℕ, ◌<◌, Bool, true, false, ◌&&◌, ◌||◌, ◌==◌, not, if◌then◌else◌, [], ◌∷◌, ◌++◌, filter, All, List, Option, None, Some, MatchOption}
 use Rattle.std.specs.List.{list_any, find}
 use Rattle.std.specs.Option.{option_map_or, is_some}
+use Rattle.ob_model.specs.declared.state.Object.{Object}
 use Rattle.ob_model.specs.declared.state.Pending.{Pending}
 use Rattle.ob_model.specs.Procedures.{Procedures}
-use Rattle.ob_model.specs.State.{State, root_id, body_of}
-use Rattle.ob_model.specs.Settle.{is_permanent, has_handle, is_kept, has_name, is_pinned, is_mapped, deleted_one}
-use Rattle.ob_model.specs.Sound.{IsDirectory}
+use Rattle.ob_model.specs.State.{State, root_id, body_of, shadow_of}
+use Rattle.ob_model.specs.Settle.{has_shadow, is_permanent, has_handle, is_kept, has_name, is_pinned, is_mapped, deleted_one}
+use Rattle.ob_model.specs.Sound.{IsDirectory, HasSoundShadowAmong}
 use Rattle.ob_objects.specs.declared.standing.Standing.{Standing}
 use Rattle.ob_processes.specs.Running.{Running}
 use Rattle.ob_space.specs.Namespace.{running_alone}
 use Rattle.ob_space.specs.Orderly.{IsIdleUnheld}
 
+-- an object is the shadow of one of these
+abbrev pub is_shadow : {F I : Type 0} → List (Object F I) → ℕ → Bool
+is_shadow objects o = list_any (λ x. has_shadow o x.body) objects
+
 -- by what is told of an object without a handle: it stays by its name, by what lies in it, as the root, as a map
--- directory, or pinned by a pending open
-abbrev pub held_up_by : {K : Type 0} → Running → List (Pending K) → ℕ → Standing → Bool
-held_up_by running pending o standing =
-    standing.holds_names || (standing.permanent && is_some standing.place) || (o == root_id) || is_mapped (running_alone running) o || list_any (λ p. p.object == o) pending
+-- directory, pinned by a pending open, or as the shadow of a directory that is there
+abbrev pub held_up_by : {K F I : Type 0} → List (Object F I) → Running → List (Pending K) → ℕ → Standing → Bool
+held_up_by objects running pending o standing =
+    standing.holds_names || (standing.permanent && is_some standing.place) || (o == root_id) || is_mapped (running_alone running) o || list_any (λ p. p.object == o) pending || is_shadow objects o
 
 module _ {K T F I : Type 0} where
   -- the object is the root, has a handle, is pinned by a pending open, is `\GLOBAL??` or a live process's map
-  -- directory, is permanent and has a name, or is the directory of a name: where the rows are those that stay,
-  -- the object does
+  -- directory, is permanent and has a name, is the directory of a name, or the shadow of a directory: where the rows are
+  -- those that stay, and so are the directories that have it as their shadow, the object does
   abbrev pub is_held_up : State K T F I → ℕ → Bool
   is_held_up s o =
-      (o == root_id) || has_handle s o || is_pinned s o || is_mapped s o || (is_permanent s o && has_name s o) || list_any (λ r. r.directory == o) s.rows
+      (o == root_id) || has_handle s o || is_pinned s o || is_mapped s o || (is_permanent s o && has_name s o) || list_any (λ r. r.directory == o) s.rows || is_shadow s.objects o
 
   -- a handle to the object is left, or it is permanent and has a name
   abbrev pub is_upheld : State K T F I → ℕ → Bool
@@ -43,19 +48,33 @@ module _ {K T F I : Type 0} where
     rows = if is_permanent s o || has_handle s o then s.rows else filter (λ r. not (r.object == o)) s.rows;
   }
 
+  -- the shadow of an object that goes where it is settled, if it is a directory that has one; and the same, unless the object
+  -- is one of these
+  abbrev pub shadow_left : State K T F I → ℕ → Option ℕ
+  shadow_left s o = if is_held_up (without_names s o) o then None else shadow_of s o
+
+  abbrev pub shadow_left_unless : (ℕ → Bool) → State K T F I → ℕ → Option ℕ
+  shadow_left_unless touched s o = if touched o then None else shadow_left s o
+
   -- the state with one further handle to an object
   abbrev pub with_handle_to : State K T F I → ℕ → State K T F I
   with_handle_to s o = record s {
     handles = s.handles ++ record { process = 0; value = 0; object = o; inherit = false; order = 0 } ∷ [];
   }
 
-  -- Only these objects, and the directory of this map, can go, and directories that hold names which go: the
-  -- name of each other object stays, and each other object is held up, be it by a name that lies in it. The map
-  -- is a directory.
+  -- Only these objects, and the directory of this map, can go, and directories that hold names which go, and the shadows
+  -- of directories that go: the name of each other object stays, and each other object is held up, be it by a name that
+  -- lies in it, or as a shadow. The map is a directory.
   pub record StaysBut (s : State K T F I) (touched : ℕ → Bool) (map : Option ℕ) : Type 0 where
     pub names : All (λ r. touched r.object ≡ false → is_kept s r ≡ true) s.rows
     pub objects : All (λ x. touched x.id ≡ false → (map ≡ Some x.id → ⊥) → is_held_up s x.id ≡ true) s.objects
     pub directory : MatchOption map (Unit {0}) (IsDirectory s)
+
+  -- Each name lies in a directory, and the shadow of each directory is one that was made before it, and has none itself. So
+  -- it is in a sound state.
+  pub record AreShadowsFit (s : State K T F I) : Type 0 where
+    pub inside : All (λ r. IsDirectory s r.directory) s.rows
+    pub shadows : All (HasSoundShadowAmong s.objects) s.objects
 
 module _ {K T F I : Type 0} (g : Procedures K T F I) where
   -- the state without an object, which is deleted, and without what lies in it
@@ -75,12 +94,21 @@ module _ {K T F I : Type 0} (g : Procedures K T F I) where
   abbrev pub settled_unless : (ℕ → Bool) → State K T F I → ℕ → State K T F I
   settled_unless touched s o = if touched o then s else settled_one s o
 
-  -- What is left where an object was settled and then, where it had a name, the directory of its name, unless
-  -- that is one of these objects. All names of the object lie in one directory.
+  -- the state after the shadow of a directory that went was settled, where there is one, unless it is one of these objects
+  abbrev pub with_shadow_settled : (ℕ → Bool) → State K T F I → Option ℕ → State K T F I
+  with_shadow_settled touched s shadow = option_map_or (settled_unless touched s) shadow s
+
+  -- What is left where an object was settled; then, where it had a name, the directory of its name, unless that is one of
+  -- these objects; and then the shadows of both, where they went. All names of the object lie in one directory.
   abbrev pub AreSettled : State K T F I → (ℕ → Bool) → ℕ → State K T F I → Type 0
   AreSettled s touched o t =
-      MatchOption (find (λ r. r.object == o) s.rows) ((t ≡ settled_one s o) × All (λ q. (q.object == o) ≡ false) s.rows)
-      (λ r. (t ≡ settled_unless touched (settled_one s o) r.directory) × All (λ q. (q.object == o) ≡ true → q.directory ≡ r.directory) s.rows)
+      MatchOption (find (λ r. r.object == o) s.rows)
+      ((t ≡ with_shadow_settled touched (settled_one s o) (shadow_left s o)) × All (λ q. (q.object == o) ≡ false) s.rows)
+      (λ r.
+      (t
+      ≡ with_shadow_settled touched (with_shadow_settled touched (settled_unless touched (settled_one s o) r.directory) (shadow_left s o))
+      (shadow_left_unless touched (settled_one s o) r.directory))
+      × All (λ q. (q.object == o) ≡ true → q.directory ≡ r.directory) s.rows)
 
   -- an object had its turn: a handle to it is left, or it is permanent and has a name, and nothing went; or it was settled so
   abbrev pub HadItsTurn : State K T F I → (ℕ → Bool) → ℕ → State K T F I → Type 0

@@ -1,16 +1,17 @@
 //! What stays at the end of a step.
 
-ghost use Rattle.std.specs.Prelude.{◌≡◌, if◌then◌else◌, false, MatchOption};
+ghost use Rattle.std.specs.Prelude.{◌==◌, ◌≡◌, if◌then◌else◌, false, MatchOption};
 ghost use Rattle.std.specs.Option.{option_map_or};
 ghost use Rattle.ob_model.specs.Settle.{settle, IsSettled, has_handle, is_mapped};
 ghost use Rattle.ob_objects.specs.Changes.{without_name};
 ghost use Rattle.ob_objects.specs.Standing.{standing_among};
-ghost use Rattle.ob_model.specs.State.{body_of};
+ghost use Rattle.ob_model.specs.State.{body_of, shadow_of};
+ghost use Rattle.ob_objects.specs.Store.{objects_of};
 ghost use Rattle.ob_space.specs.Namespace.{running_alone, handles_alone};
 ghost use Rattle.ob_space.specs.Orderly.{IsOrderly, IsIdleBody};
 ghost use Rattle.ob_handles.specs.Counts.{is_listed};
 ghost use Rattle.ob_model.specs.Sound.{IsSound};
-ghost use Rattle.ob_life.specs.Settling.{settled_one, settled_unless, held_up_by, AreSettled, HadItsTurn, MaySettle, StaysBut, with_handle_to, without_object};
+ghost use Rattle.ob_life.specs.Settling.{AreShadowsFit, settled_one, settled_unless, shadow_left, shadow_left_unless, with_shadow_settled, held_up_by, AreSettled, HadItsTurn, MaySettle, StaysBut, with_handle_to, without_object};
 
 use ob_base::ObjId;
 use ob_handles::{HandleTable, Touched};
@@ -22,10 +23,11 @@ use ob_types::TypeSet;
 
 /// Settles after an object has lost a handle, or is a process's map directory no longer: an object that
 /// is neither permanent nor has a handle loses its name, and goes if it holds no names that stay, no open
-/// is pending at it and it is no map directory; and then the directory of that name goes, if nothing holds it now. The set is told of each
+/// is pending at it and it is no map directory; and then the directory of that name goes, if nothing holds it now. The
+/// shadows of those that went go then, if nothing holds them. The set is told of each
 /// object of its own that goes, the object first. The root and `\GLOBAL??` stay always.
 ///
-/// It asks that the state is orderly, and that with one handle more to the object it is settled, so that
+/// It asks that the state is orderly and its shadows are fit, and that with one handle more to the object it is settled, so that
 /// nothing else can go: a directory that stays by a name in it has no name itself. It
 /// leaves an orderly state. No memory is taken, and no other object is looked at; where a handle to the object is left,
 /// or it is permanent and has a name, nothing is settled.
@@ -34,6 +36,7 @@ use ob_types::TypeSet;
 /// a step, and the order of the deletes are this profile.
 pub fn settle_after_loss<T: TypeSet, H: HandleTable>(space: &mut Space<T, H>, object: ObjId)
     requires orderly { IsOrderly T.idle space.old }
+    requires shadows { AreShadowsFit space.old }
     requires kept { IsSettled (with_handle_to space.old object) }
     ensures orderly { IsOrderly T.idle space.new }
     ensures settled { space.new ≡ settle T.procedures space.old }
@@ -45,11 +48,62 @@ pub fn settle_after_loss<T: TypeSet, H: HandleTable>(space: &mut Space<T, H>, ob
     if standing.stays_by_name() {
         return;
     }
+    settle_closed(space, object, &standing);
+}
+
+/// Settles one object that has no handle, by what the store told of it, and then the directory of its name, and the shadows
+/// of both where they went.
+fn settle_closed<T: TypeSet, H: HandleTable>(
+    space: &mut Space<T, H>,
+    object: ObjId,
+    standing: &Standing,
+)
+    requires may { MaySettle T.idle space.old }
+    requires unheld { has_handle space.old object ≡ false }
+    requires told { standing.now ≡ standing_among space.old.objects space.old.rows object }
+    ensures { AreSettled T.procedures space.old (λ o. o == object) object space.new }
+{
+    // The length tells what holds of every store.
+    let _ = space.store.len();
     let place = standing.place;
-    settle_unheld(space, object, &standing);
-    if let Some(place) = place {
-        settle_one(space, place.directory);
+    let own = settle_unheld(space, object, standing);
+    let other = match place {
+        Some(place) => settle_other(space, object, place.directory),
+        None => None,
+    };
+    settle_other_shadow(space, object, own);
+    settle_other_shadow(space, object, other);
+}
+
+/// Settles the shadow of a directory that went, where there is one, but for one object. It has no shadow itself.
+fn settle_other_shadow<T: TypeSet, H: HandleTable>(
+    space: &mut Space<T, H>,
+    object: ObjId,
+    shadow: Option<ObjId>,
+)
+    requires { MaySettle T.idle space.old }
+    ensures { space.new ≡ with_shadow_settled T.procedures (λ o. o == object) space.old shadow }
+{
+    if let Some(shadow) = shadow {
+        settle_other(space, object, shadow);
     }
+}
+
+/// Settles a directory other than one object. It gives the shadow of the directory, where that went.
+fn settle_other<T: TypeSet, H: HandleTable>(
+    space: &mut Space<T, H>,
+    object: ObjId,
+    directory: ObjId,
+) -> Option<ObjId>
+    requires { MaySettle T.idle space.old }
+    ensures settled { space.new
+        ≡ settled_unless T.procedures (λ o. o == object) space.old directory }
+    ensures shadow { result ≡ shadow_left_unless (λ o. o == object) space.old directory }
+{
+    if directory == object {
+        return None;
+    }
+    settle_one(space, directory)
 }
 
 /// Settles after a process has ended: of the objects that its handles led to, each that is neither
@@ -59,7 +113,7 @@ pub fn settle_after_loss<T: TypeSet, H: HandleTable>(space: &mut Space<T, H>, ob
 /// the highest number down. The root and `\GLOBAL??` stay always.
 ///
 /// It asks that the state is orderly and sound, and that nothing else can go but a directory by the
-/// names that it holds: `StaysBut`. It leaves an orderly state. No memory is taken, and no other object
+/// names that it holds, or the shadow of a directory that goes: `StaysBut`. It leaves an orderly state. No memory is taken, and no other object
 /// is looked at, nor is one settled to which a handle is left, so that it takes a time that grows with the objects
 /// that the handles led to, times the logarithm of all.
 ///
@@ -78,7 +132,8 @@ pub fn settle_after_end<T: TypeSet, H: HandleTable>(
 {
     let mut bound = ObjId(space.next_id);
     if let Some(directory) = map {
-        settle_untouched(space, touched, directory);
+        let shadow = settle_untouched(space, touched, directory);
+        settle_shadow(space, touched, shadow);
     }
     while let Some(id) = touched.last_before(bound) {
         settle_in_turn(space, touched, id);
@@ -116,58 +171,85 @@ fn settle_named<T: TypeSet, H: HandleTable>(
 {
     // The length tells what holds of every store.
     let _ = space.store.len();
-    settle_unheld(space, id, standing);
-    if let Some(place) = standing.place {
-        settle_untouched(space, touched, place.directory);
+    let place = standing.place;
+    let own = settle_unheld(space, id, standing);
+    let other = match place {
+        Some(place) => settle_untouched(space, touched, place.directory),
+        None => None,
+    };
+    settle_shadow(space, touched, own);
+    settle_shadow(space, touched, other);
+}
+
+/// Settles the shadow of a directory that went, where there is one, unless it has its own turn. It has no shadow itself.
+fn settle_shadow<T: TypeSet, H: HandleTable>(
+    space: &mut Space<T, H>,
+    touched: &Touched,
+    shadow: Option<ObjId>,
+)
+    requires { MaySettle T.idle space.old }
+    ensures { space.new
+        ≡ with_shadow_settled T.procedures (is_listed touched.now) space.old shadow }
+{
+    if let Some(shadow) = shadow {
+        settle_untouched(space, touched, shadow);
     }
 }
 
 /// Settles a directory, unless it is one of the objects that have their own turns: what lies in it has
-/// greater numbers, and is judged before.
+/// greater numbers, and is judged before. It gives the shadow of the directory, where that went.
 fn settle_untouched<T: TypeSet, H: HandleTable>(
     space: &mut Space<T, H>,
     touched: &Touched,
     directory: ObjId,
-)
+) -> Option<ObjId>
     requires { MaySettle T.idle space.old }
-    ensures { space.new
+    ensures settled { space.new
         ≡ settled_unless T.procedures (is_listed touched.now) space.old directory }
+    ensures shadow { result ≡ shadow_left_unless (is_listed touched.now) space.old directory }
 {
-    if !touched.holds(directory) {
-        settle_one(space, directory);
+    if touched.holds(directory) {
+        return None;
     }
+    settle_one(space, directory)
 }
 
 /// Settles one object: its name goes unless it stays, and then the object goes unless it stays, given
-/// the names that are left.
-fn settle_one<T: TypeSet, H: HandleTable>(space: &mut Space<T, H>, id: ObjId)
+/// the names that are left. It gives the shadow of the object, where that went and is a directory that has one.
+fn settle_one<T: TypeSet, H: HandleTable>(space: &mut Space<T, H>, id: ObjId) -> Option<ObjId>
     requires { MaySettle T.idle space.old }
-    ensures { space.new ≡ settled_one T.procedures space.old id }
+    ensures settled { space.new ≡ settled_one T.procedures space.old id }
+    ensures shadow { result ≡ shadow_left space.old id }
 {
     if has_handle(&space.processes, id) {
-        return;
+        return None;
     }
     let standing = space.store.standing_of(id);
-    settle_unheld(space, id, &standing);
+    settle_unheld(space, id, &standing)
 }
 
-/// Settles one object that has no handle, by what the store told of it.
+/// Settles one object that has no handle, by what the store told of it. It gives the shadow of the object, where that went
+/// and is a directory that has one.
 fn settle_unheld<T: TypeSet, H: HandleTable>(
     space: &mut Space<T, H>,
     id: ObjId,
     standing: &Standing,
-)
+) -> Option<ObjId>
     requires may { MaySettle T.idle space.old }
     requires unheld { has_handle space.old id ≡ false }
     requires told { standing.now ≡ standing_among space.old.objects space.old.rows id }
-    ensures { space.new ≡ settled_one T.procedures space.old id }
+    ensures settled { space.new ≡ settled_one T.procedures space.old id }
+    ensures shadow { result ≡ shadow_left space.old id }
 {
     // The length tells what holds of every store.
     let _ = space.store.len();
     forget_unkept(&mut space.store, standing);
-    if !is_held_up::<T, H>(&space.processes, &space.pending, id, standing) {
-        delete_object(space, id);
+    if is_held_up(&space.store, &space.processes, &space.pending, id, standing) {
+        return None;
     }
+    let shadow = space.store.shadow_of(id);
+    delete_object(space, id);
+    shadow
 }
 
 /// Takes away the name of an object that has no handle, unless it is permanent.
@@ -196,18 +278,20 @@ fn delete_object<T: TypeSet, H: HandleTable>(space: &mut Space<T, H>, id: ObjId)
 
 /// Whether an object that has no handle stays, by what the store told of it.
 fn is_held_up<T: TypeSet, H: HandleTable>(
+    store: &CachedStore<T>,
     processes: &Processes<H>,
     pending: &PendingOpens<T::Kind>,
     id: ObjId,
     standing: &Standing,
 ) -> bool
-    ensures { result ≡ held_up_by processes.now pending.now id standing.now }
+    ensures { result ≡ held_up_by (objects_of store.now) processes.now pending.now id standing.now }
 {
     standing.holds_names
         || standing.stays_by_name()
         || id == ROOT
         || is_mapped(processes, id)
         || pending.is_pinned(id)
+        || store.is_shadow(id)
 }
 
 /// Whether an object has a handle.

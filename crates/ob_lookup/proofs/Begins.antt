@@ -45,7 +45,7 @@ module _ {K T F I : Type 0} (g : Procedures K T F I) (store : Entries F I) (id :
 
       at_body : (body : StoredBody F I) → is_some (directory_of body) ≡ false → (not mode.create && parses_in g body) ≡ false
           → machine.LooksFrom g s p mode n id (body_of_stored body) name (machine.Refused ObjectTypeMismatch)
-      at_body (Directory es) e f = absurd (false≢true (sym e))
+      at_body (Directory es shadow) e f = absurd (false≢true (sym e))
       at_body (Link target) e f = refl
       at_body (Other face inner') e f =
           ap (λ (b : Bool). if b then machine.Parse id name n else machine.Refused ObjectTypeMismatch) (sym (turned_round (not mode.create) (g.parses (g.kind_of (arc_value face))) f))
@@ -60,7 +60,7 @@ module _ {K T F I : Type 0} (g : Procedures K T F I) (store : Entries F I) (id :
   asks_there opens parses = from_body (machine.Parse id name n) (go (stored_at store id) parses)
     where
       at_body : (body : StoredBody F I) → parses_in g body ≡ true → machine.LooksFrom g s p mode n id (body_of_stored body) name (machine.Parse id name n)
-      at_body (Directory es) e = absurd (false≢true e)
+      at_body (Directory es shadow) e = absurd (false≢true e)
       at_body (Link target) e = absurd (false≢true e)
       at_body (Other face inner') e =
           let asked : (g.parses (g.kind_of (arc_value face)) && not mode.create) ≡ true = rw e (ap not opens) in
@@ -80,7 +80,7 @@ module _ {K T F I : Type 0} (g : Procedures K T F I) (store : Entries F I) (id :
       from_there = subst (λ (at : Origin × List ℕ). machine.Looks g s p mode n at.0 at.1 end) is_start looks
 
       at_body : (body : StoredBody F I) → is_some (directory_of body) ≡ true → machine.LooksFrom g s p mode n id (body_of_stored body) name end
-      at_body (Directory es) e = from_there
+      at_body (Directory es shadow) e = from_there
       at_body (Link target) e = absurd (false≢true e)
       at_body (Other face inner') e = absurd (false≢true e)
 

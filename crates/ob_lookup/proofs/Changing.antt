@@ -5,11 +5,10 @@ use Rattle.std.proofs.lemmas.Bool.{false≢true}
 use Rattle.std.proofs.lemmas.List.Elements.{All-head, All-tail}
 use Rattle.std.specs.List.{list_any}
 use Rattle.std.specs.Option.{option_and_then, option_map_or, option_or, is_some, unwrap_or}
-use Rattle.ob_model.specs.declared.state.Body.TheVariants as model
 use Rattle.ob_model.specs.declared.state.Row.{Row}
 use Rattle.ob_model.specs.declared.state.Object.{Object}
-use Rattle.ob_model.specs.State.{State, global_id, is_directory, is_directory_body}
-use Rattle.ob_model.specs.Paths.{IsPath, found_object}
+use Rattle.ob_model.specs.State.{State, global_id, is_directory, is_directory_body, shadow_in}
+use Rattle.ob_model.specs.Paths.{IsPath, is_none_left, found, named_object}
 use Rattle.ob_model.specs.Paths as paths
 use Rattle.ob_dirs.specs.declared.entry.DirEntry.{DirEntry}
 use Rattle.ob_dirs.specs.Dir.{IsDir, ComesBefore, entry_found, is_named, row_of}
@@ -20,14 +19,16 @@ use Rattle.ob_objects.specs.declared.object.StoredObject.{StoredObject}
 use Rattle.ob_objects.specs.Store.{Entries, IsStore, Shows, stored_at, directory_of, directory_at, body_of_stored, entries_at, objects_of, rows_of}
 use Rattle.ob_objects.specs.Changes.{changed_at, body_with_name, body_without_name, with_name, without_name}
 use Rattle.ob_objects.proofs.Entries.{nothing_mapped}
-use Rattle.ob_objects.proofs.Follow.{told_of_object}
+use Rattle.ob_objects.proofs.Follow.{told_of_object, shadow_of_object}
 use Rattle.ob_objects.proofs.Shown.{entries_at-is_dir, names_change_no_object, store_finds}
 use Rattle.ob_objects.proofs.Stands.{any_found, is_mapped_some}
 use Rattle.ob_lookup.specs.declared.prefix.Prefix.{Prefix}
 use Rattle.ob_lookup.specs.Cache.{Kept, ArePaths, NoneIsLocal}
 use Rattle.ob_lookup.specs.Prefix.{LeadsFrom, LeadsTo}
-use Rattle.ob_lookup.proofs.Seen.{directory_is, entries_there, is_directory-from_body, directory_stored}
-use Rattle.ob_lookup.proofs.Stays.{directory_changed, directory_with_name}
+use Rattle.ob_lookup.specs.Walk.{shadow_at}
+use Rattle.ob_lookup.proofs.Kept.{flag_off}
+use Rattle.ob_lookup.proofs.Seen.{named_in_parts, entries_there, is_directory_there, shadow_shown, directory_stored}
+use Rattle.ob_lookup.proofs.Stays.{directory_changed, directory_with_name, shadow_changed, shadow_with_name}
 
 -- ---- lists
 
@@ -127,7 +128,7 @@ module _ {F I : Type 0} where
       go true (Some x) is = body x.body (is refl)
         where
           body : (b : StoredBody F I) → IsSome (directory_of b) → unwrap_or (directory_of (body_with_name entry b)) [] ≡ unwrap_or (directory_of b) [] ++ entry ∷ []
-          body (Directory es) is = refl
+          body (Directory es shadow) is = refl
           body (Link target) is = absurd (false≢true is)
           body (Other face inner) is = absurd (false≢true is)
       go false None is = refl
@@ -147,20 +148,28 @@ module _ {F I : Type 0} where
       go true (Some x) = body x.body
         where
           body : (b : StoredBody F I) → unwrap_or (directory_of (body_without_name stamp b)) [] ≡ filter (λ e. not (e.stamp == stamp)) (unwrap_or (directory_of b) [])
-          body (Directory es) = refl
+          body (Directory es shadow) = refl
           body (Link target) = refl
           body (Other face inner) = refl
       go false None = refl
       go false (Some x) = refl
 
   still_directory : (stamp : ℕ) (body : StoredBody F I) → is_some (directory_of (body_without_name stamp body)) ≡ is_some (directory_of body)
-  still_directory stamp (Directory es) = refl
+  still_directory stamp (Directory es shadow) = refl
   still_directory stamp (Link target) = refl
   still_directory stamp (Other face inner) = refl
 
   directory_without_name : (store : Entries F I) (id stamp d : ℕ) → IsSome (directory_at store d) → IsSome (directory_at (without_name store id stamp) d)
   directory_without_name store id stamp d there =
       directory_changed store id d (λ x. record x { body = body_without_name stamp x.body }) (λ x. still_directory stamp x.body) there
+
+  still_shadow : (stamp : ℕ) (body : StoredBody F I) → shadow_in (body_of_stored (body_without_name stamp body)) ≡ shadow_in (body_of_stored body)
+  still_shadow stamp (Directory es shadow) = refl
+  still_shadow stamp (Link target) = refl
+  still_shadow stamp (Other face inner) = refl
+
+  shadow_without_name : (store : Entries F I) (id stamp d : ℕ) → shadow_at (without_name store id stamp) d ≡ shadow_at store d
+  shadow_without_name store id stamp d = shadow_changed store id d (λ x. record x { body = body_without_name stamp x.body }) (λ x. still_shadow stamp x.body)
 
   -- what is found in a directory is the first entry of its name
   first_found : (store : Entries F I) → IsStore store → (d : ℕ) (c : List ℕ) (fold : Bool) → entry_found (entries_at store d) c fold ≡ find (is_named c fold) (entries_at store d)
@@ -169,13 +178,19 @@ module _ {F I : Type 0} where
 -- ---- where each directory finds the directories that it found
 
 module _ {K T F I : Type 0} (store : Entries F I) (cache : Kept) (are : ArePaths K T F I store cache) (new : Entries F I) (is : IsStore store) (is_new : IsStore new)
-    (directories : (d : ℕ) → IsSome (directory_at store d) → IsSome (directory_at new d))
+    (directories : (d : ℕ) → IsSome (directory_at store d) → IsSome (directory_at new d)) (shadows : (d : ℕ) → shadow_at new d ≡ shadow_at store d)
     (keeps : (d : ℕ) (c : List ℕ) (fold : Bool) (e : DirEntry) → find (is_named c fold) (entries_at store d) ≡ Some e → IsSome (directory_at store e.object)
     → find (is_named c fold) (entries_at new d) ≡ Some e)
-    (lacks : (e : Prefix × ℕ) → Contains cache.entries e → e.0.in_view ≡ true → (e.0.place == global_id) ≡ false → (c : List ℕ) (fold : Bool)
-    → find (is_named c fold) (entries_at store e.0.place) ≡ None → find (is_named c fold) (entries_at new e.0.place) ≡ None) where
+    (lacks : (e : Prefix × ℕ) → Contains cache.entries e → e.0.in_view ≡ true → (e.0.place == global_id) ≡ false → (d : ℕ) (c : List ℕ) (fold : Bool)
+    → find (is_named c fold) (entries_at store d) ≡ None → find (is_named c fold) (entries_at new d) ≡ None)
+    (shows_through : (d shadow : ℕ) → shadow_at store d ≡ Some shadow → (c : List ℕ) (fold : Bool) → find (is_named c fold) (entries_at store d) ≡ None
+    → find (is_named c fold) (entries_at new d) ≡ None) where
+  -- the object of the first entry that a component names in a directory of a store
+  abbrev named_by : Entries F I → ℕ → List ℕ → Bool → Option ℕ
+  named_by of d c fold = option_map (λ e. e.object) (find (is_named c fold) (entries_at of d))
+
   names : (r : State K T F I) (of : Entries F I) → IsStore of → Shows r of → (d : ℕ) (c : List ℕ) (fold : Bool)
-      → found_object r d c fold ≡ option_map (λ e. e.object) (find (is_named c fold) (entries_at of d))
+      → option_map (λ x. x.object) (found r d c fold) ≡ named_by of d c fold
   names r of is shows d c fold =
       ap (option_map (λ (x : Row). x.object)) (store_finds r of is shows d c fold ∙ ap (option_map (row_of d)) (first_found of is d c fold))
       ∙ go (find (is_named c fold) (entries_at of d))
@@ -183,6 +198,13 @@ module _ {K T F I : Type 0} (store : Entries F I) (cache : Kept) (are : ArePaths
       go : (o : Option DirEntry) → option_map (λ (x : Row). x.object) (option_map (row_of d) o) ≡ option_map (λ e. e.object) o
       go None = refl
       go (Some x) = refl
+
+  -- what a component names by what is seen
+  names_seen : (r : State K T F I) (of : Entries F I) → IsStore of → Shows r of → (d : ℕ) (c : List ℕ) (fold : Bool)
+      → named_object r d c false fold ≡ option_or (named_by of d c fold) (option_and_then (λ x. named_by of x c fold) (shadow_at of d))
+  names_seen r of is shows d c fold =
+      named_in_parts r d c false fold
+      ∙ (λ i. option_or (names r of is shows d c fold i) (option_and_then (λ x. names r of is shows x c fold i) (shadow_shown r of shows d i)))
 
   module _ (s : State K T F I) (shows : Shows s new) where
     abbrev before : State K T F I
@@ -193,10 +215,10 @@ module _ {K T F I : Type 0} (store : Entries F I) (cache : Kept) (are : ArePaths
 
     directory_still : (d : ℕ) → is_directory before d ≡ true → is_directory s d ≡ true
     directory_still d there =
-        is_directory-from_body s new shows d model.Directory (directory_is s new shows d (entries_at new d) (entries_there new d (directories d (directory_stored before store shown d there))))
+        is_directory_there s new shows d (entries_at new d) (entries_there new d (directories d (directory_stored before store shown d there)))
 
-    found_still : (d : ℕ) (c : List ℕ) (fold : Bool) (m : ℕ) → found_object before d c fold ≡ Some m → is_directory before m ≡ true → found_object s d c fold ≡ Some m
-    found_still d c fold m named there = names s new is_new shows d c fold ∙ go (find (is_named c fold) (entries_at store d)) refl (sym (names before store is shown d c fold) ∙ named)
+    by_still : (d : ℕ) (c : List ℕ) (fold : Bool) (m : ℕ) → named_by store d c fold ≡ Some m → is_directory before m ≡ true → named_by new d c fold ≡ Some m
+    by_still d c fold m named there = go (find (is_named c fold) (entries_at store d)) refl named
       where
         go : (o : Option DirEntry) → find (is_named c fold) (entries_at store d) ≡ o → option_map (λ e. e.object) o ≡ Some m
             → option_map (λ e. e.object) (find (is_named c fold) (entries_at new d)) ≡ Some m
@@ -205,46 +227,84 @@ module _ {K T F I : Type 0} (store : Entries F I) (cache : Kept) (are : ArePaths
             let same : x.object ≡ m = cc in
             ap (option_map (λ (y : DirEntry). y.object)) (keeps d c fold x e (subst (λ n. IsSome (directory_at store n)) (sym same) (directory_stored before store shown m there))) ∙ h
 
+    -- what is seen in a directory, and is one
+    seen_still : (d : ℕ) (c : List ℕ) (fold : Bool) (m : ℕ) → named_object before d c false fold ≡ Some m → is_directory before m ≡ true → named_object s d c false fold ≡ Some m
+    seen_still d c fold m named there = names_seen s new is_new shows d c fold ∙ here (named_by store d c fold) refl (sym (names_seen before store is shown d c fold) ∙ named)
+      where
+        below : (o : Option ℕ) → shadow_at store d ≡ o → named_by store d c fold ≡ None → option_and_then (λ x. named_by store x c fold) o ≡ Some m
+            → option_or (named_by new d c fold) (option_and_then (λ x. named_by new x c fold) (shadow_at new d)) ≡ Some m
+        below None at none h = cc
+        below (Some shadow) at none h =
+            let lacking : find (is_named c fold) (entries_at new d) ≡ None
+            = shows_through d shadow at c fold (nothing_mapped (λ (y : DirEntry). y.object) (find (is_named c fold) (entries_at store d)) none) in
+            ap (λ (o : Option DirEntry). option_or (option_map (λ y. y.object) o) (option_and_then (λ x. named_by new x c fold) (shadow_at new d))) lacking
+            ∙ ap (option_and_then (λ x. named_by new x c fold)) (shadows d ∙ at) ∙ by_still shadow c fold m h there
+
+        here : (o : Option ℕ) → named_by store d c fold ≡ o → option_or o (option_and_then (λ x. named_by store x c fold) (shadow_at store d)) ≡ Some m
+            → option_or (named_by new d c fold) (option_and_then (λ x. named_by new x c fold) (shadow_at new d)) ≡ Some m
+        here None none h = below (shadow_at store d) refl none h
+        here (Some x) some h = ap (λ (o : Option ℕ). option_or o (option_and_then (λ x. named_by new x c fold) (shadow_at new d))) (by_still d c fold m (some ∙ h) there)
+
+    -- nothing is seen where nothing was, in the local directory of a view
     lacks_still : (e : Prefix × ℕ) → Contains cache.entries e → e.0.in_view ≡ true → (e.0.place == global_id) ≡ false → (c : List ℕ) (fold : Bool)
-        → found_object before e.0.place c fold ≡ None → found_object s e.0.place c fold ≡ None
+        → named_object before e.0.place c false fold ≡ None → named_object s e.0.place c false fold ≡ None
     lacks_still e among view apart c fold none =
-        names s new is_new shows e.0.place c fold
-        ∙ ap (option_map (λ (y : DirEntry). y.object)) (lacks e among view apart c fold
-        (nothing_mapped (λ (y : DirEntry). y.object) (find (is_named c fold) (entries_at store e.0.place)) (sym (names before store is shown e.0.place c fold) ∙ none)))
+        names_seen s new is_new shows e.0.place c fold
+        ∙ here (named_by store e.0.place c fold) refl (sym (names_seen before store is shown e.0.place c fold) ∙ none)
+      where
+        by_lacks : (d : ℕ) → named_by store d c fold ≡ None → named_by new d c fold ≡ None
+        by_lacks d h =
+            ap (option_map (λ (y : DirEntry). y.object)) (lacks e among view apart d c fold (nothing_mapped (λ (y : DirEntry). y.object) (find (is_named c fold) (entries_at store d)) h))
+
+        below : (o : Option ℕ) → option_and_then (λ x. named_by store x c fold) o ≡ None → option_and_then (λ x. named_by new x c fold) o ≡ None
+        below None h = refl
+        below (Some d) h = by_lacks d h
+
+        here : (o : Option ℕ) → named_by store e.0.place c fold ≡ o → option_or o (option_and_then (λ x. named_by store x c fold) (shadow_at store e.0.place)) ≡ None
+            → option_or (named_by new e.0.place c fold) (option_and_then (λ x. named_by new x c fold) (shadow_at new e.0.place)) ≡ None
+        here (Some x) some h = cc
+        here None none h =
+            ap (λ (o : Option ℕ). option_or o (option_and_then (λ x. named_by new x c fold) (shadow_at new e.0.place))) (by_lacks e.0.place none)
+            ∙ ap (option_and_then (λ x. named_by new x c fold)) (shadows e.0.place) ∙ below (shadow_at store e.0.place) h
 
     -- what leads to a directory comes through directories
-    stands : (m : ℕ) (cs : List (List ℕ)) (fold : Bool) (o : ℕ) → IsPath before (paths.InDirectory m) cs fold o → is_directory before o ≡ true → is_directory before m ≡ true
+    stands : (m : ℕ) (cs : List (List ℕ)) (fold : Bool) (o : ℕ) → IsPath before (paths.InDirectory m) cs false fold o → is_directory before o ≡ true → is_directory before m ≡ true
     stands m [] fold o path there = subst (λ n. is_directory before n ≡ true) path there
     stands m (c ∷ cs) fold o path there = path.1
 
-    path_still : (m : ℕ) (cs : List (List ℕ)) (fold : Bool) (o : ℕ) → IsPath before (paths.InDirectory m) cs fold o → is_directory before o ≡ true → IsPath s (paths.InDirectory m) cs fold o
+    path_still : (m : ℕ) (cs : List (List ℕ)) (fold : Bool) (o : ℕ) → IsPath before (paths.InDirectory m) cs false fold o → is_directory before o ≡ true → IsPath s (paths.InDirectory m) cs false fold o
     path_still m [] fold o path there = path
-    path_still m (c ∷ cs) fold o path there =
-        (path.0, directory_still m path.1, found_still m c fold path.0 path.2 (stands path.0 cs fold o path.3 there), path_still path.0 cs fold o path.3 there)
+    path_still m (c ∷ cs) fold o path there = (
+      path.0,
+      directory_still m path.1,
+      ap (λ b. named_object s m c b fold) (flag_off cs)
+          ∙ seen_still m c fold path.0 (ap (λ b. named_object before m c b fold) (sym (flag_off cs)) ∙ path.2) (stands path.0 cs fold o path.3 there),
+      path_still path.0 cs fold o path.3 there,
+    )
 
     view_still : (e : Prefix × ℕ) → Contains cache.entries e → e.0.in_view ≡ true → (c : List ℕ) (fold : Bool) (m : ℕ)
-        → option_or (found_object before e.0.place c fold) (found_object before global_id c fold) ≡ Some m → is_directory before m ≡ true
-        → option_or (found_object s e.0.place c fold) (found_object s global_id c fold) ≡ Some m
-    view_still e among view c fold m named there = go (found_object before e.0.place c fold) refl named
+        → option_or (named_object before e.0.place c false fold) (named_object before global_id c false fold) ≡ Some m → is_directory before m ≡ true
+        → option_or (named_object s e.0.place c false fold) (named_object s global_id c false fold) ≡ Some m
+    view_still e among view c fold m named there = go (named_object before e.0.place c false fold) refl named
       where
-        elsewhere : found_object before e.0.place c fold ≡ None → found_object before global_id c fold ≡ Some m → found_object s e.0.place c fold ≡ None
+        elsewhere : named_object before e.0.place c false fold ≡ None → named_object before global_id c false fold ≡ Some m → named_object s e.0.place c false fold ≡ None
         elsewhere none global = at (e.0.place == global_id) refl
           where
-            at : (t : Bool) → (e.0.place == global_id) ≡ t → found_object s e.0.place c fold ≡ None
-            at true same = let both : None ≡ Some m = sym none ∙ ap (λ n. found_object before n c fold) (eqb-true e.0.place global_id same) ∙ global in cc
+            at : (t : Bool) → (e.0.place == global_id) ≡ t → named_object s e.0.place c false fold ≡ None
+            at true same = let both : None ≡ Some m = sym none ∙ ap (λ n. named_object before n c false fold) (eqb-true e.0.place global_id same) ∙ global in cc
             at false apart = lacks_still e among view apart c fold none
 
-        go : (o : Option ℕ) → found_object before e.0.place c fold ≡ o → option_or o (found_object before global_id c fold) ≡ Some m
-            → option_or (found_object s e.0.place c fold) (found_object s global_id c fold) ≡ Some m
-        go (Some x) here named = ap (λ o. option_or o (found_object s global_id c fold)) (found_still e.0.place c fold m (here ∙ named) there)
+        go : (o : Option ℕ) → named_object before e.0.place c false fold ≡ o → option_or o (named_object before global_id c false fold) ≡ Some m
+            → option_or (named_object s e.0.place c false fold) (named_object s global_id c false fold) ≡ Some m
+        go (Some x) here named = ap (λ o. option_or o (named_object s global_id c false fold)) (seen_still e.0.place c fold m (here ∙ named) there)
         go None none named =
-            ap (λ o. option_or o (found_object s global_id c fold)) (elsewhere none named) ∙ found_still global_id c fold m named there
+            ap (λ o. option_or o (named_object s global_id c false fold)) (elsewhere none named) ∙ seen_still global_id c fold m named there
 
     leads_still : (e : Prefix × ℕ) → Contains cache.entries e → (v : Bool) → e.0.in_view ≡ v → (cs : List (List ℕ)) (fold : Bool) (o : ℕ)
         → LeadsFrom before v e.0.place cs fold o → is_directory before o ≡ true → LeadsFrom s v e.0.place cs fold o
     leads_still e among v view [] fold o leads there = leads
     leads_still e among false view (c ∷ cs) fold o leads there =
-        (leads.0, directory_still e.0.place leads.1, found_still e.0.place c fold leads.0 leads.2 (stands leads.0 cs fold o leads.3 there), path_still leads.0 cs fold o leads.3 there)
+        (leads.0, directory_still e.0.place leads.1, seen_still e.0.place c fold leads.0 leads.2 (stands leads.0 cs fold o leads.3 there), path_still leads.0 cs fold o leads.3 there)
     leads_still e among true view (c ∷ cs) fold o leads there =
         (leads.0, directory_still e.0.place leads.1, view_still e among view c fold leads.0 leads.2 (stands leads.0 cs fold o leads.3 there), path_still leads.0 cs fold o leads.3 there)
 
@@ -262,12 +322,20 @@ module _ {K T F I : Type 0} (store : Entries F I) (cache : Kept) (are : ArePaths
 -- ---- a name that comes, and one that goes and names no directory
 
 module _ {K T F I : Type 0} (store : Entries F I) (cache : Kept) (are : ArePaths K T F I store cache) (is : IsStore store) where
-  pub paths_with_name : (id : ℕ) (entry : DirEntry) → IsSome (directory_at store id) → IsStore (with_name store id entry) → NoneIsLocal cache.entries
+  pub paths_with_name : (id : ℕ) (entry : DirEntry) → IsSome (directory_at store id) → shadow_at store id ≡ None → IsStore (with_name store id entry) → NoneIsLocal cache.entries
       → ArePaths K T F I (with_name store id entry) cache
-  paths_with_name id entry there is_new none =
-      changed_are_paths store cache are (with_name store id entry) is is_new (λ d dir. directory_with_name store id d entry dir) keeps
-      (λ e among view apart c fold _. absurd (false≢true (sym (none e among) ∙ (λ i. view i && not (apart i)))))
+  paths_with_name id entry there plain is_new none =
+      changed_are_paths store cache are (with_name store id entry) is is_new (λ d dir. directory_with_name store id d entry dir) (λ d. shadow_with_name store id d entry) keeps
+      (λ e among view apart d c fold _. absurd (false≢true (sym (none e among) ∙ (λ i. view i && not (apart i))))) shows_through
     where
+      shows_through : (d shadow : ℕ) → shadow_at store d ≡ Some shadow → (c : List ℕ) (fold : Bool) → find (is_named c fold) (entries_at store d) ≡ None
+          → find (is_named c fold) (entries_at (with_name store id entry) d) ≡ None
+      shows_through d shadow has c fold lacking = ap (find (is_named c fold)) (entries_with_name store id entry d there) ∙ go (d == id) refl
+        where
+          go : (t : Bool) → (d == id) ≡ t → find (is_named c fold) (cond t (entries_at store d ++ entry ∷ []) (entries_at store d)) ≡ None
+          go true same = let both : None ≡ Some shadow = sym plain ∙ ap (shadow_at store) (sym (eqb-true d id same)) ∙ has in cc
+          go false other = lacking
+
       keeps : (d : ℕ) (c : List ℕ) (fold : Bool) (e : DirEntry) → find (is_named c fold) (entries_at store d) ≡ Some e → IsSome (directory_at store e.object)
           → find (is_named c fold) (entries_at (with_name store id entry) d) ≡ Some e
       keeps d c fold e found _ = ap (find (is_named c fold)) (entries_with_name store id entry d there) ∙ go (d == id)
@@ -280,7 +348,8 @@ module _ {K T F I : Type 0} (store : Entries F I) (cache : Kept) (are : ArePaths
       → ((e : DirEntry) → find (λ x. x.stamp == stamp) (entries_at store id) ≡ Some e → is_some (directory_at store e.object) ≡ false)
       → ArePaths K T F I (without_name store id stamp) cache
   paths_without_name id stamp is_new gone =
-      changed_are_paths store cache are (without_name store id stamp) is is_new (λ d dir. directory_without_name store id stamp d dir) keeps lacks
+      changed_are_paths store cache are (without_name store id stamp) is is_new (λ d dir. directory_without_name store id stamp d dir) (λ d. shadow_without_name store id stamp d) keeps
+      (λ e among view apart. lacks) (λ d shadow has. lacks d)
     where
       stays : (d : ℕ) (c : List ℕ) (fold : Bool) (e : DirEntry) → (d == id) ≡ true → find (is_named c fold) (entries_at store d) ≡ Some e → IsSome (directory_at store e.object)
           → not (e.stamp == stamp) ≡ true
@@ -305,13 +374,26 @@ module _ {K T F I : Type 0} (store : Entries F I) (cache : Kept) (are : ArePaths
           go true same = find_kept (is_named c fold) (λ x. not (x.stamp == stamp)) (entries_at store d) e found (stays d c fold e same found dir)
           go false apart = found
 
-      lacks : (e : Prefix × ℕ) → Contains cache.entries e → e.0.in_view ≡ true → (e.0.place == global_id) ≡ false → (c : List ℕ) (fold : Bool)
-          → find (is_named c fold) (entries_at store e.0.place) ≡ None → find (is_named c fold) (entries_at (without_name store id stamp) e.0.place) ≡ None
-      lacks e among view apart c fold none = ap (find (is_named c fold)) (entries_without_name store id stamp e.0.place) ∙ go (e.0.place == id)
+      lacks : (d : ℕ) (c : List ℕ) (fold : Bool) → find (is_named c fold) (entries_at store d) ≡ None → find (is_named c fold) (entries_at (without_name store id stamp) d) ≡ None
+      lacks d c fold none = ap (find (is_named c fold)) (entries_without_name store id stamp d) ∙ go (d == id)
         where
-          go : (t : Bool) → find (is_named c fold) (cond t (filter (λ x. not (x.stamp == stamp)) (entries_at store e.0.place)) (entries_at store e.0.place)) ≡ None
-          go true = find_none (is_named c fold) (λ x. not (x.stamp == stamp)) (entries_at store e.0.place) none
+          go : (t : Bool) → find (is_named c fold) (cond t (filter (λ x. not (x.stamp == stamp)) (entries_at store d)) (entries_at store d)) ≡ None
+          go true = find_none (is_named c fold) (λ x. not (x.stamp == stamp)) (entries_at store d) none
           go false = none
+
+-- the shadow that is asked for is that of the store
+pub shadow_told : {F I : Type 0} (store : Entries F I) (id : ℕ) → shadow_at store id ≡ option_and_then (λ x. shadow_in x.body) (find (λ x. x.id == id) (objects_of store))
+shadow_told store id = shadow_of_object store id (stored_at store id) refl
+
+-- where none is told once a name has come, there was none
+pub plain_told : {F I : Type 0} (store new : Entries F I) (id : ℕ) (entry : DirEntry) (shadow : Option ℕ) → new ≡ with_name store id entry
+    → shadow ≡ option_and_then (λ x. shadow_in x.body) (find (λ x. x.id == id) (objects_of new)) → is_some shadow ≡ false → shadow_at store id ≡ None
+plain_told {F} {I} store new id entry shadow put told none =
+    sym (shadow_with_name store id id entry) ∙ ap (λ (es : Entries F I). shadow_at es id) (sym put) ∙ shadow_told new id ∙ sym told ∙ go shadow none
+  where
+    go : (o : Option ℕ) → is_some o ≡ false → o ≡ None
+    go None e = refl
+    go (Some d) e = cc
 
 -- ---- what the entry of a stamp named
 
@@ -320,7 +402,7 @@ directory_told : {F I : Type 0} (store : Entries F I) (id : ℕ) → is_some (di
 directory_told {F} {I} store id = go (stored_at store id) ∙ told_of_object (λ x. is_directory_body x.body) store id (stored_at store id) refl
   where
     body : (b : StoredBody F I) → is_some (directory_of b) ≡ is_directory_body (body_of_stored b)
-    body (Directory es) = refl
+    body (Directory es shadow) = refl
     body (Link target) = refl
     body (Other face inner) = refl
 

@@ -1,16 +1,17 @@
 -- What a cache keeps leads where it says: by a walk that it leads on, and by one that came there.
 use Rattle.std.proofs.Common.{◌≡◌, ◌∙◌, ℕ, suc, ◌==◌, Bool, true, false, List, [], ◌∷◌, ◌++◌, length, filter, not, ◌||◌, ◌&&◌, Option, None, Some, IsSome, All, Result, Ok, Err, OnOk, OnErr, if◌then◌else◌, length-append, inl, inr, refl, ap, sym, subst, arith, eqb-true}
-use Rattle.std.specs.Option.{option_map, option_or}
+use Rattle.std.specs.Option.{option_map, option_and_then, option_map_or, option_or}
 use Rattle.lru.specs.LruCache.{lru_cache}
 use Rattle.lru.proofs.CallerLemmas.{Contains-lookup, Contains-promoted, Contains-put_entries}
 use Rattle.lru.proofs.Splits.{Contains-nil}
 use Rattle.std.specs.Map.{lookup}
-use Rattle.ob_model.specs.declared.state.Body.TheVariants as model
+use Rattle.ob_model.specs.declared.state.Body.{Body}
+use Rattle.ob_model.specs.declared.state.Body.TheVariants.{Directory, Link, Other}
 use Rattle.ob_model.specs.declared.state.Object.{Object}
 use Rattle.ob_model.specs.declared.state.Row.{Row}
 use Rattle.ob_model.specs.Names.{separator, joined, IsComponent}
-use Rattle.ob_model.specs.State.{State, global_id, is_directory, is_directory_among}
-use Rattle.ob_model.specs.Paths.{IsPath, earliest, is_match, found_object, place_behind}
+use Rattle.ob_model.specs.State.{State, global_id, body_of, is_directory, is_directory_among, is_directory_body, shadow_in, shadow_of, shadow_among}
+use Rattle.ob_model.specs.Paths.{IsPath, is_none_left, earliest, is_match, found, named_object, place_behind}
 use Rattle.ob_model.specs.Paths as paths
 use Rattle.ob_devmap.specs.declared.view.View.{View}
 use Rattle.ob_devmap.specs.View.{IsViewOf}
@@ -24,37 +25,80 @@ use Rattle.ob_lookup.specs.Closed.{IsViewThere}
 use Rattle.ob_lookup.specs.Onward.{Led, Leads, reached_at, IsKeyOf}
 use Rattle.ob_lookup.specs.Prefix.{folded, is_view, is_local, IsPrefixOf, same_prefix, entry_from, LeadsFrom, LeadsTo}
 use Rattle.ob_lookup.specs.PrefixLaws.{AreSame, same_prefix-parts}
-use Rattle.ob_lookup.specs.Walk.{rest_of, directory_of, origin_at, text_of}
-use Rattle.ob_lookup.proofs.Seen.{local_seen, directory_is, entries_there, is_directory-from_body, directory_stored}
+use Rattle.ob_lookup.specs.Walk.{rest_of, directory_of, origin_at, shadow_at, text_of}
+use Rattle.ob_lookup.proofs.Seen.{local_seen, entries_there, is_directory_there, shadow_shown, directory_stored}
 use Rattle.ob_lookup.proofs.Spelling.{spelled_as, folded_text, leads_spelled}
 
--- ---- two states of the same rows, where each directory of one is a directory of the other
+-- what is no directory has no shadow
+no_shadow : {K T F I : Type 0} (s : State K T F I) (d : ℕ) → is_directory s d ≡ false → shadow_of s d ≡ None
+no_shadow {F = F} {I = I} s d none = go (body_of s d) none
+  where
+    go : (o : Option (Body F I)) → option_map_or is_directory_body o false ≡ false → option_and_then shadow_in o ≡ None
+    go None e = refl
+    go (Some (Directory shadow)) e = cc
+    go (Some (Link target)) e = refl
+    go (Some (Other face inner)) e = refl
 
-module _ {K T L U F I : Type 0} (s : State K T F I) (r : State L U F I) (directories : (d : ℕ) → is_directory s d ≡ true → is_directory r d ≡ true) (rows : s.rows ≡ r.rows) where
-  found_shown : (d : ℕ) (c : List ℕ) (fold : Bool) → found_object s d c fold ≡ found_object r d c fold
-  found_shown d c fold = ap (λ (l : List Row). option_map (λ (x : Row). x.object) (earliest (filter (is_match d c fold) l))) rows
+-- what is there by one or else by another is there still, where the other still has it
+or_still : (a b b' : Option ℕ) (m : ℕ) → option_or a b ≡ Some m → (b ≡ Some m → b' ≡ Some m) → option_or a b' ≡ Some m
+or_still None b b' m e stays = stays e
+or_still (Some x) b b' m e stays = e
 
-  entry_shown : (in_view : Bool) (d : ℕ) (c : List ℕ) (fold : Bool) → entry_from s in_view d c fold ≡ entry_from r in_view d c fold
-  entry_shown false d c fold = found_shown d c fold
-  entry_shown true d c fold = λ i. option_or (found_shown d c fold i) (found_shown global_id c fold i)
+-- ---- two states of the same rows, where each directory of one is a directory of the other, of the same shadow
 
-  path_shown : (m : ℕ) (cs : List (List ℕ)) (fold : Bool) (o : ℕ) → IsPath s (paths.InDirectory m) cs fold o → IsPath r (paths.InDirectory m) cs fold o
-  path_shown m [] fold o path = path
-  path_shown m (c ∷ cs) fold o path = (path.0, directories m path.1, sym (found_shown m c fold) ∙ path.2, path_shown path.0 cs fold o path.3)
+abbrev pub KeepDirectories : {K T L U F I : Type 0} → State K T F I → State L U F I → Type 0
+KeepDirectories s r = (d : ℕ) → is_directory s d ≡ true → (is_directory r d ≡ true) × (shadow_of r d ≡ shadow_of s d)
+
+module _ {K T L U F I : Type 0} (s : State K T F I) (r : State L U F I) (directories : KeepDirectories s r) (rows : s.rows ≡ r.rows) where
+  found_shown : (d : ℕ) (c : List ℕ) (fold : Bool) → found s d c fold ≡ found r d c fold
+  found_shown d c fold = ap (λ (l : List Row). earliest (filter (is_match d c fold) l)) rows
+
+  -- a directory names what it named
+  named_shown : (d : ℕ) (c : List ℕ) (own fold : Bool) → is_directory s d ≡ true → named_object s d c own fold ≡ named_object r d c own fold
+  named_shown d c true fold there = ap (option_map (λ (x : Row). x.object)) (found_shown d c fold)
+  named_shown d c false fold there =
+      (λ i. option_map (λ (x : Row). x.object) (option_or (found_shown d c fold i) (option_and_then (λ shadow. found_shown shadow c fold i) ((sym (directories d there).1) i))))
+
+  -- what it named, be it a directory or not, it names
+  named_still : (d : ℕ) (c : List ℕ) (fold : Bool) (m : ℕ) → named_object s d c false fold ≡ Some m → named_object r d c false fold ≡ Some m
+  named_still d c fold m named = at (is_directory s d) refl
+    where
+      own : (o : Option Row) → found s d c fold ≡ o → option_map (λ (x : Row). x.object) (option_or o None) ≡ Some m → named_object r d c false fold ≡ Some m
+      own None here e = cc
+      own (Some x) here e =
+          ap (λ (o : Option Row). option_map (λ (y : Row). y.object) (option_or o (option_and_then (λ shadow. found r shadow c fold) (shadow_of r d)))) (sym (found_shown d c fold) ∙ here) ∙ e
+
+      at : (t : Bool) → is_directory s d ≡ t → named_object r d c false fold ≡ Some m
+      at true there = sym (named_shown d c false fold there) ∙ named
+      at false none =
+          own (found s d c fold) refl
+          (ap (λ (o : Option ℕ). option_map (λ (y : Row). y.object) (option_or (found s d c fold) (option_and_then (λ shadow. found s shadow c fold) o))) (sym (no_shadow s d none)) ∙ named)
+
+  entry_shown : (in_view : Bool) (d : ℕ) (c : List ℕ) (fold : Bool) (m : ℕ) → is_directory s d ≡ true → entry_from s in_view d c fold ≡ Some m → entry_from r in_view d c fold ≡ Some m
+  entry_shown false d c fold m there named = sym (named_shown d c false fold there) ∙ named
+  entry_shown true d c fold m there named =
+      or_still (named_object r d c false fold) (named_object s global_id c false fold) (named_object r global_id c false fold) m
+      (ap (λ (o : Option ℕ). option_or o (named_object s global_id c false fold)) (sym (named_shown d c false fold there)) ∙ named) (named_still global_id c fold m)
+
+  path_shown : (m : ℕ) (cs : List (List ℕ)) (own fold : Bool) (o : ℕ) → IsPath s (paths.InDirectory m) cs own fold o → IsPath r (paths.InDirectory m) cs own fold o
+  path_shown m [] own fold o path = path
+  path_shown m (c ∷ cs) own fold o path =
+      (path.0, (directories m path.1).0, sym (named_shown m c (is_none_left cs && own) fold path.1) ∙ path.2, path_shown path.0 cs own fold o path.3)
 
   -- components that lead there in the one do so in the other
   leads_shown : (in_view : Bool) (d : ℕ) (cs : List (List ℕ)) (fold : Bool) (o : ℕ) → LeadsFrom s in_view d cs fold o → LeadsFrom r in_view d cs fold o
   leads_shown in_view d [] fold o leads = leads
   leads_shown in_view d (c ∷ cs) fold o leads =
-      (leads.0, directories d leads.1, sym (entry_shown in_view d c fold) ∙ leads.2, path_shown leads.0 cs fold o leads.3)
+      (leads.0, (directories d leads.1).0, entry_shown in_view d c fold leads.0 leads.1 leads.2, path_shown leads.0 cs false fold o leads.3)
 
   prefix_shown : (prefix : Prefix) (o : ℕ) → LeadsTo s prefix o → LeadsTo r prefix o
   prefix_shown prefix o leads =
-      (leads.0, leads.1, leads.2, leads_shown prefix.in_view prefix.place leads.0 prefix.fold o leads.3, directories o leads.4)
+      (leads.0, leads.1, leads.2, leads_shown prefix.in_view prefix.place leads.0 prefix.fold o leads.3, (directories o leads.4).0)
 
 -- the directories of two states of the same objects are the same
-same_directories : {K T L U F I : Type 0} (s : State K T F I) (r : State L U F I) → s.objects ≡ r.objects → (d : ℕ) → is_directory s d ≡ true → is_directory r d ≡ true
-same_directories {F = F} {I = I} s r objects d there = ap (λ (l : List (Object F I)). is_directory_among l d) (sym objects) ∙ there
+same_directories : {K T L U F I : Type 0} (s : State K T F I) (r : State L U F I) → s.objects ≡ r.objects → KeepDirectories s r
+same_directories {F = F} {I = I} s r objects d there =
+    (ap (λ (l : List (Object F I)). is_directory_among l d) (sym objects) ∙ there, ap (λ (l : List (Object F I)). shadow_among l d) (sym objects))
 
 -- ---- prefixes that are the same
 
@@ -77,37 +121,42 @@ module _ {K T F I : Type 0} (s : State K T F I) where
 
 -- ---- a walk of a process
 
+-- no component of a prefix is asked for by own entries alone
+pub flag_off : (cs : List (List ℕ)) → (is_none_left cs && false) ≡ false
+flag_off [] = refl
+flag_off (c ∷ cs) = refl
+
 module _ {K T F I : Type 0} (s : State K T F I) (p : ℕ) (view : View) (of : IsViewOf s p view) where
   -- what leads from a key's place is a path from the place of the walk
   leads_path : (at : Standpoint) (fold : Bool) (cs : List (List ℕ)) (o : ℕ) → LeadsFrom s (is_view at) (directory_of view at) cs fold o
-      → IsPath s (origin_at p at) cs fold o × (place_behind (origin_at p at) cs o ≡ paths.InDirectory o)
+      → IsPath s (origin_at p at) cs false fold o × (place_behind (origin_at p at) cs o ≡ paths.InDirectory o)
   leads_path at fold [] o leads = absurd leads
-  leads_path (InDirectory id) fold (c ∷ cs) o leads = (leads, refl)
+  leads_path (InDirectory id) fold (c ∷ cs) o leads = ((leads.0, leads.1, ap (λ b. named_object s id c b fold) (flag_off cs) ∙ leads.2, leads.3), refl)
   leads_path InView fold (c ∷ cs) o leads = (
     (
       leads.0,
       ap (is_directory s) (local_seen s p view of) ∙ leads.1,
-      ap (λ (d : ℕ). option_or (found_object s d c fold) (found_object s global_id c fold)) (local_seen s p view of) ∙ leads.2,
+      (λ i. option_or (named_object s (local_seen s p view of i) c (flag_off cs i) fold) (named_object s global_id c (flag_off cs i) fold)) ∙ leads.2,
       leads.3,
     ),
     refl,
   )
 
   -- and a path of some components leads from there
-  path_leads : (at : Standpoint) (fold : Bool) (c : List ℕ) (cs : List (List ℕ)) (o : ℕ) → IsPath s (origin_at p at) (c ∷ cs) fold o
+  path_leads : (at : Standpoint) (fold : Bool) (c : List ℕ) (cs : List (List ℕ)) (o : ℕ) → IsPath s (origin_at p at) (c ∷ cs) false fold o
       → LeadsFrom s (is_view at) (directory_of view at) (c ∷ cs) fold o
-  path_leads (InDirectory id) fold c cs o path = path
+  path_leads (InDirectory id) fold c cs o path = (path.0, path.1, ap (λ b. named_object s id c b fold) (sym (flag_off cs)) ∙ path.2, path.3)
   path_leads InView fold c cs o path = (
     path.0,
     ap (is_directory s) (sym (local_seen s p view of)) ∙ path.1,
-    ap (λ (d : ℕ). option_or (found_object s d c fold) (found_object s global_id c fold)) (sym (local_seen s p view of)) ∙ path.2,
+    sym (λ i. option_or (named_object s (local_seen s p view of i) c (flag_off cs i) fold) (named_object s global_id c (flag_off cs i) fold)) ∙ path.2,
     path.3,
   )
 
   -- what is kept under a prefix leads the walk to its last component
-  pub led_by_kept : (start : Start) (fold : Bool) (prefix found : Prefix) (last : List ℕ) (d : ℕ) → IsKeyOf view start fold prefix last
-      → same_prefix prefix found ≡ true → LeadsTo s found d → Led s p start fold (paths.InDirectory d) (separator ∷ last)
-  led_by_kept start fold prefix found last d key same found_leads =
+  pub led_by_kept : (start : Start) (create fold : Bool) (prefix found : Prefix) (last : List ℕ) (d : ℕ) → IsKeyOf view start fold prefix last
+      → same_prefix prefix found ≡ true → LeadsTo s found d → Led s p start create fold (paths.InDirectory d) (separator ∷ last)
+  led_by_kept start create fold prefix found last d key same found_leads =
       let is = key.3 in
       let leads = leads_same s found prefix d (turned (same_prefix-parts prefix found same)) found_leads in
       let text : folded fold (joined leads.0) ≡ separator ∷ folded fold key.0
@@ -134,7 +183,7 @@ module _ {K T F I : Type 0} (s : State K T F I) (p : ℕ) (view : View) (of : Is
 -- a directory of a store is one of each state that shows it
 is_directory_shown : {K T F I : Type 0} (store : Entries F I) (s : State K T F I) → Shows s store → (d : ℕ) → IsSome (directory_at store d) → is_directory s d ≡ true
 is_directory_shown store s shows d inside =
-    is_directory-from_body s store shows d model.Directory (directory_is s store shows d (entries_at store d) (entries_there store d inside))
+    is_directory_there s store shows d (entries_at store d) (entries_there store d inside)
 
 -- two texts with ends of one length have the same front
 same_front : (a b c d : List ℕ) → a ++ b ≡ c ++ d → length b ≡ length d → a ≡ c
@@ -164,10 +213,10 @@ module _ {K T F I : Type 0} (store : Entries F I) (view : View) (there : IsViewT
   seen_by_one s = record s { processes = record { number = 0; map = view.local } ∷ [] }
 
   -- the prefix leads to that directory
-  pub leads_by_walk : (s : State K T F I) → Shows s store → (start from : Start) (fold : Bool) (prefix : Prefix) (last : List ℕ) (d : ℕ)
-      → IsKeyOf view start fold prefix last → Leads K T F I store view start fold from.place (text_of from)
+  pub leads_by_walk : (s : State K T F I) → Shows s store → (start from : Start) (create fold : Bool) (prefix : Prefix) (last : List ℕ) (d : ℕ)
+      → IsKeyOf view start fold prefix last → Leads K T F I store view start create fold from.place (text_of from)
       → reached_at from.place from.behind (length last) ≡ Some d → IsSome (directory_at store d) → LeadsTo s prefix d
-  leads_by_walk s shows start from fold prefix last d key leads reached inside = go led.0 led.1.each front led.2
+  leads_by_walk s shows start from create fold prefix last d key leads reached inside = go led.0 led.1.each front led.2
     where
       one : State K T F I
       one = seen_by_one s
@@ -178,10 +227,10 @@ module _ {K T F I : Type 0} (store : Entries F I) (view : View) (there : IsViewT
       parts : (rest : List ℕ) × (from.place ≡ InDirectory d) × (from.behind ≡ Some rest) × (length rest ≡ length last)
       parts = reached_parts from.place from.behind (length last) d reached
 
-      led : Led one 0 start fold (paths.InDirectory d) (separator ∷ parts.0)
+      led : Led one 0 start create fold (paths.InDirectory d) (separator ∷ parts.0)
       led =
-          subst (λ (x : Option (List ℕ)). Led one 0 start fold (paths.InDirectory d) (rest_of x)) parts.2
-          (subst (λ (x : Standpoint). Led one 0 start fold (origin_at 0 x) (rest_of from.behind)) parts.1
+          subst (λ (x : Option (List ℕ)). Led one 0 start create fold (paths.InDirectory d) (rest_of x)) parts.2
+          (subst (λ (x : Standpoint). Led one 0 start create fold (origin_at 0 x) (rest_of from.behind)) parts.1
           (leads one 0 (record { objects = shows.objects; rows = shows.rows }) of))
 
       front : joined led.0 ≡ separator ∷ key.0
@@ -192,7 +241,7 @@ module _ {K T F I : Type 0} (store : Entries F I) (view : View) (there : IsViewT
       is : IsPrefixOf view start.place fold key.0 prefix
       is = key.3
 
-      go : (cs : List (List ℕ)) → All IsComponent cs → joined cs ≡ separator ∷ key.0 → IsPath one (origin_at 0 start.place) cs fold d → LeadsTo s prefix d
+      go : (cs : List (List ℕ)) → All IsComponent cs → joined cs ≡ separator ∷ key.0 → IsPath one (origin_at 0 start.place) cs false fold d → LeadsTo s prefix d
       go [] each e path = cc
       go (c ∷ cs) each e path = (
         c ∷ cs,
@@ -236,34 +285,37 @@ module _ {K T F I : Type 0} (store : Entries F I) (cache : Kept) (are : ArePaths
   found_there prefix d found = let entry = Contains-lookup (same_prefix prefix) cache.entries d found in are.there (entry.0, d) entry.1
 
   -- and the walk goes on there
-  pub found_leads : (view : View) (start : Start) (fold : Bool) (prefix : Prefix) (last : List ℕ) (d : ℕ) → IsKeyOf view start fold prefix last
-      → lookup (same_prefix prefix) cache.entries ≡ Some d → Leads K T F I store view start fold (InDirectory d) (separator ∷ last)
-  found_leads view start fold prefix last d key found = λ s p shows of.
+  pub found_leads : (view : View) (start : Start) (create fold : Bool) (prefix : Prefix) (last : List ℕ) (d : ℕ) → IsKeyOf view start fold prefix last
+      → lookup (same_prefix prefix) cache.entries ≡ Some d → Leads K T F I store view start create fold (InDirectory d) (separator ∷ last)
+  found_leads view start create fold prefix last d key found = λ s p shows of.
       let entry = Contains-lookup (same_prefix prefix) cache.entries d found in
-      led_by_kept s p view of start fold prefix entry.0 last d key entry.2 (are.paths s shows (entry.0, d) entry.1)
+      led_by_kept s p view of start create fold prefix entry.0 last d key entry.2 (are.paths s shows (entry.0, d) entry.1)
 
   -- what a walk came through is put there
-  pub walked_are_paths : (view : View) (there : IsViewThere store view) (start from : Start) (fold : Bool) (prefix : Prefix) (last text : List ℕ) (d : ℕ)
-      → IsKeyOf view start fold prefix last → Leads K T F I store view start fold from.place (text_of from) → text ≡ last
+  pub walked_are_paths : (view : View) (there : IsViewThere store view) (start from : Start) (create fold : Bool) (prefix : Prefix) (last text : List ℕ) (d : ℕ)
+      → IsKeyOf view start fold prefix last → Leads K T F I store view start create fold from.place (text_of from) → text ≡ last
       → reached_at from.place from.behind (length text) ≡ Some d → IsSome (directory_at store (directory_of view from.place))
       → ArePaths K T F I store (after_put prefix d cache)
-  walked_are_paths view there start from fold prefix last text d key leads same reached inside =
+  walked_are_paths view there start from create fold prefix last text d key leads same reached inside =
       let here : IsSome (directory_at store d)
       = subst (λ (x : Standpoint). IsSome (directory_at store (directory_of view x))) (reached_parts from.place from.behind (length text) d reached).1 inside in
       put_are_paths prefix d here
-      (λ s shows. leads_by_walk store view there s shows start from fold prefix last d key leads
+      (λ s shows. leads_by_walk store view there s shows start from create fold prefix last d key leads
       (subst (λ (x : List ℕ). reached_at from.place from.behind (length x) ≡ Some d) same reached) here)
 
-  -- Where the store changes, and its rows stay, and each of its directories is one of what it becomes, each prefix leads
-  -- there still.
-  pub paths_stay : (new : Entries F I) → rows_of new ≡ rows_of store → ((d : ℕ) → IsSome (directory_at store d) → IsSome (directory_at new d))
-      → ArePaths K T F I new cache
+  -- Where the store changes, and its rows stay, and each of its directories is one of what it becomes, with the same shadow,
+  -- each prefix leads there still.
+  pub paths_stay : (new : Entries F I) → rows_of new ≡ rows_of store
+      → ((d : ℕ) → IsSome (directory_at store d) → IsSome (directory_at new d) × (shadow_at new d ≡ shadow_at store d)) → ArePaths K T F I new cache
   paths_stay new rows directories = record {
-    there = λ e among. directories e.1 (are.there e among);
+    there = λ e among. (directories e.1 (are.there e among)).0;
     paths = λ s shows e among.
         let before : State K T F I = record s { objects = objects_of store; rows = rows_of store } in
         let shown : Shows before store = record { objects = refl; rows = refl } in
-        prefix_shown before s (λ d is. is_directory_shown new s shows d (directories d (directory_stored before store shown d is)))
+        prefix_shown before s
+        (λ d is.
+        let stays = directories d (directory_stored before store shown d is) in
+        (is_directory_shown new s shows d stays.0, shadow_shown s new shows d ∙ stays.1 ∙ sym (shadow_shown before store shown d)))
         (sym (shows.rows ∙ rows)) e.0 e.1 (are.paths before shown e among);
   }
 

@@ -4,11 +4,11 @@ use Rattle.std.proofs.lemmas.Bool.Decides.{nat_tests}
 use Rattle.std.proofs.lemmas.List.Elements.{All-nil, All-cons, All-head, All-tail}
 use Rattle.std.specs.Cmp.Derive.Mapped.{pointwise-map}
 use Rattle.std.specs.Cmp.Lexicographic.{pointwise}
-use Rattle.std.specs.Option.{option_map, option_or}
+use Rattle.std.specs.Option.{option_map, option_and_then, option_or}
 use Rattle.ob_model.specs.declared.state.Row.{Row}
 use Rattle.ob_model.specs.Names.{separator, upper, same_name, joined, IsComponent}
-use Rattle.ob_model.specs.State.{State, global_id}
-use Rattle.ob_model.specs.Paths.{InDirectory, IsPath, earliest, found_object}
+use Rattle.ob_model.specs.State.{State, global_id, shadow_of}
+use Rattle.ob_model.specs.Paths.{InDirectory, IsPath, is_none_left, earliest, found, named_object}
 use Rattle.ob_lookup.specs.Prefix.{folded, entry_from, LeadsFrom}
 
 -- the parts of a list that is mapped alike
@@ -83,21 +83,32 @@ module _ {K T F I : Type 0} (s : State K T F I) where
   same_spelled : (name c d : List ℕ) → map upper c ≡ map upper d → same_name true name c ≡ same_name true name d
   same_spelled name c d e = sym (pointwise-map upper eqb name c) ∙ ap (pointwise eqb (map upper name)) e ∙ pointwise-map upper eqb name d
 
-  found_spelled : (d : ℕ) (a b : List ℕ) → map upper a ≡ map upper b → found_object s d a true ≡ found_object s d b true
-  found_spelled d a b e = λ i. option_map (λ (r : Row). r.object) (earliest (filter (λ (r : Row). (r.directory == d) && same_spelled r.name a b e i) s.rows))
+  found_spelled : (d : ℕ) (a b : List ℕ) → map upper a ≡ map upper b → found s d a true ≡ found s d b true
+  found_spelled d a b e = λ i. earliest (filter (λ (r : Row). (r.directory == d) && same_spelled r.name a b e i) s.rows)
+
+  named_spelled : (d : ℕ) (a b : List ℕ) (own : Bool) → map upper a ≡ map upper b → named_object s d a own true ≡ named_object s d b own true
+  named_spelled d a b true e = λ i. option_map (λ (r : Row). r.object) (found_spelled d a b e i)
+  named_spelled d a b false e = λ i. option_map (λ (r : Row). r.object) (option_or (found_spelled d a b e i) (option_and_then (λ shadow. found_spelled shadow a b e i) (shadow_of s d)))
 
   entry_spelled : (in_view : Bool) (d : ℕ) (a b : List ℕ) → map upper a ≡ map upper b → entry_from s in_view d a true ≡ entry_from s in_view d b true
-  entry_spelled false d a b e = found_spelled d a b e
-  entry_spelled true d a b e = λ i. option_or (found_spelled d a b e i) (found_spelled global_id a b e i)
+  entry_spelled false d a b e = named_spelled d a b false e
+  entry_spelled true d a b e = λ i. option_or (named_spelled d a b false e i) (named_spelled global_id a b false e i)
 
-  path_spelled : (m : ℕ) (cs ds : List (List ℕ)) (o : ℕ) → map (map upper) cs ≡ map (map upper) ds → IsPath s (InDirectory m) cs true o → IsPath s (InDirectory m) ds true o
+  -- as many are left
+  left_spelled : (cs ds : List (List ℕ)) → map (map upper) cs ≡ map (map upper) ds → is_none_left cs ≡ is_none_left ds
+  left_spelled [] [] e = refl
+  left_spelled [] (d ∷ ds) e = cc
+  left_spelled (c ∷ cs) [] e = cc
+  left_spelled (c ∷ cs) (d ∷ ds) e = refl
+
+  path_spelled : (m : ℕ) (cs ds : List (List ℕ)) (o : ℕ) → map (map upper) cs ≡ map (map upper) ds → IsPath s (InDirectory m) cs false true o → IsPath s (InDirectory m) ds false true o
   path_spelled m [] [] o e path = path
   path_spelled m [] (d ∷ ds) o e path = cc
   path_spelled m (c ∷ cs) [] o e path = cc
   path_spelled m (c ∷ cs) (d ∷ ds) o e path =
       let head : map upper c ≡ map upper d = cc in
       let tail : map (map upper) cs ≡ map (map upper) ds = cc in
-      (path.0, path.1, sym (found_spelled m c d head) ∙ path.2, path_spelled path.0 cs ds o tail path.3)
+      (path.0, path.1, ap (λ b. named_object s m d (b && false) true) (sym (left_spelled cs ds tail)) ∙ sym (named_spelled m c d (is_none_left cs && false) head) ∙ path.2, path_spelled path.0 cs ds o tail path.3)
 
   folded_leads : (in_view : Bool) (place : ℕ) (cs ds : List (List ℕ)) (o : ℕ) → map (map upper) cs ≡ map (map upper) ds
       → LeadsFrom s in_view place cs true o → LeadsFrom s in_view place ds true o

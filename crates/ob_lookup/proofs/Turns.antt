@@ -72,7 +72,7 @@ module _ {K T F I : Type 0} (g : Procedures K T F I) (s : State K T F I) (p : �
   -- what is to be done at a stop
   next_is : (n : ℕ) (stop : Stop) → Meets g s stop → machine.IsNext g s mode n (stop_of stop) (next_at mode n stop)
   next_is n (Missed directory component last) meets = refl
-  next_is n (Directory id) meets = subst (λ (o : Option (Body F I)). MatchOption o ⊥ (λ body. machine.Over (machine.At id) ≡ machine.at_body g mode id body [] n)) (sym meets) refl
+  next_is n (Directory id) meets = subst (λ (o : Option (Body F I)). MatchOption o ⊥ (λ body. machine.Over (machine.At id) ≡ machine.at_body g mode id body [] n)) (sym meets.1) refl
   next_is n (Link id target rest) meets =
       subst (λ (o : Option (Body F I)). MatchOption o ⊥ (λ body. machine.at_link mode id target rest ≡ machine.at_body g mode id body rest n)) (sym meets) refl
   next_is n (Other id rest parses) (face, inner, meets, is) =
@@ -100,13 +100,13 @@ module _ {K T F I : Type 0} (g : Procedures K T F I) (s : State K T F I) (p : �
 
   -- so does a lookup whose walk stops there
   pub looks_by_turn : (n : ℕ) (place : Origin) (text : List ℕ) (stop : Stop) (end : machine.Look)
-      → machine.IsStop s place text mode.fold (stop_of stop) → Meets g s stop
+      → machine.IsStop s place text mode.create mode.fold (stop_of stop) → Meets g s stop
       → Goes g s p mode n (turn_at n (next_at mode n stop)) end → machine.Looks g s p mode n place text end
   looks_by_turn zero place text stop end stops meets goes = (stop_of stop, next_at mode zero stop, stops, next_is zero stop meets, ends_last (next_at mode zero stop) end goes)
   looks_by_turn (suc n) place text stop end stops meets goes = (stop_of stop, next_at mode (suc n) stop, stops, next_is (suc n) stop meets, ends_more n (next_at mode (suc n) stop) end goes)
 
   -- with no reparse left it has an end for which memory may be wanted, where the turn there is one
-  pub wants_by_turn : (place : Origin) (text : List ℕ) (stop : Stop) → machine.IsStop s place text mode.fold (stop_of stop) → Meets g s stop
+  pub wants_by_turn : (place : Origin) (text : List ℕ) (stop : Stop) → machine.IsStop s place text mode.create mode.fold (stop_of stop) → Meets g s stop
       → TurnMayWantMemory (turn_at 0 (next_at mode 0 stop)) → (end : machine.Look) × MayWantMemory end × machine.Looks g s p mode 0 place text end
   wants_by_turn place text stop stops meets wants = go (turn_at 0 (next_at mode 0 stop)) refl wants
     where

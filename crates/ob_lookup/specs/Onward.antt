@@ -1,7 +1,8 @@
 -- A walk that goes on behind a part of its text.
 --
 -- Source: this profile.
-use Rattle.std.specs.Prelude.{◌≡◌, ◌≢◌, ℕ, ◌==◌, Bool, if◌then◌else◌, List, ◌∷◌, ◌++◌, length, All, Option, None, Some}
+use Rattle.std.specs.Prelude.{◌≡◌, ◌≢◌, ℕ, ◌==◌, Bool, ◌&&◌, if◌then◌else◌, List, [], ◌∷◌, ◌++◌, length, All, Option, None, Some}
+use Rattle.std.specs.Str.{bytes_eq}
 use Rattle.ob_model.specs.Names.{separator, IsSplit}
 use Rattle.ob_model.specs.State.{State}
 use Rattle.ob_model.specs.Paths.{Origin, IsPath, place_behind}
@@ -17,15 +18,16 @@ use Rattle.ob_lookup.specs.Prefix.{IsPrefixOf}
 use Rattle.ob_lookup.specs.Walk.{origin_at, place_of, text_of}
 
 module _ {K T F I : Type 0} where
-  -- components of the text lead from the start to the place, and the rest stands behind them
-  abbrev pub Led : State K T F I → ℕ → Start → Bool → Origin → List ℕ → Type 0
-  Led s p start fold place rest =
-      (cs : List (List ℕ)) × IsSplit (text_of start) cs rest × IsPath s (place_of p start) cs fold (paths.directory_at s place)
+  -- components of the text lead from the start to the place, and the rest stands behind them; the last component of
+  -- a create leads there by own entries
+  abbrev pub Led : State K T F I → ℕ → Start → (create fold : Bool) → Origin → List ℕ → Type 0
+  Led s p start create fold place rest =
+      (cs : List (List ℕ)) × IsSplit (text_of start) cs rest × IsPath s (place_of p start) cs (bytes_eq rest [] && create) fold (paths.directory_at s place)
       × (place_behind (place_of p start) cs (paths.directory_at s place) ≡ place)
 
 -- and so they do in each state that shows the store, for each process of the view
-abbrev pub Leads : (K T F I : Type 0) → Entries F I → View → Start → Bool → Standpoint → List ℕ → Type 0
-Leads K T F I store view start fold place rest = (s : State K T F I) (p : ℕ) → Shows s store → IsViewOf s p view → Led s p start fold (origin_at p place) rest
+abbrev pub Leads : (K T F I : Type 0) → Entries F I → View → Start → (create fold : Bool) → Standpoint → List ℕ → Type 0
+Leads K T F I store view start create fold place rest = (s : State K T F I) (p : ℕ) → Shows s store → IsViewOf s p view → Led s p start create fold (origin_at p place) rest
 
 -- the directory that is the place, where exactly so many bytes are left behind a separator
 abbrev pub reached_at : Standpoint → Option (List ℕ) → ℕ → Option ℕ

@@ -9,7 +9,7 @@ use Rattle.std.specs.Option.{option_or}
 use Rattle.std.specs.Ordering.{eq_of_both, on}
 use Rattle.ob_model.specs.Names.{separator, upper, joined, IsComponent}
 use Rattle.ob_model.specs.State.{State, global_id, is_directory}
-use Rattle.ob_model.specs.Paths.{InDirectory, IsPath, found_object}
+use Rattle.ob_model.specs.Paths.{InDirectory, IsPath, named_object}
 use Rattle.ob_devmap.specs.declared.view.View.{View}
 use Rattle.ob_lookup.specs.declared.prefix.Prefix.{Prefix}
 use Rattle.ob_lookup.specs.declared.start.Standpoint.{Standpoint}
@@ -42,16 +42,16 @@ same_prefix =
     eq_of_both (on (λ (x : Prefix). x.place) nat_eq) (eq_of_both (on (λ (x : Prefix). x.in_view) beq) (eq_of_both (on (λ (x : Prefix). x.fold) beq) (on (λ (x : Prefix). x.bytes.items) (pointwise nat_eq))))
 
 module _ {K T F I : Type 0} (s : State K T F I) where
-  -- the object that a component names in a directory, or in the view whose local directory this is
+  -- the object that a component names by what is seen in a directory, or in the view whose local directory this is
   abbrev pub entry_from : (in_view : Bool) → ℕ → List ℕ → Bool → Option ℕ
-  entry_from false d c fold = found_object s d c fold
-  entry_from true d c fold = option_or (found_object s d c fold) (found_object s global_id c fold)
+  entry_from false d c fold = named_object s d c false fold
+  entry_from true d c fold = option_or (named_object s d c false fold) (named_object s global_id c false fold)
 
   -- components, of which there are some, lead from there to the object
   abbrev pub LeadsFrom : (in_view : Bool) → ℕ → List (List ℕ) → Bool → ℕ → Type 0
   LeadsFrom in_view d [] fold o = ⊥
   LeadsFrom in_view d (c ∷ cs) fold o =
-      (m : ℕ) × (is_directory s d ≡ true) × (entry_from in_view d c fold ≡ Some m) × IsPath s (InDirectory m) cs fold o
+      (m : ℕ) × (is_directory s d ≡ true) × (entry_from in_view d c fold ≡ Some m) × IsPath s (InDirectory m) cs false fold o
 
   -- the components of the prefix lead from its place to the directory
   abbrev pub LeadsTo : Prefix → ℕ → Type 0

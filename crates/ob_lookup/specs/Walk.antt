@@ -6,11 +6,11 @@
 use Rattle.std.specs.Prelude.{◌≡◌, ℕ, Bool, false, ◌&&◌, nat_eq, if◌then◌else◌, List, [], ◌∷◌, drop, Option, None, Some, codes}
 use Rattle.std.specs.List.{starts_with}
 use Rattle.std.specs.Arc.{arc_value}
-use Rattle.std.specs.Option.{option_map, option_map_or, option_or, unwrap_or}
+use Rattle.std.specs.Option.{option_map, option_and_then, option_map_or, option_or, unwrap_or}
 use Rattle.std.specs.Str.{bytes_eq}
 use Rattle.ob_model.specs.declared.state.Body.TheVariants as model
 use Rattle.ob_model.specs.Names.{separator, begins_with_separator}
-use Rattle.ob_model.specs.State.{State, root_id, body_of}
+use Rattle.ob_model.specs.State.{State, root_id, body_of, shadow_in}
 use Rattle.ob_model.specs.Paths.{Origin, is_one_component}
 use Rattle.ob_model.specs.Paths as paths
 use Rattle.ob_model.specs.Procedures.{Procedures}
@@ -20,7 +20,7 @@ use Rattle.ob_dirs.specs.declared.entry.DirEntry.{DirEntry}
 use Rattle.ob_dirs.specs.Dir.{entry_found}
 use Rattle.ob_objects.specs.declared.object.StoredBody.{StoredBody}
 use Rattle.ob_objects.specs.declared.object.StoredBody.TheVariants as stored
-use Rattle.ob_objects.specs.Store.{Entries, stored_at}
+use Rattle.ob_objects.specs.Store.{Entries, stored_at, body_of_stored, entries_at}
 use Rattle.ob_lookup.specs.declared.start.Standpoint.{Standpoint}
 use Rattle.ob_lookup.specs.declared.start.Standpoint.TheVariants.{InDirectory, InView}
 use Rattle.ob_lookup.specs.declared.start.Start.{Start}
@@ -77,11 +77,22 @@ absolute_origin view p create text =
 abbrev pub object_in : List DirEntry → List ℕ → Bool → Option ℕ
 object_in entries component fold = option_map (λ e. e.object) (entry_found entries component fold)
 
--- the object that it names at a place whose directory has these entries, with those of the global
--- directory: a view searches both
-abbrev pub object_at : Standpoint → List DirEntry → List DirEntry → List ℕ → Bool → Option ℕ
-object_at (InDirectory id) entries global component fold = object_in entries component fold
-object_at InView entries global component fold = option_or (object_in entries component fold) (object_in global component fold)
+-- the shadow of a directory of the store, where it has one
+abbrev pub shadow_at : {F I : Type 0} → Entries F I → ℕ → Option ℕ
+shadow_at store d = option_and_then (λ x. shadow_in (body_of_stored x.body)) (stored_at store d)
+
+-- the object that it names in a directory with these entries and this shadow: by its own entries, or else, but where own
+-- entries alone are asked for, by those of the shadow
+abbrev pub object_seen : {F I : Type 0} → Entries F I → List DirEntry → Option ℕ → List ℕ → (own fold : Bool) → Option ℕ
+object_seen store entries shadow component own fold =
+    option_or (object_in entries component fold) (if own then None else option_and_then (λ d. object_in (entries_at store d) component fold) shadow)
+
+-- the object that it names at a place whose directory has these entries and this shadow: a view searches the global
+-- directory too
+abbrev pub object_at : {F I : Type 0} → Entries F I → View → Standpoint → List DirEntry → Option ℕ → List ℕ → (own fold : Bool) → Option ℕ
+object_at store view (InDirectory id) entries shadow component own fold = object_seen store entries shadow component own fold
+object_at store view InView entries shadow component own fold =
+    option_or (object_seen store entries shadow component own fold) (object_seen store (entries_at store view.global) (shadow_at store view.global) component own fold)
 
 -- where a walk stopped
 abbrev pub stop_of : Stop → machine.Stop
@@ -93,7 +104,7 @@ stop_of (Other id rest parses) = machine.Reached id rest
 -- the object that was reached is, in the state, what the stop says
 abbrev pub Meets : {K T F I : Type 0} → Procedures K T F I → State K T F I → Stop → Type 0
 Meets g s (Missed directory component last) = Unit {0}
-Meets g s (Directory id) = body_of s id ≡ Some model.Directory
+Meets g s (Directory id) = (shadow : Option ℕ) × (body_of s id ≡ Some (model.Directory shadow))
 Meets g s (Link id target rest) = body_of s id ≡ Some (model.Link target)
 Meets {F = F} {I = I} g s (Other id rest parses) =
     (face : F) × (inner : I) × (body_of s id ≡ Some (model.Other face inner)) × (parses ≡ g.parses (g.kind_of face))
@@ -101,7 +112,7 @@ Meets {F = F} {I = I} g s (Other id rest parses) =
 module _ {K T F I : Type 0} (g : Procedures K T F I) where
   -- an object's kind parses
   abbrev pub parses_in : StoredBody F I → Bool
-  parses_in (stored.Directory entries) = false
+  parses_in (stored.Directory entries shadow) = false
   parses_in (stored.Link target) = false
   parses_in (stored.Other face inner) = g.parses (g.kind_of (arc_value face))
 

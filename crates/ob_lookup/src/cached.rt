@@ -114,7 +114,7 @@ fn look_from_cached<'a, T: TypeSet>(
 {
     at_stop(
         alloc,
-        walk_cached(alloc, cache, store, view, start, mode.fold),
+        walk_cached(alloc, cache, store, view, start, mode.create, mode.fold),
         mode,
         left,
     )
@@ -127,6 +127,7 @@ fn walk_cached<'a, 's, T: TypeSet>(
     store: &'s Store<T>,
     view: &View,
     start: Start<'a>,
+    create: bool,
     fold: bool,
 ) -> Stop<'a, 's>
     requires closed { IsClosed store.now }
@@ -135,13 +136,13 @@ fn walk_cached<'a, 's, T: TypeSet>(
     requires paths { ArePaths T.Kind T T.Face T.Inner store.now cache.old }
     ensures stop { (s : State T.Kind T T.Face T.Inner) (p : ℕ) → Shows s store.now
         → IsViewOf s p view.now
-        → IsStop s (place_of p start.entry) (text_of start.entry) fold (stop_of result) }
+        → IsStop s (place_of p start.entry) (text_of start.entry) create fold (stop_of result) }
     ensures meets { (s : State T.Kind T T.Face T.Inner) → Shows s store.now
         → Meets T.procedures s result }
     ensures paths { ArePaths T.Kind T T.Face T.Inner store.now cache.new }
 {
-    let from = onward(alloc, cache, store, view, start, fold);
-    walk(store, view, from, fold)
+    let from = onward(alloc, cache, store, view, start, create, fold);
+    walk(store, view, from, create, fold)
 }
 
 /// Looks up a text that a reparse made, by the cache. What is left of it then has bytes of its own.

@@ -5,7 +5,8 @@ ghost use Rattle.std.specs.Prelude.{All, IsOk, IsSome, IfOk, IfErr, OnErr, false
 ghost use Rattle.std.specs.List.{find, list_any};
 ghost use Rattle.std.specs.Option.{is_some, option_and_then, option_copied, option_map, option_map_or};
 ghost use Rattle.ob_model.specs.Enumeration.{enumerated};
-ghost use Rattle.ob_model.specs.State.{State, is_directory_body};
+ghost use Rattle.ob_model.specs.Settle.{has_shadow};
+ghost use Rattle.ob_model.specs.State.{State, is_directory_body, shadow_in};
 ghost use Rattle.ob_objects.specs.Store.{IsStore, Shows, stored_at, directory_of, directory_at, entries_in, entries_at, place_at, objects_of, rows_of};
 ghost use Rattle.ob_objects.specs.Listing.{page_given};
 ghost use Rattle.ob_objects.specs.Named.{row_of_named};
@@ -36,8 +37,9 @@ use std::marker::Model;
 /// A store, with a cache of prefixes by which names are looked up in it: each leads to its directory in the store as it is.
 /// A contract sees it as the store alone, so that nothing that it answers tells whether the cache was of use.
 ///
-/// A directory that goes empties the cache, or loses its name; and so does a name that comes while a prefix of a view is there
-/// whose local directory is another than `\GLOBAL??`, since a name there stands before one of `\GLOBAL??`. All else keeps it: a
+/// These empty the cache: a directory is removed, or loses its name; a name comes into a directory that has a shadow, since it may
+/// stand before one of the shadow; and a name comes while a prefix of a view is there whose local directory is another than
+/// `\GLOBAL??`, since it may stand before one of `\GLOBAL??`. All else keeps it: a
 /// lookup, an object that comes, with a name or without, one that goes and is no directory, with its name, an object that is
 /// opened, closed, or made permanent or temporary. Each method does what that of [`Store`] of the same name does, under its
 /// clauses.
@@ -128,6 +130,25 @@ impl<T: TypeSet> CachedStore<T> {
             (find (λ object. object.id == id) (objects_of self.now)) false }
     {
         self.store.is_directory(id)
+    }
+
+    /// The shadow of a directory: `None` where the object isn't there, is no directory, or has no shadow. It takes no memory.
+    ///
+    /// Source: Windows Internals, Object Manager (shadow directories).
+    pub fn shadow_of(&self, id: ObjId) -> Option<ObjId>
+        ensures { result ≡ option_and_then (λ object. shadow_in object.body)
+            (find (λ object. object.id == id) (objects_of self.now)) }
+    {
+        self.store.shadow_of(id)
+    }
+
+    /// Whether an object is the shadow of a directory. It takes no memory, and a time that doesn't grow with the directories.
+    ///
+    /// Source: Windows Internals, Object Manager (shadow directories).
+    pub fn is_shadow(&self, id: ObjId) -> bool
+        ensures { result ≡ list_any (λ object. has_shadow id object.body) (objects_of self.now) }
+    {
+        self.store.is_shadow(id)
     }
 
     /// Whether an object is there and is permanent. Takes no memory.
@@ -283,7 +304,7 @@ impl<T: TypeSet> CachedStore<T> {
         let _ = self.store.len();
         self.store.insert_name(directory, stamp, name, object)?;
         let _ = self.store.len();
-        if self.cache.may_be_local() {
+        if self.cache.may_be_local() || self.store.shadow_of(directory).is_some() {
             self.cache.clear();
         }
         Ok(())
@@ -358,7 +379,7 @@ fn is_directory<F, I>(taken: &Option<StoredObject<F, I>>) -> bool
     ensures { result ≡ is_some (option_and_then (λ stored. directory_of stored.body) taken.now) }
 {
     match taken {
-        Some(stored) => matches!(stored.body, StoredBody::Directory(_)),
+        Some(stored) => matches!(stored.body, StoredBody::Directory(..)),
         None => false,
     }
 }

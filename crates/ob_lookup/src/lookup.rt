@@ -33,6 +33,9 @@ use std::alloc::{AllocError, Global};
 /// - A create of `\??\` and one component looks in the local directory alone, so that it may put a name
 ///   there that is in the global one.
 ///
+/// A component for which a directory has no entry is searched for in the directory's shadow, if it has one, but not the
+/// last component of a create, so that it may put a name there that is in the shadow.
+///
 /// The refusals:
 ///
 /// - `ObjectPathSyntaxBad`: an absolute name, or a target that is followed, doesn't begin with a
@@ -117,7 +120,12 @@ fn look_from<'a, T: TypeSet>(
     ensures wants { OnErr result
         (WalkMayWantMemory T.procedures store.now view.now mode start.entry) }
 {
-    at_stop(alloc, walk(store, view, start, mode.fold), mode, left)
+    at_stop(
+        alloc,
+        walk(store, view, start, mode.create, mode.fold),
+        mode,
+        left,
+    )
 }
 
 /// Looks up a text that a reparse made. What is left of it then has bytes of its own.

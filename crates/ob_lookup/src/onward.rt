@@ -6,12 +6,12 @@ ghost use Rattle.ob_objects.specs.Store.{IsStore, directory_at};
 ghost use Rattle.ob_lookup.specs.Cache.{ArePaths};
 ghost use Rattle.ob_lookup.specs.Closed.{IsClosed, IsViewThere};
 ghost use Rattle.ob_lookup.specs.Onward.{Leads, reached_at, IsCutAt};
-ghost use Rattle.ob_lookup.specs.Walk.{directory_of, text_of};
+ghost use Rattle.ob_lookup.specs.Walk.{directory_of, shadow_at, text_of};
 
 use crate::cache::Cache;
 use crate::prefix::Prefix;
 use crate::start::{Standpoint, Start, directory_of};
-use crate::walk::{behind_separator, body, directory, named_at};
+use crate::walk::{behind_separator, body, directory, is_own, named_at};
 use ob_base::ObjId;
 use ob_devmap::View;
 use ob_dirs::Dir;
@@ -30,6 +30,7 @@ pub(crate) fn onward<'a, T: TypeSet>(
     store: &Store<T>,
     view: &View,
     start: Start<'a>,
+    create: bool,
     fold: bool,
 ) -> Start<'a>
     requires closed { IsClosed store.now }
@@ -37,7 +38,7 @@ pub(crate) fn onward<'a, T: TypeSet>(
     requires directory { IsSome (directory_at store.now (directory_of view.now start.place)) }
     requires paths { ArePaths T.Kind T T.Face T.Inner store.now cache.old }
     ensures directory { IsSome (directory_at store.now (directory_of view.now result.place)) }
-    ensures leads { Leads T.Kind T T.Face T.Inner store.now view.now start.entry fold
+    ensures leads { Leads T.Kind T T.Face T.Inner store.now view.now start.entry create fold
         result.place (text_of result) }
     ensures paths { ArePaths T.Kind T T.Face T.Inner store.now cache.new }
 {
@@ -54,7 +55,7 @@ pub(crate) fn onward<'a, T: TypeSet>(
         };
     }
     let left = last.as_slice().len();
-    let reached = to_last(store, view, start, left, fold);
+    let reached = to_last(store, view, start, left, create, fold);
     if let Some(directory) = directory_reached(&reached, left) {
         // where there is no memory for it, the answer is given without it
         drop(cache.put(prefix, directory));
@@ -94,43 +95,52 @@ fn to_last<'a, T: TypeSet>(
     view: &View,
     start: Start<'a>,
     last: usize,
+    create: bool,
     fold: bool,
 ) -> Start<'a>
     requires closed { IsClosed store.now }
     requires view { IsViewThere store.now view.now }
     requires directory { IsSome (directory_at store.now (directory_of view.now start.place)) }
     ensures directory { IsSome (directory_at store.now (directory_of view.now result.place)) }
-    ensures leads { Leads T.Kind T T.Face T.Inner store.now view.now start.entry fold
+    ensures leads { Leads T.Kind T T.Face T.Inner store.now view.now start.entry create fold
         result.place (text_of result) }
 {
     let mut at = start;
-    let mut dir = directory(store, directory_of(view, &at.place));
-    while let Some((next, entries)) = into_directory(store, view, &at, dir, last, fold) {
+    let (mut dir, mut shadow) = directory(store, directory_of(view, &at.place));
+    while let Some((next, entries, beneath)) = into_directory(
+        store, view, &at, dir, shadow, last, create, fold,
+    ) {
         at = next;
         dir = entries;
+        shadow = beneath;
     }
     at
 }
 
-/// One component further, where more is left than so many bytes, and it names a directory: with the entries of this. None
-/// where it doesn't.
+/// One component further, where more is left than so many bytes, and it names a directory: with the entries of this, and its
+/// shadow, where it has one. None where it doesn't.
 fn into_directory<'a, 's, T: TypeSet>(
     store: &'s Store<T>,
     view: &View,
     at: &Start<'a>,
     dir: &Dir,
+    shadow: Option<ObjId>,
     last: usize,
+    create: bool,
     fold: bool,
-) -> Option<(Start<'a>, &'s Dir)>
+) -> Option<(Start<'a>, &'s Dir, Option<ObjId>)>
     requires closed { IsClosed store.now }
     requires view { IsViewThere store.now view.now }
     requires store { IsStore store.now }
     requires directory { directory_at store.now (directory_of view.now at.now.place)
         ≡ Some dir.now }
+    requires shadow { shadow_at store.now (directory_of view.now at.now.place) ≡ shadow }
     ensures directory { IfSome result (λ next.
         directory_at store.now (directory_of view.now next.0.place) ≡ Some next.1.now) }
+    ensures shadow { IfSome result (λ next.
+        shadow_at store.now (directory_of view.now next.0.place) ≡ next.2) }
     ensures leads { IfSome result (λ next.
-        Leads T.Kind T T.Face T.Inner store.now view.now at.now fold
+        Leads T.Kind T T.Face T.Inner store.now view.now at.now create fold
         next.0.place (text_of next.0)) }
     ensures shorter { IfSome result (λ next. length (text_of next.0) < length (text_of at.now)) }
 {
@@ -144,17 +154,19 @@ fn into_directory<'a, 's, T: TypeSet>(
     let Component::One { name, rest } = first(text) else {
         return None;
     };
-    let Some(object) = named_at(store, view, &at.place, dir, name, fold) else {
+    let is_last = rest.is_empty();
+    let own = is_own(is_last, create);
+    let Some(object) = named_at(store, view, &at.place, dir, shadow, name, own, fold) else {
         return None;
     };
-    let StoredBody::Directory(entries) = body(store, object) else {
+    let StoredBody::Directory(entries, beneath) = body(store, object) else {
         return None;
     };
     let next = Start {
         place: Standpoint::InDirectory(object),
         behind: behind_separator(Name::new(rest)),
     };
-    Some((next, entries))
+    Some((next, entries, *beneath))
 }
 
 /// The directory that a walk has come to, where exactly so many bytes are left behind a separator.

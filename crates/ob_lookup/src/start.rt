@@ -185,7 +185,7 @@ fn is_parsing<T: TypeSet>(store: &Store<T>, id: ObjId) -> bool
         return false;
     };
     match &object.body {
-        StoredBody::Directory(_) | StoredBody::Link(_) => false,
+        StoredBody::Directory(..) | StoredBody::Link(_) => false,
         StoredBody::Other { face, .. } => T::parses(T::kind_of(face)),
     }
 }
@@ -219,7 +219,7 @@ fn is_directory<T: TypeSet>(store: &Store<T>, id: ObjId) -> bool
     ensures { result ≡ is_some (directory_at store.now id) }
 {
     match store.get(id) {
-        Some(object) => matches!(object.body, StoredBody::Directory(_)),
+        Some(object) => matches!(object.body, StoredBody::Directory(..)),
         None => false,
     }
 }

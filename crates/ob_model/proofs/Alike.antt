@@ -37,7 +37,7 @@ use Rattle.ob_model.specs.Creates.{Making, is_fit, create_mode, type_made, Spot,
 use Rattle.ob_model.specs.Naming.{IsWayUp, path_text, path_answer, target_of, TellsName, TellsTarget}
 use Rattle.ob_model.specs.Enumeration.{enumerated, context_used, page_answer}
 use Rattle.ob_model.specs.Processes.{values_in, is_crowded, begun, Duplicates, MakesChild}
-use Rattle.ob_model.specs.Step.{WithHandle, WithRoot, CreatesIn, CreatesAt, OpensName, Closes, QueriesLink, QueriesName, Turns, SetsMap, page_refusals, TellsPage, QueriesDirectory}
+use Rattle.ob_model.specs.Step.{shadow_refusals, WithShadow, WithHandle, WithRoot, CreatesIn, CreatesAt, OpensName, Closes, QueriesLink, QueriesName, Turns, SetsMap, page_refusals, TellsPage, QueriesDirectory}
 use Rattle.ob_model.specs.Sound.{IsSound}
 use Rattle.ob_model.specs.Alike.{unvalued_handle, unvalued_answer, AreAlikeAnswers, is_named, unvalued, handle_given, process_given, AreAlike, LeadAlike, LeadOn, HoldOn, AreAlikeRoots, no_root, roots, AreAlikePlaces, no_name, names}
 use Rattle.ob_model.proofs.Lookup.{looks_up_unique}
@@ -231,6 +231,17 @@ module _ {K T F I : Type 0} (g : Procedures K T F I) (s t : State K T F I) (alik
       found_handle_alike p value second (λ x. DoesS (Some x.object)) (λ y. DoesT (Some y.object)) lead
       (λ x y one two same h k. does (Some x.object) h (subst (λ (z : Held). DoesT (Some z.object)) (sym same) k)) h k
 
+  using_shadow_alike : (p : ℕ) (shadow other : Option ℕ) (DoesS DoesT : Option ℕ → Type 0) → AreAlikeRoots s t p shadow other
+      → ((d : Option ℕ) → DoesS d → DoesT d → EndAlike)
+      → WithShadow s p shadow a u DoesS → WithShadow t p other b v DoesT → EndAlike
+  using_shadow_alike p shadow other DoesS DoesT no_root does h k = does None h k
+  using_shadow_alike p shadow other DoesS DoesT (roots {value = value} {other = second} lead) does h k =
+      found_handle_alike p value second (λ x. Unless (shadow_refusals s x.object) s a u (DoesS (Some x.object))) (λ y. Unless (shadow_refusals t y.object) t b v (DoesT (Some y.object))) lead
+      (λ x y one two same h k.
+      unless_alike (shadow_refusals s x.object) (shadow_refusals t x.object) (DoesS (Some x.object)) (DoesT (Some x.object))
+      (ap (λ (z : State K T F I). shadow_refusals z x.object) alike) (does (Some x.object)) h
+      (subst (λ (z : Held). Unless (shadow_refusals t z.object) t b v (DoesT (Some z.object))) (sym same) k)) h k
+
   -- a handle that is granted
   granted_alike : (o : ℕ) (asked : GrantOptions) (reason : Reason) (status : Status) (one other : Result ℕ Status) (u_granted v_granted : State K T F I)
       → Grants g s r o asked reason one u_granted
@@ -364,15 +375,23 @@ module _ {K T F I : Type 0} (g : Procedures K T F I) (s t : State K T F I) (alik
       (looks_up-valued g s p mode n at name other
       (subst (λ x. LooksUp g x p mode n at name other) (sym alike) (looks_up-unvalued g t p mode n at name other k))) h
 
-  creates_in_alike : (where_to where_else : Place) (attrs : ℕ) (making : Making K) → AreAlikePlaces s t r where_to where_else
-      → CreatesIn g s r where_to attrs making a u → CreatesIn g t r where_else attrs making b v → EndAlike
-  creates_in_alike where_to where_else attrs making no_name h k = makes_alike attrs making None h k
-  creates_in_alike where_to where_else attrs making (names {root = root} {other = other} {name = name} same) h k =
-      using_root_alike r root other
-      (λ at. (look : Look) × LooksUp g s r (create_mode attrs) most_reparses at name look × Creates g s r attrs making look a u)
-      (λ at. (look : Look) × LooksUp g t r (create_mode attrs) most_reparses at name look × Creates g t r attrs making look b v) same
-      (λ at x y. creates_alike attrs making x.0 x.2
-      (subst (λ look. Creates g t r attrs making look b v) (look_alike r (create_mode attrs) most_reparses at name x.0 y.0 x.1 y.1) y.2)) h k
+  creates_in_alike : (where_to where_else : Place) (attrs : ℕ) (shadow second : Option ℕ) (making : Option ℕ → Making K) → AreAlikePlaces s t r where_to where_else
+      → AreAlikeRoots s t r shadow second → CreatesIn g s r where_to attrs shadow making a u → CreatesIn g t r where_else attrs second making b v → EndAlike
+  creates_in_alike where_to where_else attrs shadow second making no_name shadows h k =
+      using_shadow_alike r shadow second (λ d. Makes g s r attrs (making d) None a u) (λ d. Makes g t r attrs (making d) None b v) shadows (λ d. makes_alike attrs (making d) None) h k
+  creates_in_alike where_to where_else attrs shadow second making (names {root = root} {other = other} {name = name} same) shadows h k =
+      using_root_alike r root other (λ at. WithShadow s r shadow a u (DoesS at)) (λ at. WithShadow t r second b v (DoesT at)) same
+      (λ at.
+      using_shadow_alike r shadow second (DoesS at) (DoesT at) shadows
+      (λ d x y.
+      creates_alike attrs (making d) x.0 x.2
+      (subst (λ look. Creates g t r attrs (making d) look b v) (look_alike r (create_mode attrs) most_reparses at name x.0 y.0 x.1 y.1) y.2))) h k
+    where
+      DoesS : Option ℕ → Option ℕ → Type 0
+      DoesS at d = (look : Look) × LooksUp g s r (create_mode attrs) most_reparses at name look × Creates g s r attrs (making d) look a u
+
+      DoesT : Option ℕ → Option ℕ → Type 0
+      DoesT at d = (look : Look) × LooksUp g t r (create_mode attrs) most_reparses at name look × Creates g t r attrs (making d) look b v
 
   create_refusals_alike : (where_to where_else : Place) (fit : Bool) (attrs : ℕ) → AreAlikePlaces s t r where_to where_else
       → create_refusals (is_live s r) fit where_to attrs ≡ create_refusals (is_live t r) fit where_else attrs
@@ -380,12 +399,12 @@ module _ {K T F I : Type 0} (g : Procedures K T F I) (s t : State K T F I) (alik
   create_refusals_alike where_to where_else fit attrs (names {root = root} {other = other} {name = name} same) =
       ap (λ live. create_refusals live fit (place.At root name) attrs) (is_live_alike r)
 
-  pub creates_at_alike : (where_to where_else : Place) (attrs : ℕ) (making : Making K) → AreAlikePlaces s t r where_to where_else
-      → CreatesAt g s r where_to attrs making a u → CreatesAt g t r where_else attrs making b v → EndAlike
-  creates_at_alike where_to where_else attrs making same h k =
-      unless_alike (create_refusals (is_live s r) (is_fit making) where_to attrs) (create_refusals (is_live t r) (is_fit making) where_else attrs)
-      (CreatesIn g s r where_to attrs making a u) (CreatesIn g t r where_else attrs making b v)
-      (create_refusals_alike where_to where_else (is_fit making) attrs same) (creates_in_alike where_to where_else attrs making same) h k
+  pub creates_at_alike : (where_to where_else : Place) (attrs : ℕ) (shadow second : Option ℕ) (making : Option ℕ → Making K) → AreAlikePlaces s t r where_to where_else
+      → AreAlikeRoots s t r shadow second → CreatesAt g s r where_to attrs shadow making a u → CreatesAt g t r where_else attrs second making b v → EndAlike
+  creates_at_alike where_to where_else attrs shadow second making same shadows h k =
+      unless_alike (create_refusals (is_live s r) (is_fit (making None)) where_to attrs) (create_refusals (is_live t r) (is_fit (making None)) where_else attrs)
+      (CreatesIn g s r where_to attrs shadow making a u) (CreatesIn g t r where_else attrs second making b v)
+      (create_refusals_alike where_to where_else (is_fit (making None)) attrs same) (creates_in_alike where_to where_else attrs shadow second making same shadows) h k
 
   pub opens_name_alike : (root other : Option ℕ) (name : List ℕ) (attrs : ℕ) (wanted : Wanted K) → AreAlikeRoots s t r root other
       → OpensName g s r root name attrs wanted a u → OpensName g t r other name attrs wanted b v → EndAlike

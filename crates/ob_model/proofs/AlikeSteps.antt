@@ -5,7 +5,7 @@ use Rattle.ob_base.specs.declared.status.Status.TheVariants.{Success, ProcessGon
 use Rattle.ob_model.specs.declared.command.Place.{Place}
 use Rattle.ob_model.specs.declared.command.Place.TheVariants as place
 use Rattle.ob_model.specs.declared.command.Command.{Command}
-use Rattle.ob_model.specs.declared.command.Command.TheVariants.{CreateDirectory, CreateLink, CreateObject, OpenDirectory, OpenLink, OpenObject, Close, QueryLink, QueryName, QueryDirectory, Duplicate, MakeTemporary, MakePermanent, SetDeviceMap, NewProcess, ExitProcess}
+use Rattle.ob_model.specs.declared.command.Command.TheVariants.{CreateDirectory, CreateShadowed, CreateLink, CreateObject, OpenDirectory, OpenLink, OpenObject, Close, QueryLink, QueryName, QueryDirectory, Duplicate, MakeTemporary, MakePermanent, SetDeviceMap, NewProcess, ExitProcess}
 use Rattle.ob_model.specs.declared.reply.Answer.{Answer}
 use Rattle.ob_model.specs.declared.reply.Event.TheVariants.{Start}
 use Rattle.ob_model.specs.declared.state.Wanted.TheVariants as wanted
@@ -18,7 +18,7 @@ use Rattle.ob_model.specs.Creates.{MakesDirectory, MakesLink, MakesObject}
 use Rattle.ob_model.specs.Processes.{ended}
 use Rattle.ob_model.specs.Step.{Step}
 use Rattle.ob_model.specs.Sound.{IsSound}
-use Rattle.ob_model.specs.Alike.{AreAlikeAnswers, AreAlike, LeadOn, HoldOn, IsClosedBy, receiver, AreAlikeRoots, no_root, roots, AreAlikePlaces, no_name, names, AreAlikeCommands, create_directories, create_links, create_objects, open_directories, open_links, open_objects, closes, queries_of_links, queries_of_names, queries_of_directories, duplicates, temporaries, permanents, device_maps, new_processes, exits}
+use Rattle.ob_model.specs.Alike.{AreAlikeAnswers, AreAlike, LeadOn, HoldOn, IsClosedBy, receiver, AreAlikeRoots, no_root, roots, AreAlikePlaces, no_name, names, AreAlikeCommands, create_directories, create_shadowed, create_links, create_objects, open_directories, open_links, open_objects, closes, queries_of_links, queries_of_names, queries_of_directories, duplicates, temporaries, permanents, device_maps, new_processes, exits}
 use Rattle.ob_model.proofs.Alike.{ends_alike, settle_alike, unless_alike, is_live_alike, creates_at_alike, opens_name_alike, closes_alike, queries_link_alike, queries_name_alike, queries_directory_alike, turns_alike, sets_map_alike, duplicates_alike, makes_child_alike}
 use Rattle.ob_model.proofs.AlikeLeads.{lead_on_with_nothing}
 use Rattle.ob_model.proofs.AlikeHeld.{hold_on_with_nothing, ended_held}
@@ -33,11 +33,13 @@ module _ {K T F I : Type 0} where
       → IsSound s → IsSound t → AreAlike s t → AreAlikeCommands s t p one other → Step g s (Start p one) a u → Step g t (Start p other) b v
       → AreAlikeAnswers a b × AreAlike u v × LeadOn s t p (receiver p one) a b u v × HoldOn s (IsClosedBy p one) (receiver p one) a u
   steps_alike g s t p one other a b u v s_sound t_sound alike (create_directories {place = place} {other = elsewhere} {attrs = attrs} same) h k =
-      creates_at_alike g s t alike a b u v p p none place elsewhere attrs MakesDirectory same h k
+      creates_at_alike g s t alike a b u v p p none place elsewhere attrs None None MakesDirectory same no_root h k
+  steps_alike g s t p one other a b u v s_sound t_sound alike (create_shadowed {place = place} {other = elsewhere} {attrs = attrs} {shadow = shadow} {same = second} same lead) h k =
+      creates_at_alike g s t alike a b u v p p none place elsewhere attrs (Some shadow) (Some second) MakesDirectory same (roots lead) h k
   steps_alike g s t p one other a b u v s_sound t_sound alike (create_links {place = place} {other = elsewhere} {attrs = attrs} {target = target} same) h k =
-      creates_at_alike g s t alike a b u v p p none place elsewhere attrs (MakesLink target) same h k
+      creates_at_alike g s t alike a b u v p p none place elsewhere attrs None None (λ shadow. MakesLink target) same no_root h k
   steps_alike g s t p one other a b u v s_sound t_sound alike (create_objects {place = place} {other = elsewhere} {attrs = attrs} {kind = kind} {args = args} same) h k =
-      creates_at_alike g s t alike a b u v p p none place elsewhere attrs (MakesObject kind args) same h k
+      creates_at_alike g s t alike a b u v p p none place elsewhere attrs None None (λ shadow. MakesObject kind args) same no_root h k
   steps_alike g s t p one other a b u v s_sound t_sound alike (open_directories {root = root} {other = second} {name = name} {attrs = attrs} same) h k =
       opens_name_alike g s t alike a b u v p p none root second name attrs wanted.Directory same h k
   steps_alike g s t p one other a b u v s_sound t_sound alike (open_links {root = root} {other = second} {name = name} {attrs = attrs} same) h k =
@@ -90,6 +92,7 @@ module _ {K T F I : Type 0} where
 
   command_itself : (s : State K T F I) (p : ℕ) (c : Command K) → AreAlikeCommands s s p c c
   command_itself s p (CreateDirectory where_to attrs) = create_directories (place_itself s p where_to)
+  command_itself s p (CreateShadowed where_to attrs shadow) = create_shadowed (place_itself s p where_to) refl
   command_itself s p (CreateLink where_to attrs target) = create_links (place_itself s p where_to)
   command_itself s p (CreateObject where_to attrs kind args) = create_objects (place_itself s p where_to)
   command_itself s p (OpenDirectory root name attrs) = open_directories (roots_itself s p root)

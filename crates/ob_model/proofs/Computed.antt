@@ -7,33 +7,33 @@ use Rattle.std.proofs.lemmas.Bool.{and_parts}
 use Rattle.std.proofs.lemmas.Bool.Decides.{nat_tests}
 use Rattle.std.proofs.lemmas.List.Sums.{AllPass-from_list_all}
 use Rattle.std.proofs.lemmas.List.Elements.{All-nil, All-weaker}
-use Rattle.ob_model.specs.State.{State, root_id, global_id, object_of, is_directory, is_live}
+use Rattle.ob_model.specs.State.{State, root_id, global_id, object_of, is_directory, shadow_in, shadow_of, is_live}
 use Rattle.ob_model.specs.Procedures.{Procedures}
 use Rattle.ob_model.specs.declared.terms.Mode.{Mode}
 use Rattle.ob_model.specs.Looks.{Look, LooksUp}
-use Rattle.ob_model.specs.declared.state.Row.{Row}
 use Rattle.ob_model.specs.declared.state.Held.{Held}
 use Rattle.ob_model.specs.declared.state.Pending.{Pending}
 use Rattle.ob_model.specs.Names.{IsComponent}
 use Rattle.ob_model.specs.Closing.{is_handle}
-use Rattle.ob_model.specs.Sound.{IsSound, IsDirectory, Stands, HasSoundMap, is_barred}
+use Rattle.ob_model.specs.Sound.{IsSound, IsDirectory, Stands, IsShadowAmong, HasSoundShadowAmong, HasSoundMap, is_barred}
 use Rattle.ob_model.proofs.Places.{is_component, IsComponent-from_test, do_stand_apart, stand_apart}
-use Rattle.ob_model.proofs.Soundness.{Rise, pairs_rise}
+use Rattle.ob_model.proofs.Soundness.{Climb, pairs_climb}
 use Rattle.ob_model.proofs.Lookup.{looked_up_name, looked_up_name-LooksUp}
 
 less : (a b : ℕ) → nat_lt a b ≡ true → a < b
 less a b e = grind (arith, nat_tests)
 
--- rows rise by stamps
-abbrev pub do_rise : List Row → Bool
-do_rise [] = true
-do_rise (r ∷ []) = true
-do_rise (r ∷ q ∷ rows) = nat_lt r.stamp q.stamp && do_rise (q ∷ rows)
+-- elements rise by a number: rows by stamps, and objects by their own
+module _ {X : Type 0} (number : X → ℕ) where
+  abbrev pub do_rise : List X → Bool
+  do_rise [] = true
+  do_rise (x ∷ []) = true
+  do_rise (x ∷ y ∷ xs) = nat_lt (number x) (number y) && do_rise (y ∷ xs)
 
-rise : (rows : List Row) → do_rise rows ≡ true → Rise rows
-rise [] h = tt
-rise (r ∷ []) h = tt
-rise (r ∷ q ∷ rows) h = let parts = and_parts (nat_lt r.stamp q.stamp) (do_rise (q ∷ rows)) h in (less r.stamp q.stamp parts.0, rise (q ∷ rows) parts.1)
+  rise : (xs : List X) → do_rise xs ≡ true → Climb number xs
+  rise [] h = tt
+  rise (x ∷ []) h = tt
+  rise (x ∷ y ∷ xs) h = let parts = and_parts (nat_lt (number x) (number y)) (do_rise (y ∷ xs)) h in (less (number x) (number y) parts.0, rise (y ∷ xs) parts.1)
 
 is_false : (b : Bool) → not b ≡ true → b ≡ false
 is_false true h = cc
@@ -66,10 +66,23 @@ pairs_of_none : {K : Type 0} (P : Pending K → Pending K → Type 0) (xs : List
 pairs_of_none P [] h = λ i j d less within. absurd (omega (arith, within))
 pairs_of_none P (x ∷ xs) h = cc
 
+-- what isn't there is none
+none_there : (o : Option ℕ) → not (is_some o) ≡ true → o ≡ None
+none_there None h = refl
+none_there (Some n) h = cc
+
 module _ {K T F I : Type 0} where
   abbrev pub is_map_sound : State K T F I → Option ℕ → Bool
   is_map_sound s None = true
   is_map_sound s (Some d) = is_directory s d
+
+  -- a test of the numbers of objects, and of their shadows
+  abbrev pub is_shadow_fit : State K T F I → ℕ → Option ℕ → Bool
+  is_shadow_fit s d None = true
+  is_shadow_fit s d (Some o) = is_directory s o && (nat_lt o d && not (is_some (shadow_of s o)))
+
+  abbrev pub are_numbered : State K T F I → Bool
+  are_numbered s = do_rise (λ x. x.id) s.objects && list_all (λ x. is_shadow_fit s x.id (shadow_in x.body)) s.objects
 
   -- a test of where rows stand, and under which names
   abbrev pub are_placed : State K T F I → Bool
@@ -78,9 +91,9 @@ module _ {K T F I : Type 0} where
   -- a test of the pending opens, of the stamps, of the names in the root and of the processes of handles
   abbrev pub is_orderly : State K T F I → Bool
   is_orderly s =
-      none_pending s.pending && (do_rise s.rows && (list_all (λ r. nat_lt r.stamp s.next_stamp) s.rows
+      none_pending s.pending && (do_rise (λ r. r.stamp) s.rows && (list_all (λ r. nat_lt r.stamp s.next_stamp) s.rows
       && (list_all (λ r. not (is_barred r.directory r.name)) s.rows && (list_all (λ h. is_live s h.process) s.handles
-      && (list_all (λ x. nat_lt x.number s.next_process) s.processes && (do_differ s.handles && are_placed s))))))
+      && (list_all (λ x. nat_lt x.number s.next_process) s.processes && (do_differ s.handles && (are_numbered s && are_placed s)))))))
 
   -- a test of whether a state is sound
   abbrev pub is_sound : State K T F I → Bool
@@ -92,6 +105,13 @@ module _ {K T F I : Type 0} where
   map_sound : (s : State K T F I) (map : Option ℕ) → is_map_sound s map ≡ true → MatchOption map (Unit {0}) (IsDirectory s)
   map_sound s None h = tt
   map_sound s (Some d) h = h
+
+  shadow_fits : (s : State K T F I) (d : ℕ) (shadow : Option ℕ) → is_shadow_fit s d shadow ≡ true → MatchOption shadow (Unit {0}) (IsShadowAmong s.objects d)
+  shadow_fits s d None h = tt
+  shadow_fits s d (Some o) h =
+      let first = and_parts (is_directory s o) _ h in
+      let second = and_parts (nat_lt o d) _ first.1 in
+      (first.0, less o d second.0, none_there (shadow_of s o) second.1)
 
   pub IsSound-from_test : (s : State K T F I) → is_sound s ≡ true → IsSound s
   IsSound-from_test s h =
@@ -109,13 +129,18 @@ module _ {K T F I : Type 0} where
       let twelfth = and_parts _ _ eleventh.1 in
       let thirteenth = and_parts _ _ twelfth.1 in
       let fourteenth = and_parts _ _ thirteenth.1 in
-      let fifteenth = and_parts _ _ fourteenth.1 in
+      let numbered = and_parts _ _ fourteenth.1 in
+      let objects = and_parts _ _ numbered.0 in
+      let fifteenth = and_parts _ _ numbered.1 in
       let sixteenth = and_parts _ _ fifteenth.1 in
       record {
         objects = record {
           root = first.0;
           global = second.0;
           drawn = All-weaker (λ x. nat_lt x.id s.next_id ≡ true) (λ x. x.id < s.next_id) (λ x e. less x.id s.next_id e) s.objects (AllPass-from_list_all (λ x. nat_lt x.id s.next_id) s.objects sixth.0);
+          rising = pairs_climb (λ x. x.id) s.objects (rise (λ x. x.id) s.objects objects.0);
+          shadows = All-weaker (λ x. is_shadow_fit s x.id (shadow_in x.body) ≡ true) (HasSoundShadowAmong s.objects) (λ x e. shadow_fits s x.id (shadow_in x.body) e) s.objects
+              (AllPass-from_list_all (λ x. is_shadow_fit s x.id (shadow_in x.body)) s.objects objects.1);
         };
         processes = record {
           maps = All-weaker (λ x. is_map_sound s x.map ≡ true) (HasSoundMap s) (λ x e. map_sound s x.map e) s.processes (AllPass-from_list_all (λ x. is_map_sound s x.map) s.processes third.0);
@@ -124,7 +149,7 @@ module _ {K T F I : Type 0} where
         rows = record {
           standing = AllPass-from_list_all (λ r. is_some (object_of s r.object)) s.rows fourth.0;
           descending = All-weaker (λ r. nat_lt r.directory r.object ≡ true) (λ r. r.directory < r.object) (λ r e. less r.directory r.object e) s.rows (AllPass-from_list_all (λ r. nat_lt r.directory r.object) s.rows seventh.0);
-          rising = pairs_rise s.rows (rise s.rows ninth.0);
+          rising = pairs_climb (λ r. r.stamp) s.rows (rise (λ r. r.stamp) s.rows ninth.0);
           stamped = All-weaker (λ r. nat_lt r.stamp s.next_stamp ≡ true) (λ r. r.stamp < s.next_stamp) (λ r e. less r.stamp s.next_stamp e) s.rows (AllPass-from_list_all (λ r. nat_lt r.stamp s.next_stamp) s.rows tenth.0);
           inside = AllPass-from_list_all (λ r. is_directory s r.directory) s.rows fifteenth.0;
           named = All-weaker (λ r. is_component r.name ≡ true) (λ r. IsComponent r.name) (λ r e. IsComponent-from_test r.name e) s.rows (AllPass-from_list_all (λ r. is_component r.name) s.rows sixteenth.0);

@@ -8,7 +8,7 @@ use Rattle.ob_base.specs.Attrs.{has_flag, open_if_flag}
 use Rattle.ob_base.specs.Handle.{key_of}
 use Rattle.ob_model.specs.declared.command.Place.{Place}
 use Rattle.ob_model.specs.declared.command.Place.TheVariants as place
-use Rattle.ob_model.specs.declared.command.Command.TheVariants.{CreateDirectory, CreateLink, CreateObject, OpenDirectory, OpenLink, OpenObject, Close, QueryLink, QueryName, QueryDirectory, Duplicate, MakeTemporary, MakePermanent, SetDeviceMap, NewProcess, ExitProcess}
+use Rattle.ob_model.specs.declared.command.Command.TheVariants.{CreateDirectory, CreateShadowed, CreateLink, CreateObject, OpenDirectory, OpenLink, OpenObject, Close, QueryLink, QueryName, QueryDirectory, Duplicate, MakeTemporary, MakePermanent, SetDeviceMap, NewProcess, ExitProcess}
 use Rattle.ob_model.specs.declared.reply.Answer.{Answer}
 use Rattle.ob_model.specs.declared.reply.Event.{Event}
 use Rattle.ob_model.specs.declared.reply.Event.TheVariants.{Start, Resume, Abandon}
@@ -42,7 +42,7 @@ use Rattle.ob_model.specs.Creates.{Making, MakesDirectory, MakesLink, MakesObjec
 use Rattle.ob_model.specs.Naming.{TellsName, TellsTarget}
 use Rattle.ob_model.specs.Enumeration.{enumerated, context_used, page_answer}
 use Rattle.ob_model.specs.Processes.{values_in, is_crowded, begun, ended}
-use Rattle.ob_model.specs.Step.{WithHandle, WithRoot, CreatesIn, CreatesAt, OpensName, Turns, SetsMap, page_refusals, TellsPage, QueriesDirectory, Step}
+use Rattle.ob_model.specs.Step.{WithHandle, WithRoot, shadow_refusals, WithShadow, CreatesIn, CreatesAt, OpensName, Turns, SetsMap, page_refusals, TellsPage, QueriesDirectory, Step}
 use Rattle.ob_model.specs.Run.{Entry, RunFrom}
 use Rattle.ob_model.proofs.Lookup.{Again-unique, looks_unique, looks_up_unique}
 use Rattle.ob_model.proofs.ParseRuns.{parse_unique}
@@ -84,6 +84,17 @@ module _ {K T F I : Type 0} where
           → MatchOption o (IsRefused s InvalidHandle answer u) (λ x. DoesU (Some x.object)) → t ≡ u
       go None h k = refused_end s t u InvalidHandle InvalidHandle answer h k
       go (Some x) h k = does (Some x.object) h k
+
+  -- a step that uses a handle to a shadow
+  with_shadow_end : (s t u : State K T F I) (p : ℕ) (shadow : Option ℕ) (answer : Answer) (DoesT DoesU : Option ℕ → Type 0)
+      → ((d : Option ℕ) → DoesT d → DoesU d → t ≡ u) → WithShadow s p shadow answer t DoesT → WithShadow s p shadow answer u DoesU → t ≡ u
+  with_shadow_end s t u p None answer DoesT DoesU does h k = does None h k
+  with_shadow_end s t u p (Some handle) answer DoesT DoesU does h k = go (option_and_then (held_of s p) (key_of handle)) h k
+    where
+      go : (o : Option Held) → MatchOption o (IsRefused s InvalidHandle answer t) (λ x. Unless (shadow_refusals s x.object) s answer t (DoesT (Some x.object)))
+          → MatchOption o (IsRefused s InvalidHandle answer u) (λ x. Unless (shadow_refusals s x.object) s answer u (DoesU (Some x.object))) → t ≡ u
+      go None h k = refused_end s t u InvalidHandle InvalidHandle answer h k
+      go (Some x) h k = unless_end (shadow_refusals s x.object) s t u answer (DoesT (Some x.object)) (DoesU (Some x.object)) (does (Some x.object)) h k
 
 -- what an answer gives
 abbrev given_in : Answer → Given
@@ -176,20 +187,25 @@ module _ {K T F I : Type 0} (g : Procedures K T F I) where
   OpensLooking s p name attrs wanted answer t at =
       (look : Look) × LooksUp g s p (open_mode wanted attrs) most_reparses at name look × Opens g s p attrs wanted look answer t
 
-  creates_in_end : (s t u : State K T F I) (p : ℕ) (where_to : Place) (attrs : ℕ) (making : Making K) (answer : Answer)
-      → CreatesIn g s p where_to attrs making answer t → CreatesIn g s p where_to attrs making answer u → t ≡ u
-  creates_in_end s t u p (place.At root name) attrs making answer h k =
-      with_root_end s t u p root answer (CreatesLooking s p name attrs making answer t) (CreatesLooking s p name attrs making answer u)
-      (λ at a b.
+  creates_in_end : (s t u : State K T F I) (p : ℕ) (where_to : Place) (attrs : ℕ) (shadow : Option ℕ) (making : Option ℕ → Making K) (answer : Answer)
+      → CreatesIn g s p where_to attrs shadow making answer t → CreatesIn g s p where_to attrs shadow making answer u → t ≡ u
+  creates_in_end s t u p (place.At root name) attrs shadow making answer h k =
+      with_root_end s t u p root answer (λ at. WithShadow s p shadow answer t (λ d. CreatesLooking s p name attrs (making d) answer t at))
+      (λ at. WithShadow s p shadow answer u (λ d. CreatesLooking s p name attrs (making d) answer u at))
+      (λ at.
+      with_shadow_end s t u p shadow answer (λ d. CreatesLooking s p name attrs (making d) answer t at) (λ d. CreatesLooking s p name attrs (making d) answer u at)
+      (λ d a b.
       let same : b.0 ≡ a.0 = looks_up_unique g s p (create_mode attrs) most_reparses at name b.0 a.0 b.1 a.1 in
-      creates_end s t u p attrs making a.0 answer a.2 (subst (λ look. Creates g s p attrs making look answer u) same b.2)) h k
-  creates_in_end s t u p place.Unnamed attrs making answer h k = makes_end s t u p attrs making None answer h k
+      creates_end s t u p attrs (making d) a.0 answer a.2 (subst (λ look. Creates g s p attrs (making d) look answer u) same b.2))) h k
+  creates_in_end s t u p place.Unnamed attrs shadow making answer h k =
+      with_shadow_end s t u p shadow answer (λ d. Makes g s p attrs (making d) None answer t) (λ d. Makes g s p attrs (making d) None answer u)
+      (λ d. makes_end s t u p attrs (making d) None answer) h k
 
-  creates_at_end : (s t u : State K T F I) (p : ℕ) (where_to : Place) (attrs : ℕ) (making : Making K) (answer : Answer)
-      → CreatesAt g s p where_to attrs making answer t → CreatesAt g s p where_to attrs making answer u → t ≡ u
-  creates_at_end s t u p where_to attrs making answer h k =
-      unless_end (create_refusals (is_live s p) (is_fit making) where_to attrs) s t u answer
-      (CreatesIn g s p where_to attrs making answer t) (CreatesIn g s p where_to attrs making answer u) (creates_in_end s t u p where_to attrs making answer) h k
+  creates_at_end : (s t u : State K T F I) (p : ℕ) (where_to : Place) (attrs : ℕ) (shadow : Option ℕ) (making : Option ℕ → Making K) (answer : Answer)
+      → CreatesAt g s p where_to attrs shadow making answer t → CreatesAt g s p where_to attrs shadow making answer u → t ≡ u
+  creates_at_end s t u p where_to attrs shadow making answer h k =
+      unless_end (create_refusals (is_live s p) (is_fit (making None)) where_to attrs) s t u answer
+      (CreatesIn g s p where_to attrs shadow making answer t) (CreatesIn g s p where_to attrs shadow making answer u) (creates_in_end s t u p where_to attrs shadow making answer) h k
 
   opens_name_end : (s t u : State K T F I) (p : ℕ) (root : Option ℕ) (name : List ℕ) (attrs : ℕ) (wanted : Wanted K) (answer : Answer)
       → OpensName g s p root name attrs wanted answer t → OpensName g s p root name attrs wanted answer u → t ≡ u
@@ -288,9 +304,10 @@ module _ {K T F I : Type 0} (g : Procedures K T F I) where
 
   -- a step with its answer leads to one state alone
   pub step_end : (s t u : State K T F I) (event : Event K) (answer : Answer) → Step g s event answer t → Step g s event answer u → t ≡ u
-  step_end s t u (Start p (CreateDirectory where_to attrs)) answer h k = creates_at_end s t u p where_to attrs MakesDirectory answer h k
-  step_end s t u (Start p (CreateLink where_to attrs target)) answer h k = creates_at_end s t u p where_to attrs (MakesLink target) answer h k
-  step_end s t u (Start p (CreateObject where_to attrs kind args)) answer h k = creates_at_end s t u p where_to attrs (MakesObject kind args) answer h k
+  step_end s t u (Start p (CreateDirectory where_to attrs)) answer h k = creates_at_end s t u p where_to attrs None MakesDirectory answer h k
+  step_end s t u (Start p (CreateShadowed where_to attrs shadow)) answer h k = creates_at_end s t u p where_to attrs (Some shadow) MakesDirectory answer h k
+  step_end s t u (Start p (CreateLink where_to attrs target)) answer h k = creates_at_end s t u p where_to attrs None (λ shadow. MakesLink target) answer h k
+  step_end s t u (Start p (CreateObject where_to attrs kind args)) answer h k = creates_at_end s t u p where_to attrs None (λ shadow. MakesObject kind args) answer h k
   step_end s t u (Start p (OpenDirectory root name attrs)) answer h k = opens_name_end s t u p root name attrs wanted.Directory answer h k
   step_end s t u (Start p (OpenLink root name attrs)) answer h k = opens_name_end s t u p root name attrs wanted.Link answer h k
   step_end s t u (Start p (OpenObject root name attrs want)) answer h k = opens_name_end s t u p root name attrs (type_wanted want) answer h k

@@ -23,7 +23,7 @@ above_is_not_less m n less = grind (arith, nat_tests)
 other_is_below : (m n : ℕ) → n ≤ m → (n == m) ≡ false → n < m
 other_is_below m n most other = grind (arith, nat_tests)
 
-below_is_other : (m n : ℕ) → m < n → (m == n) ≡ false
+pub below_is_other : (m n : ℕ) → m < n → (m == n) ≡ false
 below_is_other m n less = grind (arith, nat_tests)
 
 -- what is found in one list or else in another, where the other has nothing

@@ -10,7 +10,7 @@ use Rattle.ob_base.specs.Attrs.{has_flag, open_if_flag, are_lawful}
 use Rattle.ob_base.specs.Handle.{key_of}
 use Rattle.ob_model.specs.declared.command.Place.{Place}
 use Rattle.ob_model.specs.declared.command.Place.TheVariants as place
-use Rattle.ob_model.specs.declared.command.Command.TheVariants.{CreateDirectory, CreateLink, CreateObject, OpenDirectory, OpenLink, OpenObject, Close, QueryLink, QueryName, QueryDirectory, Duplicate, MakeTemporary, MakePermanent, SetDeviceMap, NewProcess, ExitProcess}
+use Rattle.ob_model.specs.declared.command.Command.TheVariants.{CreateDirectory, CreateShadowed, CreateLink, CreateObject, OpenDirectory, OpenLink, OpenObject, Close, QueryLink, QueryName, QueryDirectory, Duplicate, MakeTemporary, MakePermanent, SetDeviceMap, NewProcess, ExitProcess}
 use Rattle.ob_model.specs.declared.command.Command.{Command}
 use Rattle.ob_model.specs.declared.reply.Answer.{Answer}
 use Rattle.ob_model.specs.declared.reply.Answer.TheVariants.{Ticket}
@@ -41,7 +41,7 @@ use Rattle.ob_model.specs.Creates.{Making, MakesDirectory, MakesLink, MakesObjec
 use Rattle.ob_model.specs.Naming.{TellsName, TellsTarget}
 use Rattle.ob_model.specs.Enumeration.{enumerated, context_used, page_answer}
 use Rattle.ob_model.specs.Processes.{values_in, is_crowded, begun, ended}
-use Rattle.ob_model.specs.Step.{WithHandle, WithRoot, CreatesIn, CreatesAt, OpensName, Turns, SetsMap, page_refusals, TellsPage, QueriesDirectory, Step}
+use Rattle.ob_model.specs.Step.{WithHandle, WithRoot, shadow_refusals, WithShadow, CreatesIn, CreatesAt, OpensName, Turns, SetsMap, page_refusals, TellsPage, QueriesDirectory, Step}
 
 -- where a create isn't refused at first, its flags are lawful
 lawful_to_create : (live fit : Bool) (where_to : Place) (attrs : ℕ) → first_refusal (create_refusals live fit where_to attrs) ≡ None → are_lawful attrs ≡ true
@@ -106,6 +106,16 @@ module _ {K T F I : Type 0} (g : Procedures K T F I) (s : State K T F I) (P : St
       go None h = refused_leads t InvalidHandle answer h
       go (Some x) h = does (Some x.object) h
 
+  -- a step that uses a handle to a shadow
+  with_shadow_leads : (t : State K T F I) (p : ℕ) (shadow : Option ℕ) (answer : Answer) (Does : Option ℕ → Type 0)
+      → ((d : Option ℕ) → Does d → P t) → WithShadow s p shadow answer t Does → P t
+  with_shadow_leads t p None answer Does does h = does None h
+  with_shadow_leads t p (Some handle) answer Does does h = go (option_and_then (held_of s p) (key_of handle)) h
+    where
+      go : (o : Option Held) → MatchOption o (IsRefused s InvalidHandle answer t) (λ x. Unless (shadow_refusals s x.object) s answer t (Does (Some x.object))) → P t
+      go None h = refused_leads t InvalidHandle answer h
+      go (Some x) h = unless_leads (shadow_refusals s x.object) t answer (Does (Some x.object)) (λ e. does (Some x.object)) h
+
   -- what a grant answers
   granted_or_refused_leads : (t u : State K T F I) (p o : ℕ) (asked : GrantOptions) (reason : Reason) (status : Status) (answer : Answer) (result : Result ℕ Status) → Grants g s p o asked reason result u
       → MatchResult result (λ value. (answer ≡ gives status (Handle value)) × (t ≡ settle g u)) (λ refusal. IsRefused s refusal answer t) → P t
@@ -155,17 +165,22 @@ module _ {K T F I : Type 0} (g : Procedures K T F I) (s : State K T F I) (P : St
   creates_leads t p attrs making (Parse o rest n) answer lawful h = absurd h
   creates_leads t p attrs making (Vacant d c) answer lawful h = makes_leads t p attrs making (Some (d, c)) answer lawful h
 
-  creates_in_leads : (t : State K T F I) (p : ℕ) (where_to : Place) (attrs : ℕ) (making : Making K) (answer : Answer) → are_lawful attrs ≡ true → CreatesIn g s p where_to attrs making answer t → P t
-  creates_in_leads t p (place.At root name) attrs making answer lawful h =
-      with_root_leads t p root answer
-      (λ at. (look : Look) × LooksUp g s p (create_mode attrs) most_reparses at name look × Creates g s p attrs making look answer t)
-      (λ at does. creates_leads t p attrs making does.0 answer lawful does.2) h
-  creates_in_leads t p place.Unnamed attrs making answer lawful h = makes_leads t p attrs making None answer lawful h
+  creates_in_leads : (t : State K T F I) (p : ℕ) (where_to : Place) (attrs : ℕ) (shadow : Option ℕ) (making : Option ℕ → Making K) (answer : Answer) → are_lawful attrs ≡ true
+      → CreatesIn g s p where_to attrs shadow making answer t → P t
+  creates_in_leads t p (place.At root name) attrs shadow making answer lawful h =
+      with_root_leads t p root answer (λ at. WithShadow s p shadow answer t (Does at))
+      (λ at. with_shadow_leads t p shadow answer (Does at) (λ d does. creates_leads t p attrs (making d) does.0 answer lawful does.2)) h
+    where
+      Does : Option ℕ → Option ℕ → Type 0
+      Does at d = (look : Look) × LooksUp g s p (create_mode attrs) most_reparses at name look × Creates g s p attrs (making d) look answer t
+  creates_in_leads t p place.Unnamed attrs shadow making answer lawful h =
+      with_shadow_leads t p shadow answer (λ d. Makes g s p attrs (making d) None answer t) (λ d. makes_leads t p attrs (making d) None answer lawful) h
 
-  creates_at_leads : (t : State K T F I) (p : ℕ) (where_to : Place) (attrs : ℕ) (making : Making K) (answer : Answer) → CreatesAt g s p where_to attrs making answer t → P t
-  creates_at_leads t p where_to attrs making answer h =
-      unless_leads (create_refusals (is_live s p) (is_fit making) where_to attrs) t answer (CreatesIn g s p where_to attrs making answer t)
-      (λ e. creates_in_leads t p where_to attrs making answer (lawful_to_create (is_live s p) (is_fit making) where_to attrs e)) h
+  creates_at_leads : (t : State K T F I) (p : ℕ) (where_to : Place) (attrs : ℕ) (shadow : Option ℕ) (making : Option ℕ → Making K) (answer : Answer)
+      → CreatesAt g s p where_to attrs shadow making answer t → P t
+  creates_at_leads t p where_to attrs shadow making answer h =
+      unless_leads (create_refusals (is_live s p) (is_fit (making None)) where_to attrs) t answer (CreatesIn g s p where_to attrs shadow making answer t)
+      (λ e. creates_in_leads t p where_to attrs shadow making answer (lawful_to_create (is_live s p) (is_fit (making None)) where_to attrs e)) h
 
   opens_name_leads : (t : State K T F I) (p : ℕ) (root : Option ℕ) (name : List ℕ) (attrs : ℕ) (wanted : Wanted K) (answer : Answer) → OpensName g s p root name attrs wanted answer t → P t
   opens_name_leads t p root name attrs wanted answer h =
@@ -202,9 +217,10 @@ module _ {K T F I : Type 0} (g : Procedures K T F I) (s : State K T F I) (P : St
 
   -- a start leads there
   start_leads : (t : State K T F I) (p : ℕ) (command : Command K) (answer : Answer) → Step g s (Start p command) answer t → P t
-  start_leads t p (CreateDirectory where_to attrs) answer h = creates_at_leads t p where_to attrs MakesDirectory answer h
-  start_leads t p (CreateLink where_to attrs target) answer h = creates_at_leads t p where_to attrs (MakesLink target) answer h
-  start_leads t p (CreateObject where_to attrs kind args) answer h = creates_at_leads t p where_to attrs (MakesObject kind args) answer h
+  start_leads t p (CreateDirectory where_to attrs) answer h = creates_at_leads t p where_to attrs None MakesDirectory answer h
+  start_leads t p (CreateShadowed where_to attrs shadow) answer h = creates_at_leads t p where_to attrs (Some shadow) MakesDirectory answer h
+  start_leads t p (CreateLink where_to attrs target) answer h = creates_at_leads t p where_to attrs None (λ shadow. MakesLink target) answer h
+  start_leads t p (CreateObject where_to attrs kind args) answer h = creates_at_leads t p where_to attrs None (λ shadow. MakesObject kind args) answer h
   start_leads t p (OpenDirectory root name attrs) answer h = opens_name_leads t p root name attrs wanted.Directory answer h
   start_leads t p (OpenLink root name attrs) answer h = opens_name_leads t p root name attrs wanted.Link answer h
   start_leads t p (OpenObject root name attrs want) answer h = opens_name_leads t p root name attrs (type_wanted want) answer h

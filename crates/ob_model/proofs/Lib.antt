@@ -40,3 +40,4 @@ pub mod AlikeExits
 pub mod AlikeSteps
 pub mod AlikeResumes
 pub mod Sorted
+pub mod Shadows

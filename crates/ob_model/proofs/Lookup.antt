@@ -1,6 +1,6 @@
 -- A lookup, computed: what it ends with, that in a sound state it ends so, and that in each state it
 -- has at most one end.
-use Rattle.std.proofs.Common.{◌≡◌, ℕ, zero, suc, ◌&&◌, Bool, true, false, not, if◌then◌else◌, nat_lt, List, [], ◌∷◌, length, Option, None, Some, MatchOption, MatchBool, refl, sym, ap, ◌∙◌, subst}
+use Rattle.std.proofs.Common.{◌≡◌, ℕ, zero, suc, ◌&&◌, Bool, true, false, not, if◌then◌else◌, nat_lt, List, [], ◌∷◌, length, Option, None, Some, MatchOption, MatchBool, bytes_eq, refl, sym, ap, ◌∙◌, subst}
 use Rattle.ob_base.specs.declared.status.Status.TheVariants.{ObjectTypeMismatch, ObjectPathSyntaxBad, NameTooLong, ReparseLimit}
 use Rattle.std.specs.Option.{option_map_or}
 use Rattle.ob_model.specs.declared.state.Body.TheVariants.{Directory, Link, Other}
@@ -76,9 +76,9 @@ module _ {K T F I : Type 0} (g : Procedures K T F I) where
 
   -- what a lookup ends with
   unfoldable pub looked_up : State K T F I → ℕ → Mode → ℕ → Origin → List ℕ → Look
-  looked_up s p mode zero place text = ended (next_of s mode zero (walked s place text mode.fold)) (λ target rest. Refused ReparseLimit)
+  looked_up s p mode zero place text = ended (next_of s mode zero (walked s place text mode.create mode.fold)) (λ target rest. Refused ReparseLimit)
   looked_up s p mode (suc n) place text =
-      ended (next_of s mode (suc n) (walked s place text mode.fold))
+      ended (next_of s mode (suc n) (walked s place text mode.create mode.fold))
       (λ target rest. looked_again (nat_lt longest_name (length (substituted target rest))) (origin_of s p mode.create (substituted target rest)) (λ at. looked_up s p mode n at.0 at.1))
 
   -- at most one thing is to be done at a stop
@@ -92,10 +92,10 @@ module _ {K T F I : Type 0} (g : Procedures K T F I) where
 
   -- in a sound state something is
   pub next_is : (s : State K T F I) (mode : Mode) (n : ℕ) (place : Origin) (text : List ℕ) (stop : Stop)
-      → IsSound s → IsDirectory s (directory_at s place) → IsStop s place text mode.fold stop → IsNext g s mode n stop (next_of s mode n stop)
+      → IsSound s → IsDirectory s (directory_at s place) → IsStop s place text mode.create mode.fold stop → IsNext g s mode n stop (next_of s mode n stop)
   next_is s mode n place text (Missed d c last) sound dir stops = refl
   next_is s mode n place text (Reached o rest) sound dir stops =
-      go (body_of s o) (body_from_stands s o (path_stands s place stops.0 mode.fold o sound (stands_from_directory s (directory_at s place) dir) stops.2))
+      go (body_of s o) (body_from_stands s o (path_stands s place stops.0 (bytes_eq rest [] && mode.create) mode.fold o sound (stands_from_directory s (directory_at s place) dir) stops.2))
     where
       go : (x : Option (Body F I)) → (body : Body F I) × (x ≡ Some body) → MatchOption x ⊥ (λ body. next_at mode o rest n x ≡ at_body g mode o body rest n)
       go None h = absurd (let e = h.1 in cc)
@@ -106,8 +106,8 @@ module _ {K T F I : Type 0} (g : Procedures K T F I) where
       → IsSound s → IsDirectory s (directory_at s place) → IsRest text → Looks g s p mode n place text (looked_up s p mode n place text)
   unfolding looked_up
   looked_up-Looks s p mode zero place text sound dir bounded =
-      let stop = walked s place text mode.fold in
-      let stops : IsStop s place text mode.fold stop = walked_stops s place text mode.fold bounded in (
+      let stop = walked s place text mode.create mode.fold in
+      let stops : IsStop s place text mode.create mode.fold stop = walked_stops s place text mode.create mode.fold bounded in (
         stop,
         next_of s mode zero stop,
         stops,
@@ -115,8 +115,8 @@ module _ {K T F I : Type 0} (g : Procedures K T F I) where
         ended-Ends (next_of s mode zero stop) (λ target rest. Refused ReparseLimit) (λ look target rest. look ≡ Refused ReparseLimit) (λ target rest. refl),
       )
   looked_up-Looks s p mode (suc n) place text sound dir bounded =
-      let stop = walked s place text mode.fold in
-      let stops : IsStop s place text mode.fold stop = walked_stops s place text mode.fold bounded in (
+      let stop = walked s place text mode.create mode.fold in
+      let stops : IsStop s place text mode.create mode.fold stop = walked_stops s place text mode.create mode.fold bounded in (
         stop,
         next_of s mode (suc n) stop,
         stops,
@@ -132,12 +132,12 @@ module _ {K T F I : Type 0} (g : Procedures K T F I) where
   pub looks_unique : (s : State K T F I) (p : ℕ) (mode : Mode) (n : ℕ) (place : Origin) (text : List ℕ) (a b : Look)
       → Looks g s p mode n place text a → Looks g s p mode n place text b → a ≡ b
   looks_unique s p mode zero place text a b (stop, next, stops, nexts, ends) (stop', next', stops', nexts', ends') =
-      let same : stop' ≡ stop = stop_unique s place text mode.fold stop' stop stops' stops in
+      let same : stop' ≡ stop = stop_unique s place text mode.create mode.fold stop' stop stops' stops in
       let same_next : next' ≡ next = next_unique s mode zero stop next' next (subst (λ (x : Stop). IsNext g s mode zero x next') same nexts') nexts in
       Ends-unique next (λ look target rest. look ≡ Refused ReparseLimit) a b (λ target rest h k. cc) ends
       (subst (λ (x : Next). Ends x (λ target rest. b ≡ Refused ReparseLimit) b) same_next ends')
   looks_unique s p mode (suc n) place text a b (stop, next, stops, nexts, ends) (stop', next', stops', nexts', ends') =
-      let same : stop' ≡ stop = stop_unique s place text mode.fold stop' stop stops' stops in
+      let same : stop' ≡ stop = stop_unique s place text mode.create mode.fold stop' stop stops' stops in
       let same_next : next' ≡ next = next_unique s mode (suc n) stop next' next (subst (λ (x : Stop). IsNext g s mode (suc n) x next') same nexts') nexts in
       Ends-unique next
       (λ look target rest. Again s p mode (substituted target rest) (λ place' text'. Looks g s p mode n place' text' look) (λ status. look ≡ Refused status)) a b
@@ -161,7 +161,7 @@ module _ {K T F I : Type 0} (g : Procedures K T F I) where
 
   -- what a name relative to an object of this body is looked up with
   abbrev pub looked_from : State K T F I → ℕ → Mode → ℕ → ℕ → Body F I → List ℕ → Look
-  looked_from s p mode n root Directory name = looked_up s p mode n (relative root name).0 (relative root name).1
+  looked_from s p mode n root (Directory shadow) name = looked_up s p mode n (relative root name).0 (relative root name).1
   looked_from s p mode n root (Link target) name = Refused ObjectTypeMismatch
   looked_from s p mode n root (Other face inner) name = if g.parses (g.kind_of face) && not mode.create then Parse root name n else Refused ObjectTypeMismatch
 
@@ -191,8 +191,8 @@ module _ {K T F I : Type 0} (g : Procedures K T F I) where
   directory_at-relative s root (b ∷ bs) = refl
 
   -- a directory's body is that of a directory
-  is_directory-from_body : (s : State K T F I) (o : ℕ) → body_of s o ≡ Some Directory → is_directory s o ≡ true
-  is_directory-from_body s o e = ap (λ (x : Option (Body F I)). option_map_or is_directory_body x false) e
+  is_directory-from_body : (s : State K T F I) (o : ℕ) (shadow : Option ℕ) → body_of s o ≡ Some (Directory shadow) → is_directory s o ≡ true
+  is_directory-from_body s o shadow e = ap (λ (x : Option (Body F I)). option_map_or is_directory_body x false) e
 
   -- in a sound state a name ends as computed
   pub looked_up_name-LooksUp : (s : State K T F I) (p : ℕ) (mode : Mode) (n : ℕ) (root : Option ℕ) (name : List ℕ)
@@ -205,8 +205,8 @@ module _ {K T F I : Type 0} (g : Procedures K T F I) where
   looked_up_name-LooksUp s p mode n (Some root) name sound stands = go (begins_with_separator name) (body_of s root) refl (body_from_stands s root stands)
     where
       for_body : (body : Body F I) → body_of s root ≡ Some body → LooksFrom g s p mode n root body name (looked_from s p mode n root body name)
-      for_body Directory e =
-          looked_up-Looks s p mode n (relative root name).0 (relative root name).1 sound (ap (is_directory s) (directory_at-relative s root name) ∙ is_directory-from_body s root e) (relative-is_rest root name)
+      for_body (Directory shadow) e =
+          looked_up-Looks s p mode n (relative root name).0 (relative root name).1 sound (ap (is_directory s) (directory_at-relative s root name) ∙ is_directory-from_body s root shadow e) (relative-is_rest root name)
       for_body (Link target) e = refl
       for_body (Other face inner) e = refl
 
@@ -234,7 +234,7 @@ module _ {K T F I : Type 0} (g : Procedures K T F I) where
   looks_up_unique s p mode n (Some root) name a b h k = go (begins_with_separator name) (body_of s root) h k
     where
       for_body : (body : Body F I) → LooksFrom g s p mode n root body name a → LooksFrom g s p mode n root body name b → a ≡ b
-      for_body Directory h k = looks_unique s p mode n (relative root name).0 (relative root name).1 a b h k
+      for_body (Directory shadow) h k = looks_unique s p mode n (relative root name).0 (relative root name).1 a b h k
       for_body (Link target) h k = cc
       for_body (Other face inner) h k = cc
 

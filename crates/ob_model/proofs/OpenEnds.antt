@@ -71,7 +71,7 @@ module _ {K T F I : Type 0} (g : Procedures K T F I) (s : State K T F I) (p : �
       go false = end_named o rest
 
   end_body : (o : ℕ) (body : Body F I) (rest : List ℕ) (n : ℕ) → Stands s o → IsOpenNext s (at_body g mode o body rest n)
-  end_body o Directory rest n stands = tt
+  end_body o (Directory shadow) rest n stands = tt
   end_body o (Link target) rest n stands = end_link o target rest
   end_body o (Other face inner) rest n stands = end_other o face rest n stands
 
@@ -114,7 +114,7 @@ module _ {K T F I : Type 0} (g : Procedures K T F I) (s : State K T F I) (p : �
   again_end (suc n) text look h = end_again text (λ place rest. Looks g s p mode n place rest look) look (λ place rest goes. end_looks n place rest look goes) h
 
   end_from : (n root : ℕ) (body : Body F I) (name : List ℕ) (look : Look) → Stands s root → LooksFrom g s p mode n root body name look → IsOpenEnd s look
-  end_from n root Directory name look stands h = end_looks n (relative root name).0 (relative root name).1 look h
+  end_from n root (Directory shadow) name look stands h = end_looks n (relative root name).0 (relative root name).1 look h
   end_from n root (Link target) name look stands h = end_refused look ObjectTypeMismatch h
   end_from n root (Other face inner) name look stands h = subst (IsOpenEnd s) (sym h) (go (g.parses (g.kind_of face) && not mode.create))
     where

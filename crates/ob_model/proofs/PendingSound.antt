@@ -59,7 +59,7 @@ module _ {K T F I : Type 0} (s : State K T F I) where
     t = with_instance s ticket face inner
 
     pub instance_sound : ticket < s.next_id → All (λ x. x.ticket ≢ ticket) s.pending → IsSound s → IsSound t
-    instance_sound drawn others sound = inserted_sound s new s.next_id (omega arith) drawn free (λ k d within same. others k d within (sym same)) sound
+    instance_sound drawn others sound = inserted_sound s new s.next_id (omega arith) drawn tt free (λ k d within same. others k d within (sym same)) sound
 
 -- what isn't kept away by a test of its ticket has another ticket
 other_tickets : {K : Type 0} (ticket : ℕ) (xs : List (Pending K)) → All (λ x. x.ticket ≢ ticket) (filter (λ x. not (x.ticket == ticket)) xs)

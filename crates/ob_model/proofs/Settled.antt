@@ -1,7 +1,7 @@
 -- What settling leaves as it is, and that what it leaves is settled.
 use Rattle.std.proofs.Common.{◌≡◌, ℕ, ◌==◌, Bool, true, false, ◌&&◌, ◌||◌, not, List, [], get_or, filter, All, Option, option_map, is_some, refl, sym, ap, ◌∙◌, subst, eqb-true, eq-eqb}
 use Rattle.std.specs.Option.{option_map_or}
-use Rattle.std.proofs.lemmas.Bool.{and_from, not_from_true}
+use Rattle.std.proofs.lemmas.Bool.{and_from, or_right, not_from_true}
 use Rattle.std.proofs.lemmas.List.Elements.{filter_passes}
 use Rattle.std.proofs.lemmas.List.Folds.{list_any_at}
 use Rattle.std.proofs.lemmas.Map.Views.{any-filter_same}
@@ -9,7 +9,7 @@ use Rattle.ob_model.specs.declared.state.Object.{Object}
 use Rattle.ob_model.specs.declared.state.Row.{Row}
 use Rattle.ob_model.specs.State.{State, root_id, object_of, is_directory, is_directory_body}
 use Rattle.ob_model.specs.Procedures.{Procedures}
-use Rattle.ob_model.specs.Settle.{is_permanent, has_handle, is_kept, has_name, is_pinned, is_mapped, holds_kept, is_alive, deleted_all, settle}
+use Rattle.ob_model.specs.Settle.{is_permanent, has_handle, is_kept, has_name, is_pinned, is_mapped, holds_kept, is_alive_itself, has_shadow, is_shadowing, is_alive, deleted_all, settle}
 use Rattle.ob_model.specs.Sound.{Stands}
 use Rattle.ob_model.proofs.Finds.{find-filter, filter_all, filter_none, All-kept, list_any_weaker}
 
@@ -68,32 +68,54 @@ both : (a b : Bool) → (a && b) ≡ true → (a ≡ true) × (b ≡ true)
 both true b h = (refl, h)
 both false b h = cc
 
-module _ {K T F I : Type 0} where
-  -- the root is alive
-  pub alive_from_root : (s : State K T F I) (o : ℕ) → (o == root_id) ≡ true → is_alive s o ≡ true
-  alive_from_root s o h = ap (λ b. b || has_handle s o || is_pinned s o || is_mapped s o || (is_permanent s o && has_name s o) || holds_kept s o) h
+-- one of two tests passes where one of two others did
+either_again : (a b a' b' : Bool) → (a ≡ true → a' ≡ true) → (b ≡ true → b' ≡ true) → (a || b) ≡ true → (a' || b') ≡ true
+either_again true b a' b' first second h = rw (first refl) refl
+either_again false b true b' first second h = refl
+either_again false b false b' first second h = second h
 
-  -- an object with a handle is alive
+module _ {K T F I : Type 0} where
+  -- what stays by itself is alive, and so is the shadow of a directory that does
+  pub alive_from_itself : (s : State K T F I) (o : ℕ) → is_alive_itself s o ≡ true → is_alive s o ≡ true
+  alive_from_itself s o h = ap (λ b. b || is_shadowing s o) h
+
+  pub alive_from_shadow : (s : State K T F I) (o : ℕ) → is_shadowing s o ≡ true → is_alive s o ≡ true
+  alive_from_shadow s o h = or_right (is_alive_itself s o) (is_shadowing s o) h
+
+  -- the root stays by itself
+  pub itself_from_root : (s : State K T F I) (o : ℕ) → (o == root_id) ≡ true → is_alive_itself s o ≡ true
+  itself_from_root s o h = ap (λ b. b || has_handle s o || is_pinned s o || is_mapped s o || (is_permanent s o && has_name s o) || holds_kept s o) h
+
+  pub alive_from_root : (s : State K T F I) (o : ℕ) → (o == root_id) ≡ true → is_alive s o ≡ true
+  alive_from_root s o h = alive_from_itself s o (itself_from_root s o h)
+
+  -- an object with a handle stays by itself
+  pub itself_from_handle : (s : State K T F I) (o : ℕ) → has_handle s o ≡ true → is_alive_itself s o ≡ true
+  itself_from_handle s o h = alive_second (o == root_id) (has_handle s o) (is_pinned s o) (is_mapped s o) (is_permanent s o && has_name s o) (holds_kept s o) h
+
   pub alive_from_handle : (s : State K T F I) (o : ℕ) → has_handle s o ≡ true → is_alive s o ≡ true
-  alive_from_handle s o h = alive_second (o == root_id) (has_handle s o) (is_pinned s o) (is_mapped s o) (is_permanent s o && has_name s o) (holds_kept s o) h
+  alive_from_handle s o h = alive_from_itself s o (itself_from_handle s o h)
 
   -- an object that a pending open pins is alive
   pub alive_from_pin : (s : State K T F I) (o : ℕ) → is_pinned s o ≡ true → is_alive s o ≡ true
-  alive_from_pin s o h = alive_third (o == root_id) (has_handle s o) (is_pinned s o) (is_mapped s o) (is_permanent s o && has_name s o) (holds_kept s o) h
+  alive_from_pin s o h = alive_from_itself s o (alive_third (o == root_id) (has_handle s o) (is_pinned s o) (is_mapped s o) (is_permanent s o && has_name s o) (holds_kept s o) h)
 
   -- a map directory of a live process, or `\GLOBAL??`, is alive
   pub alive_from_map : (s : State K T F I) (o : ℕ) → is_mapped s o ≡ true → is_alive s o ≡ true
-  alive_from_map s o h = alive_fourth (o == root_id) (has_handle s o) (is_pinned s o) (is_mapped s o) (is_permanent s o && has_name s o) (holds_kept s o) h
+  alive_from_map s o h = alive_from_itself s o (alive_fourth (o == root_id) (has_handle s o) (is_pinned s o) (is_mapped s o) (is_permanent s o && has_name s o) (holds_kept s o) h)
 
-  -- a permanent object with a name is alive
-  pub alive_from_name : (s : State K T F I) (o : ℕ) → is_permanent s o ≡ true → has_name s o ≡ true → is_alive s o ≡ true
-  alive_from_name s o permanent named =
+  -- a permanent object with a name stays by itself
+  pub itself_from_name : (s : State K T F I) (o : ℕ) → is_permanent s o ≡ true → has_name s o ≡ true → is_alive_itself s o ≡ true
+  itself_from_name s o permanent named =
       alive_fifth (o == root_id) (has_handle s o) (is_pinned s o) (is_mapped s o) (is_permanent s o && has_name s o) (holds_kept s o)
       (and_from (is_permanent s o) (has_name s o) permanent named)
 
+  pub alive_from_name : (s : State K T F I) (o : ℕ) → is_permanent s o ≡ true → has_name s o ≡ true → is_alive s o ≡ true
+  alive_from_name s o permanent named = alive_from_itself s o (itself_from_name s o permanent named)
+
   -- a directory in which a name stays is alive
   pub alive_from_held_name : (s : State K T F I) (o : ℕ) → holds_kept s o ≡ true → is_alive s o ≡ true
-  alive_from_held_name s o h = alive_sixth (o == root_id) (has_handle s o) (is_pinned s o) (is_mapped s o) (is_permanent s o && has_name s o) (holds_kept s o) h
+  alive_from_held_name s o h = alive_from_itself s o (alive_sixth (o == root_id) (has_handle s o) (is_pinned s o) (is_mapped s o) (is_permanent s o && has_name s o) (holds_kept s o) h)
 
   -- as is each row's that stays
   pub rows_are_held : (s : State K T F I) → All (λ r. is_kept s r ≡ true → holds_kept s r.directory ≡ true) s.rows
@@ -157,15 +179,31 @@ module _ {K T F I : Type 0} (g : Procedures K T F I) where
       (both ((get_or (settle g s).rows k d).directory == o) (is_kept s (get_or (settle g s).rows k d)) e).0 (kept_twice s k d within))
       (any-filter_same (λ r. (r.directory == o) && is_kept s r) (is_kept s) true (λ r e. (both (r.directory == o) (is_kept s r) e).1) s.rows ∙ holds)
 
-  -- an object that is alive is alive again
-  alive_twice : (s : State K T F I) (o : ℕ) → is_alive s o ≡ true → is_alive (settle g s) o ≡ true
-  alive_twice s o alive =
+  -- an object that stays by itself does so again
+  itself_twice : (s : State K T F I) (o : ℕ) → is_alive_itself s o ≡ true → is_alive_itself (settle g s) o ≡ true
+  itself_twice s o itself =
       alive_again (o == root_id) (has_handle s o) (is_pinned s o) (is_mapped s o) (is_permanent s o && has_name s o) (holds_kept s o)
       (is_permanent (settle g s) o && has_name (settle g s) o) (holds_kept (settle g s) o)
       (λ e.
       let parts = both (is_permanent s o) (has_name s o) e in
-      and_from (is_permanent (settle g s) o) (has_name (settle g s) o) (is_permanent-settle s o alive ∙ parts.0) (has_name-settle s o parts.0 ∙ parts.1))
-      (holds_kept-settle s o) alive
+      and_from (is_permanent (settle g s) o) (has_name (settle g s) o) (is_permanent-settle s o (alive_from_itself s o itself) ∙ parts.0) (has_name-settle s o parts.0 ∙ parts.1))
+      (holds_kept-settle s o) itself
+
+  -- a directory that stays by itself still has its shadow
+  shadowing_twice : (s : State K T F I) (o : ℕ) → is_shadowing s o ≡ true → is_shadowing (settle g s) o ≡ true
+  shadowing_twice s o some =
+      list_any_weaker (λ x. has_shadow o x.body && is_alive_itself s x.id) (λ x. has_shadow o x.body && is_alive_itself (settle g s) x.id) (settle g s).objects
+      (λ k d within e.
+      let x = get_or (settle g s).objects k d in
+      let parts = both (has_shadow o x.body) (is_alive_itself s x.id) e in
+      and_from (has_shadow o x.body) (is_alive_itself (settle g s) x.id) parts.0 (itself_twice s x.id parts.1))
+      (any-filter_same (λ x. has_shadow o x.body && is_alive_itself s x.id) (λ x. is_alive s x.id) true
+      (λ x e. alive_from_itself s x.id (both (has_shadow o x.body) (is_alive_itself s x.id) e).1) s.objects ∙ some)
+
+  -- an object that is alive is alive again
+  alive_twice : (s : State K T F I) (o : ℕ) → is_alive s o ≡ true → is_alive (settle g s) o ≡ true
+  alive_twice s o alive =
+      either_again (is_alive_itself s o) (is_shadowing s o) (is_alive_itself (settle g s) o) (is_shadowing (settle g s) o) (itself_twice s o) (shadowing_twice s o) alive
 
   pub objects_alive : (s : State K T F I) → All (λ x. is_alive (settle g s) x.id ≡ true) (settle g s).objects
   objects_alive s k d within =

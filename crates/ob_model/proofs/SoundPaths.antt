@@ -9,8 +9,8 @@ use Rattle.ob_model.specs.declared.state.Object.{Object}
 use Rattle.ob_model.specs.declared.state.Row.{Row}
 use Rattle.ob_model.specs.declared.state.Process.{Process}
 use Rattle.ob_model.specs.Names.{separator, begins_with_separator, IsRest}
-use Rattle.ob_model.specs.State.{State, root_id, global_id, object_of, body_of, is_directory, is_directory_body, process_of}
-use Rattle.ob_model.specs.Paths.{Origin, InDirectory, ViewOf, IsPath, directory_at, entry, earlier, earliest, found, found_object, is_match, local, origin_of, is_one_component}
+use Rattle.ob_model.specs.State.{State, root_id, global_id, object_of, body_of, is_directory, is_directory_body, shadow_of, process_of}
+use Rattle.ob_model.specs.Paths.{Origin, InDirectory, ViewOf, IsPath, directory_at, entry, earlier, earliest, found, seen, named_object, is_match, is_none_left, local, origin_of, is_one_component}
 use Rattle.ob_model.specs.Sound.{IsSound, IsDirectory, Stands, HasSoundMap}
 
 -- what holds of each row holds of the earliest one
@@ -72,28 +72,43 @@ module _ {K T F I : Type 0} where
       go None e = absurd (cc)
       go (Some y) e = refl
 
-  -- what a component names in a directory is there
-  pub found_object-stands : (s : State K T F I) (d : ℕ) (c : List ℕ) (fold : Bool) (m : ℕ) → IsSound s → found_object s d c fold ≡ Some m → Stands s m
-  found_object-stands s d c fold m sound h =
-      go (found s d c fold) (earliest_of (λ r. Stands s r.object) (filter (is_match d c fold) s.rows) (All-filter (is_match d c fold) (λ r. Stands s r.object) s.rows sound.rows.standing)) h
+  -- what is found in a directory is there, and what is seen there
+  row_object-stands : (s : State K T F I) (r : Option Row) (m : ℕ) → MatchOption r (Unit {0}) (λ r. Stands s r.object) → option_map (λ r. r.object) r ≡ Some m → Stands s m
+  row_object-stands s None m k e = absurd (cc)
+  row_object-stands s (Some r) m k e = let same : r.object ≡ m = cc in subst (λ (o : ℕ). Stands s o) same k
+
+  found-stands : (s : State K T F I) (d : ℕ) (c : List ℕ) (fold : Bool) → IsSound s → MatchOption (found s d c fold) (Unit {0}) (λ r. Stands s r.object)
+  found-stands s d c fold sound =
+      earliest_of (λ r. Stands s r.object) (filter (is_match d c fold) s.rows) (All-filter (is_match d c fold) (λ r. Stands s r.object) s.rows sound.rows.standing)
+
+  seen-stands : (s : State K T F I) (d : ℕ) (c : List ℕ) (fold : Bool) → IsSound s → MatchOption (seen s d c fold) (Unit {0}) (λ r. Stands s r.object)
+  seen-stands s d c fold sound = go (found s d c fold) (found-stands s d c fold sound) (shadow_of s d)
     where
-      go : (x : Option Row) → MatchOption x (Unit {0}) (λ r. Stands s r.object) → option_map (λ r. r.object) x ≡ Some m → Stands s m
-      go None k e = absurd (cc)
-      go (Some r) k e = let same : r.object ≡ m = cc in subst (λ (o : ℕ). Stands s o) same k
+      go : (r : Option Row) → MatchOption r (Unit {0}) (λ r. Stands s r.object) → (shadow : Option ℕ)
+          → MatchOption (option_or r (option_and_then (λ o. found s o c fold) shadow)) (Unit {0}) (λ r. Stands s r.object)
+      go (Some r) h shadow = h
+      go None h None = tt
+      go None h (Some o) = found-stands s o c fold sound
+
+  -- what a component names in a directory is there
+  pub named_object-stands : (s : State K T F I) (d : ℕ) (c : List ℕ) (own fold : Bool) (m : ℕ) → IsSound s → named_object s d c own fold ≡ Some m → Stands s m
+  named_object-stands s d c true fold m sound h = row_object-stands s (found s d c fold) m (found-stands s d c fold sound) h
+  named_object-stands s d c false fold m sound h = row_object-stands s (seen s d c fold) m (seen-stands s d c fold sound) h
 
   -- and so is what it names at a place
-  pub entry-stands : (s : State K T F I) (place : Origin) (c : List ℕ) (fold : Bool) (m : ℕ) → IsSound s → entry s place c fold ≡ Some m → Stands s m
-  entry-stands s (InDirectory d) c fold m sound h = found_object-stands s d c fold m sound h
-  entry-stands s (ViewOf p) c fold m sound h = go (found_object s (local s p) c fold) refl h
+  pub entry-stands : (s : State K T F I) (place : Origin) (c : List ℕ) (own fold : Bool) (m : ℕ) → IsSound s → entry s place c own fold ≡ Some m → Stands s m
+  entry-stands s (InDirectory d) c own fold m sound h = named_object-stands s d c own fold m sound h
+  entry-stands s (ViewOf p) c own fold m sound h = go (named_object s (local s p) c own fold) refl h
     where
-      go : (x : Option ℕ) → found_object s (local s p) c fold ≡ x → option_or x (found_object s global_id c fold) ≡ Some m → Stands s m
-      go None e k = found_object-stands s global_id c fold m sound k
-      go (Some o) e k = found_object-stands s (local s p) c fold m sound (e ∙ k)
+      go : (x : Option ℕ) → named_object s (local s p) c own fold ≡ x → option_or x (named_object s global_id c own fold) ≡ Some m → Stands s m
+      go None e k = named_object-stands s global_id c own fold m sound k
+      go (Some o) e k = named_object-stands s (local s p) c own fold m sound (e ∙ k)
 
   -- what a path leads to is there
-  pub path_stands : (s : State K T F I) (place : Origin) (cs : List (List ℕ)) (fold : Bool) (o : ℕ) → IsSound s → Stands s (directory_at s place) → IsPath s place cs fold o → Stands s o
-  path_stands s place [] fold o sound h path = subst (λ (x : ℕ). Stands s x) (sym path) h
-  path_stands s place (c ∷ cs) fold o sound h path = path_stands s (InDirectory path.0) cs fold o sound (entry-stands s place c fold path.0 sound path.2) path.3
+  pub path_stands : (s : State K T F I) (place : Origin) (cs : List (List ℕ)) (own fold : Bool) (o : ℕ) → IsSound s → Stands s (directory_at s place) → IsPath s place cs own fold o → Stands s o
+  path_stands s place [] own fold o sound h path = subst (λ (x : ℕ). Stands s x) (sym path) h
+  path_stands s place (c ∷ cs) own fold o sound h path =
+      path_stands s (InDirectory path.0) cs own fold o sound (entry-stands s place c (is_none_left cs && own) fold path.0 sound path.2) path.3
 
   -- a process's local directory is a directory
   pub local_is_directory : (s : State K T F I) (p : ℕ) → IsSound s → IsDirectory s (local s p)

@@ -1,5 +1,5 @@
 -- What is settled stays so when a handle or an object with one comes, and after each step.
-use Rattle.std.proofs.Common.{◌≡◌, ◌∙◌, ℕ, ◌+◌, ◌==◌, Bool, true, false, ◌&&◌, ◌||◌, not, if◌then◌else◌, List, [], ◌∷◌, ◌++◌, All, Option, None, Some, option_map, refl, ap, sym, subst, eq-eqb, eqb-true, get_or, MatchOption}
+use Rattle.std.proofs.Common.{◌≡◌, ◌∙◌, ℕ, ◌+◌, ◌==◌, Bool, true, false, ◌&&◌, ◌||◌, not, cond, nat_lt, map, if◌then◌else◌, List, [], ◌∷◌, ◌++◌, All, Option, None, Some, option_map, refl, ap, sym, subst, eq-eqb, eqb-true, get_or, MatchOption}
 use Rattle.std.specs.List.{list_any}
 use Rattle.std.specs.Option.{option_map_or, option_and_then, is_some}
 use Rattle.std.proofs.lemmas.Bool.{and_from, false≢true}
@@ -14,11 +14,11 @@ use Rattle.ob_model.specs.declared.state.Held.{Held}
 use Rattle.ob_model.specs.declared.state.Object.{Object}
 use Rattle.ob_model.specs.declared.state.Process.{Process}
 use Rattle.ob_model.specs.declared.state.Row.{Row}
-use Rattle.ob_model.specs.State.{State, root_id, global_id, process_of, object_of, handle_count, handle_count_in}
+use Rattle.ob_model.specs.State.{State, insert_object, shadow_in, root_id, global_id, process_of, object_of, handle_count, handle_count_in}
 use Rattle.ob_model.specs.declared.terms.Reason.{Reason}
 use Rattle.ob_model.specs.declared.terms.Reason.TheVariants.{Created, Inherited}
 use Rattle.ob_model.specs.Procedures.{Procedures}
-use Rattle.ob_model.specs.Settle.{is_permanent, has_handle, is_kept, has_name, is_pinned, is_mapped, holds_kept, is_alive, IsSettled, deleted_all, settle}
+use Rattle.ob_model.specs.Settle.{is_permanent, has_handle, is_kept, has_name, is_pinned, is_mapped, holds_kept, is_alive_itself, has_shadow, is_shadowing, is_alive, IsSettled, deleted_all, settle}
 use Rattle.ob_model.specs.Grants.{open_refusal, opened_object, opened_body, with_open, with_handle}
 use Rattle.ob_model.specs.Closing.{is_handle, without_handle, closed_body, closed_object, closed_handle}
 use Rattle.ob_model.specs.Permanence.{turned_object, with_permanence, turned}
@@ -30,9 +30,9 @@ use Rattle.ob_model.specs.Step.{Step}
 use Rattle.ob_model.proofs.Finds.{filter_all, filter_none, list_any_weaker}
 use Rattle.ob_model.proofs.InOrder.{in_order-All, in_order-others}
 use Rattle.ob_model.proofs.Ended.{any_filter}
-use Rattle.ob_model.proofs.Settled.{alive_from_root, alive_from_handle, alive_from_name, kept_twice, objects_alive}
-use Rattle.ob_model.proofs.Soundness.{find_id-map, opened_object-id, opened_object-is_directory, closed_object-id, closed_object-is_directory}
-use Rattle.ob_model.proofs.Turned.{turned_object-id, turned_either, turned_others}
+use Rattle.ob_model.proofs.Settled.{alive_from_handle, itself_from_root, itself_from_handle, itself_from_name, kept_twice, objects_alive}
+use Rattle.ob_model.proofs.Soundness.{find_id-map, opened_object-id, opened_object-is_directory, opened_object-shadow, closed_object-id, closed_object-is_directory, closed_object-shadow}
+use Rattle.ob_model.proofs.Turned.{turned_object-id, turned_object-shadow, turned_either, turned_others}
 use Rattle.ob_model.specs.declared.reply.Event.TheVariants.{Start, Resume, Abandon}
 use Rattle.ob_model.specs.declared.state.Pending.{Pending}
 use Rattle.ob_model.specs.PendingOpens.{pending_of, with_pending}
@@ -69,6 +69,31 @@ named_grows false true n a' true n' held stays permanent named stays_held h = or
 named_grows false true n a' false n' held stays permanent named stays_held h = or_left a' false (stays_held (permanent refl))
 named_grows false false n a' p' n' held stays permanent named stays_held h = cc
 
+-- objects that have the shadows which others have: what is a shadow among these by a test of numbers is one there
+abbrev pub KeepShadows : {F I : Type 0} → List (Object F I) → List (Object F I) → Type 0
+KeepShadows xs ys =
+    (o : ℕ) (keeps : ℕ → Bool) → list_any (λ x. has_shadow o x.body && keeps x.id) xs ≡ true → list_any (λ x. has_shadow o x.body && keeps x.id) ys ≡ true
+
+-- so it is where a change leaves numbers and shadows, and where an object is inserted
+pub shadows_map : {F I : Type 0} (f : Object F I → Object F I) → ((x : Object F I) → (f x).id ≡ x.id) → ((x : Object F I) → shadow_in (f x).body ≡ shadow_in x.body)
+    → (xs : List (Object F I)) → KeepShadows xs (map f xs)
+shadows_map f same_id same_shadow [] o keeps some = some
+shadows_map f same_id same_shadow (x ∷ xs) o keeps some =
+    or_grows (has_shadow o x.body && keeps x.id) (list_any (λ y. has_shadow o y.body && keeps y.id) xs) (has_shadow o (f x).body && keeps (f x).id)
+    (list_any (λ y. has_shadow o y.body && keeps y.id) (map f xs)) (λ h. (λ i. option_map_or (λ n. n == o) (same_shadow x i) false && keeps (same_id x i)) ∙ h)
+    (shadows_map f same_id same_shadow xs o keeps) some
+
+pub shadows_insert : {F I : Type 0} (x : Object F I) (xs : List (Object F I)) → KeepShadows xs (insert_object x xs)
+shadows_insert x [] o keeps some = cc
+shadows_insert {F} {I} x (y ∷ ys) o keeps some = go (nat_lt x.id y.id) (shadows_insert x ys o keeps)
+  where
+    test : Object F I → Bool
+    test z = has_shadow o z.body && keeps z.id
+
+    go : (b : Bool) → (list_any test ys ≡ true → list_any test (insert_object x ys) ≡ true) → list_any test (cond b (x ∷ y ∷ ys) (y ∷ insert_object x ys)) ≡ true
+    go true more = or_right' (test x) (list_any test (y ∷ ys)) some
+    go false more = or_grows (test y) (list_any test ys) (test y) (list_any test (insert_object x ys)) (λ h. h) more some
+
 -- A state that has what another one has, and more.
 module _ {K T F I : Type 0} (s u : State K T F I) (permanent : (o : ℕ) → is_permanent s o ≡ true → (is_permanent u o || has_handle u o) ≡ true)
     (held : (o : ℕ) → has_handle s o ≡ true → has_handle u o ≡ true) (pinned : (o : ℕ) → is_pinned s o ≡ true → is_pinned u o ≡ true)
@@ -81,8 +106,8 @@ module _ {K T F I : Type 0} (s u : State K T F I) (permanent : (o : ℕ) → is_
       ap (list_any q) rows ∙ list_any-append q s.rows more ∙ or_left (list_any q s.rows) (list_any q more)
       (list_any_weaker p q s.rows (λ k d within. weaker _) some)
 
-  alive_grows : (o : ℕ) → is_alive s o ≡ true → is_alive u o ≡ true
-  alive_grows o =
+  itself_grows : (o : ℕ) → is_alive_itself s o ≡ true → is_alive_itself u o ≡ true
+  itself_grows o =
       or_grows _ (holds_kept s o) _ (holds_kept u o)
       (named_grows _ (is_permanent s o) (has_name s o) _ (is_permanent u o) (has_name u o) (has_handle u o)
       (or_grows _ (is_mapped s o) _ (is_mapped u o)
@@ -91,6 +116,17 @@ module _ {K T F I : Type 0} (s u : State K T F I) (permanent : (o : ℕ) → is_
       (λ h. or_left _ (is_mapped u o) (or_left _ (is_pinned u o) (or_right' (o == root_id) (has_handle u o) h))))
       (any_grows (λ r. (r.directory == o) && is_kept s r) (λ r. (r.directory == o) && is_kept u r)
       (λ r. and_grows (r.directory == o) (is_kept s r) (r.directory == o) (is_kept u r) (λ h. h) (kept_grows r)))
+
+  -- where its objects have the shadows that they had
+  module _ (shadows : KeepShadows s.objects u.objects) where
+    alive_grows : (o : ℕ) → is_alive s o ≡ true → is_alive u o ≡ true
+    alive_grows o =
+        or_grows (is_alive_itself s o) (is_shadowing s o) (is_alive_itself u o) (is_shadowing u o) (itself_grows o)
+        (λ some.
+        shadows o (is_alive_itself u)
+        (list_any_weaker (λ x. has_shadow o x.body && is_alive_itself s x.id) (λ x. has_shadow o x.body && is_alive_itself u x.id) s.objects
+        (λ k d within.
+        let x = get_or s.objects k d in and_grows (has_shadow o x.body) (is_alive_itself s x.id) (has_shadow o x.body) (is_alive_itself u x.id) (λ h. h) (itself_grows x.id)) some))
 
 module _ {K T F I : Type 0} where
   -- an object that is made permanent or temporary leaves a settled state where it has a handle
@@ -101,12 +137,15 @@ module _ {K T F I : Type 0} where
         names = All-weaker (λ r. is_kept s r ≡ true) (λ r. is_kept u r ≡ true) (λ r h. kept_grows s u still (λ m h. h) (λ m h. h) (λ m h. h) [] (sym (append-nil s.rows)) r h) s.rows settled.names;
         objects = All-map (λ x. is_alive u x.id ≡ true) (turned_object o permanent) s.objects
             (All-weaker (λ x. is_alive s x.id ≡ true) (λ x. is_alive u (turned_object o permanent x).id ≡ true)
-            (λ x h. subst (λ n. is_alive u n ≡ true) (sym (turned_object-id o permanent x)) (alive_grows s u still (λ m h. h) (λ m h. h) (λ m h. h) [] (sym (append-nil s.rows)) x.id h))
+            (λ x h. subst (λ n. is_alive u n ≡ true) (sym (turned_object-id o permanent x)) (alive_grows s u still (λ m h. h) (λ m h. h) (λ m h. h) [] (sym (append-nil s.rows)) shadows x.id h))
             s.objects settled.objects);
       })
     where
       u : State K T F I
       u = with_permanence s o permanent
+
+      shadows : KeepShadows s.objects u.objects
+      shadows = shadows_map (turned_object o permanent) (turned_object-id o permanent) (turned_object-shadow o permanent) s.objects
 
       still : (m : ℕ) → is_permanent s m ≡ true → (is_permanent u m || has_handle u m) ≡ true
       still m was = go (m == o) refl
@@ -142,11 +181,12 @@ module _ {K T F I : Type 0} (g : Procedures K T F I) where
       let u = with_handle (with_open g s o reason) p value o inherit in
       let permanent = λ (m : ℕ) (h : is_permanent s m ≡ true). or_left (is_permanent u m) (has_handle u m) (permanent-opened s o m reason h) in
       let held = λ (m : ℕ). handle_stays s.handles (record { process = p; value = value; object = o; inherit = inherit; order = s.next_order }) m in
+      let shadows = shadows_map (opened_object g s.set o reason) (opened_object-id g s.set o reason) (opened_object-shadow g s.set o reason) s.objects in
       record {
         names = All-weaker (λ r. is_kept s r ≡ true) (λ r. is_kept u r ≡ true) (λ r h. kept_grows s u permanent held (λ m h. h) (λ m h. h) [] (sym (append-nil s.rows)) r h) s.rows settled.names;
         objects = All-map (λ x. is_alive u x.id ≡ true) (opened_object g s.set o reason) s.objects
             (All-weaker (λ x. is_alive s x.id ≡ true) (λ x. is_alive u (opened_object g s.set o reason x).id ≡ true)
-            (λ x h. subst (λ n. is_alive u n ≡ true) (sym (opened_object-id g s.set o reason x)) (alive_grows s u permanent held (λ m h. h) (λ m h. h) [] (sym (append-nil s.rows)) x.id h))
+            (λ x h. subst (λ n. is_alive u n ≡ true) (sym (opened_object-id g s.set o reason x)) (alive_grows s u permanent held (λ m h. h) (λ m h. h) [] (sym (append-nil s.rows)) shadows x.id h))
             s.objects settled.objects);
       }
 
@@ -159,7 +199,7 @@ module _ {K T F I : Type 0} (g : Procedures K T F I) where
         (new spot));
     objects = in_order-All (λ x. x.id) (λ x. is_alive u x.id ≡ true) object s.objects (alive_from_handle u s.next_id mine)
         (All-weaker (λ x. is_alive s x.id ≡ true) (λ x. is_alive u x.id ≡ true)
-        (λ x h. alive_grows s u permanent held (λ m h. h) (λ m h. h) (new_rows spot s.next_stamp s.next_id) refl x.id h) s.objects settled.objects);
+        (λ x h. alive_grows s u permanent held (λ m h. h) (λ m h. h) (new_rows spot s.next_stamp s.next_id) refl (shadows_insert object s.objects) x.id h) s.objects settled.objects);
   }
     where
       u : State K T F I
@@ -201,7 +241,7 @@ module _ {K T F I : Type 0} (g : Procedures K T F I) where
       record {
         names = settled.names;
         objects = All-weaker (λ x. is_alive s x.id ≡ true) (λ x. is_alive u x.id ≡ true)
-            (λ x h. alive_grows s u permanent (λ m h. h) (λ m h. h) mapped [] (sym (append-nil s.rows)) x.id h) s.objects settled.objects;
+            (λ x h. alive_grows s u permanent (λ m h. h) (λ m h. h) mapped [] (sym (append-nil s.rows)) (λ o keeps some. some) x.id h) s.objects settled.objects;
       }
     where
       child : Process
@@ -323,22 +363,22 @@ module _ {K T F I : Type 0} (g : Procedures K T F I) (s : State K T F I) (h : He
           or_grows (is_permanent s r.object) (has_handle s r.object) (is_permanent (closed_handle g s h) r.object) (has_handle (closed_handle g s h) r.object)
           (λ e. permanent_same r.object ∙ e) (held_other r.object other) was
 
-  alive_itself : is_alive (closed_handle g s h) h.object ≡ true
-  alive_itself = go (is_permanent (closed_handle g s h) h.object) refl kept
+  stays_itself : is_alive_itself (closed_handle g s h) h.object ≡ true
+  stays_itself = go (is_permanent (closed_handle g s h) h.object) refl kept
     where
-      go : (b : Bool) → is_permanent (closed_handle g s h) h.object ≡ b → (b || has_handle (closed_handle g s h) h.object) ≡ true → is_alive (closed_handle g s h) h.object ≡ true
-      go false temporary some = alive_from_handle (closed_handle g s h) h.object some
+      go : (b : Bool) → is_permanent (closed_handle g s h) h.object ≡ b → (b || has_handle (closed_handle g s h) h.object) ≡ true → is_alive_itself (closed_handle g s h) h.object ≡ true
+      go false temporary some = itself_from_handle (closed_handle g s h) h.object some
       go true permanent some = name (h.object == root_id) refl (named (sym (permanent_same h.object) ∙ permanent))
         where
-          name : (b : Bool) → (h.object == root_id) ≡ b → (b || has_name s h.object) ≡ true → is_alive (closed_handle g s h) h.object ≡ true
-          name true is some = alive_from_root (closed_handle g s h) h.object is
-          name false is some = alive_from_name (closed_handle g s h) h.object permanent some
+          name : (b : Bool) → (h.object == root_id) ≡ b → (b || has_name s h.object) ≡ true → is_alive_itself (closed_handle g s h) h.object ≡ true
+          name true is some = itself_from_root (closed_handle g s h) h.object is
+          name false is some = itself_from_name (closed_handle g s h) h.object permanent some
 
-  alive_closed : (m : ℕ) → is_alive s m ≡ true → is_alive (closed_handle g s h) m ≡ true
-  alive_closed m was = go (m == h.object) refl
+  itself_closed : (m : ℕ) → is_alive_itself s m ≡ true → is_alive_itself (closed_handle g s h) m ≡ true
+  itself_closed m was = go (m == h.object) refl
     where
-      go : (b : Bool) → (m == h.object) ≡ b → is_alive (closed_handle g s h) m ≡ true
-      go true same = subst (λ n. is_alive (closed_handle g s h) n ≡ true) (sym (eqb-true m h.object same)) alive_itself
+      go : (b : Bool) → (m == h.object) ≡ b → is_alive_itself (closed_handle g s h) m ≡ true
+      go true same = subst (λ n. is_alive_itself (closed_handle g s h) n ≡ true) (sym (eqb-true m h.object same)) stays_itself
       go false other =
           or_grows _ (holds_kept s m) _ (holds_kept (closed_handle g s h) m)
           (or_grows _ (is_permanent s m && has_name s m) _ (is_permanent (closed_handle g s h) m && has_name (closed_handle g s h) m)
@@ -350,6 +390,16 @@ module _ {K T F I : Type 0} (g : Procedures K T F I) (s : State K T F I) (h : He
           (λ k d within. and_grows ((get_or s.rows k d).directory == m) (is_kept s (get_or s.rows k d)) ((get_or s.rows k d).directory == m)
           (is_kept (closed_handle g s h) (get_or s.rows k d)) (λ e. e) (kept_closed (get_or s.rows k d))))
           was
+
+  alive_closed : (m : ℕ) → is_alive s m ≡ true → is_alive (closed_handle g s h) m ≡ true
+  alive_closed m =
+      or_grows (is_alive_itself s m) (is_shadowing s m) (is_alive_itself (closed_handle g s h) m) (is_shadowing (closed_handle g s h) m) (itself_closed m)
+      (λ some.
+      shadows_map changed (closed_object-id g s.set h.object left total) (closed_object-shadow g s.set h.object left total) s.objects m (is_alive_itself (closed_handle g s h))
+      (list_any_weaker (λ x. has_shadow m x.body && is_alive_itself s x.id) (λ x. has_shadow m x.body && is_alive_itself (closed_handle g s h) x.id) s.objects
+      (λ k d within.
+      let x = get_or s.objects k d in
+      and_grows (has_shadow m x.body) (is_alive_itself s x.id) (has_shadow m x.body) (is_alive_itself (closed_handle g s h) x.id) (λ e. e) (itself_closed x.id)) some))
 
   pub closed_settled : IsSettled (closed_handle g s h)
   closed_settled = record {

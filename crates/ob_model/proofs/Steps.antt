@@ -3,12 +3,12 @@ use Rattle.std.proofs.Common.{◌≡◌, ℕ, Bool, true, false, not, List, [], 
 use Rattle.std.specs.Prelude.{MatchBool}
 use Rattle.std.specs.Option.{option_and_then, option_map, option_map_or, is_some}
 use Rattle.ob_base.specs.declared.status.Status.{Status}
-use Rattle.ob_base.specs.declared.status.Status.TheVariants.{NoMemory, Success, InvalidHandle, InsufficientResources, ObjectTypeMismatch, ObjectNameExists, ObjectNameCollision, ProcessGone, TypeRefused}
+use Rattle.ob_base.specs.declared.status.Status.TheVariants.{InvalidParameter, NoMemory, Success, InvalidHandle, InsufficientResources, ObjectTypeMismatch, ObjectNameExists, ObjectNameCollision, ProcessGone, TypeRefused}
 use Rattle.ob_base.specs.Attrs.{has_flag, open_if_flag}
 use Rattle.ob_base.specs.Handle.{key_of}
 use Rattle.ob_model.specs.declared.command.Place.{Place}
 use Rattle.ob_model.specs.declared.command.Place.TheVariants as place
-use Rattle.ob_model.specs.declared.command.Command.TheVariants.{CreateDirectory, CreateLink, CreateObject, OpenDirectory, OpenLink, OpenObject, Close, QueryLink, QueryName, QueryDirectory, Duplicate, MakeTemporary, MakePermanent, SetDeviceMap, NewProcess, ExitProcess}
+use Rattle.ob_model.specs.declared.command.Command.TheVariants.{CreateDirectory, CreateShadowed, CreateLink, CreateObject, OpenDirectory, OpenLink, OpenObject, Close, QueryLink, QueryName, QueryDirectory, Duplicate, MakeTemporary, MakePermanent, SetDeviceMap, NewProcess, ExitProcess}
 use Rattle.ob_model.specs.declared.reply.Answer.{Answer}
 use Rattle.ob_model.specs.declared.reply.Answer.TheVariants.{Ticket}
 use Rattle.ob_model.specs.declared.reply.Event.{Event}
@@ -19,7 +19,7 @@ use Rattle.ob_model.specs.declared.state.Object.{Object}
 use Rattle.ob_model.specs.declared.state.Pending.{Pending}
 use Rattle.ob_model.specs.declared.state.Wanted.{Wanted}
 use Rattle.ob_model.specs.declared.state.Wanted.TheVariants as wanted
-use Rattle.ob_model.specs.State.{State, is_live, is_directory, is_store_full, held_of, object_of}
+use Rattle.ob_model.specs.State.{State, shadow_of, is_live, is_directory, is_store_full, held_of, object_of}
 use Rattle.ob_model.specs.Looks.{Look, At, Vacant, Parse, Refused, LooksUp, most_reparses}
 use Rattle.ob_model.specs.declared.terms.Reason.TheVariants.{Opened, Created}
 use Rattle.ob_model.specs.Procedures.{Procedures, ParseOutcome, EndsItself, EndsMade, EndsReparse, EndsRefused}
@@ -37,13 +37,13 @@ use Rattle.ob_model.specs.Creates.{Making, MakesDirectory, MakesLink, MakesObjec
 use Rattle.ob_model.specs.Naming.{TellsName, TellsTarget}
 use Rattle.ob_model.specs.Enumeration.{enumerated, context_used, page_answer}
 use Rattle.ob_model.specs.Processes.{values_in, is_crowded, begun, ended}
-use Rattle.ob_model.specs.Step.{WithHandle, WithRoot, CreatesIn, CreatesAt, OpensName, Turns, SetsMap, page_refusals, TellsPage, QueriesDirectory, Step}
+use Rattle.ob_model.specs.Step.{WithHandle, WithRoot, shadow_refusals, WithShadow, CreatesIn, CreatesAt, OpensName, Turns, SetsMap, page_refusals, TellsPage, QueriesDirectory, Step}
 use Rattle.ob_model.specs.Sound.{IsSound, Stands}
 use Rattle.ob_model.proofs.Vacant.{IsUsableEnd, usable_end}
 use Rattle.ob_model.proofs.VacantNames.{HasComponent, vacant_name}
 use Rattle.ob_model.proofs.Places.{IsPlace}
 use Rattle.ob_model.proofs.Earliest.{unmatched}
-use Rattle.ob_model.proofs.Soundness.{settled_sound, created_sound, dropped_sound, gives_handle_sound, closed_sound}
+use Rattle.ob_model.proofs.Soundness.{IsFitShadow, HasFitShadow, settled_sound, created_sound, dropped_sound, gives_handle_sound, closed_sound}
 use Rattle.ob_model.proofs.OpenEnds.{IsOpenEnd, open_end, again_end}
 use Rattle.ob_model.proofs.PendingSound.{begun_pending_sound, parsed_sound, HasTicket, has_ticket}
 use Rattle.ob_model.proofs.Turned.{turned_sound}
@@ -102,6 +102,25 @@ module _ {K T F I : Type 0} where
       go None h = refused_sound s t InvalidHandle answer sound h
       go (Some x) h = does (Some x.object) h
 
+  -- what isn't refused as a shadow is fit to be one
+  fit_as_shadow : (s : State K T F I) (o : ℕ) → first_refusal (shadow_refusals s o) ≡ None → IsFitShadow s (Some o)
+  fit_as_shadow s o e = go (is_directory s o) (shadow_of s o) e
+    where
+      go : (directory : Bool) (shadow : Option ℕ) → first_refusal ((not directory, ObjectTypeMismatch) ∷ (is_some shadow, InvalidParameter) ∷ []) ≡ None → (directory ≡ true) × (shadow ≡ None)
+      go false shadow e = cc
+      go true (Some n) e = cc
+      go true None e = (refl, refl)
+
+  -- a step that uses a handle to a shadow
+  with_shadow_sound : (s t : State K T F I) (p : ℕ) (shadow : Option ℕ) (answer : Answer) (Does : Option ℕ → Type 0)
+      → IsSound s → ((d : Option ℕ) → IsFitShadow s d → Does d → IsSound t) → WithShadow s p shadow answer t Does → IsSound t
+  with_shadow_sound s t p None answer Does sound does h = does None tt h
+  with_shadow_sound s t p (Some handle) answer Does sound does h = go (option_and_then (held_of s p) (key_of handle)) h
+    where
+      go : (o : Option Held) → MatchOption o (IsRefused s InvalidHandle answer t) (λ x. Unless (shadow_refusals s x.object) s answer t (Does (Some x.object))) → IsSound t
+      go None h = refused_sound s t InvalidHandle answer sound h
+      go (Some x) h = unless_sound (shadow_refusals s x.object) s t answer (Does (Some x.object)) sound (λ e. does (Some x.object) (fit_as_shadow s x.object e)) h
+
 module _ {K T F I : Type 0} (g : Procedures K T F I) where
   -- an object that is of the type that is asked for stands
   stands_where_wanted : (s : State K T F I) (o : ℕ) (wanted : Wanted K) → is_wanted_at g s o wanted ≡ true → Stands s o
@@ -132,8 +151,8 @@ module _ {K T F I : Type 0} (g : Procedures K T F I) where
   opens_sound s t p attrs wanted (At o) answer sound live end h = opens_at_sound s t p attrs wanted Success o answer sound live h
 
   makes_sound : (s t : State K T F I) (p attrs : ℕ) (making : Making K) (spot : Spot) (answer : Answer)
-      → IsSound s → is_live s p ≡ true → MatchOption spot (Unit {0}) (IsPlace s) → Makes g s p attrs making spot answer t → IsSound t
-  makes_sound s t p attrs making spot answer sound live inside h =
+      → IsSound s → is_live s p ≡ true → HasFitShadow s (body_made g making) → MatchOption spot (Unit {0}) (IsPlace s) → Makes g s p attrs making spot answer t → IsSound t
+  makes_sound s t p attrs making spot answer sound live fit inside h =
       unless_sound (room_refusals s p spot) s t answer _ sound (λ e. go (make_refusal g making)) h
     where
       Given : Type 0
@@ -145,7 +164,7 @@ module _ {K T F I : Type 0} (g : Procedures K T F I) where
       opened : (refusal : Option ℕ) → MatchOption refusal Given DroppedFor → IsSound t
       opened None h =
           subst IsSound (sym h.3)
-          (settled_sound g (created g s p spot (body_made g making) attrs h.0) (created_sound g s p spot (body_made g making) attrs h.0 sound live h.1.1 inside))
+          (settled_sound g (created g s p spot (body_made g making) attrs h.0) (created_sound g s p spot (body_made g making) attrs h.0 sound live h.1.1 fit inside))
       opened (Some k) h = subst IsSound (sym h.1) (dropped_sound g s (body_made g making) sound)
 
       go : (refusal : Option ℕ)
@@ -154,32 +173,40 @@ module _ {K T F I : Type 0} (g : Procedures K T F I) where
       go (Some k) h = refused_sound s t (TypeRefused k) answer sound h
 
   creates_sound : (s t : State K T F I) (p attrs : ℕ) (making : Making K) (look : Look) (answer : Answer)
-      → IsSound s → is_live s p ≡ true → IsUsableEnd g s (create_mode attrs) look → HasComponent look → Creates g s p attrs making look answer t → IsSound t
-  creates_sound s t p attrs making (Refused status) answer sound live usable has h = refused_sound s t status answer sound h
-  creates_sound s t p attrs making (At o) answer sound live usable has h = go (has_flag open_if_flag attrs) h
+      → IsSound s → is_live s p ≡ true → HasFitShadow s (body_made g making) → IsUsableEnd g s (create_mode attrs) look → HasComponent look
+      → Creates g s p attrs making look answer t → IsSound t
+  creates_sound s t p attrs making (Refused status) answer sound live fit usable has h = refused_sound s t status answer sound h
+  creates_sound s t p attrs making (At o) answer sound live fit usable has h = go (has_flag open_if_flag attrs) h
     where
       go : (opens : Bool) → MatchBool opens (OpensAt g s p attrs (type_made making) ObjectNameExists o answer t) (IsRefused s ObjectNameCollision answer t) → IsSound t
       go true h = opens_at_sound s t p attrs (type_made making) ObjectNameExists o answer sound live h
       go false h = refused_sound s t ObjectNameCollision answer sound h
-  creates_sound s t p attrs making (Parse o rest n) answer sound live usable has h = absurd h
-  creates_sound s t p attrs making (Vacant d c) answer sound live usable has h =
-      makes_sound s t p attrs making (Some (d, c)) answer sound live (usable.1, usable.3, has, unmatched s d c (create_mode attrs).fold usable.2) h
+  creates_sound s t p attrs making (Parse o rest n) answer sound live fit usable has h = absurd h
+  creates_sound s t p attrs making (Vacant d c) answer sound live fit usable has h =
+      makes_sound s t p attrs making (Some (d, c)) answer sound live fit (usable.1, usable.3, has, unmatched s d c (create_mode attrs).fold usable.2) h
 
-  creates_in_sound : (s t : State K T F I) (p : ℕ) (where_to : Place) (attrs : ℕ) (making : Making K) (answer : Answer)
-      → IsSound s → is_live s p ≡ true → CreatesIn g s p where_to attrs making answer t → IsSound t
-  creates_in_sound s t p (place.At root name) attrs making answer sound live h =
-      with_root_sound s t p root answer
-      (λ at. (look : Look) × LooksUp g s p (create_mode attrs) most_reparses at name look × Creates g s p attrs making look answer t) sound
-      (λ at does.
-      creates_sound s t p attrs making does.0 answer sound live (usable_end g s p (create_mode attrs) most_reparses at name does.0 does.1)
-      (vacant_name g s p (create_mode attrs) most_reparses at name does.0 does.1) does.2) h
-  creates_in_sound s t p place.Unnamed attrs making answer sound live h = makes_sound s t p attrs making None answer sound live tt h
+  creates_in_sound : (s t : State K T F I) (p : ℕ) (where_to : Place) (attrs : ℕ) (shadow : Option ℕ) (making : Option ℕ → Making K) (answer : Answer)
+      → ((d : Option ℕ) → IsFitShadow s d → HasFitShadow s (body_made g (making d)))
+      → IsSound s → is_live s p ≡ true → CreatesIn g s p where_to attrs shadow making answer t → IsSound t
+  creates_in_sound s t p (place.At root name) attrs shadow making answer fits sound live h =
+      with_root_sound s t p root answer (λ at. WithShadow s p shadow answer t (Does at)) sound
+      (λ at.
+      with_shadow_sound s t p shadow answer (Does at) sound
+      (λ d fit does.
+      creates_sound s t p attrs (making d) does.0 answer sound live (fits d fit) (usable_end g s p (create_mode attrs) most_reparses at name does.0 does.1)
+      (vacant_name g s p (create_mode attrs) most_reparses at name does.0 does.1) does.2)) h
+    where
+      Does : Option ℕ → Option ℕ → Type 0
+      Does at d = (look : Look) × LooksUp g s p (create_mode attrs) most_reparses at name look × Creates g s p attrs (making d) look answer t
+  creates_in_sound s t p place.Unnamed attrs shadow making answer fits sound live h =
+      with_shadow_sound s t p shadow answer (λ d. Makes g s p attrs (making d) None answer t) sound
+      (λ d fit. makes_sound s t p attrs (making d) None answer sound live (fits d fit) tt) h
 
-  creates_at_sound : (s t : State K T F I) (p : ℕ) (where_to : Place) (attrs : ℕ) (making : Making K) (answer : Answer)
-      → IsSound s → CreatesAt g s p where_to attrs making answer t → IsSound t
-  creates_at_sound s t p where_to attrs making answer sound h =
-      unless_sound (create_refusals (is_live s p) (is_fit making) where_to attrs) s t answer (CreatesIn g s p where_to attrs making answer t) sound
-      (λ e. creates_in_sound s t p where_to attrs making answer sound (live_to_create (is_live s p) (is_fit making) where_to attrs e)) h
+  creates_at_sound : (s t : State K T F I) (p : ℕ) (where_to : Place) (attrs : ℕ) (shadow : Option ℕ) (making : Option ℕ → Making K) (answer : Answer)
+      → ((d : Option ℕ) → IsFitShadow s d → HasFitShadow s (body_made g (making d))) → IsSound s → CreatesAt g s p where_to attrs shadow making answer t → IsSound t
+  creates_at_sound s t p where_to attrs shadow making answer fits sound h =
+      unless_sound (create_refusals (is_live s p) (is_fit (making None)) where_to attrs) s t answer (CreatesIn g s p where_to attrs shadow making answer t) sound
+      (λ e. creates_in_sound s t p where_to attrs shadow making answer fits sound (live_to_create (is_live s p) (is_fit (making None)) where_to attrs e)) h
 
   opens_name_sound : (s t : State K T F I) (p : ℕ) (root : Option ℕ) (name : List ℕ) (attrs : ℕ) (wanted : Wanted K) (answer : Answer)
       → IsSound s → OpensName g s p root name attrs wanted answer t → IsSound t
@@ -251,9 +278,10 @@ module _ {K T F I : Type 0} (g : Procedures K T F I) where
 
   -- a step from a sound state leads to a sound one
   pub step_sound : (s t : State K T F I) (event : Event K) (answer : Answer) → IsSound s → Step g s event answer t → IsSound t
-  step_sound s t (Start p (CreateDirectory where_to attrs)) answer sound h = creates_at_sound s t p where_to attrs MakesDirectory answer sound h
-  step_sound s t (Start p (CreateLink where_to attrs target)) answer sound h = creates_at_sound s t p where_to attrs (MakesLink target) answer sound h
-  step_sound s t (Start p (CreateObject where_to attrs kind args)) answer sound h = creates_at_sound s t p where_to attrs (MakesObject kind args) answer sound h
+  step_sound s t (Start p (CreateDirectory where_to attrs)) answer sound h = creates_at_sound s t p where_to attrs None MakesDirectory answer (λ d fit. fit) sound h
+  step_sound s t (Start p (CreateShadowed where_to attrs shadow)) answer sound h = creates_at_sound s t p where_to attrs (Some shadow) MakesDirectory answer (λ d fit. fit) sound h
+  step_sound s t (Start p (CreateLink where_to attrs target)) answer sound h = creates_at_sound s t p where_to attrs None (λ shadow. MakesLink target) answer (λ d fit. tt) sound h
+  step_sound s t (Start p (CreateObject where_to attrs kind args)) answer sound h = creates_at_sound s t p where_to attrs None (λ shadow. MakesObject kind args) answer (λ d fit. tt) sound h
   step_sound s t (Start p (OpenDirectory root name attrs)) answer sound h = opens_name_sound s t p root name attrs wanted.Directory answer sound h
   step_sound s t (Start p (OpenLink root name attrs)) answer sound h = opens_name_sound s t p root name attrs wanted.Link answer sound h
   step_sound s t (Start p (OpenObject root name attrs want)) answer sound h = opens_name_sound s t p root name attrs (type_wanted want) answer sound h

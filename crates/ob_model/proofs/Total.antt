@@ -10,7 +10,7 @@ use Rattle.ob_base.specs.Attrs.{has_flag, open_if_flag}
 use Rattle.ob_base.specs.Handle.{key_of}
 use Rattle.ob_model.specs.declared.command.Place.{Place}
 use Rattle.ob_model.specs.declared.command.Place.TheVariants as place
-use Rattle.ob_model.specs.declared.command.Command.TheVariants.{CreateDirectory, CreateLink, CreateObject, OpenDirectory, OpenLink, OpenObject, Close, QueryLink, QueryName, QueryDirectory, Duplicate, MakeTemporary, MakePermanent, SetDeviceMap, NewProcess, ExitProcess}
+use Rattle.ob_model.specs.declared.command.Command.TheVariants.{CreateDirectory, CreateShadowed, CreateLink, CreateObject, OpenDirectory, OpenLink, OpenObject, Close, QueryLink, QueryName, QueryDirectory, Duplicate, MakeTemporary, MakePermanent, SetDeviceMap, NewProcess, ExitProcess}
 use Rattle.ob_model.specs.declared.command.Command.{Command}
 use Rattle.ob_model.specs.declared.reply.Answer.{Answer}
 use Rattle.ob_model.specs.declared.reply.Answer.TheVariants.{Ticket}
@@ -44,7 +44,7 @@ use Rattle.ob_model.specs.Creates.{Making, MakesDirectory, MakesLink, MakesObjec
 use Rattle.ob_model.specs.Naming.{IsWayUp, row_of, path_text, path_answer, target_of, TellsName, TellsTarget}
 use Rattle.ob_model.specs.Enumeration.{enumerated, context_used, page_answer}
 use Rattle.ob_model.specs.Processes.{values_in, is_crowded, begun, ended}
-use Rattle.ob_model.specs.Step.{WithHandle, WithRoot, CreatesIn, CreatesAt, OpensName, Turns, SetsMap, page_refusals, TellsPage, QueriesDirectory, Step}
+use Rattle.ob_model.specs.Step.{WithHandle, WithRoot, shadow_refusals, WithShadow, CreatesIn, CreatesAt, OpensName, Turns, SetsMap, page_refusals, TellsPage, QueriesDirectory, Step}
 use Rattle.ob_model.specs.Sound.{IsSound, Stands}
 use Rattle.ob_model.proofs.SoundPaths.{find_of}
 use Rattle.ob_model.proofs.Lookup.{looks_up_total, looks_again_total}
@@ -98,6 +98,14 @@ module _ {K T F I : Type 0} where
       → IsSound s → ((at : Option ℕ) → MatchOption at (Unit {0}) (Stands s) → Has (Does at)) → Has (λ answer t. WithRoot s p root answer t (λ at. Does at answer t))
   with_root_total s p None Does sound does = does None tt
   with_root_total s p (Some handle) Does sound does = held_total s p handle (λ h. Does (Some h.object)) sound (λ h stands. does (Some h.object) stands)
+
+  -- a handle to a shadow, where one is given, leads to what may be one, or the step is refused
+  with_shadow_total : (s : State K T F I) (p : ℕ) (shadow : Option ℕ) (Does : Option ℕ → Answer → State K T F I → Type 0)
+      → IsSound s → ((d : Option ℕ) → Has (Does d)) → Has (λ answer t. WithShadow s p shadow answer t (λ d. Does d answer t))
+  with_shadow_total s p None Does sound does = does None
+  with_shadow_total s p (Some handle) Does sound does =
+      held_total s p handle (λ h answer t. Unless (shadow_refusals s h.object) s answer t (Does (Some h.object) answer t)) sound
+      (λ h stands. unless_total (shadow_refusals s h.object) s (Does (Some h.object)) (λ e. does (Some h.object)))
 
   -- ---- room for a handle
 
@@ -248,22 +256,28 @@ module _ {K T F I : Type 0} (g : Procedures K T F I) where
   creates_total s p attrs making (Parse o rest n) usable = let never : true ≡ false = usable.0 in cc
   creates_total s p attrs making (Vacant d c) usable = makes_total s p attrs making (Some (d, c))
 
-  creates_in_total : (s : State K T F I) (p : ℕ) (where_to : Place) (attrs : ℕ) (making : Making K) → IsSound s → Has (CreatesIn g s p where_to attrs making)
-  creates_in_total s p (place.At root name) attrs making sound = with_root_total s p root Does sound looked
+  creates_in_total : (s : State K T F I) (p : ℕ) (where_to : Place) (attrs : ℕ) (shadow : Option ℕ) (making : Option ℕ → Making K) → IsSound s
+      → Has (CreatesIn g s p where_to attrs shadow making)
+  creates_in_total s p (place.At root name) attrs shadow making sound =
+      with_root_total s p root (λ at answer t. WithShadow s p shadow answer t (λ d. Does at d answer t)) sound
+      (λ at stands. with_shadow_total s p shadow (Does at) sound (looked at stands))
     where
-      Does : Option ℕ → Answer → State K T F I → Type 0
-      Does at answer t = (look : Look) × LooksUp g s p (create_mode attrs) most_reparses at name look × Creates g s p attrs making look answer t
+      Does : Option ℕ → Option ℕ → Answer → State K T F I → Type 0
+      Does at d answer t = (look : Look) × LooksUp g s p (create_mode attrs) most_reparses at name look × Creates g s p attrs (making d) look answer t
 
-      looked : (at : Option ℕ) → MatchOption at (Unit {0}) (Stands s) → Has (Does at)
-      looked at stands =
+      looked : (at : Option ℕ) → MatchOption at (Unit {0}) (Stands s) → (d : Option ℕ) → Has (Does at d)
+      looked at stands d =
           let look = looks_up_total g s p (create_mode attrs) most_reparses at name sound stands in
-          let done = creates_total s p attrs making look.0 (usable_end g s p (create_mode attrs) most_reparses at name look.0 look.1) in
+          let done = creates_total s p attrs (making d) look.0 (usable_end g s p (create_mode attrs) most_reparses at name look.0 look.1) in
           (done.0, done.1, (look.0, look.1, done.2))
-  creates_in_total s p place.Unnamed attrs making sound = makes_total s p attrs making None
+  creates_in_total s p place.Unnamed attrs shadow making sound =
+      with_shadow_total s p shadow (λ d. Makes g s p attrs (making d) None) sound (λ d. makes_total s p attrs (making d) None)
 
-  creates_at_total : (s : State K T F I) (p : ℕ) (where_to : Place) (attrs : ℕ) (making : Making K) → IsSound s → Has (CreatesAt g s p where_to attrs making)
-  creates_at_total s p where_to attrs making sound =
-      unless_total (create_refusals (is_live s p) (is_fit making) where_to attrs) s (CreatesIn g s p where_to attrs making) (λ e. creates_in_total s p where_to attrs making sound)
+  creates_at_total : (s : State K T F I) (p : ℕ) (where_to : Place) (attrs : ℕ) (shadow : Option ℕ) (making : Option ℕ → Making K) → IsSound s
+      → Has (CreatesAt g s p where_to attrs shadow making)
+  creates_at_total s p where_to attrs shadow making sound =
+      unless_total (create_refusals (is_live s p) (is_fit (making None)) where_to attrs) s (CreatesIn g s p where_to attrs shadow making)
+      (λ e. creates_in_total s p where_to attrs shadow making sound)
 
   opens_name_total : (s : State K T F I) (p : ℕ) (root : Option ℕ) (name : List ℕ) (attrs : ℕ) (wanted : Wanted K) → IsSound s → Has (OpensName g s p root name attrs wanted)
   opens_name_total s p root name attrs wanted sound =
@@ -308,9 +322,10 @@ module _ {K T F I : Type 0} (g : Procedures K T F I) where
 
   -- in a sound state every start has an answer
   pub start_total : (s : State K T F I) (p : ℕ) (command : Command K) → IsSound s → (answer : Answer) × (t : State K T F I) × Step g s (Start p command) answer t
-  start_total s p (CreateDirectory where_to attrs) sound = creates_at_total s p where_to attrs MakesDirectory sound
-  start_total s p (CreateLink where_to attrs target) sound = creates_at_total s p where_to attrs (MakesLink target) sound
-  start_total s p (CreateObject where_to attrs kind args) sound = creates_at_total s p where_to attrs (MakesObject kind args) sound
+  start_total s p (CreateDirectory where_to attrs) sound = creates_at_total s p where_to attrs None MakesDirectory sound
+  start_total s p (CreateShadowed where_to attrs shadow) sound = creates_at_total s p where_to attrs (Some shadow) MakesDirectory sound
+  start_total s p (CreateLink where_to attrs target) sound = creates_at_total s p where_to attrs None (λ shadow. MakesLink target) sound
+  start_total s p (CreateObject where_to attrs kind args) sound = creates_at_total s p where_to attrs None (λ shadow. MakesObject kind args) sound
   start_total s p (OpenDirectory root name attrs) sound = opens_name_total s p root name attrs wanted.Directory sound
   start_total s p (OpenLink root name attrs) sound = opens_name_total s p root name attrs wanted.Link sound
   start_total s p (OpenObject root name attrs want) sound = opens_name_total s p root name attrs (type_wanted want) sound

@@ -3,13 +3,13 @@ use Rattle.std.proofs.Common.{◌≡◌, ◌≢◌, ◌∙◌, ℕ, ◌==◌, Bo
 use Rattle.std.specs.Option.{option_map_or}
 use Rattle.std.proofs.lemmas.Bool.{false≢true, ne_eqb}
 use Rattle.ob_model.specs.declared.state.Object.{Object}
-use Rattle.ob_model.specs.State.{State, object_of, is_directory_body}
+use Rattle.ob_model.specs.State.{State, object_of, is_directory_body, shadow_in}
 use Rattle.ob_model.specs.Settle.{is_permanent, has_name}
 use Rattle.ob_model.specs.Permanence.{turned_object, with_permanence, turned}
 use Rattle.ob_model.specs.Sound.{IsSound, Stands}
 use Rattle.ob_model.proofs.Soundness.{changed_sound}
 
--- an object keeps its number, whether it is a directory, and whether it is exclusive
+-- an object keeps its number, whether it is a directory, its shadow, and whether it is exclusive
 module _ {F I : Type 0} (o : ℕ) (permanent : Bool) where
   pub turned_object-id : (x : Object F I) → (turned_object o permanent x).id ≡ x.id
   turned_object-id x = elim (x.id == o) as (λ b. (if b then record x { permanent = permanent } else x).id ≡ x.id) [ true ↦ refl | false ↦ refl ]
@@ -17,6 +17,9 @@ module _ {F I : Type 0} (o : ℕ) (permanent : Bool) where
   pub turned_object-is_directory : (x : Object F I) → is_directory_body (turned_object o permanent x).body ≡ is_directory_body x.body
   turned_object-is_directory x =
       elim (x.id == o) as (λ b. is_directory_body (if b then record x { permanent = permanent } else x).body ≡ is_directory_body x.body) [ true ↦ refl | false ↦ refl ]
+
+  pub turned_object-shadow : (x : Object F I) → shadow_in (turned_object o permanent x).body ≡ shadow_in x.body
+  turned_object-shadow x = elim (x.id == o) as (λ b. shadow_in (if b then record x { permanent = permanent } else x).body ≡ shadow_in x.body) [ true ↦ refl | false ↦ refl ]
 
   pub turned_object-exclusive : (x : Object F I) → (turned_object o permanent x).exclusive ≡ x.exclusive
   turned_object-exclusive x = elim (x.id == o) as (λ b. (if b then record x { permanent = permanent } else x).exclusive ≡ x.exclusive) [ true ↦ refl | false ↦ refl ]
@@ -57,7 +60,7 @@ module _ {K T F I : Type 0} where
 
   -- the state stays sound
   with_permanence_sound : (s : State K T F I) (o : ℕ) (permanent : Bool) → IsSound s → IsSound (with_permanence s o permanent)
-  with_permanence_sound s o permanent sound = changed_sound (turned_object o permanent) (turned_object-id o permanent) (turned_object-is_directory o permanent) s s.set sound
+  with_permanence_sound s o permanent sound = changed_sound (turned_object o permanent) (turned_object-id o permanent) (turned_object-is_directory o permanent) (turned_object-shadow o permanent) s s.set sound
 
   pub turned_sound : (s : State K T F I) (o : ℕ) (permanent : Bool) → IsSound s → IsSound (turned s o permanent)
   turned_sound s o permanent sound = turned_either IsSound s o permanent sound (with_permanence_sound s o permanent sound)

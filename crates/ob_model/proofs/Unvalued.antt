@@ -17,7 +17,7 @@ use Rattle.ob_model.specs.declared.reply.Answer.{Answer}
 use Rattle.ob_model.specs.declared.terms.Reason.{Reason}
 use Rattle.ob_model.specs.declared.terms.Reason.TheVariants.{Inherited}
 use Rattle.ob_model.specs.Procedures.{Procedures}
-use Rattle.ob_model.specs.Settle.{settle, has_handle, has_name, is_permanent, is_pinned, is_mapped, deleted_all}
+use Rattle.ob_model.specs.Settle.{has_shadow, settle, has_handle, has_name, is_permanent, is_pinned, is_mapped, deleted_all}
 use Rattle.ob_model.specs.Permanence.{turned, with_permanence}
 use Rattle.ob_model.specs.declared.terms.GrantOptions.{GrantOptions}
 use Rattle.ob_model.specs.Grants.{first_refusal, is_exclusive, has_other_holder, is_table_full, with_handle, open_refusal, with_open, grant_refusal}
@@ -131,9 +131,12 @@ module _ {K T F I : Type 0} (g : Procedures K T F I) where
   kept_by : (ℕ → Bool) → State K T F I → Row → Bool
   kept_by has s r = is_permanent s r.object || has r.object
 
-  alive_by : (ℕ → Bool) → State K T F I → ℕ → Bool
-  alive_by has s o =
+  itself_by : (ℕ → Bool) → State K T F I → ℕ → Bool
+  itself_by has s o =
       (o == root_id) || has o || is_pinned s o || is_mapped s o || (is_permanent s o && has_name s o) || list_any (λ r. (r.directory == o) && kept_by has s r) s.rows
+
+  alive_by : (ℕ → Bool) → State K T F I → ℕ → Bool
+  alive_by has s o = itself_by has s o || list_any (λ x. has_shadow o x.body && itself_by has s x.id) s.objects
 
   settled_by : (ℕ → Bool) → State K T F I → State K T F I
   settled_by has s = record s {
@@ -143,7 +146,7 @@ module _ {K T F I : Type 0} (g : Procedures K T F I) where
   }
 
   pub settle-unvalued : (s : State K T F I) → settle g (unvalued s) ≡ unvalued (settle g s)
-  unfolding settled_by alive_by kept_by
+  unfolding settled_by alive_by itself_by kept_by
   settle-unvalued s = λ i. settled_by (λ o. has_handle-unvalued s o i) (unvalued s)
 
   -- an object with the close procedure called

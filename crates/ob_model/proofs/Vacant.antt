@@ -2,7 +2,7 @@
 -- is found under the component and which may have an entry of that name, and an object parses for an open
 -- alone, and its kind does. A create that begins in a view walks more than one component, so that no place is
 -- vacant in a view itself.
-use Rattle.std.proofs.Common.{◌≡◌, ◌≢◌, ℕ, zero, suc, ◌==◌, Bool, true, false, ◌&&◌, not, List, [], ◌∷◌, length, drop, refl, ◌∙◌, sym, subst, inl, inr, ◌⊎◌, nat_eq, eq-eqb}
+use Rattle.std.proofs.Common.{◌≡◌, ◌≢◌, ℕ, zero, suc, ◌==◌, Bool, true, false, ◌&&◌, not, List, [], ◌∷◌, length, drop, refl, ◌∙◌, sym, subst, inl, inr, ◌⊎◌, nat_eq, eq-eqb, ap}
 use Rattle.std.specs.Prelude.{codes, if◌then◌else◌, nat_lt, Option, None, Some, MatchOption, MatchBool}
 use Rattle.std.specs.Option.{option_map, option_and_then}
 use Rattle.std.specs.List.{starts_with}
@@ -100,8 +100,8 @@ fit_origin s p create text = go (bytes_eq text (codes "\\")) (bytes_eq text (cod
 module _ {K T F I : Type 0} (g : Procedures K T F I) (s : State K T F I) (p : ℕ) (mode : Mode) where
   -- what a create misses from a fit place as the last component is not found where it was missed
   not_found : (place : Origin) (text : List ℕ) (cs : List (List ℕ)) (rest : List ℕ) (d : ℕ) (c : List ℕ)
-      → IsFit mode.create place text → IsSplit text cs rest → rest ≢ [] → IsPath s place cs mode.fold d → c ≡ next_component rest
-      → entry s (place_behind place cs d) c mode.fold ≡ None → c ≢ [] → mode.create ≡ true → bytes_eq (after_component rest) [] ≡ true → found s d c mode.fold ≡ None
+      → IsFit mode.create place text → IsSplit text cs rest → rest ≢ [] → IsPath s place cs false mode.fold d → c ≡ next_component rest
+      → entry s (place_behind place cs d) c true mode.fold ≡ None → c ≢ [] → mode.create ≡ true → bytes_eq (after_component rest) [] ≡ true → found s d c mode.fold ≡ None
   not_found (InDirectory root) text [] rest d c fit split some path is none component create last =
       subst (λ (n : ℕ). found s n c mode.fold ≡ None) (sym path) (none_of (λ (r : Row). r.object) (found s root c mode.fold) none)
   not_found (InDirectory root) text (x ∷ xs) rest d c fit split some path is none component create last = none_of (λ (r : Row). r.object) (found s d c mode.fold) none
@@ -149,17 +149,19 @@ module _ {K T F I : Type 0} (g : Procedures K T F I) (s : State K T F I) (p : �
       go false create e f = usable
 
   usable_body : (o : ℕ) (body : Body F I) (rest : List ℕ) (n : ℕ) → body_of s o ≡ Some body → IsUsableNext g s mode (at_body g mode o body rest n)
-  usable_body o Directory rest n is = tt
+  usable_body o (Directory shadow) rest n is = tt
   usable_body o (Link target) rest n is = usable_link o target rest
   usable_body o (Other face inner) rest n is = usable_other o face inner rest n (named_or_mismatch o rest) is (usable_named o rest)
 
   usable_next : (place : Origin) (text : List ℕ) (n : ℕ) (stop : Stop) (next : Next) → IsFit mode.create place text
-      → IsStop s place text mode.fold stop → IsNext g s mode n stop next → IsUsableNext g s mode next
+      → IsStop s place text mode.create mode.fold stop → IsNext g s mode n stop next → IsUsableNext g s mode next
   usable_next place text n (Missed d c last) next fit stop h = subst (IsUsableNext g s mode) (sym h) (usable_miss d c last stop.5 (free stop.7))
     where
-      free : (c ≡ []) ⊎ (entry s (place_behind place stop.0 d) c mode.fold ≡ None) → c ≢ [] → mode.create ≡ true → last ≡ true → found s d c mode.fold ≡ None
+      free : (c ≡ []) ⊎ (entry s (place_behind place stop.0 d) c (last && mode.create) mode.fold ≡ None) → c ≢ [] → mode.create ≡ true → last ≡ true → found s d c mode.fold ≡ None
       free (inl empty) some create is_last = absurd (some empty)
-      free (inr none) some create is_last = not_found place text stop.0 stop.1 d c fit stop.2 stop.3 stop.4 stop.6 none some create (sym stop.8 ∙ is_last)
+      free (inr none) some create is_last =
+          not_found place text stop.0 stop.1 d c fit stop.2 stop.3 stop.4 stop.6
+          (ap (λ (x : Bool). entry s (place_behind place stop.0 d) c x mode.fold) (sym (both last mode.create is_last create)) ∙ none) some create (sym stop.8 ∙ is_last)
   usable_next place text n (Reached o rest) next fit stop h = go (body_of s o) refl h
     where
       go : (body : Option (Body F I)) → body_of s o ≡ body → MatchOption body ⊥ (λ body. next ≡ at_body g mode o body rest n) → IsUsableNext g s mode next
@@ -203,8 +205,8 @@ module _ {K T F I : Type 0} (g : Procedures K T F I) (s : State K T F I) (p : �
       (λ place' text' fit' goes. usable_looks n place' text' look fit' goes) again) h.4
 
   usable_from : (n root : ℕ) (body : Body F I) (name : List ℕ) (look : Look) → body_of s root ≡ Some body → LooksFrom g s p mode n root body name look → IsUsableEnd g s mode look
-  usable_from n root Directory [] look is h = usable_looks n (InDirectory root) [] look tt h
-  usable_from n root Directory (b ∷ bs) look is h = usable_looks n (InDirectory root) _ look tt h
+  usable_from n root (Directory shadow) [] look is h = usable_looks n (InDirectory root) [] look tt h
+  usable_from n root (Directory shadow) (b ∷ bs) look is h = usable_looks n (InDirectory root) _ look tt h
   usable_from n root (Link target) name look is h = usable_refusal look ObjectTypeMismatch h
   usable_from n root (Other face inner) name look is h = subst (IsUsableEnd g s mode) (sym h) (usable_other root face inner name n (Refused ObjectTypeMismatch) is tt)
 

@@ -60,7 +60,7 @@ missed_is_component c (b ∷ bs) some is named = subst IsComponent (sym is) (nex
 
 module _ {K T F I : Type 0} (g : Procedures K T F I) (s : State K T F I) (p : ℕ) (mode : Mode) where
   body_has : (o : ℕ) (body : Body F I) (rest : List ℕ) (n : ℕ) → NextHasComponent (at_body g mode o body rest n)
-  body_has o Directory rest n = tt
+  body_has o (Directory shadow) rest n = tt
   body_has o (Link target) rest n = link_has mode o target rest
   body_has o (Other face inner) rest n = go (g.parses (g.kind_of face) && not mode.create)
     where
@@ -68,7 +68,7 @@ module _ {K T F I : Type 0} (g : Procedures K T F I) (s : State K T F I) (p : �
       go true = tt
       go false = named_has o rest
 
-  next_has : (place : Origin) (text : List ℕ) (n : ℕ) (stop : Stop) (next : Next) → IsStop s place text mode.fold stop → IsNext g s mode n stop next → NextHasComponent next
+  next_has : (place : Origin) (text : List ℕ) (n : ℕ) (stop : Stop) (next : Next) → IsStop s place text mode.create mode.fold stop → IsNext g s mode n stop next → NextHasComponent next
   next_has place text n (Missed d c last) next stop h = subst NextHasComponent (sym h) (miss_has mode d c last (missed_is_component c stop.1 stop.3 stop.6))
   next_has place text n (Reached o rest) next stop h = go (body_of s o) h
     where
@@ -101,7 +101,7 @@ module _ {K T F I : Type 0} (g : Procedures K T F I) (s : State K T F I) (p : �
       (λ target rest again. again_has (nat_lt longest_name (length (substituted target rest))) _ (λ at. Looks g s p mode n at.0 at.1 look) look (λ at goes. looks_has n at.0 at.1 look goes) again) h.4
 
   from_has : (n root : ℕ) (body : Body F I) (name : List ℕ) (look : Look) → LooksFrom g s p mode n root body name look → HasComponent look
-  from_has n root Directory name look h = looks_has n (relative root name).0 (relative root name).1 look h
+  from_has n root (Directory shadow) name look h = looks_has n (relative root name).0 (relative root name).1 look h
   from_has n root (Link target) name look h = refusal_has look ObjectTypeMismatch h
   from_has n root (Other face inner) name look h = go (g.parses (g.kind_of face) && not mode.create) h
     where

@@ -1,9 +1,9 @@
 -- The path of an object, looked up as it is, leads to the object again.
 use Rattle.std.proofs.Common.{◌≡◌, ◌≢◌, ◌∙◌, ℕ, zero, suc, ◌<◌, ◌≤◌, ◌==◌, Bool, true, false, ◌&&◌, not, nat_lt, List, [], ◌∷◌, ◌++◌, append-nil, append_assoc, length, take, drop, get_or, find, All, Contains, Option, None, Some, MatchOption, option_map, cond, if◌then◌else◌, codes, nat_eq, bytes_eq, inl, inr, ◌⊎◌, refl, ap, sym, subst, arith, eq-eqb, eqb-true}
 use Rattle.std.specs.List.{starts_with}
-use Rattle.std.specs.Option.{option_and_then}
+use Rattle.std.specs.Option.{option_and_then, option_or}
 use Rattle.std.specs.Cmp.Lexicographic.{bytes_decides}
-use Rattle.std.proofs.lemmas.Bool.{and_parts, and_from, false≢true, cases_order}
+use Rattle.std.proofs.lemmas.Bool.{and_from, false≢true, cases_order}
 use Rattle.std.proofs.lemmas.List.{get_or_default, take-append-drop}
 use Rattle.std.proofs.lemmas.List.Elements.{All-nil, All-push, All-head}
 use Rattle.ob_base.specs.declared.status.Status.TheVariants.{Success, InvalidHandle, ObjectPathSyntaxBad, NameTooLong, ProcessGone}
@@ -21,16 +21,18 @@ use Rattle.ob_model.specs.Names.{longest_name, separator, IsComponent, IsRest, j
 use Rattle.ob_model.specs.Naming.{row_of, IsWayUp, names_joined, path_text, TellsName}
 use Rattle.ob_model.specs.Laws.{IsFoundRow, as_it_is}
 use Rattle.ob_model.specs.Looks.{At, Parse, Refused, Reached, Over, named_or_mismatch, at_body, IsNext, Looks, LooksUp}
-use Rattle.ob_model.specs.Paths.{Origin, InDirectory, IsPath, IsReach, is_match, found, found_object, origin_of}
+use Rattle.ob_model.specs.Paths.{Origin, InDirectory, IsPath, IsReach, is_match, found, named_object, entry, origin_of}
 use Rattle.ob_model.specs.Procedures.{Procedures}
 use Rattle.ob_model.specs.Sound.{IsSound, IsDirectory, Stands, is_barred}
 use Rattle.ob_model.specs.Refusals.{gives, answers, IsRefused, Unless}
 use Rattle.ob_model.specs.State.{State, root_id, body_of, is_live, held_of}
 use Rattle.ob_model.specs.Step.{QueriesName}
 use Rattle.ob_model.proofs.Earliest.{found_least}
-use Rattle.ob_model.proofs.Places.{IsComponent-from_test, own_name, same_is_one}
+use Rattle.ob_model.proofs.Places.{IsComponent-from_test, own_name}
 use Rattle.ob_model.proofs.SoundPaths.{find_of, of_some, body_from_stands, stands_from_directory}
 use Rattle.ob_model.proofs.Splits.{first_unique}
+use Rattle.ob_model.proofs.Walk.{place_behind-in_directory}
+use Rattle.ob_model.proofs.Onward.{IsPath-push}
 
 -- what can't be true is false
 never : (b : Bool) → (b ≡ true → ⊥) → b ≡ false
@@ -142,11 +144,20 @@ module _ {K T F I : Type 0} (s : State K T F I) (sound : IsSound s) where
 
   -- ---- the way down
 
-  -- a path with one component more
-  path_push : (root : ℕ) (cs : List (List ℕ)) (d m : ℕ) (c : List ℕ) → IsPath s (InDirectory root) cs false d → IsDirectory s d → found_object s d c false ≡ Some m
-      → IsPath s (InDirectory root) (cs ++ c ∷ []) false m
-  path_push root [] d m c path directory named = (m, subst (IsDirectory s) path directory, subst (λ (n : ℕ). found_object s n c false ≡ Some m) path named, refl)
-  path_push root (x ∷ cs) d m c path directory named = (path.0, path.1, path.2, path_push path.0 cs d m c path.3 directory named)
+  -- by an own entry, which is seen first too, a path goes on with one component more
+  path_push : (root : ℕ) (cs : List (List ℕ)) (d m : ℕ) (c : List ℕ) (own : Bool) → IsPath s (InDirectory root) cs false false d → IsDirectory s d
+      → option_map (λ r. r.object) (found s d c false) ≡ Some m → IsPath s (InDirectory root) (cs ++ c ∷ []) own false m
+  path_push root cs d m c own path directory named =
+      IsPath-push s (InDirectory root) cs c own false d m path directory
+      (subst (λ (x : Origin). entry s x c own false ≡ Some m) (sym (place_behind-in_directory s root cs false false d path)) (by_own own))
+    where
+      seen_first : (r : Option Row) (other : Option Row) → option_map (λ r. r.object) r ≡ Some m → option_map (λ r. r.object) (option_or r other) ≡ Some m
+      seen_first None other e = cc
+      seen_first (Some r) other e = e
+
+      by_own : (own : Bool) → named_object s d c own false ≡ Some m
+      by_own true = named
+      by_own false = seen_first (found s d c false) _ named
 
   -- the row of an object is one of the rows, and names it
   row_stands : (o : ℕ) (r : Row) → row_of s o ≡ Some r → Contains s.rows r
@@ -159,14 +170,14 @@ module _ {K T F I : Type 0} (s : State K T F I) (sound : IsSound s) where
   of_row : (P : Row → Type 0) → All P s.rows → (o : ℕ) (r : Row) → row_of s o ≡ Some r → P r
   of_row P all o r e = of_some P (row_of s o) r e (find_of P (λ x. x.object == o) s.rows all)
 
-  -- the names on a way up lead down again
-  way_down : (o : ℕ) (cs : List (List ℕ)) → IsWayUp s o cs → IsPath s (InDirectory root_id) (names_down cs) false o
-  way_down o [] up = up
-  way_down o (c ∷ cs) up =
+  -- the names on a way up lead down again, by own entries and by what is seen
+  way_down : (o : ℕ) (cs : List (List ℕ)) (own : Bool) → IsWayUp s o cs → IsPath s (InDirectory root_id) (names_down cs) own false o
+  way_down o [] own up = up
+  way_down o (c ∷ cs) own up =
       let r = up.1.0 in
       let e = up.1.1 in
-      path_push root_id (names_down cs) r.directory o c (way_down r.directory cs up.1.3) (of_row (λ x. IsDirectory s x.directory) sound.rows.inside o r e)
-      (ap (λ (name : List ℕ). found_object s r.directory name false) up.1.2 ∙ ap (option_map (λ x. x.object)) (found_itself r (row_stands o r e)) ∙ ap Some (row_names o r e))
+      path_push root_id (names_down cs) r.directory o c own (way_down r.directory cs false up.1.3) (of_row (λ x. IsDirectory s x.directory) sound.rows.inside o r e)
+      (ap (λ (name : List ℕ). option_map (λ (x : Row). x.object) (found s r.directory name false)) up.1.2 ∙ ap (option_map (λ x. x.object)) (found_itself r (row_stands o r e)) ∙ ap Some (row_names o r e))
 
   components_down : (o : ℕ) (cs : List (List ℕ)) → IsWayUp s o cs → All IsComponent (names_down cs)
   components_down o [] up = All-nil IsComponent
@@ -179,22 +190,21 @@ module _ {K T F I : Type 0} (s : State K T F I) (sound : IsSound s) where
   way_stands o [] up = subst (Stands s) (sym up) (stands_from_directory s root_id sound.objects.root)
   way_stands o (c ∷ cs) up = subst (Stands s) (row_names o up.1.0 up.1.1) (of_row (λ x. Stands s x.object) sound.rows.standing o up.1.0 up.1.1)
 
-  -- no path from the root begins with `??`
-  first_is_other : (c : List ℕ) (cs : List (List ℕ)) (o : ℕ) → IsPath s (InDirectory root_id) (c ∷ cs) false o → c ≢ codes "??"
-  first_is_other c cs o path same = go (found s root_id c false) (found_least s root_id c false) path.2
+  -- no way down from the root begins with `??`
+  first_is_other : (o : ℕ) (ups : List (List ℕ)) (c : List ℕ) (cs : List (List ℕ)) → IsWayUp s o ups → names_down ups ≡ c ∷ cs → c ≢ codes "??"
+  first_is_other o [] c cs up e same = cc
+  first_is_other o (u ∷ []) c cs up e same =
+      let r = up.1.0 in
+      let first : u ≡ c = cc in
+      let plain = of_row (λ x. is_barred x.directory x.name ≡ false) sound.rows.plain o r up.1.1 in
+      let barred = and_from (r.directory == root_id) (bytes_eq r.name (codes "??")) (eq-eqb r.directory root_id up.1.3) ((bytes_decides r.name (codes "??")).1 (sym up.1.2 ∙ first ∙ same)) in
+      false≢true (sym plain ∙ barred)
+  first_is_other o (u ∷ v ∷ us) c cs up e same = go (names_down (v ∷ us)) refl e (λ d ds f. first_is_other up.1.0.directory (v ∷ us) d ds up.1.3 f)
     where
-      barred : (r : Row) → IsFoundRow s root_id c false r → is_barred r.directory r.name ≡ true
-      barred r first =
-          let parts = and_parts (r.directory == root_id) _ first.matches in
-          and_from (r.directory == root_id) (bytes_eq r.name (codes "??")) parts.0 ((bytes_decides r.name (codes "??")).1 (same_is_one r.name c parts.1 ∙ same))
-
-      go : (found : Option Row) → MatchOption found (All (λ q. is_match root_id c false q ≡ false) s.rows) (IsFoundRow s root_id c false)
-          → option_map (λ r. r.object) found ≡ Some path.0 → ⊥
-      go None none e = cc
-      go (Some r) first e =
-          let place = first.stands in
-          let plain : is_barred r.directory r.name ≡ false = subst (λ (x : Row). is_barred x.directory x.name ≡ false) place.2 (sound.rows.plain place.0 r place.1) in
-          false≢true (sym plain ∙ barred r first)
+      go : (ds : List (List ℕ)) → names_down (v ∷ us) ≡ ds → ds ++ u ∷ [] ≡ c ∷ cs
+          → ((d : List ℕ) (ds : List (List ℕ)) → names_down (v ∷ us) ≡ d ∷ ds → d ≢ codes "??") → ⊥
+      go [] f e more = some_down v us f
+      go (d ∷ ds) f e more = let first : d ≡ c = cc in more d ds f (first ∙ same)
 
   module _ (g : Procedures K T F I) (p : ℕ) where
     -- where nothing is left of a name that is looked up as it is, its object is what it ends with
@@ -202,7 +212,7 @@ module _ {K T F I : Type 0} (s : State K T F I) (sound : IsSound s) where
     next_is_over n o stands = go (body_of s o) (body_from_stands s o stands)
       where
         there : (body : Body F I) → Over (At o) ≡ at_body g as_it_is o body [] n
-        there Directory = refl
+        there (Directory shadow) = refl
         there (Link target) = refl
         there (Other face inner) = other (g.parses (g.kind_of face))
           where
@@ -214,17 +224,17 @@ module _ {K T F I : Type 0} (s : State K T F I) (sound : IsSound s) where
         go None h = absurd (let e = h.1 in cc)
         go (Some body) h = there body
 
-    looks_at : (n o : ℕ) (text : List ℕ) → Stands s o → IsReach s (InDirectory root_id) text false o [] → Looks g s p as_it_is n (InDirectory root_id) text (At o)
+    looks_at : (n o : ℕ) (text : List ℕ) → Stands s o → IsReach s (InDirectory root_id) text true false o [] → Looks g s p as_it_is n (InDirectory root_id) text (At o)
     looks_at zero o text stands reach = (Reached o [], Over (At o), reach, next_is_over zero o stands, refl)
     looks_at (suc n) o text stands reach = (Reached o [], Over (At o), reach, next_is_over (suc n) o stands, refl)
 
     -- components that lead from the root to an object, as a name
-    names_itself : (n o : ℕ) (cs : List (List ℕ)) → Stands s o → All IsComponent cs → IsPath s (InDirectory root_id) cs false o → (cs ≡ [] → ⊥)
-        → LooksUp g s p as_it_is n None (joined cs) (At o)
-    names_itself n o [] stands each path some = absurd (some refl)
-    names_itself n o (c ∷ cs) stands each path some =
+    names_itself : (n o : ℕ) (cs : List (List ℕ)) → Stands s o → All IsComponent cs → IsPath s (InDirectory root_id) cs true false o
+        → ((c : List ℕ) (ds : List (List ℕ)) → cs ≡ c ∷ ds → c ≢ codes "??") → (cs ≡ [] → ⊥) → LooksUp g s p as_it_is n None (joined cs) (At o)
+    names_itself n o [] stands each path other some = absurd (some refl)
+    names_itself n o (c ∷ cs) stands each path other some =
         subst (λ (at : Option (Origin × List ℕ)). MatchOption at (At o ≡ Refused ObjectPathSyntaxBad) (λ at. Looks g s p as_it_is n at.0 at.1 (At o)))
-        (sym (at_root c (joined cs) (All-head IsComponent c cs each) (after cs) (first_is_other c cs o path) s p true))
+        (sym (at_root c (joined cs) (All-head IsComponent c cs each) (after cs) (other c cs refl) s p true))
         (looks_at n o (joined (c ∷ cs)) stands (c ∷ cs, record { each = each; whole = sym (append-nil (joined (c ∷ cs))); bounded = tt }, path, inr refl))
       where
         after : (cs : List (List ℕ)) → IsRest (joined cs)
@@ -235,7 +245,8 @@ module _ {K T F I : Type 0} (s : State K T F I) (sound : IsSound s) where
     path_names o [] n up = looks_at n o [] (way_stands o [] up) ([], record { each = All-nil IsComponent; whole = refl; bounded = tt }, up, inr refl)
     path_names o (c ∷ cs) n up =
         subst (λ (text : List ℕ). LooksUp g s p as_it_is n None text (At o)) (sym (joined-down (c ∷ cs)))
-        (names_itself n o (names_down (c ∷ cs)) (way_stands o (c ∷ cs) up) (components_down o (c ∷ cs) up) (way_down o (c ∷ cs) up) (some_down c cs))
+        (names_itself n o (names_down (c ∷ cs)) (way_stands o (c ∷ cs) up) (components_down o (c ∷ cs) up) (way_down o (c ∷ cs) true up)
+        (λ d ds e. first_is_other o (c ∷ cs) d ds up e) (some_down c cs))
 
 -- the status of an answer, and the text that it gives
 abbrev status_of : Answer → Status

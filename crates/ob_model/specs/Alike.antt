@@ -8,7 +8,7 @@ use Rattle.ob_base.specs.Handle.{key_of}
 use Rattle.ob_model.specs.declared.command.Place.{Place}
 use Rattle.ob_model.specs.declared.command.Place.TheVariants.{At, Unnamed}
 use Rattle.ob_model.specs.declared.command.Command.{Command}
-use Rattle.ob_model.specs.declared.command.Command.TheVariants.{CreateDirectory, CreateLink, CreateObject, OpenDirectory, OpenLink, OpenObject, Close, QueryLink, QueryName, QueryDirectory, Duplicate, MakeTemporary, MakePermanent, SetDeviceMap, NewProcess, ExitProcess}
+use Rattle.ob_model.specs.declared.command.Command.TheVariants.{CreateDirectory, CreateShadowed, CreateLink, CreateObject, OpenDirectory, OpenLink, OpenObject, Close, QueryLink, QueryName, QueryDirectory, Duplicate, MakeTemporary, MakePermanent, SetDeviceMap, NewProcess, ExitProcess}
 use Rattle.ob_model.specs.declared.reply.Answer.{Answer}
 use Rattle.ob_model.specs.declared.reply.Answer.TheVariants.{Done, Ticket}
 use Rattle.ob_model.specs.declared.reply.Given.{Given}
@@ -139,6 +139,8 @@ module _ {K T F I : Type 0} (s t : State K T F I) (p : ℕ) where
   -- two commands of a process are the same but for the values of handles, which lead alike
   pub data AreAlikeCommands : Command K → Command K → Type 0 where
     create_directories : {place other : Place} {attrs : ℕ} → AreAlikePlaces place other → AreAlikeCommands (CreateDirectory place attrs) (CreateDirectory other attrs)
+    create_shadowed : {place other : Place} {attrs shadow same : ℕ} → AreAlikePlaces place other → LeadAlike s t p shadow same
+        → AreAlikeCommands (CreateShadowed place attrs shadow) (CreateShadowed other attrs same)
     create_links : {place other : Place} {attrs : ℕ} {target : List ℕ} → AreAlikePlaces place other → AreAlikeCommands (CreateLink place attrs target) (CreateLink other attrs target)
     create_objects : {place other : Place} {attrs : ℕ} {kind : K} {args : List ℕ} → AreAlikePlaces place other
         → AreAlikeCommands (CreateObject place attrs kind args) (CreateObject other attrs kind args)

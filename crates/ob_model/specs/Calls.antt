@@ -9,7 +9,7 @@ use Rattle.std.specs.Prelude.{◌≡◌, ℕ, ◌+◌, Bool, true, false, ◌&&�
 use Rattle.std.specs.Option.{is_some, option_and_then, option_map_or}
 use Rattle.ob_base.specs.Handle.{key_of}
 use Rattle.ob_model.specs.declared.command.Command.{Command}
-use Rattle.ob_model.specs.declared.command.Command.TheVariants.{CreateDirectory, CreateLink, CreateObject, OpenDirectory, OpenLink, OpenObject, Close, QueryLink, QueryName, QueryDirectory, Duplicate, MakeTemporary, MakePermanent, SetDeviceMap, NewProcess, ExitProcess}
+use Rattle.ob_model.specs.declared.command.Command.TheVariants.{CreateDirectory, CreateShadowed, CreateLink, CreateObject, OpenDirectory, OpenLink, OpenObject, Close, QueryLink, QueryName, QueryDirectory, Duplicate, MakeTemporary, MakePermanent, SetDeviceMap, NewProcess, ExitProcess}
 use Rattle.ob_model.specs.declared.reply.Answer.{Answer}
 use Rattle.ob_model.specs.declared.reply.Answer.TheVariants.{Done, Ticket}
 use Rattle.ob_model.specs.declared.reply.Event.{Event}
@@ -53,13 +53,14 @@ leads_to found o = option_map_or (λ h. h.object == o) found false
 
 -- whether a body is that of an object of the set
 abbrev pub is_set_body : {F I : Type 0} → Body F I → Bool
-is_set_body Directory = false
+is_set_body (Directory shadow) = false
 is_set_body (Link target) = false
 is_set_body (Other face inner) = true
 
 -- whether a command makes an object of the set
 abbrev pub is_set_create : {K : Type 0} → Command K → Bool
 is_set_create (CreateDirectory where_to attrs) = false
+is_set_create (CreateShadowed where_to attrs shadow) = false
 is_set_create (CreateLink where_to attrs target) = false
 is_set_create (CreateObject where_to attrs kind args) = true
 is_set_create (OpenDirectory root name attrs) = false
@@ -141,6 +142,7 @@ module _ {K T F I : Type 0} where
   -- what a command opens or closes
   abbrev pub calls_of_command : State K T F I → State K T F I → ℕ → Command K → Option ℕ → ℕ → List Call
   calls_of_command s t p (CreateDirectory where_to attrs) given o = calls_of_grant (open_reason s o) t p given o
+  calls_of_command s t p (CreateShadowed where_to attrs shadow) given o = calls_of_grant (open_reason s o) t p given o
   calls_of_command s t p (CreateLink where_to attrs target) given o = calls_of_grant (open_reason s o) t p given o
   calls_of_command s t p (CreateObject where_to attrs kind args) given o = calls_of_grant (open_reason s o) t p given o
   calls_of_command s t p (OpenDirectory root name attrs) given o = calls_of_grant (open_reason s o) t p given o

@@ -21,12 +21,12 @@ without_handle s p value = record s { handles = filter (λ h. not (is_handle p v
 module _ {K T F I : Type 0} (g : Procedures K T F I) where
   -- what the set's close leaves of a body and of the set's value, given the handles that are left
   abbrev pub closed_body : T → ℕ → ℕ → Body F I → Body F I
-  closed_body set process_left system_left Directory = Directory
+  closed_body set process_left system_left (Directory shadow) = Directory shadow
   closed_body set process_left system_left (Link target) = Link target
   closed_body set process_left system_left (Other face inner) = Other face ((g.closed set inner process_left system_left).1)
 
   abbrev pub closed_set : T → ℕ → ℕ → Body F I → T
-  closed_set set process_left system_left Directory = set
+  closed_set set process_left system_left (Directory shadow) = set
   closed_set set process_left system_left (Link target) = set
   closed_set set process_left system_left (Other face inner) = (g.closed set inner process_left system_left).0
 

@@ -28,23 +28,23 @@ use Rattle.ob_model.specs.Grants.{is_table_full, IsFreeValue, with_handle, open_
 use Rattle.ob_model.specs.Refusals.{gives, answers, IsRefused, Unless}
 use Rattle.ob_model.specs.Opens.{OpensAt}
 
--- what a create makes: a directory, a link with this target, or an object of a kind of the set with
--- these arguments
+-- what a create makes: a directory with this shadow or without one, a link with this target, or an
+-- object of a kind of the set with these arguments
 pub data Making (K : Type 0) : Type 0 where
-  MakesDirectory : Making K
+  MakesDirectory : Option ℕ → Making K
   MakesLink : List ℕ → Making K
   MakesObject : K → List ℕ → Making K
 
 -- the type of what a create makes
 abbrev pub type_made : {K : Type 0} → Making K → Wanted K
-type_made MakesDirectory = wanted.Directory
+type_made (MakesDirectory shadow) = wanted.Directory
 type_made (MakesLink target) = wanted.Link
 type_made (MakesObject kind args) = wanted.Kind kind
 
 -- whether its parameters are fit: a link's target has 1 to 32,767 bytes of the profile; the arguments
 -- of an object of the set are for the set to judge
 abbrev pub is_fit : {K : Type 0} → Making K → Bool
-is_fit MakesDirectory = true
+is_fit (MakesDirectory shadow) = true
 is_fit (MakesLink target) = is_name target && not (bytes_eq target [])
 is_fit (MakesObject kind args) = true
 
@@ -86,13 +86,13 @@ module _ {K T F I : Type 0} where
 module _ {K T F I : Type 0} (g : Procedures K T F I) where
   -- the number with which the set refuses to make it; directories and links are not the set's
   abbrev pub make_refusal : Making K → Option ℕ
-  make_refusal MakesDirectory = None
+  make_refusal (MakesDirectory shadow) = None
   make_refusal (MakesLink target) = None
   make_refusal (MakesObject kind args) = g.refuses_to_make kind args
 
   -- the body of what is made
   abbrev pub body_made : Making K → Body F I
-  body_made MakesDirectory = body.Directory
+  body_made (MakesDirectory shadow) = body.Directory shadow
   body_made (MakesLink target) = body.Link target
   body_made (MakesObject kind args) = let made = g.made kind args in body.Other made.0 made.1
 

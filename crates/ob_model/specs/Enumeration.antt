@@ -75,7 +75,7 @@ page_answer page = gives page.status (given.Page (map listed page.entries) page.
 module _ {K T F I : Type 0} (g : Procedures K T F I) where
   -- the name of an object's type
   abbrev pub body_type_name : Body F I → List ℕ
-  body_type_name Directory = codes "Directory"
+  body_type_name (Directory shadow) = codes "Directory"
   body_type_name (Link target) = codes "SymbolicLink"
   body_type_name (Other face inner) = g.type_name (g.kind_of face)
 

@@ -4,9 +4,10 @@
 -- Source: this profile.
 use Rattle.std.specs.Prelude.{◌≡◌, ℕ, zero, suc, ◌+◌, ◌==◌, if◌then◌else◌, Bool, true, false, List, [], ◌∷◌, ◌++◌, length, drop, None, Some, codes}
 use Rattle.ob_base.specs.declared.status.Status.{Status}
-use Rattle.ob_base.specs.declared.status.Status.TheVariants.{Success, TypeRefused, MoreEntries, NoMoreEntries, BufferTooSmall, ObjectNameInvalid, ObjectPathNotFound, ObjectNameNotFound, ObjectTypeMismatch, ObjectPathSyntaxBad, ReparseLimit}
-use Rattle.ob_model.specs.declared.command.Place.TheVariants.{Unnamed}
-use Rattle.ob_model.specs.declared.command.Command.TheVariants.{CreateObject, Close}
+use Rattle.ob_base.specs.declared.status.Status.TheVariants.{Success, TypeRefused, InvalidHandle, InvalidParameter, MoreEntries, NoMoreEntries, BufferTooSmall, ObjectNameInvalid, ObjectPathNotFound, ObjectNameNotFound, ObjectTypeMismatch, ObjectPathSyntaxBad, ReparseLimit}
+use Rattle.ob_model.specs.declared.command.Place.{Place}
+use Rattle.ob_model.specs.declared.command.Place.TheVariants.{Unnamed, At as place_at}
+use Rattle.ob_model.specs.declared.command.Command.TheVariants.{CreateObject, CreateShadowed, Close}
 use Rattle.ob_model.specs.declared.reply.Answer.{Answer}
 use Rattle.ob_model.specs.declared.reply.Event.{Event}
 use Rattle.ob_model.specs.declared.reply.Event.TheVariants.{Start}
@@ -18,7 +19,7 @@ use Rattle.ob_model.specs.declared.state.Held.{Held}
 use Rattle.ob_model.specs.Names.{separator, same_name, IsSplit, substituted}
 use Rattle.ob_model.specs.State.{State, object_of, global_id}
 use Rattle.ob_model.specs.Opening.{opening, standing, root_row}
-use Rattle.ob_model.specs.Paths.{origin_of, InDirectory, ViewOf}
+use Rattle.ob_model.specs.Paths.{seen, origin_of, InDirectory, ViewOf}
 use Rattle.ob_model.specs.declared.terms.Reason.TheVariants.{Created}
 use Rattle.ob_model.specs.Procedures.{Procedures, ParseAnswer, Itself, Front, Reparse, Refused as ParseRefused, EndsItself, EndsMade, EndsReparse, EndsRefused, ParseEnds}
 use Rattle.ob_model.specs.declared.terms.Mode.{Mode}
@@ -32,6 +33,7 @@ use Rattle.ob_model.specs.Enumeration.{Shown, enumerated}
 use Rattle.ob_model.specs.Refusals.{gives, answers}
 use Rattle.ob_model.specs.Creates.{created, dropped}
 use Rattle.ob_model.specs.Processes.{ended}
+use Rattle.ob_model.specs.Step.{Step}
 use Rattle.ob_model.specs.Calls.{Call, Opened, Closed, Deleted, Passed, Passes, calls_of_run, closes_at_end}
 
 -- ---- the set of types, the states and the modes
@@ -151,7 +153,7 @@ NamesThatAreInvalid =
 
 -- objects 7 and 8 are `\Foo` and `\FOO`, and `\FOO` was inserted first
 abbrev pub with_two_spellings : Numbers
-with_two_spellings = opening_with (standing 7 Directory ∷ standing 8 Directory ∷ []) (root_row 6 (codes "FOO") 8 ∷ root_row 7 (codes "Foo") 7 ∷ [])
+with_two_spellings = opening_with (standing 7 (Directory None) ∷ standing 8 (Directory None) ∷ []) (root_row 6 (codes "FOO") 8 ∷ root_row 7 (codes "Foo") 7 ∷ [])
 
 -- of two names that are equal without case the one inserted first is found; with case each is
 abbrev pub FirstInsertedIsFound : Type 0
@@ -202,7 +204,7 @@ TargetIsNoAbsoluteName = EndsAt with_links opens (codes "\\Bad") (Refused Object
 -- `\K` leads to `\A\`, and object 8 is `\A\B`
 abbrev pub with_separator_at_end : Numbers
 with_separator_at_end =
-    opening_with (standing 7 Directory ∷ standing 8 Directory ∷ link_to 9 (codes "\\A\\") ∷ [])
+    opening_with (standing 7 (Directory None) ∷ standing 8 (Directory None) ∷ link_to 9 (codes "\\A\\") ∷ [])
     (root_row 6 (codes "A") 7 ∷ row_in 7 7 (codes "B") 8 ∷ root_row 8 (codes "K") 9 ∷ [])
 
 -- a target that ends in a separator: a rest takes that one for its own, and alone the target has an
@@ -241,7 +243,7 @@ ChainOfLinks = EndsAt (with_chain 33) opens (chain_name 31) (At 4) × EndsAt (wi
 -- globally, and `\??\D:` is object 10 globally alone
 abbrev pub with_local : Numbers
 with_local =
-    record (opening_with (standing 7 Directory ∷ standing 8 (Other 0 0) ∷ standing 9 (Other 0 0) ∷ standing 10 (Other 0 0) ∷ [])
+    record (opening_with (standing 7 (Directory None) ∷ standing 8 (Other 0 0) ∷ standing 9 (Other 0 0) ∷ standing 10 (Other 0 0) ∷ [])
     (row_in 7 6 (codes "C:") 8 ∷ row_in global_id 7 (codes "C:") 9 ∷ row_in global_id 8 (codes "D:") 10 ∷ [])) {
       processes = record { number = 1; map = Some 7 } ∷ record { number = 2; map = None } ∷ [];
       next_process = 3;
@@ -272,7 +274,7 @@ ViewIsLocal =
 -- object 7 is `\Temporary`, a directory that is not permanent and has no handle; object 8 is
 -- `\Temporary\Held`, not permanent either, with a handle of process 1
 abbrev pub temporary : ℕ → Thing
-temporary o = record { id = o; body = Directory; permanent = false; exclusive = false }
+temporary o = record { id = o; body = Directory None; permanent = false; exclusive = false }
 
 abbrev pub with_held : Numbers
 with_held =
@@ -304,7 +306,7 @@ handle_to o value order = record { process = 1; value = value; object = o; inher
 -- permanent, and process 1 has the one handle to it
 abbrev pub with_three_entries : Numbers
 with_three_entries =
-    record (opening_with (standing 7 Directory ∷ temporary 8 ∷ standing 9 (Other 0 0) ∷ [])
+    record (opening_with (standing 7 (Directory None) ∷ temporary 8 ∷ standing 9 (Other 0 0) ∷ [])
     (row_in 4 6 (codes "A") 7 ∷ row_in 4 7 (codes "B") 8 ∷ row_in 4 8 (codes "C") 9 ∷ [])) {
       handles = handle_to 8 4 1 ∷ [];
       next_order = 2;
@@ -354,7 +356,7 @@ PageBehindARowThatWent =
 -- no name; process 1 has a handle to each
 abbrev pub with_three_held : Numbers
 with_three_held =
-    record (opening_with (standing 7 Directory ∷ temporary 8 ∷ temporary 9 ∷ []) (row_in 4 6 (codes "Disk") 7 ∷ row_in 4 7 (codes "Tape") 8 ∷ [])) {
+    record (opening_with (standing 7 (Directory None) ∷ temporary 8 ∷ temporary 9 ∷ []) (row_in 4 6 (codes "Disk") 7 ∷ row_in 4 7 (codes "Tape") 8 ∷ [])) {
       handles = handle_to 7 4 1 ∷ handle_to 8 8 2 ∷ handle_to 9 12 3 ∷ [];
       next_order = 4;
     }
@@ -371,7 +373,7 @@ abbrev pub MadePermanentStays : Type 0
 MadePermanentStays =
     let made = settle numbers (turned with_three_held 8 true) in
     let left = settle numbers (closed_handle numbers made (handle_to 8 8 2)) in
-    (object_of left 8 ≡ Some (standing 8 Directory)) × (has_name left 8 ≡ true) × (turned with_three_held 9 true ≡ with_three_held)
+    (object_of left 8 ≡ Some (standing 8 (Directory None))) × (has_name left 8 ≡ true) × (turned with_three_held 9 true ≡ with_three_held)
     × (turned (turned with_three_held 1 false) 1 true ≡ turned with_three_held 1 false)
 
 -- ---- device maps
@@ -383,6 +385,116 @@ MapHoldsItsDirectory =
     let left = settle numbers (closed_handle numbers mapped (handle_to 9 12 3)) in
     let other = settle numbers (with_map left 1 8) in
     (map_of mapped 1 ≡ Some 9) × (object_of left 9 ≡ Some (temporary 9)) × (map_of other 1 ≡ Some 8) × (object_of other 9 ≡ None)
+
+-- ---- shadows
+
+-- a directory with a shadow
+abbrev pub shadowed_by : ℕ → ℕ → Thing
+shadowed_by o shadow = standing o (Directory (Some shadow))
+
+-- `\Shared` is object 7, and the shadow of `\Own`, object 8. Both have an entry `A`, objects 9 and 10, and that of
+-- the shadow was inserted first; the shadow alone has the directory `B`, object 11, in which `C` is object 12.
+-- The root is the shadow of `\All`, object 13
+abbrev pub with_shadows : Numbers
+with_shadows =
+    opening_with (
+    standing 7 (Directory None) ∷ shadowed_by 8 7 ∷ standing 9 (Other 0 0) ∷ standing 10 (Other 0 0) ∷ standing 11 (Directory None) ∷ standing 12 (Other 0 0)
+    ∷ shadowed_by 13 1 ∷ [])
+    (root_row 6 (codes "Shared") 7 ∷ root_row 7 (codes "Own") 8 ∷ row_in 7 8 (codes "A") 9 ∷ row_in 8 9 (codes "A") 10 ∷ row_in 7 10 (codes "B") 11
+    ∷ row_in 11 11 (codes "C") 12 ∷ root_row 12 (codes "All") 13 ∷ [])
+
+-- a component that a directory has no entry for is looked up in its shadow, at the end of a name, in its middle and
+-- relative to the directory
+abbrev pub ShadowIsSeen : Type 0
+ShadowIsSeen =
+    EndsAt with_shadows opens (codes "\\Own\\B") (At 11) × EndsAt with_shadows opens (codes "\\Own\\B\\C") (At 12)
+    × LooksUp numbers with_shadows 1 opens most_reparses (Some 8) (codes "B") (At 11)
+    × EndsAt with_shadows opens (codes "\\Own\\D") (Refused ObjectNameNotFound) × EndsAt with_shadows opens (codes "\\Own\\D\\C") (Refused ObjectPathNotFound)
+
+-- the directory's own entry comes first, also without case; the shadow's entry is found by the shadow's path; and a
+-- listing shows own entries alone
+abbrev pub OwnComesFirst : Type 0
+OwnComesFirst =
+    EndsAt with_shadows opens (codes "\\Own\\A") (At 10) × EndsAt with_shadows opens_folded (codes "\\Own\\a") (At 10)
+    × EndsAt with_shadows opens (codes "\\Shared\\A") (At 9)
+    × (enumerated numbers with_shadows 8 0 39 false ≡ record { status = Success; entries = record { stamp = 9; name = codes "A"; type_name = codes "Number" } ∷ []; context = 9 })
+
+-- the last component of a create names an own entry or is vacant, whatever the shadow has; those before it are seen
+abbrev pub CreateIsOwn : Type 0
+CreateIsOwn =
+    EndsAt with_shadows creates (codes "\\Own\\B") (Vacant 8 (codes "B")) × EndsAt with_shadows creates (codes "\\Own\\A") (At 10)
+    × EndsAt with_shadows creates (codes "\\Own\\B\\C") (At 12) × EndsAt with_shadows creates (codes "\\Own\\B\\D") (Vacant 11 (codes "D"))
+    × LooksUp numbers with_shadows 1 creates most_reparses (Some 8) (codes "B") (Vacant 8 (codes "B"))
+
+-- the root is a shadow as any other directory is
+abbrev pub RootIsShadow : Type 0
+RootIsShadow =
+    EndsAt with_shadows opens (codes "\\All\\Device") (At 4) × EndsAt with_shadows opens (codes "\\All\\All\\Own\\B") (At 11)
+    × EndsAt with_shadows creates (codes "\\All\\Device") (Vacant 13 (codes "Device"))
+
+-- beside the directory its shadow alone is searched, and no shadow of the shadow, which no sound state has
+abbrev pub with_shadow_of_shadow : Numbers
+with_shadow_of_shadow = opening_with (standing 7 (Directory None) ∷ shadowed_by 8 7 ∷ shadowed_by 9 8 ∷ standing 10 (Other 0 0) ∷ []) (row_in 7 6 (codes "A") 10 ∷ [])
+
+abbrev pub ShadowIsSearchedAlone : Type 0
+ShadowIsSearchedAlone = (seen with_shadow_of_shadow 8 (codes "A") false ≡ Some (row_in 7 6 (codes "A") 10)) × (seen with_shadow_of_shadow 9 (codes "A") false ≡ None)
+
+-- process 1 has the local directory 8, whose shadow is 7. `C:` is object 9 in the shadow and object 10 globally,
+-- `D:` is object 11 globally alone, and `E:` object 12 in the local directory
+abbrev pub with_shadowed_map : Numbers
+with_shadowed_map =
+    record (opening_with (
+    standing 7 (Directory None) ∷ shadowed_by 8 7 ∷ standing 9 (Other 0 0) ∷ standing 10 (Other 0 0) ∷ standing 11 (Other 0 0) ∷ standing 12 (Other 0 0) ∷ [])
+    (row_in 7 6 (codes "C:") 9 ∷ row_in global_id 7 (codes "C:") 10 ∷ row_in global_id 8 (codes "D:") 11 ∷ row_in 8 9 (codes "E:") 12 ∷ [])) {
+      processes = record { number = 1; map = Some 8 } ∷ [];
+    }
+
+-- an open behind `\??` sees the shadow of the local directory before the global one; a create looks in the local
+-- directory alone
+abbrev pub MapHasShadow : Type 0
+MapHasShadow =
+    EndsAt with_shadowed_map opens (codes "\\??\\C:") (At 9) × EndsAt with_shadowed_map opens (codes "\\??\\D:") (At 11)
+    × EndsAt with_shadowed_map opens (codes "\\??\\E:") (At 12) × EndsAt with_shadowed_map creates (codes "\\??\\C:") (Vacant 8 (codes "C:"))
+    × EndsAt with_shadowed_map creates (codes "\\??\\E:") (At 12)
+
+-- objects 7 and 8 are `\Shared` and `\Own`, neither permanent; the first is the shadow of the second, to which
+-- process 1 has a handle
+abbrev pub with_held_shadow : Numbers
+with_held_shadow =
+    record (opening_with (temporary 7 ∷ record (temporary 8) { body = Directory (Some 7) } ∷ []) (root_row 6 (codes "Shared") 7 ∷ root_row 7 (codes "Own") 8 ∷ [])) {
+      handles = handle_to 8 4 1 ∷ [];
+      next_order = 2;
+    }
+
+-- a shadow remains as long as its directory, without a name or a handle, and is deleted with it
+abbrev pub ShadowStaysAndGoes : Type 0
+ShadowStaysAndGoes =
+    let held = settle numbers with_held_shadow in
+    let left = settle numbers (closed_handle numbers held (handle_to 8 4 1)) in
+    (has_name held 7 ≡ false) × (object_of held 7 ≡ Some (temporary 7)) × (has_name held 8 ≡ true)
+    × (object_of left 7 ≡ None) × (object_of left 8 ≡ None)
+
+-- process 1 has handles to `\Shared`, to `\Own`, whose shadow that is, and to an object that is no directory
+abbrev pub with_three_shadows : Numbers
+with_three_shadows =
+    record (opening_with (standing 7 (Directory None) ∷ shadowed_by 8 7 ∷ standing 9 (Other 0 0) ∷ []) (root_row 6 (codes "Shared") 7 ∷ root_row 7 (codes "Own") 8 ∷ root_row 8 (codes "E") 9 ∷ [])) {
+      handles = handle_to 7 4 1 ∷ handle_to 8 8 2 ∷ handle_to 9 12 3 ∷ [];
+      next_order = 4;
+    }
+
+-- process 1 creates a directory whose shadow is the object of a handle
+abbrev pub makes_shadowed : Place → ℕ → Event ℕ
+makes_shadowed where_to shadow = Start 1 (CreateShadowed where_to 0 shadow)
+
+-- a create refuses a shadow that no handle leads to, one that is no directory and one that has a shadow itself, after
+-- the root handle and before the lookup; a fit one is the shadow of what it makes
+abbrev pub ShadowsAreJudged : Type 0
+ShadowsAreJudged =
+    Step numbers with_three_shadows (makes_shadowed (place_at None (codes "\\Missing\\D")) 16) (answers InvalidHandle) with_three_shadows
+    × Step numbers with_three_shadows (makes_shadowed (place_at None (codes "\\Missing\\D")) 12) (answers ObjectTypeMismatch) with_three_shadows
+    × Step numbers with_three_shadows (makes_shadowed (place_at None (codes "\\Missing\\D")) 8) (answers InvalidParameter) with_three_shadows
+    × Step numbers with_three_shadows (makes_shadowed (place_at (Some 16) (codes "D")) 8) (answers InvalidHandle) with_three_shadows
+    × Step numbers with_three_shadows (makes_shadowed Unnamed 4) (gives Success (Handle 16)) (settle numbers (created numbers with_three_shadows 1 None (Directory (Some 7)) 0 16))
 
 -- ---- paths of objects
 

@@ -57,7 +57,7 @@ module _ {K T F I : Type 0} (g : Procedures K T F I) where
   -- the number with which the set refuses to open an object; directories and links have no open
   -- procedure
   abbrev pub open_refusal_of : T → Body F I → Reason → Option ℕ
-  open_refusal_of set Directory reason = None
+  open_refusal_of set (Directory shadow) reason = None
   open_refusal_of set (Link target) reason = None
   open_refusal_of set (Other face inner) reason = g.refuses_to_open set inner reason
 
@@ -77,12 +77,12 @@ module _ {K T F I : Type 0} (g : Procedures K T F I) where
 
   -- what the set's open procedure leaves of a body and of the set's value
   abbrev pub opened_body : T → Body F I → Reason → Body F I
-  opened_body set Directory reason = Directory
+  opened_body set (Directory shadow) reason = Directory shadow
   opened_body set (Link target) reason = Link target
   opened_body set (Other face inner) reason = Other face ((g.opened set inner reason).1)
 
   abbrev pub opened_set : T → Body F I → Reason → T
-  opened_set set Directory reason = set
+  opened_set set (Directory shadow) reason = set
   opened_set set (Link target) reason = set
   opened_set set (Other face inner) reason = (g.opened set inner reason).0
 

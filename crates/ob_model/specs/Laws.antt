@@ -3,21 +3,23 @@
 use Rattle.std.specs.Prelude.{◌≡◌, ◌≢◌, ℕ, ◌+◌, ◌<◌, ◌≤◌, Bool, true, false, ◌&&◌, ◌||◌, ◌==◌, List, [], ◌∷◌, ◌++◌, length, map, All, AllPairs, Contains, Option, None, Some, MatchOption, if◌then◌else◌}
 use Rattle.std.specs.List.{find}
 use Rattle.std.specs.Option.{option_and_then}
-use Rattle.ob_base.specs.declared.status.Status.TheVariants.{Success}
+use Rattle.ob_base.specs.declared.status.Status.TheVariants.{Success, ObjectNameExists}
 use Rattle.ob_base.specs.Handle.{key_of}
 use Rattle.ob_model.specs.declared.state.Body.{Body}
+use Rattle.ob_model.specs.declared.state.Body.TheVariants.{Directory}
 use Rattle.ob_model.specs.declared.state.Held.{Held}
 use Rattle.ob_model.specs.declared.state.Object.{Object}
 use Rattle.ob_model.specs.declared.state.Row.{Row}
 use Rattle.ob_model.specs.declared.reply.Answer.{Answer}
-use Rattle.ob_model.specs.declared.reply.Given.TheVariants.{Text}
+use Rattle.ob_model.specs.declared.reply.Given.TheVariants.{Handle, Text}
 use Rattle.ob_model.specs.declared.reply.Event.{Event}
 use Rattle.ob_model.specs.declared.reply.Event.TheVariants.{Start, Resume, Abandon}
 use Rattle.ob_model.specs.declared.reply.ParseRun.{ParseRun}
 use Rattle.ob_model.specs.declared.command.Command.{Command}
-use Rattle.ob_model.specs.declared.command.Command.TheVariants.{QueryName, SetDeviceMap}
+use Rattle.ob_model.specs.declared.command.Command.TheVariants.{CreateShadowed, QueryName, SetDeviceMap}
+use Rattle.ob_model.specs.declared.command.Place.{Place}
 use Rattle.ob_model.specs.Names.{separator, joined, IsRest, IsSplit, substituted, ends_in_separator, begins_with_separator}
-use Rattle.ob_model.specs.State.{State, root_id, insert_object, object_of, is_directory, process_of, is_live, held_of}
+use Rattle.ob_model.specs.State.{State, root_id, insert_object, object_of, body_of, is_directory, shadow_of, process_of, is_live, held_of}
 use Rattle.ob_model.specs.Opening.{opening}
 use Rattle.ob_model.specs.Paths.{Origin, found, is_match, IsPath, directory_at}
 use Rattle.ob_model.specs.declared.terms.Reason.{Reason}
@@ -118,8 +120,8 @@ module _ (K T F I : Type 0) where
   -- components lead from a place to at most one object
   abbrev pub PathIsUnique : Type 0
   PathIsUnique =
-      (s : State K T F I) (place : Origin) (cs : List (List ℕ)) (fold : Bool) (a b : ℕ)
-      → IsPath s place cs fold a → IsPath s place cs fold b → a ≡ b
+      (s : State K T F I) (place : Origin) (cs : List (List ℕ)) (own fold : Bool) (a b : ℕ)
+      → IsPath s place cs own fold a → IsPath s place cs own fold b → a ≡ b
 
   -- a lookup has at most one end
   abbrev pub LookIsUnique : Type 0
@@ -290,6 +292,30 @@ module _ (K T F I : Type 0) where
   MapIsDirectory =
       (g : Procedures K T F I) (s t : State K T F I) (event : Event K) (answer : Answer) (p d : ℕ)
       → IsSound s → Step g s event answer t → map_of t p ≡ Some d → IsDirectory t d
+
+  -- in a sound state the shadow of a directory is a directory, and it stays where its directory does
+  abbrev pub ShadowIsDirectory : Type 0
+  ShadowIsDirectory = (s : State K T F I) (d shadow : ℕ) → IsSound s → shadow_of s d ≡ Some shadow → IsDirectory s shadow
+
+  abbrev pub ShadowStays : Type 0
+  ShadowStays =
+      (g : Procedures K T F I) (s : State K T F I) (d shadow : ℕ)
+      → IsSound s → shadow_of (settle g s) d ≡ Some shadow → object_of (settle g s) shadow ≡ object_of s shadow
+
+  -- the object that a create with a shadow makes is a directory with this shadow; where the create opens an object,
+  -- that is a directory, which keeps the shadow that it has or has none
+  abbrev pub MadeHasItsShadow : Type 0
+  MadeHasItsShadow =
+      (g : Procedures K T F I) (s t : State K T F I) (p : ℕ) (where_to : Place) (attrs shadow value : ℕ)
+      → IsSound s → Step g s (Start p (CreateShadowed where_to attrs shadow)) (gives Success (Handle value)) t
+      → (h : Held) × (k : Held) × (option_and_then (held_of s p) (key_of shadow) ≡ Some h) × (held_of t p value ≡ Some k)
+      × (body_of t k.object ≡ Some (Directory (Some h.object)))
+
+  abbrev pub OpenedKeepsItsShadow : Type 0
+  OpenedKeepsItsShadow =
+      (g : Procedures K T F I) (s t : State K T F I) (p : ℕ) (where_to : Place) (attrs shadow value : ℕ)
+      → Step g s (Start p (CreateShadowed where_to attrs shadow)) (gives ObjectNameExists (Handle value)) t
+      → (k : Held) × (held_of t p value ≡ Some k) × (is_directory s k.object ≡ true) × (body_of t k.object ≡ body_of s k.object)
 
   -- a child begins with its parent's map
   abbrev pub ChildHasItsMap : Type 0

@@ -67,7 +67,7 @@ module _ {K T F I : Type 0} (g : Procedures K T F I) where
       if g.parses (g.kind_of face) && not mode.create then Parse o rest n else named_or_mismatch o rest
 
   abbrev pub at_body : Mode → ℕ → Body F I → List ℕ → ℕ → Next
-  at_body mode o Directory rest n = Over (At o)
+  at_body mode o (Directory shadow) rest n = Over (At o)
   at_body mode o (Link target) rest n = at_link mode o target rest
   at_body mode o (Other face inner) rest n = Over (at_other mode o face rest n)
 
@@ -78,9 +78,9 @@ module _ {K T F I : Type 0} (g : Procedures K T F I) where
 
 module _ {K T F I : Type 0} where
   -- the walk over the text from this origin stops so
-  abbrev pub IsStop : State K T F I → Origin → List ℕ → Bool → Stop → Type 0
-  IsStop s place text fold (Missed d c last) = IsMiss s place text fold d c last
-  IsStop s place text fold (Reached o rest) = IsReach s place text fold o rest
+  abbrev pub IsStop : State K T F I → Origin → List ℕ → (create fold : Bool) → Stop → Type 0
+  IsStop s place text create fold (Missed d c last) = IsMiss s place text create fold d c last
+  IsStop s place text create fold (Reached o rest) = IsReach s place text create fold o rest
 
   -- a text that a reparse made, looked up again from its origin: too long, no origin, or the lookup
   -- that goes on from there
@@ -99,17 +99,17 @@ module _ {K T F I : Type 0} (g : Procedures K T F I) where
   -- the lookup is over there, or it follows a link, which takes one of the reparses
   abbrev pub Looks : State K T F I → ℕ → Mode → ℕ → Origin → List ℕ → Look → Type 0
   Looks s p mode zero place text look =
-      (stop : Stop) × (next : Next) × IsStop s place text mode.fold stop × IsNext g s mode zero stop next
+      (stop : Stop) × (next : Next) × IsStop s place text mode.create mode.fold stop × IsNext g s mode zero stop next
       × Ends next (λ target rest. look ≡ Refused ReparseLimit) look
   Looks s p mode (suc n) place text look =
-      (stop : Stop) × (next : Next) × IsStop s place text mode.fold stop × IsNext g s mode (suc n) stop next
+      (stop : Stop) × (next : Next) × IsStop s place text mode.create mode.fold stop × IsNext g s mode (suc n) stop next
       × Ends next (λ target rest. Again s p mode (substituted target rest) (λ place' text'. Looks s p mode n place' text' look) (λ status. look ≡ Refused status)) look
 
   -- what a name relative to an object of this body is looked up with, with n reparses left: a
   -- directory is where the walk begins, an open hands the name as it is to the parse of a parsing
   -- object
   abbrev pub LooksFrom : State K T F I → ℕ → Mode → ℕ → (root : ℕ) → Body F I → List ℕ → Look → Type 0
-  LooksFrom s p mode n root Directory name look = let at = relative root name in Looks s p mode n at.0 at.1 look
+  LooksFrom s p mode n root (Directory shadow) name look = let at = relative root name in Looks s p mode n at.0 at.1 look
   LooksFrom s p mode n root (Link target) name look = look ≡ Refused ObjectTypeMismatch
   LooksFrom s p mode n root (Other face inner) name look =
       look ≡ (if g.parses (g.kind_of face) && not mode.create then Parse root name n else Refused ObjectTypeMismatch)

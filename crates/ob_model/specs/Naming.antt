@@ -50,7 +50,7 @@ TellsName s o answer =
 
 -- the target of a link
 abbrev pub target_of : {F I : Type 0} → Body F I → Option (List ℕ)
-target_of Directory = None
+target_of (Directory shadow) = None
 target_of (Link target) = Some target
 target_of (Other face inner) = None
 

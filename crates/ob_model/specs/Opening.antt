@@ -18,10 +18,10 @@ abbrev pub root_row : ℕ → List ℕ → ℕ → Row
 root_row stamp name o = record { stamp = stamp; directory = root_id; name = name; object = o }
 
 -- the root, `\GLOBAL??`, `\DosDevices` (a link to `\??`), `\Device`, `\BaseNamedObjects` and
--- `\Sessions`, all permanent; process 1, without a map; no handle
+-- `\Sessions`, all permanent, and no directory with a shadow; process 1, without a map; no handle
 abbrev pub opening : {K T F I : Type 0} → T → State K T F I
 opening set = record {
-  objects = standing 1 Directory ∷ standing 2 Directory ∷ standing 3 (Link (codes "\\??")) ∷ standing 4 Directory ∷ standing 5 Directory ∷ standing 6 Directory ∷ [];
+  objects = standing 1 (Directory None) ∷ standing 2 (Directory None) ∷ standing 3 (Link (codes "\\??")) ∷ standing 4 (Directory None) ∷ standing 5 (Directory None) ∷ standing 6 (Directory None) ∷ [];
   rows = root_row 1 (codes "GLOBAL??") 2 ∷ root_row 2 (codes "DosDevices") 3 ∷ root_row 3 (codes "Device") 4 ∷ root_row 4 (codes "BaseNamedObjects") 5 ∷ root_row 5 (codes "Sessions") 6 ∷ [];
   handles = [];
   processes = record { number = 1; map = None } ∷ [];

@@ -14,7 +14,7 @@ use Rattle.ob_model.specs.State.{State, body_of, insert_object}
 
 -- the face of an object of the set
 abbrev pub face_in : {F I : Type 0} → Body F I → Option F
-face_in Directory = None
+face_in (Directory shadow) = None
 face_in (Link target) = None
 face_in (Other face inner) = Some face
 

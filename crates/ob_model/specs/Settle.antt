@@ -2,7 +2,8 @@
 --
 -- Sources: Windows Internals, Object Manager (object retention: handle and reference counts,
 -- temporary and permanent objects); ZwMakeTemporaryObject and ZwMakePermanentObject (Windows Driver
--- Kit). That it is judged once, at the end of a step, and the order of the deletes, are this profile.
+-- Kit). That it is judged once, at the end of a step, that a directory keeps its shadow, and the order of
+-- the deletes, are this profile.
 use Rattle.std.specs.Prelude.{◌≡◌, ℕ, Bool, true, false, ◌&&◌, ◌||◌, not, ◌==◌, List, [], ◌∷◌, All, filter}
 use Rattle.std.specs.List.{list_any}
 use Rattle.std.specs.Option.{option_map_or}
@@ -10,8 +11,12 @@ use Rattle.ob_model.specs.declared.state.Body.{Body}
 use Rattle.ob_model.specs.declared.state.Body.TheVariants.{Directory, Link, Other}
 use Rattle.ob_model.specs.declared.state.Object.{Object}
 use Rattle.ob_model.specs.declared.state.Row.{Row}
-use Rattle.ob_model.specs.State.{State, root_id, global_id, object_of}
+use Rattle.ob_model.specs.State.{State, root_id, global_id, shadow_in, object_of}
 use Rattle.ob_model.specs.Procedures.{Procedures}
+
+-- a body is that of a directory with this shadow
+abbrev pub has_shadow : {F I : Type 0} → ℕ → Body F I → Bool
+has_shadow o body = option_map_or (λ shadow. shadow == o) (shadow_in body) false
 
 module _ {K T F I : Type 0} where
   -- an object is permanent
@@ -42,9 +47,17 @@ module _ {K T F I : Type 0} where
   abbrev pub holds_kept : State K T F I → ℕ → Bool
   holds_kept s o = list_any (λ r. (r.directory == o) && is_kept s r) s.rows
 
+  -- an object stays by itself
+  abbrev pub is_alive_itself : State K T F I → ℕ → Bool
+  is_alive_itself s o = (o == root_id) || has_handle s o || is_pinned s o || is_mapped s o || (is_permanent s o && has_name s o) || holds_kept s o
+
+  -- an object is the shadow of a directory that stays by itself
+  abbrev pub is_shadowing : State K T F I → ℕ → Bool
+  is_shadowing s o = list_any (λ x. has_shadow o x.body && is_alive_itself s x.id) s.objects
+
   -- an object stays
   abbrev pub is_alive : State K T F I → ℕ → Bool
-  is_alive s o = (o == root_id) || has_handle s o || is_pinned s o || is_mapped s o || (is_permanent s o && has_name s o) || holds_kept s o
+  is_alive s o = is_alive_itself s o || is_shadowing s o
 
   -- what is settled: each name stays, and each object does
   pub record IsSettled (s : State K T F I) : Type 0 where
@@ -54,7 +67,7 @@ module _ {K T F I : Type 0} where
 module _ {K T F I : Type 0} (g : Procedures K T F I) where
   -- what the delete of one object makes of the set's value
   abbrev pub deleted_one : Body F I → T → T
-  deleted_one Directory set = set
+  deleted_one (Directory shadow) set = set
   deleted_one (Link target) set = set
   deleted_one (Other face inner) set = g.deleted set inner
 

@@ -1,7 +1,7 @@
 -- Sound states: what holds of the opening state and after each step, and what a lookup rests on.
 --
 -- Source: this profile.
-use Rattle.std.specs.Prelude.{◌≡◌, ◌≢◌, true, false, Bool, ◌&&◌, ◌==◌, ℕ, ◌<◌, List, All, AllPairs, MatchOption, codes}
+use Rattle.std.specs.Prelude.{◌≡◌, ◌≢◌, true, false, Bool, ◌&&◌, ◌==◌, ℕ, ◌<◌, List, All, AllPairs, None, MatchOption, codes}
 use Rattle.std.specs.Str.{bytes_eq}
 use Rattle.std.specs.Option.{is_some}
 use Rattle.ob_model.specs.declared.state.Object.{Object}
@@ -12,7 +12,7 @@ use Rattle.ob_model.specs.declared.state.Pending.{Pending}
 use Rattle.ob_model.specs.Names.{IsComponent}
 use Rattle.ob_model.specs.Paths.{is_match}
 use Rattle.ob_model.specs.Closing.{is_handle}
-use Rattle.ob_model.specs.State.{State, root_id, global_id, object_among, is_directory_among, is_live_among}
+use Rattle.ob_model.specs.State.{State, root_id, global_id, shadow_in, object_among, is_directory_among, shadow_among, is_live_among}
 
 -- a place in a directory that no name has: the root directory has no entry called `??`
 abbrev pub is_barred : ℕ → List ℕ → Bool
@@ -31,11 +31,22 @@ module _ {F I : Type 0} where
   abbrev pub HasSoundMapAmong : List (Object F I) → Process → Type 0
   HasSoundMapAmong objects x = MatchOption x.map (Unit {0}) (IsDirectoryAmong objects)
 
-  -- The root and `\GLOBAL??` are directories, and the number of each object was drawn.
+  -- a shadow is fit for a directory of this number: it is a directory among these, was made before that one, and has
+  -- no shadow itself
+  abbrev pub IsShadowAmong : List (Object F I) → ℕ → ℕ → Type 0
+  IsShadowAmong objects d shadow = IsDirectoryAmong objects shadow × (shadow < d) × (shadow_among objects shadow ≡ None)
+
+  -- so is the shadow of an object, where it has one
+  abbrev pub HasSoundShadowAmong : List (Object F I) → Object F I → Type 0
+  HasSoundShadowAmong objects x = MatchOption (shadow_in x.body) (Unit {0}) (IsShadowAmong objects x.id)
+
+  -- The root and `\GLOBAL??` are directories. Objects rise by numbers that were drawn, and each shadow is fit.
   pub record AreSoundObjects (objects : List (Object F I)) (next_id : ℕ) : Type 0 where
     pub root : IsDirectoryAmong objects root_id
     pub global : IsDirectoryAmong objects global_id
     pub drawn : All (λ x. x.id < next_id) objects
+    pub rising : AllPairs (λ a b. a.id < b.id) objects
+    pub shadows : All (HasSoundShadowAmong objects) objects
 
   -- All map directories are directories, and the number of each process was drawn.
   pub record AreSoundProcesses (objects : List (Object F I)) (processes : List Process) (next_process : ℕ) : Type 0 where

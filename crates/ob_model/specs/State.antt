@@ -1,11 +1,11 @@
 -- The abstract state: the objects, the rows that name them, the handles, the live processes, the
 -- pending opens, the value of the set of types, and the counters. Nothing else is visible.
 --
--- Sources: Windows Internals, Object Manager (object directories, handles and the process handle
--- table, session namespace); the opening state, the counters and the limits are this profile.
-use Rattle.std.specs.Prelude.{ℕ, ◌+◌, ◌-◌, ◌^◌, Bool, true, false, ◌&&◌, ◌||◌, ◌==◌, nat_lt, nat_le, if◌then◌else◌, List, [], ◌∷◌, length, Option, count_by}
+-- Sources: Windows Internals, Object Manager (object directories and their shadow directories, handles
+-- and the process handle table, session namespace); the opening state, the counters and the limits are this profile.
+use Rattle.std.specs.Prelude.{ℕ, ◌+◌, ◌-◌, ◌^◌, Bool, true, false, ◌&&◌, ◌||◌, ◌==◌, nat_lt, nat_le, if◌then◌else◌, List, [], ◌∷◌, length, Option, None, count_by}
 use Rattle.std.specs.List.{find}
-use Rattle.std.specs.Option.{option_map, is_some, option_map_or}
+use Rattle.std.specs.Option.{option_map, option_and_then, is_some, option_map_or}
 use Rattle.ob_model.specs.declared.state.Body.{Body}
 use Rattle.ob_model.specs.declared.state.Body.TheVariants.{Directory, Link, Other}
 use Rattle.ob_model.specs.declared.state.Object.{Object}
@@ -70,18 +70,27 @@ in_order number x (y ∷ ys) = if nat_lt (number x) (number y) then x ∷ y ∷ 
 abbrev pub insert_object : {F I : Type 0} → Object F I → List (Object F I) → List (Object F I)
 insert_object x objects = in_order (λ o. o.id) x objects
 
--- whether a body is that of a directory
+-- whether a body is that of a directory, and the shadow of a directory, where it has one
 abbrev pub is_directory_body : {F I : Type 0} → Body F I → Bool
-is_directory_body Directory = true
+is_directory_body (Directory shadow) = true
 is_directory_body (Link target) = false
 is_directory_body (Other face inner) = false
 
--- among these objects the one of a number, where there is one, and whether it is there and is a directory
+abbrev pub shadow_in : {F I : Type 0} → Body F I → Option ℕ
+shadow_in (Directory shadow) = shadow
+shadow_in (Link target) = None
+shadow_in (Other face inner) = None
+
+-- among these objects the one of a number, where there is one, whether it is there and is a directory, and
+-- the shadow that it has
 abbrev pub object_among : {F I : Type 0} → List (Object F I) → ℕ → Option (Object F I)
 object_among objects o = find (λ x. x.id == o) objects
 
 abbrev pub is_directory_among : {F I : Type 0} → List (Object F I) → ℕ → Bool
 is_directory_among objects o = option_map_or is_directory_body (option_map (λ x. x.body) (object_among objects o)) false
+
+abbrev pub shadow_among : {F I : Type 0} → List (Object F I) → ℕ → Option ℕ
+shadow_among objects o = option_and_then shadow_in (option_map (λ x. x.body) (object_among objects o))
 
 -- among these processes the one of a number, where there is one, and whether it is there
 abbrev pub process_among : List Process → ℕ → Option Process
@@ -102,6 +111,10 @@ module _ {K T F I : Type 0} where
   -- the object is there, and is a directory
   abbrev pub is_directory : State K T F I → ℕ → Bool
   is_directory s o = is_directory_among s.objects o
+
+  -- the shadow of a directory, where it is there and has one
+  abbrev pub shadow_of : State K T F I → ℕ → Option ℕ
+  shadow_of s o = shadow_among s.objects o
 
   -- the process, where it is live
   abbrev pub process_of : State K T F I → ℕ → Option Process

@@ -4,24 +4,25 @@
 -- Sources: ZwCreateDirectoryObject, ZwOpenDirectoryObject, ZwCreateSymbolicLinkObject,
 -- ZwOpenSymbolicLinkObject, ZwQuerySymbolicLinkObject, ZwQueryDirectoryObject, ZwCreateEvent, ZwOpenEvent, ZwClose, ZwDuplicateObject,
 -- ZwMakeTemporaryObject, ZwMakePermanentObject, ObQueryNameString and OBJECT_ATTRIBUTES structure (Windows Driver Kit);
--- NtSetInformationProcess (ProcessDeviceMap); Windows Internals, Object Manager and Processes.
--- The order of refusals is this profile.
+-- NtCreateDirectoryObjectEx (a shadow directory); NtSetInformationProcess (ProcessDeviceMap); Windows
+-- Internals, Object Manager and Processes.
+-- The order of refusals, and that a shadow has no shadow, are this profile.
 use Rattle.std.specs.Prelude.{◌≡◌, ℕ, Bool, true, false, not, nat_lt, [], ◌∷◌, List, Option, None, Some, MatchOption}
-use Rattle.std.specs.Option.{option_and_then}
+use Rattle.std.specs.Option.{is_some, option_and_then}
 use Rattle.ob_base.specs.declared.status.Status.{Status}
 use Rattle.ob_base.specs.declared.status.Status.TheVariants.{Success, InvalidParameter, InvalidHandle, ObjectTypeMismatch, ProcessGone}
 use Rattle.ob_base.specs.Handle.{key_of}
 use Rattle.ob_model.specs.declared.command.Place.{Place}
 use Rattle.ob_model.specs.declared.command.Place.TheVariants as place
 use Rattle.ob_model.specs.declared.command.Command.{Command}
-use Rattle.ob_model.specs.declared.command.Command.TheVariants.{CreateDirectory, CreateLink, CreateObject, OpenDirectory, OpenLink, OpenObject, Close, QueryLink, QueryName, QueryDirectory, Duplicate, MakeTemporary, MakePermanent, SetDeviceMap, NewProcess, ExitProcess}
+use Rattle.ob_model.specs.declared.command.Command.TheVariants.{CreateDirectory, CreateShadowed, CreateLink, CreateObject, OpenDirectory, OpenLink, OpenObject, Close, QueryLink, QueryName, QueryDirectory, Duplicate, MakeTemporary, MakePermanent, SetDeviceMap, NewProcess, ExitProcess}
 use Rattle.ob_model.specs.declared.reply.Answer.{Answer}
 use Rattle.ob_model.specs.declared.reply.Event.{Event}
 use Rattle.ob_model.specs.declared.reply.Event.TheVariants.{Start, Resume, Abandon}
 use Rattle.ob_model.specs.declared.state.Held.{Held}
 use Rattle.ob_model.specs.declared.state.Wanted.{Wanted}
 use Rattle.ob_model.specs.declared.state.Wanted.TheVariants as wanted
-use Rattle.ob_model.specs.State.{State, is_live, is_directory, held_of}
+use Rattle.ob_model.specs.State.{State, is_live, is_directory, shadow_of, held_of}
 use Rattle.ob_model.specs.Looks.{Look, LooksUp, most_reparses}
 use Rattle.ob_model.specs.PendingOpens.{pending_of}
 use Rattle.ob_model.specs.Parses.{IsBrought, Resumes, Abandons}
@@ -52,6 +53,18 @@ module _ {K T F I : Type 0} where
   WithRoot s p (Some handle) answer t Does =
       MatchOption (option_and_then (held_of s p) (key_of handle)) (IsRefused s InvalidHandle answer t) (λ h. Does (Some h.object))
 
+  -- the refusals of a shadow: it is no directory, or it has a shadow itself
+  abbrev pub shadow_refusals : State K T F I → ℕ → List (Bool × Status)
+  shadow_refusals s o = (not (is_directory s o), ObjectTypeMismatch) ∷ (is_some (shadow_of s o), InvalidParameter) ∷ []
+
+  -- a step that uses a handle of the caller to a shadow, where one is given: the process has no such handle, its
+  -- object can be no shadow, or what the step does with it
+  abbrev pub WithShadow : State K T F I → ℕ → (shadow : Option ℕ) → Answer → State K T F I → (Option ℕ → Type 0) → Type 0
+  WithShadow s p None answer t Does = Does None
+  WithShadow s p (Some handle) answer t Does =
+      MatchOption (option_and_then (held_of s p) (key_of handle)) (IsRefused s InvalidHandle answer t)
+      (λ h. Unless (shadow_refusals s h.object) s answer t (Does (Some h.object)))
+
   -- a query of a link's target changes nothing
   abbrev pub QueriesLink : State K T F I → ℕ → ℕ → Answer → State K T F I → Type 0
   QueriesLink s p handle answer t = WithHandle s p handle answer t (λ h. TellsTarget s h.object answer × (t ≡ s))
@@ -65,17 +78,19 @@ abbrev pub page_refusals : Bool → ℕ → List (Bool × Status)
 page_refusals live room = (not live, ProcessGone) ∷ (nat_lt largest_room room, InvalidParameter) ∷ []
 
 module _ {K T F I : Type 0} (g : Procedures K T F I) where
-  -- what a create does past its refusals, at a name and without one
-  abbrev pub CreatesIn : State K T F I → ℕ → Place → ℕ → Making K → Answer → State K T F I → Type 0
-  CreatesIn s p (place.At root name) attrs making answer t =
+  -- what a create does past its refusals, at a name and without one. The shadow of what it makes, where a
+  -- handle to one is given, is judged after the root handle and before the lookup
+  abbrev pub CreatesIn : State K T F I → ℕ → Place → ℕ → (shadow : Option ℕ) → (Option ℕ → Making K) → Answer → State K T F I → Type 0
+  CreatesIn s p (place.At root name) attrs shadow making answer t =
       WithRoot s p root answer t
-      (λ at. (look : Look) × LooksUp g s p (create_mode attrs) most_reparses at name look × Creates g s p attrs making look answer t)
-  CreatesIn s p place.Unnamed attrs making answer t = Makes g s p attrs making None answer t
+      (λ at. WithShadow s p shadow answer t
+      (λ d. (look : Look) × LooksUp g s p (create_mode attrs) most_reparses at name look × Creates g s p attrs (making d) look answer t))
+  CreatesIn s p place.Unnamed attrs shadow making answer t = WithShadow s p shadow answer t (λ d. Makes g s p attrs (making d) None answer t)
 
   -- a create
-  abbrev pub CreatesAt : State K T F I → ℕ → Place → ℕ → Making K → Answer → State K T F I → Type 0
-  CreatesAt s p where_to attrs making answer t =
-      Unless (create_refusals (is_live s p) (is_fit making) where_to attrs) s answer t (CreatesIn s p where_to attrs making answer t)
+  abbrev pub CreatesAt : State K T F I → ℕ → Place → ℕ → (shadow : Option ℕ) → (Option ℕ → Making K) → Answer → State K T F I → Type 0
+  CreatesAt s p where_to attrs shadow making answer t =
+      Unless (create_refusals (is_live s p) (is_fit (making None)) where_to attrs) s answer t (CreatesIn s p where_to attrs shadow making answer t)
 
   -- an open
   abbrev pub OpensName : State K T F I → ℕ → Option ℕ → List ℕ → ℕ → Wanted K → Answer → State K T F I → Type 0
@@ -112,9 +127,10 @@ module _ {K T F I : Type 0} (g : Procedures K T F I) where
 
   -- a step for a command that a process starts
   abbrev pub Starts : State K T F I → ℕ → Command K → Answer → State K T F I → Type 0
-  Starts s p (CreateDirectory where_to attrs) answer t = CreatesAt s p where_to attrs MakesDirectory answer t
-  Starts s p (CreateLink where_to attrs target) answer t = CreatesAt s p where_to attrs (MakesLink target) answer t
-  Starts s p (CreateObject where_to attrs kind args) answer t = CreatesAt s p where_to attrs (MakesObject kind args) answer t
+  Starts s p (CreateDirectory where_to attrs) answer t = CreatesAt s p where_to attrs None MakesDirectory answer t
+  Starts s p (CreateShadowed where_to attrs shadow) answer t = CreatesAt s p where_to attrs (Some shadow) MakesDirectory answer t
+  Starts s p (CreateLink where_to attrs target) answer t = CreatesAt s p where_to attrs None (λ shadow. MakesLink target) answer t
+  Starts s p (CreateObject where_to attrs kind args) answer t = CreatesAt s p where_to attrs None (λ shadow. MakesObject kind args) answer t
   Starts s p (OpenDirectory root name attrs) answer t = OpensName s p root name attrs wanted.Directory answer t
   Starts s p (OpenLink root name attrs) answer t = OpensName s p root name attrs wanted.Link answer t
   Starts s p (OpenObject root name attrs want) answer t = OpensName s p root name attrs (type_wanted want) answer t

@@ -13,14 +13,14 @@ use Rattle.ob_model.specs.Procedures.{Procedures}
 
 -- whether a body is that of a link
 abbrev pub is_link_body : {F I : Type 0} → Body F I → Bool
-is_link_body body.Directory = false
+is_link_body (body.Directory shadow) = false
 is_link_body (body.Link target) = true
 is_link_body (body.Other face inner) = false
 
 module _ {K T F I : Type 0} (g : Procedures K T F I) where
   -- whether a body is that of an object of a kind of the set
   abbrev pub is_of_kind : K → Body F I → Bool
-  is_of_kind kind body.Directory = false
+  is_of_kind kind (body.Directory shadow) = false
   is_of_kind kind (body.Link target) = false
   is_of_kind kind (body.Other face inner) = g.same_kind (g.kind_of face) kind
 

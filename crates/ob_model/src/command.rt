@@ -21,7 +21,8 @@ pub enum Place {
 /// those of the Windows Driver Kit's `Zw` routines (`ZwCreateDirectoryObject`,
 /// `ZwCreateSymbolicLinkObject`, `ZwCreateEvent` and its like, `ZwOpenDirectoryObject`,
 /// `ZwOpenSymbolicLinkObject`, `ZwClose`, `ZwQuerySymbolicLinkObject`, `ZwQueryDirectoryObject`, `ZwDuplicateObject`,
-/// `ZwMakeTemporaryObject`, `ZwMakePermanentObject`), of `ObQueryNameString` and of
+/// `ZwMakeTemporaryObject`, `ZwMakePermanentObject`), of `ObQueryNameString`, of
+/// `NtCreateDirectoryObjectEx` with a shadow directory and of
 /// `NtSetInformationProcess` with `ProcessDeviceMap`, without access masks, and the beginning and the end of
 /// a process (Windows Internals, Processes). `K` is the kind of an object of the set of types.
 #[derive(Debug, Drop)]
@@ -32,6 +33,18 @@ pub enum Command<K> {
         place: Place,
         /// The attribute flags, as raw bits.
         attrs: u32,
+    },
+    /// Makes a directory with a shadow at a place and opens a handle to it: a lookup finds the entries of
+    /// the shadow where the directory has none of that name. Uses every flag but OPENLINK. Where OPENIF opens
+    /// a directory that is there, that directory keeps the shadow that it has.
+    CreateShadowed {
+        /// Where the directory is to stand.
+        place: Place,
+        /// The attribute flags, as raw bits.
+        attrs: u32,
+        /// A handle of the caller to the shadow, which must be a directory without a shadow. The low two bits of
+        /// the value are ignored.
+        shadow: Handle,
     },
     /// Makes a symbolic link at a place and opens a handle to it. Uses every flag but OPENLINK.
     CreateLink {

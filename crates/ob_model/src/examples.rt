@@ -29,6 +29,14 @@ ghost use Rattle.ob_model.specs.Examples.{
   MadeTemporaryGoes,
   MadePermanentStays,
   MapHoldsItsDirectory,
+  ShadowIsSeen,
+  OwnComesFirst,
+  CreateIsOwn,
+  RootIsShadow,
+  ShadowIsSearchedAlone,
+  MapHasShadow,
+  ShadowStaysAndGoes,
+  ShadowsAreJudged,
   PathsOfObjects,
   ParseRunsEnd,
   CallsOfMadeAndClosed,
@@ -119,6 +127,29 @@ pub fn objects_stay_or_go()
     ensures temporary_goes { TemporaryGoes }
     ensures made_temporary_goes { MadeTemporaryGoes }
     ensures made_permanent_stays { MadePermanentStays }
+{}
+
+/// Shadows: in lookups, in creates, below a device map, and how long they remain.
+///
+/// - `shadow_is_seen`: A component that the directory has no entry for is looked up in its shadow.
+/// - `own_comes_first`: Where both have an entry, the directory's own is found. A listing shows own entries alone.
+/// - `create_is_own`: A create doesn't collide with an entry of the shadow. It sees the shadow's entries before its last component.
+/// - `root_is_shadow`: The root may be a shadow.
+/// - `shadow_is_searched_alone`: A shadow's own shadow is not searched.
+/// - `map_has_shadow`: An open of `\??\C:` finds the entry of the local directory's shadow before the global one. A create looks in
+///   the local directory alone.
+/// - `shadow_stays_and_goes`: A shadow without a handle remains as long as its directory, and is deleted with it.
+/// - `shadows_are_judged`: A create refuses a shadow to which there is no handle, one that is no directory, and one that has a
+///   shadow itself: after the root handle, and before the lookup.
+pub fn shadows_are_seen()
+    ensures shadow_is_seen { ShadowIsSeen }
+    ensures own_comes_first { OwnComesFirst }
+    ensures create_is_own { CreateIsOwn }
+    ensures root_is_shadow { RootIsShadow }
+    ensures shadow_is_searched_alone { ShadowIsSearchedAlone }
+    ensures map_has_shadow { MapHasShadow }
+    ensures shadow_stays_and_goes { ShadowStaysAndGoes }
+    ensures shadows_are_judged { ShadowsAreJudged }
 {}
 
 /// Pages of a directory: what they hold, whether more is left, and one behind a row that went.

@@ -54,6 +54,10 @@ ghost use Rattle.ob_model.specs.Laws.{
   MappedStays,
   MapIsDirectory,
   ChildHasItsMap,
+  ShadowIsDirectory,
+  ShadowStays,
+  MadeHasItsShadow,
+  OpenedKeepsItsShadow,
   SettlingSettles,
   SettledStays,
   OpeningIsSettled,
@@ -255,6 +259,20 @@ pub fn map_is_of_one_process<K, T, F, I>()
 pub fn mapped_directory_stays<K, T, F, I>()
     ensures stays { MappedStays K T F I }
     ensures directory { MapIsDirectory K T F I }
+{}
+
+/// The shadow of a directory remains as long as the directory: in a sound state it is there, and is a directory, and
+/// settling leaves it where it leaves the directory.
+pub fn shadow_stays<K, T, F, I>()
+    ensures directory { ShadowIsDirectory K T F I }
+    ensures stays { ShadowStays K T F I }
+{}
+
+/// A directory that a create makes with a shadow has that shadow. A directory that such a create finds and opens is
+/// left as it is, with the shadow that it has or without one.
+pub fn shadow_is_set_at_creation<K, T, F, I>()
+    ensures made { MadeHasItsShadow K T F I }
+    ensures opened { OpenedKeepsItsShadow K T F I }
 {}
 
 /// A child has its parent's map.

@@ -9,8 +9,9 @@ use ob_base::{Handle, ObjId, Proc};
 /// belongs to the set of types; directories and symbolic links are the namespace's own.
 #[derive(Debug, Drop)]
 pub enum Body<F, I> {
-    /// An object directory. Its entries are the rows that stand in it.
-    Directory,
+    /// An object directory, with its shadow, where it has one: a directory in which a name is looked up
+    /// where this one has no entry of it. Its entries are the rows that stand in it.
+    Directory(Option<ObjId>),
     /// A symbolic link, with its target: 1 to 32,767 bytes.
     Link(Bytes),
     /// An object of a type of the set: the face that its parse procedure sees, and the inner

@@ -13,12 +13,12 @@ module _ {F I : Type 0} where
   -- an entry more, of a free spelling and with a stamp above all
   pub with_name_is_dir : (entry : DirEntry) (body : StoredBody F I) → IsDir (entries_in body)
       → All (λ e. e.name ≢ entry.name) (entries_in body) → All (λ e. e.stamp < entry.stamp) (entries_in body) → IsDir (entries_in (body_with_name entry body))
-  with_name_is_dir entry (Directory entries) is free newest = all_pairs_push ComesBefore entries entry is (λ k d within. (newest k d within, free k d within))
+  with_name_is_dir entry (Directory entries shadow) is free newest = all_pairs_push ComesBefore entries entry is (λ k d within. (newest k d within, free k d within))
   with_name_is_dir entry (Link target) is free newest = is
   with_name_is_dir entry (Other face inner) is free newest = is
 
   -- without the entries of a stamp
   pub without_name_is_dir : (stamp : ℕ) (body : StoredBody F I) → IsDir (entries_in body) → IsDir (entries_in (body_without_name stamp body))
-  without_name_is_dir stamp (Directory entries) is = AllPairs-filter ComesBefore (λ e. not (e.stamp == stamp)) entries is
+  without_name_is_dir stamp (Directory entries shadow) is = AllPairs-filter ComesBefore (λ e. not (e.stamp == stamp)) entries is
   without_name_is_dir stamp (Link target) is = is
   without_name_is_dir stamp (Other face inner) is = is

@@ -15,7 +15,7 @@ use Rattle.ob_model.proofs.Finds.{find_none, not_found, filter_all}
 use Rattle.ob_model.proofs.InOrder.{in_order-back, in_order-map}
 use Rattle.ob_model.proofs.InOrder.{newest_is_last as last_in_order}
 use Rattle.ob_model.proofs.Soundness.{opened_object-id}
-use Rattle.ob_model.specs.State.{insert_object}
+use Rattle.ob_model.specs.State.{insert_object, shadow_in}
 use Rattle.ob_model.specs.declared.state.Object.{Object}
 use Rattle.ob_model.specs.declared.state.Row.{Row}
 use Rattle.ob_model.specs.declared.terms.Reason.{Reason}
@@ -127,8 +127,8 @@ module _ {F I : Type 0} where
 
   body_taken_back : (entry : DirEntry) (body : StoredBody F I) → All (λ e. e.stamp < entry.stamp) (entries_in body)
       → body_without_name entry.stamp (body_with_name entry body) ≡ body
-  body_taken_back entry (Directory entries) below =
-      ap Directory (filter-append (λ e. not (e.stamp == entry.stamp)) entries (entry ∷ [])
+  body_taken_back entry (Directory entries shadow) below =
+      ap (λ es. Directory es shadow) (filter-append (λ e. not (e.stamp == entry.stamp)) entries (entry ∷ [])
       ∙ ap (λ es. es ++ filter (λ e. not (e.stamp == entry.stamp)) (entry ∷ []))
       (filter_all (λ e. not (e.stamp == entry.stamp)) entries
       (All-weaker (λ e. e.stamp < entry.stamp) (λ e. not (e.stamp == entry.stamp) ≡ true) (λ e less. ap not (below_differs e.stamp entry.stamp less)) entries below))
@@ -234,5 +234,16 @@ pub told_of_object : {F I : Type 0} (tells : Object F I → Bool) (store : Entri
 told_of_object {F} {I} tells store id o e = go o ∙ ap (λ p. option_map_or tells (option_map (object_of_stored id) p) false) e ∙ ap (λ p. option_map_or tells p false) (sym (find_object store id))
   where
     go : (p : Option (StoredObject F I)) → option_map_or (λ x. tells (object_of_stored id x)) p false ≡ option_map_or tells (option_map (object_of_stored id) p) false
+    go None = refl
+    go (Some x) = refl
+
+-- so is its shadow
+pub shadow_of_object : {F I : Type 0} (store : Entries F I) (id : ℕ) (o : Option (StoredObject F I)) → o ≡ stored_at store id
+    → option_and_then (λ x. shadow_in (body_of_stored x.body)) o ≡ option_and_then (λ x. shadow_in x.body) (find (λ x. x.id == id) (objects_of store))
+shadow_of_object {F} {I} store id o e =
+    go o ∙ ap (λ p. option_and_then (λ (x : Object F I). shadow_in x.body) (option_map (object_of_stored id) p)) e
+    ∙ ap (λ p. option_and_then (λ (x : Object F I). shadow_in x.body) p) (sym (find_object store id))
+  where
+    go : (p : Option (StoredObject F I)) → option_and_then (λ x. shadow_in (body_of_stored x.body)) p ≡ option_and_then (λ (x : Object F I). shadow_in x.body) (option_map (object_of_stored id) p)
     go None = refl
     go (Some x) = refl

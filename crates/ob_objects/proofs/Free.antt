@@ -44,7 +44,7 @@ directory_stands d None is = absurd (false≢true is)
 directory_stands {F} {I} d (Some x) is = go x.body is
   where
     go : (body : StoredBody F I) → is_directory_body (body_of_stored body) ≡ true → IsSome (directory_of body)
-    go (Directory entries) is = refl
+    go (Directory entries shadow) is = refl
     go (Link target) is = absurd (false≢true is)
     go (Other face inner) is = absurd (false≢true is)
 

@@ -41,22 +41,22 @@ module _ {K T F I : Type 0} (g : Procedures K T F I) where
   -- ---- what is done to an object leaves its type
 
   pub with_name_type : (entry : DirEntry) (body : StoredBody F I) → type_of_body g (body_with_name entry body) ≡ type_of_body g body
-  with_name_type entry (Directory entries) = refl
+  with_name_type entry (Directory entries shadow) = refl
   with_name_type entry (Link target) = refl
   with_name_type entry (Other face inner) = refl
 
   pub without_name_type : (stamp : ℕ) (body : StoredBody F I) → type_of_body g (body_without_name stamp body) ≡ type_of_body g body
-  without_name_type stamp (Directory entries) = refl
+  without_name_type stamp (Directory entries shadow) = refl
   without_name_type stamp (Link target) = refl
   without_name_type stamp (Other face inner) = refl
 
   pub opened_type : (set : T) (reason : Reason) (body : StoredBody F I) → type_of_body g (stored_opened g set reason body) ≡ type_of_body g body
-  opened_type set reason (Directory entries) = refl
+  opened_type set reason (Directory entries shadow) = refl
   opened_type set reason (Link target) = refl
   opened_type set reason (Other face inner) = refl
 
   pub closed_type : (set : T) (process_left system_left : ℕ) (body : StoredBody F I) → type_of_body g (stored_closed g set process_left system_left body) ≡ type_of_body g body
-  closed_type set process_left system_left (Directory entries) = refl
+  closed_type set process_left system_left (Directory entries shadow) = refl
   closed_type set process_left system_left (Link target) = refl
   closed_type set process_left system_left (Other face inner) = refl
 
@@ -125,7 +125,7 @@ module _ {K T F I : Type 0} (g : Procedures K T F I) where
   named_alike store types keeps = λ i id. same id i
     where
       type_named : (body : StoredBody F I) → name_of_type g (type_of_body g body) ≡ body_type_name g (body_of_stored body)
-      type_named (Directory entries) = refl
+      type_named (Directory entries shadow) = refl
       type_named (Link target) = refl
       type_named (Other face inner) = refl
 
@@ -138,7 +138,7 @@ module _ {K T F I : Type 0} (g : Procedures K T F I) where
 
   -- ---- as many types are kept as there are objects
 
-  abbrev typed : Entries F I → Types K
+  abbrev pub typed : Entries F I → Types K
   typed store = map (λ e. (e.0, type_of e.1)) store
 
   typed_keys : (store : Entries F I) → keys_of (typed store) ≡ keys_of store
@@ -158,9 +158,12 @@ module _ {K T F I : Type 0} (g : Procedures K T F I) where
   typed_length [] = refl
   typed_length (e ∷ store) = ap suc (typed_length store)
 
+  pub types_are : (store : Entries F I) (types : Types K) → KeepsTypes g store types → IsStrictlySortedBy nat_cmp (keys_of store) → IsStrictlySortedBy nat_cmp (keys_of types)
+      → types ≡ typed store
+  types_are store types keeps rising types_rise =
+      same_where_found types (typed store) types_rise (subst (IsStrictlySortedBy nat_cmp) (sym (typed_keys store)) rising)
+      (λ q. keeps q ∙ ap (option_map type_of) (sym (lookup-id q store)) ∙ sym (typed_finds q store))
+
   pub as_many_types : (store : Entries F I) (types : Types K) → KeepsTypes g store types → IsStrictlySortedBy nat_cmp (keys_of store) → IsStrictlySortedBy nat_cmp (keys_of types)
       → length types ≡ length store
-  as_many_types store types keeps rising types_rise =
-      ap length (same_where_found types (typed store) types_rise (subst (IsStrictlySortedBy nat_cmp) (sym (typed_keys store)) rising)
-      (λ q. keeps q ∙ ap (option_map type_of) (sym (lookup-id q store)) ∙ sym (typed_finds q store)))
-      ∙ typed_length store
+  as_many_types store types keeps rising types_rise = ap length (types_are store types keeps rising types_rise) ∙ typed_length store

@@ -14,4 +14,5 @@ pub mod Free
 pub mod Pages
 pub mod KeptTypes
 pub mod KeptSlots
+pub mod KeptShadows
 mod Asked

@@ -171,12 +171,12 @@ module _ {F I : Type 0} where
   -- ---- names come and go
 
   named_same_body : (entry : DirEntry) (body : StoredBody F I) → body_of_stored (body_with_name entry body) ≡ body_of_stored body
-  named_same_body entry (Directory entries) = refl
+  named_same_body entry (Directory entries shadow) = refl
   named_same_body entry (Link target) = refl
   named_same_body entry (Other face inner) = refl
 
   unnamed_same_body : (stamp : ℕ) (body : StoredBody F I) → body_of_stored (body_without_name stamp body) ≡ body_of_stored body
-  unnamed_same_body stamp (Directory entries) = refl
+  unnamed_same_body stamp (Directory entries shadow) = refl
   unnamed_same_body stamp (Link target) = refl
   unnamed_same_body stamp (Other face inner) = refl
 
@@ -219,7 +219,7 @@ module _ {F I : Type 0} where
   -- ---- a name more
 
   pub named_entries : (entry : DirEntry) (body : StoredBody F I) → IsSome (directory_of body) → entries_in (body_with_name entry body) ≡ entries_in body ++ entry ∷ []
-  named_entries entry (Directory entries) there = refl
+  named_entries entry (Directory entries shadow) there = refl
   named_entries entry (Link target) there = absurd (false≢true there)
   named_entries entry (Other face inner) there = absurd (false≢true there)
 
@@ -278,7 +278,7 @@ module _ {F I : Type 0} where
   -- ---- a name less
 
   pub unnamed_entries : (stamp : ℕ) (body : StoredBody F I) → entries_in (body_without_name stamp body) ≡ filter (λ e. not (e.stamp == stamp)) (entries_in body)
-  unnamed_entries stamp (Directory entries) = refl
+  unnamed_entries stamp (Directory entries shadow) = refl
   unnamed_entries stamp (Link target) = refl
   unnamed_entries stamp (Other face inner) = refl
 
@@ -334,23 +334,23 @@ module _ {K T F I : Type 0} where
 
   opened_body_is : (g : Procedures K T F I) (set : T) (reason : Reason) (body : StoredBody F I)
       → body_of_stored (stored_opened g set reason body) ≡ opened_body g set (body_of_stored body) reason
-  opened_body_is g set reason (Directory entries) = refl
+  opened_body_is g set reason (Directory entries shadow) = refl
   opened_body_is g set reason (Link target) = refl
   opened_body_is g set reason (Other face inner) = refl
 
   pub opened_entries : (g : Procedures K T F I) (set : T) (reason : Reason) (body : StoredBody F I) → entries_in (stored_opened g set reason body) ≡ entries_in body
-  opened_entries g set reason (Directory entries) = refl
+  opened_entries g set reason (Directory entries shadow) = refl
   opened_entries g set reason (Link target) = refl
   opened_entries g set reason (Other face inner) = refl
 
   closed_body_is : (g : Procedures K T F I) (set : T) (process_left system_left : ℕ) (body : StoredBody F I)
       → body_of_stored (stored_closed g set process_left system_left body) ≡ closed_body g set process_left system_left (body_of_stored body)
-  closed_body_is g set process_left system_left (Directory entries) = refl
+  closed_body_is g set process_left system_left (Directory entries shadow) = refl
   closed_body_is g set process_left system_left (Link target) = refl
   closed_body_is g set process_left system_left (Other face inner) = refl
 
   pub closed_entries : (g : Procedures K T F I) (set : T) (process_left system_left : ℕ) (body : StoredBody F I) → entries_in (stored_closed g set process_left system_left body) ≡ entries_in body
-  closed_entries g set process_left system_left (Directory entries) = refl
+  closed_entries g set process_left system_left (Directory entries shadow) = refl
   closed_entries g set process_left system_left (Link target) = refl
   closed_entries g set process_left system_left (Other face inner) = refl
 

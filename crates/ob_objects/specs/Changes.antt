@@ -29,13 +29,13 @@ module _ {F I : Type 0} where
 
   -- a directory's entries with one more behind them; any other body stays
   abbrev pub body_with_name : DirEntry → StoredBody F I → StoredBody F I
-  body_with_name entry (Directory entries) = Directory (entries ++ entry ∷ [])
+  body_with_name entry (Directory entries shadow) = Directory (entries ++ entry ∷ []) shadow
   body_with_name entry (Link target) = Link target
   body_with_name entry (Other face inner) = Other face inner
 
   -- a directory's entries without those of a stamp; any other body stays
   abbrev pub body_without_name : ℕ → StoredBody F I → StoredBody F I
-  body_without_name stamp (Directory entries) = Directory (filter (λ e. not (e.stamp == stamp)) entries)
+  body_without_name stamp (Directory entries shadow) = Directory (filter (λ e. not (e.stamp == stamp)) entries) shadow
   body_without_name stamp (Link target) = Link target
   body_without_name stamp (Other face inner) = Other face inner
 
@@ -53,12 +53,12 @@ module _ {F I : Type 0} where
 module _ {K T F I : Type 0} (g : Procedures K T F I) where
   -- what the set's open procedure leaves of a body, and its close procedure
   abbrev pub stored_opened : T → Reason → StoredBody F I → StoredBody F I
-  stored_opened set reason (Directory entries) = Directory entries
+  stored_opened set reason (Directory entries shadow) = Directory entries shadow
   stored_opened set reason (Link target) = Link target
   stored_opened set reason (Other face inner) = Other face ((g.opened set inner reason).1)
 
   abbrev pub stored_closed : T → ℕ → ℕ → StoredBody F I → StoredBody F I
-  stored_closed set process_left system_left (Directory entries) = Directory entries
+  stored_closed set process_left system_left (Directory entries shadow) = Directory entries shadow
   stored_closed set process_left system_left (Link target) = Link target
   stored_closed set process_left system_left (Other face inner) = Other face ((g.closed set inner process_left system_left).1)
 

@@ -9,3 +9,4 @@ pub mod Kept
 pub mod Changes
 pub mod Laws
 pub mod Listing
+pub mod Shadows

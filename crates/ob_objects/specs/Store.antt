@@ -39,7 +39,7 @@ module _ {F I : Type 0} where
 
   -- the entries of a directory, and none where the body is no directory's
   abbrev pub directory_of : StoredBody F I → Option (List NameEntry)
-  directory_of (Directory entries) = Some entries
+  directory_of (Directory entries shadow) = Some entries
   directory_of (Link target) = None
   directory_of (Other face inner) = None
 
@@ -58,7 +58,7 @@ module _ {F I : Type 0} where
 
   -- what a body is in the abstract state, where a directory's entries are rows
   abbrev pub body_of_stored : StoredBody F I → Body F I
-  body_of_stored (Directory entries) = model.Directory
+  body_of_stored (Directory entries shadow) = model.Directory shadow
   body_of_stored (Link target) = model.Link target
   body_of_stored (Other face inner) = model.Other (arc_value face) inner
 

@@ -25,13 +25,13 @@ IsAhead types ahead = All (λ e. lookup (is_at (nat_cmp e.0)) types ≡ Some e.1
 module _ {K T F I : Type 0} (g : Procedures K T F I) where
   -- the type of what a body is
   abbrev pub type_of_body : StoredBody F I → StoredType K
-  type_of_body (body.Directory entries) = Directory
+  type_of_body (body.Directory entries shadow) = Directory shadow
   type_of_body (body.Link target) = Link
   type_of_body (body.Other face inner) = Other (g.kind_of (arc_value face))
 
   -- the name of a type
   abbrev pub name_of_type : StoredType K → List ℕ
-  name_of_type Directory = codes "Directory"
+  name_of_type (Directory shadow) = codes "Directory"
   name_of_type Link = codes "SymbolicLink"
   name_of_type (Other kind) = g.type_name kind
 

@@ -3,7 +3,7 @@
 ghost use Rattle.std.specs.Prelude.{◌≡◌, ◌≢◌, ◌<◌, ◌==◌, None, Some};
 ghost use Rattle.std.specs.Prelude.{not, length, All, IsSome, IfOk, IfErr, OnErr};
 ghost use Rattle.std.specs.List.{find};
-ghost use Rattle.ob_model.specs.State.{is_directory_body};
+ghost use Rattle.ob_model.specs.State.{is_directory_body, shadow_in};
 ghost use Rattle.ob_model.specs.Grants.{open_refusal_of, opened_set};
 ghost use Rattle.ob_model.specs.Closing.{closed_set};
 ghost use Rattle.ob_objects.specs.Store.{directory_of, entries_in, body_of_stored};
@@ -21,7 +21,17 @@ use std::alloc::AllocError;
 pub(crate) fn is_directory<F, I>(stored: &StoredObject<F, I>) -> bool
     ensures { result ≡ is_directory_body (body_of_stored stored.now.body) }
 {
-    matches!(stored.body, StoredBody::Directory(_))
+    matches!(stored.body, StoredBody::Directory(..))
+}
+
+/// The shadow of a directory: none where the body is no directory's, or the directory has none.
+pub(crate) fn shadow_of<F, I>(body: &StoredBody<F, I>) -> Option<ObjId>
+    ensures { result ≡ shadow_in (body_of_stored body.now) }
+{
+    match body {
+        StoredBody::Directory(_, shadow) => *shadow,
+        _ => None,
+    }
 }
 
 /// Whether an entry lies in an object.
@@ -29,7 +39,7 @@ pub(crate) fn holds_names<F, I>(stored: &StoredObject<F, I>) -> bool
     ensures { result ≡ not (length (entries_in stored.now.body) == 0) }
 {
     match &stored.body {
-        StoredBody::Directory(dir) => !dir.is_empty(),
+        StoredBody::Directory(dir, _) => !dir.is_empty(),
         _ => false,
     }
 }
@@ -51,7 +61,7 @@ pub(crate) fn insert_name<F, I>(
         }) }
     ensures unchanged { OnErr result (stored.new ≡ stored.old) }
 {
-    let StoredBody::Directory(dir) = &mut stored.body else {
+    let StoredBody::Directory(dir, _) = &mut stored.body else {
         unreachable!();
     };
     dir.insert(stamp, name, object)
@@ -65,7 +75,7 @@ pub(crate) fn remove_name<F, I>(stored: &mut StoredObject<F, I>, stamp: u64) -> 
         ≡ record stored.old { body = body_without_name stamp stored.old.body } }
 {
     match &mut stored.body {
-        StoredBody::Directory(dir) => dir.remove(stamp),
+        StoredBody::Directory(dir, _) => dir.remove(stamp),
         _ => None,
     }
 }

@@ -7,6 +7,7 @@ mod laws;
 mod listing;
 mod named;
 mod object;
+mod shadows;
 mod slots;
 mod standing;
 mod store;

@@ -75,13 +75,15 @@ impl<T: TypeSet> Store<T> {
         })
     }
 
-    // The directory that has this id, where one has it.
-    fn directory_at(&self, id: ObjId) -> Option<&Dir>
+    /// The entries of the directory that has this id, where one has it. It takes no memory.
+    ///
+    /// Source: Windows Internals, Object Manager: object directories.
+    pub fn directory_at(&self, id: ObjId) -> Option<&Dir>
         ensures found { option_copied result ≡ directory_at self.now id }
         ensures store { IsStore self.now }
     {
         match &self.get(id)?.body {
-            StoredBody::Directory(dir) => Some(dir),
+            StoredBody::Directory(dir, _) => Some(dir),
             _ => None,
         }
     }

@@ -47,7 +47,7 @@ pub(crate) fn entry_of<F, I>(stored: &StoredObject<F, I>, stamp: u64) -> Option<
         ≡ find (λ entry. entry.stamp == stamp) (entries_in stored.now.body) }
 {
     match &stored.body {
-        StoredBody::Directory(dir) => dir.get(stamp),
+        StoredBody::Directory(dir, _) => dir.get(stamp),
         _ => None,
     }
 }

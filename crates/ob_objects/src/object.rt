@@ -2,6 +2,7 @@
 
 ghost use Rattle.std.specs.Prelude.{◌≡◌, []};
 
+use ob_base::ObjId;
 use ob_dirs::Dir;
 use ob_names::NameBuf;
 use std::alloc::Global;
@@ -13,8 +14,8 @@ use std::sync::Arc;
 /// Source: Windows Internals, Object Manager: object headers and bodies.
 #[derive(Drop)]
 pub enum StoredBody<F, I> {
-    /// An object directory, with its entries.
-    Directory(Dir),
+    /// An object directory, with its entries and its shadow, if it has one.
+    Directory(Dir, Option<ObjId>),
     /// A symbolic link, with its target: at most 32,767 bytes from 0x20 to 0x7E.
     Link(NameBuf),
     /// An object of a type of the set.
@@ -28,13 +29,13 @@ pub enum StoredBody<F, I> {
 }
 
 impl<F, I> StoredBody<F, I> {
-    /// A new object directory, in which no entry lies. Takes no memory.
+    /// A new object directory without an entry, with this shadow or none. It takes no memory.
     ///
-    /// Source: Windows Driver Kit, ZwCreateDirectoryObject.
-    pub fn directory(alloc: Global) -> Self
-        ensures { result ≡ StoredBody.Directory [] }
+    /// Sources: ZwCreateDirectoryObject (Windows Driver Kit); Windows Internals, Object Manager (shadow directories).
+    pub fn directory(alloc: Global, shadow: Option<ObjId>) -> Self
+        ensures { result ≡ StoredBody.Directory [] shadow }
     {
-        StoredBody::Directory(Dir::new(alloc))
+        StoredBody::Directory(Dir::new(alloc), shadow)
     }
 }
 

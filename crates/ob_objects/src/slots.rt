@@ -219,7 +219,7 @@ impl<F: Drop, I: Drop> Slots<F, I> {
         ensures objects { objects_in self.new ≡ objects_in self.old }
         ensures filled { StayFilled self.old self.new }
     {
-        let StoredBody::Directory(dir) = &stored.body else {
+        let StoredBody::Directory(dir, _) = &stored.body else {
             return;
         };
         for entry in dir.iter() {

@@ -4,8 +4,9 @@ ghost use Rattle.std.specs.Prelude.{◌≡◌, ◌≢◌, ◌<◌, ◌==◌, [],
 ghost use Rattle.std.specs.Prelude.{All, IsSome, IfOk, IfErr, OnErr};
 ghost use Rattle.std.specs.Prelude.{false};
 ghost use Rattle.std.specs.List.{find, list_any};
-ghost use Rattle.std.specs.Option.{option_copied, option_map, option_map_or};
-ghost use Rattle.ob_model.specs.State.{is_directory_body};
+ghost use Rattle.std.specs.Option.{option_and_then, option_copied, option_map, option_map_or};
+ghost use Rattle.ob_model.specs.Settle.{has_shadow};
+ghost use Rattle.ob_model.specs.State.{is_directory_body, shadow_in};
 ghost use Rattle.ob_objects.specs.Store.{IsStore, stored_at, directory_at, entries_in, entries_at, place_at};
 ghost use Rattle.ob_objects.specs.Store.{objects_of, rows_of};
 ghost use Rattle.ob_objects.specs.Types.{KeepsTypes};
@@ -23,8 +24,9 @@ ghost use Rattle.ob_objects.specs.Changes.{
 use crate::slots::Slots;
 use crate::types::StoredType;
 use crate::walk::Walk;
-use crate::{EntryPlace, Named, Standing, StoredObject, changes, named, types};
+use crate::{EntryPlace, Named, Standing, StoredObject, changes, named, shadows, types};
 use ob_base::ObjId;
+use ob_handles::Counts;
 use ob_names::NameBuf;
 use ob_types::{Reason, TypeSet};
 use std::alloc::{AllocError, Global};
@@ -47,18 +49,22 @@ use std::marker::Model;
 pub struct Store<T: TypeSet> {
     slots: Slots<T::Face, T::Inner>,
     types: BTreeMap<u64, StoredType<T::Kind>>,
+    // How many directories have each object as their shadow.
+    shadows: Counts,
 }
 
 impl<T: TypeSet> Model for Store<T> {
     ghost use Rattle.ob_objects.specs.Slots.{objects_in};
     ghost use Rattle.ob_objects.specs.Store.{Entries};
     ghost use Rattle.ob_objects.specs.Kept.{Keeps};
+    ghost use Rattle.ob_objects.specs.Shadows.{CountsShadows};
 
     ghost Value = { Entries T.Face T.Inner };
 
     ghost view = { λ store. objects_in store.slots };
 
-    ghost invariant = { λ store. Keeps T.procedures store.slots store.types.entries };
+    ghost invariant = { λ store. Keeps T.procedures store.slots store.types.entries
+        × CountsShadows store.types.entries store.shadows };
 }
 
 impl<T: TypeSet> Store<T> {
@@ -69,6 +75,7 @@ impl<T: TypeSet> Store<T> {
         Store {
             slots: Slots::new(alloc),
             types: BTreeMap::new(alloc),
+            shadows: Counts::new(alloc),
         }
     }
 
@@ -108,6 +115,30 @@ impl<T: TypeSet> Store<T> {
             Some(stored) => changes::is_directory(stored),
             None => false,
         }
+    }
+
+    /// The shadow of a directory: `None` where the object isn't there, is no directory, or has no shadow. It takes no memory.
+    ///
+    /// Source: Windows Internals, Object Manager (shadow directories).
+    pub fn shadow_of(&self, id: ObjId) -> Option<ObjId>
+        ensures { result ≡ option_and_then (λ object. shadow_in object.body)
+            (find (λ object. object.id == id) (objects_of self.now)) }
+    {
+        match self.get(id) {
+            Some(stored) => changes::shadow_of(&stored.body),
+            None => None,
+        }
+    }
+
+    /// Whether an object is the shadow of a directory. It takes no memory, and a time that doesn't grow with the directories.
+    ///
+    /// Source: Windows Internals, Object Manager (shadow directories).
+    pub fn is_shadow(&self, id: ObjId) -> bool
+        ensures { result ≡ list_any (λ object. has_shadow id object.body) (objects_of self.now) }
+    {
+        // The length tells that the types are in order.
+        let _ = self.types.len();
+        self.shadows.get(id) > 0
     }
 
     /// Whether an object is there and is permanent. Takes no memory.
@@ -247,13 +278,20 @@ impl<T: TypeSet> Store<T> {
         ensures returned { IfErr result (λ back. back ≡ object) }
         ensures unchanged { OnErr result (self.new ≡ self.old) }
     {
+        // The length bounds each count.
+        let _ = self.types.len();
+        let Ok(()) = shadows::count(&mut self.shadows, &object.body) else {
+            return Err(object);
+        };
         let of = types::type_of::<T>(&object.body);
         let Ok(_) = self.types.insert(id.0, of) else {
+            shadows::discount(&mut self.shadows, &object.body);
             return Err(object);
         };
         let Err(back) = self.slots.put_object(id, object) else {
             return Ok(());
         };
+        shadows::discount(&mut self.shadows, &back.body);
         self.types.remove(&id.0);
         Err(back)
     }
@@ -267,6 +305,7 @@ impl<T: TypeSet> Store<T> {
         let stored = self.slots.take_object(id)?;
         self.types.remove(&id.0);
         self.slots.forget_names(&stored);
+        shadows::discount(&mut self.shadows, &stored.body);
         Some(stored)
     }
 

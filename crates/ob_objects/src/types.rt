@@ -4,6 +4,7 @@ ghost use Rattle.std.specs.Prelude.{◌≡◌};
 ghost use Rattle.ob_objects.specs.Types.{type_of_body, name_of_type};
 
 use crate::StoredBody;
+use ob_base::ObjId;
 use ob_types::TypeSet;
 
 /// Which type an object is of: one of the namespace's own, or the type of a kind of the set.
@@ -11,8 +12,8 @@ use ob_types::TypeSet;
 /// Source: Windows Internals, Object Manager: object types, and the type index of an object header.
 #[derive(Clone, Copy)]
 pub(crate) enum StoredType<K> {
-    /// An object directory.
-    Directory,
+    /// An object directory, with its shadow, if it has one.
+    Directory(Option<ObjId>),
     /// A symbolic link.
     Link,
     /// An object of this kind.
@@ -24,7 +25,7 @@ pub(crate) fn type_of<T: TypeSet>(body: &StoredBody<T::Face, T::Inner>) -> Store
     ensures { result ≡ type_of_body T.procedures body.now }
 {
     match body {
-        StoredBody::Directory(_) => StoredType::Directory,
+        StoredBody::Directory(_, shadow) => StoredType::Directory(*shadow),
         StoredBody::Link(_) => StoredType::Link,
         StoredBody::Other { face, .. } => StoredType::Other(T::kind_of(face)),
     }
@@ -35,7 +36,7 @@ pub(crate) fn name_of<T: TypeSet>(of: StoredType<T::Kind>) -> &'static str
     ensures { result.now ≡ name_of_type T.procedures of }
 {
     match of {
-        StoredType::Directory => "Directory",
+        StoredType::Directory(_) => "Directory",
         StoredType::Link => "SymbolicLink",
         StoredType::Other(kind) => T::type_name(kind),
     }

@@ -56,7 +56,7 @@ module _ {K T F I : Type 0} (g : Procedures K T F I) (s : State K T F I) (asked 
         none_of_set never h = go y.body refl
           where
             go : (b : StoredBody F I) → y.body ≡ b → ⊥
-            go (stored.Directory entries) is = out None (face_of_set g s store shows x.object y (stored.Directory entries) there is) h
+            go (stored.Directory entries shadow) is = out None (face_of_set g s store shows x.object y (stored.Directory entries shadow) there is) h
             go (stored.Link target) is = out None (face_of_set g s store shows x.object y (stored.Link target) there is) h
             go (stored.Other face inner) is = never face inner is
 

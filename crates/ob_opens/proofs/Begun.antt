@@ -49,7 +49,7 @@ module _ {K T F I : Type 0} (g : Procedures K T F I) (s : State K T F I) (store 
   not_other x e never h = go x.body refl (is_of_set x e h x.body refl)
     where
       go : (b : StoredBody F I) → x.body ≡ b → MatchOption (face_in (body_of_stored b)) ⊥ (λ face. g.parses (g.kind_of face) ≡ true) → ⊥
-      go (stored.Directory entries) is h = h
+      go (stored.Directory entries shadow) is h = h
       go (stored.Link target) is h = h
       go (stored.Other face inner) is h = never face inner is
 

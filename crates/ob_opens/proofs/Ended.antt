@@ -1,7 +1,8 @@
 -- A pending open ends, and opens nothing: only the object that it pinned can go, and the directory of its name.
-use Rattle.std.proofs.Common.{◌≡◌, ◌∙◌, ℕ, ◌<◌, ◌==◌, ◌||◌, ◌&&◌, not, cond, Bool, true, false, List, [], ◌∷◌, get_or, filter, find, None, Some, ap, refl, sym, subst, arith, eqb-true}
+use Rattle.std.proofs.Common.{◌≡◌, ◌∙◌, ℕ, ◌<◌, ◌≤◌, ◌==◌, ◌||◌, ◌&&◌, not, nat_le, cond, Bool, true, false, List, [], ◌∷◌, get_or, filter, find, All, Option, None, Some, ap, refl, sym, subst, arith, eqb-true, leb-true, leb-false}
 use Rattle.std.specs.List.{AllPairs, list_any}
-use Rattle.std.proofs.lemmas.Bool.{ne_eqb}
+use Rattle.std.specs.Prelude.{MatchOption}
+use Rattle.std.proofs.lemmas.Bool.{false≢true, ne_eqb}
 use Rattle.std.proofs.lemmas.List.Elements.{All-weaker}
 use Rattle.std.proofs.lemmas.List.Folds.{list_any-append}
 use Rattle.ob_model.specs.declared.state.Held.{Held}
@@ -10,11 +11,14 @@ use Rattle.ob_model.specs.declared.state.Row.{Row}
 use Rattle.ob_model.specs.Procedures.{Procedures}
 use Rattle.ob_model.specs.State.{State, root_id}
 use Rattle.ob_model.specs.PendingOpens.{pending_of, without_pending}
-use Rattle.ob_model.specs.Settle.{IsSettled, settle, has_handle, is_pinned, is_mapped, is_permanent, is_kept, has_name, holds_kept, is_alive}
+use Rattle.ob_model.specs.Settle.{IsSettled, settle, has_shadow, has_handle, is_pinned, is_mapped, is_permanent, is_kept, has_name, holds_kept, is_alive_itself, is_shadowing, is_alive}
+use Rattle.ob_model.specs.Sound.{IsSound, IsShadowAmong}
 use Rattle.ob_model.proofs.Finds.{filter_all, not_found, list_any_weaker}
+use Rattle.ob_model.proofs.Soundness.{has_shadow_is}
 use Rattle.ob_model.proofs.Staying.{settled_itself}
 use Rattle.ob_model.proofs.Sorted.{pairs_head, pairs_tail}
 use Rattle.ob_life.specs.Settling.{with_handle_to}
+use Rattle.ob_opens.proofs.Stays.{both_still, alive_still}
 
 or_true : (b : Bool) → (b || true) ≡ true
 or_true true = refl
@@ -104,9 +108,10 @@ module _ {K T F I : Type 0} (s : State K T F I) (ticket : ℕ) (x : Pending K) (
   held_in_place = record {
     names = All-weaker (λ r. is_kept s r ≡ true) (λ r. is_kept u r ≡ true) (λ r. kept_still r) s.rows settled.names;
     objects = λ k d below.
-        let o : ℕ = (get_or s.objects k d).id in
-        moves (o == root_id) (has_handle s o) (is_pinned s o) (is_mapped s o) (is_permanent s o && has_name s o) (holds_kept s o) (has_handle u o) (is_pinned u o) (holds_kept u o)
-        (held_still o) (pinned_or_held o) (holds_still o) (settled.objects k d below);
+        alive_still s u refl
+        (λ o. moves (o == root_id) (has_handle s o) (is_pinned s o) (is_mapped s o) (is_permanent s o && has_name s o) (holds_kept s o) (has_handle u o) (is_pinned u o) (holds_kept u o)
+        (held_still o) (pinned_or_held o) (holds_still o))
+        (get_or s.objects k d).id (settled.objects k d below);
   }
 
 -- where the object has a handle, nothing goes when the open that pins it ends
@@ -115,9 +120,10 @@ module _ {K T F I : Type 0} (s : State K T F I) (ticket : ℕ) (x : Pending K) (
   unpinned_settled settled held = record {
     names = settled.names;
     objects = λ k d below.
-        let o : ℕ = (get_or s.objects k d).id in
-        moves (o == root_id) (has_handle s o) (is_pinned s o) (is_mapped s o) (is_permanent s o && has_name s o) (holds_kept s o) (has_handle s o) (is_pinned (without_pending s ticket) o) (holds_kept s o)
-        (λ e. e) (pinned_or_held o) (λ e. e) (settled.objects k d below);
+        alive_still s (without_pending s ticket) refl
+        (λ o. moves (o == root_id) (has_handle s o) (is_pinned s o) (is_mapped s o) (is_permanent s o && has_name s o) (holds_kept s o) (has_handle s o) (is_pinned (without_pending s ticket) o) (holds_kept s o)
+        (λ e. e) (pinned_or_held o) (λ e. e))
+        (get_or s.objects k d).id (settled.objects k d below);
   }
     where
       pinned_or_held : (o : ℕ) → is_pinned s o ≡ true → (has_handle s o || is_pinned (without_pending s ticket) o) ≡ true
@@ -127,17 +133,35 @@ module _ {K T F I : Type 0} (s : State K T F I) (ticket : ℕ) (x : Pending K) (
           go true same h = or_left (has_handle s o) _ (subst (λ n. has_handle s n ≡ true) (eqb-true x.object o same) held)
           go false other h = ap (λ b. has_handle s o || b) h ∙ or_true (has_handle s o)
 
-  -- and else only the object that it pinned can go
-  pub only_pinned_goes : (o : ℕ) → is_alive s o ≡ true → is_alive (without_pending s ticket) o ≡ false → x.object ≡ o
-  only_pinned_goes o alive gone = go (x.object == o) refl (pinned_apart ticket o x s.pending rising found)
+  -- and else what was made after the object that it pinned stays by itself where it did
+  still_itself : (o : ℕ) → x.object < o → is_alive_itself s o ≡ true → is_alive_itself (without_pending s ticket) o ≡ true
+  still_itself o later =
+      moves (o == root_id) (has_handle s o) (is_pinned s o) (is_mapped s o) (is_permanent s o && has_name s o) (holds_kept s o) (has_handle s o) (is_pinned (without_pending s ticket) o) (holds_kept s o)
+      (λ e. e) (λ e. ap (λ b. has_handle s o || b) (ap (λ b. b || is_pinned (without_pending s ticket) o) (sym (ne_eqb x.object o (λ same. omega (arith, later, same)))) ∙ pinned_apart ticket o x s.pending rising found e) ∙ or_true (has_handle s o)) (λ e. e)
+
+  -- so that only that object can go, and its shadow, which was made before it
+  pub only_pinned_goes : IsSound s → (o : ℕ) → is_alive s o ≡ true → is_alive (without_pending s ticket) o ≡ false → o ≤ x.object
+  only_pinned_goes sound o alive gone = go (nat_le o x.object) refl
     where
-      go : (b : Bool) → (x.object == o) ≡ b → (is_pinned s o ≡ true → (b || is_pinned (without_pending s ticket) o) ≡ true) → x.object ≡ o
-      go true same h = eqb-true x.object o same
-      go false other h =
-          let still : is_alive (without_pending s ticket) o ≡ true =
-          moves (o == root_id) (has_handle s o) (is_pinned s o) (is_mapped s o) (is_permanent s o && has_name s o) (holds_kept s o) (has_handle s o) (is_pinned (without_pending s ticket) o) (holds_kept s o)
-          (λ e. e) (λ e. ap (λ b. has_handle s o || b) (h e) ∙ or_true (has_handle s o)) (λ e. e) alive in
-          cc
+      fit : All (λ y. has_shadow o y.body ≡ true → IsShadowAmong s.objects y.id o) s.objects
+      fit k d below has =
+          subst (λ (m : Option ℕ). MatchOption m (Unit {0}) (IsShadowAmong s.objects (get_or s.objects k d).id)) (has_shadow_is o (get_or s.objects k d).body has) (sound.objects.shadows k d below)
+
+      still : x.object < o → is_alive (without_pending s ticket) o ≡ true
+      still later =
+          both_still (is_alive_itself s o) (is_shadowing s o) (is_alive_itself (without_pending s ticket) o) (is_shadowing (without_pending s ticket) o) (still_itself o later)
+          (list_any_weaker (λ y. has_shadow o y.body && is_alive_itself s y.id) (λ y. has_shadow o y.body && is_alive_itself (without_pending s ticket) y.id) s.objects
+          (λ k d below. shades (has_shadow o (get_or s.objects k d).body) (is_alive_itself s (get_or s.objects k d).id) (is_alive_itself (without_pending s ticket) (get_or s.objects k d).id)
+          (λ has. still_itself (get_or s.objects k d).id (let above = (fit k d below has).1 in omega (arith, later, above)))))
+          alive
+        where
+          shades : (a b c : Bool) → (a ≡ true → b ≡ true → c ≡ true) → (a && b) ≡ true → (a && c) ≡ true
+          shades true b c more e = more refl e
+          shades false b c more e = cc
+
+      go : (b : Bool) → nat_le o x.object ≡ b → o ≤ x.object
+      go true e = leb-true o x.object e
+      go false e = absurd (false≢true (sym gone ∙ still (leb-false o x.object e)))
 
 -- where no open is pending under the ticket nothing changes
 module _ {K T F I : Type 0} (g : Procedures K T F I) (s : State K T F I) (ticket : ℕ) (none : pending_of s ticket ≡ None) (settled : IsSettled s) where

@@ -68,7 +68,7 @@ module _ {K T F I : Type 0} (g : Procedures K T F I) (s : State K T F I) (p : �
       go false = at_named n o rest
 
   at_a_body : (o : ℕ) (body : Body F I) (rest : List ℕ) (n : ℕ) → NextHandsOn n (at_body g mode o body rest n)
-  at_a_body o Directory rest n = tt
+  at_a_body o (Directory shadow) rest n = tt
   at_a_body o (Link target) rest n = at_a_link n o target rest
   at_a_body o (Other face inner) rest n = at_an_other o face rest n
 

@@ -1,4 +1,5 @@
 pub mod FoundOpen
+pub mod Stays
 pub mod OpensAgain
 pub mod Pinning
 pub mod BegunAgain

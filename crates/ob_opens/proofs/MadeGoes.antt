@@ -1,6 +1,6 @@
 -- What a parse made goes as the step settles, unless it is opened: it is deleted first, since what else goes has a
 -- lesser number.
-use Rattle.std.proofs.Common.{◌≡◌, ◌≢◌, ◌∙◌, ℕ, ◌<◌, ◌==◌, ◌||◌, ◌&&◌, not, nat_lt, cond, Bool, true, false, List, [], ◌∷◌, All, Option, None, Some, filter, option_map, is_some, get_or, ap, refl, sym, subst, arith}
+use Rattle.std.proofs.Common.{◌≡◌, ◌≢◌, ◌∙◌, ℕ, ◌<◌, ◌≤◌, ◌==◌, ◌||◌, ◌&&◌, not, nat_lt, cond, Bool, true, false, List, [], ◌∷◌, All, Option, None, Some, filter, option_map, is_some, get_or, ap, refl, sym, subst, arith}
 use Rattle.std.specs.List.{AllPairs, list_any}
 use Rattle.std.specs.Option.{option_map_or, option_or}
 use Rattle.std.specs.Prelude.{MatchOption}
@@ -20,14 +20,15 @@ use Rattle.ob_model.specs.Parses.{Abandons, parsed_state}
 use Rattle.ob_model.specs.PendingOpens.{pending_of, without_pending, with_instance}
 use Rattle.ob_model.specs.Procedures.{Procedures, EndsMade}
 use Rattle.ob_model.specs.Refusals.{answers}
-use Rattle.ob_model.specs.Settle.{IsSettled, settle, is_permanent, has_handle, is_pinned, is_mapped, has_name, holds_kept, is_kept, is_alive, deleted_all}
-use Rattle.ob_model.specs.Sound.{IsSound, IsDirectory, Stands, HasSoundMap}
+use Rattle.ob_model.specs.Settle.{IsSettled, settle, is_permanent, has_handle, is_pinned, is_mapped, has_name, holds_kept, is_kept, has_shadow, is_alive_itself, is_shadowing, is_alive, deleted_all}
+use Rattle.ob_model.specs.Sound.{IsSound, IsDirectory, Stands, HasSoundMap, IsShadowAmong, HasSoundShadowAmong}
 use Rattle.ob_model.specs.State.{State, root_id, global_id, object_of, insert_object, is_directory_body}
 use Rattle.ob_model.proofs.Finds.{filter_none, find_none}
 use Rattle.ob_model.proofs.InOrder.{free_from_other, in_order-find, in_order-filter}
 use Rattle.ob_model.proofs.PendingSound.{has_ticket, without_pending_sound, HasTicket}
 use Rattle.ob_model.proofs.SoundPaths.{find_of, of_some}
 use Rattle.ob_model.proofs.Sorted.{pairs_head, pairs_tail}
+use Rattle.ob_model.proofs.Soundness.{has_shadow_is}
 use Rattle.ob_opens.proofs.Ended.{only_pinned_goes}
 use Rattle.ob_opens.proofs.Endings.{its_ticket}
 
@@ -73,6 +74,15 @@ module _ {K T F I : Type 0} (g : Procedures K T F I) (new : Object F I) (goes : 
           by true = ap (λ (rest : T). deleted_all g rest (y ∷ [])) rest
           by false = rest
 
+-- a test that an object doesn't pass finds none more where it is put in
+insert_any : {F I : Type 0} (test : Object F I → Bool) (x : Object F I) (xs : List (Object F I)) → test x ≡ false → list_any test (insert_object x xs) ≡ list_any test xs
+insert_any test x [] e = ap (λ b. b || false) e
+insert_any test x (y ∷ ys) e = go (nat_lt x.id y.id) (insert_any test x ys e)
+  where
+    go : (b : Bool) → list_any test (insert_object x ys) ≡ list_any test ys → list_any test (cond b (x ∷ y ∷ ys) (y ∷ insert_object x ys)) ≡ list_any test (y ∷ ys)
+    go true rest = ap (λ b. b || list_any test (y ∷ ys)) e
+    go false rest = ap (λ b. test y || b) rest
+
 module _ {K T F I : Type 0} (g : Procedures K T F I) (w : State K T F I) (sound : IsSound w) (rising : AllPairs (λ a b. a.id < b.id) w.objects) (ticket : ℕ)
     (free : All (λ y. y.id ≢ ticket) w.objects) (less : All (λ y. is_alive w y.id ≡ false → y.id < ticket) w.objects) (face : F) (inner : I) where
   new : Object F I
@@ -112,9 +122,19 @@ module _ {K T F I : Type 0} (g : Procedures K T F I) (w : State K T F I) (sound 
   unfolding t
   kept_same r = λ i. permanent_same r.object i || has_handle w r.object
 
-  alive_same : (o : ℕ) → is_alive t o ≡ is_alive w o
+  itself_same : (o : ℕ) → is_alive_itself t o ≡ is_alive_itself w o
   unfolding t
-  alive_same o = λ i. (o == root_id) || has_handle w o || is_pinned w o || is_mapped w o || (permanent_same o i && has_name w o) || list_any (λ r. (r.directory == o) && kept_same r i) w.rows
+  itself_same o = λ i. (o == root_id) || has_handle w o || is_pinned w o || is_mapped w o || (permanent_same o i && has_name w o) || list_any (λ r. (r.directory == o) && kept_same r i) w.rows
+
+  -- and what was made has no shadow
+  shadowing_same : (o : ℕ) → is_shadowing t o ≡ is_shadowing w o
+  unfolding t new
+  shadowing_same o =
+      (λ i. list_any (λ y. has_shadow o y.body && itself_same y.id i) (insert_object new w.objects))
+      ∙ insert_any (λ y. has_shadow o y.body && is_alive_itself w y.id) new w.objects refl
+
+  alive_same : (o : ℕ) → is_alive t o ≡ is_alive w o
+  alive_same o = λ i. itself_same o i || shadowing_same o i
 
   -- nothing holds what was made
   unmapped : (p : Process) → HasSoundMap w p → option_map_or (λ d. d == ticket) p.map false ≡ false
@@ -123,6 +143,15 @@ module _ {K T F I : Type 0} (g : Procedures K T F I) (w : State K T F I) (sound 
       go : (m : Option ℕ) → MatchOption m (Unit {0}) (IsDirectory w) → option_map_or (λ d. d == ticket) m false ≡ false
       go None h = refl
       go (Some d) h = ne_eqb d ticket (another_directory d h)
+
+  unshaded : (y : Object F I) → HasSoundShadowAmong w.objects y → has_shadow ticket y.body ≡ false
+  unshaded y fit = go (has_shadow ticket y.body) refl
+    where
+      go : (b : Bool) → has_shadow ticket y.body ≡ b → b ≡ false
+      go true has =
+          let shadow : IsShadowAmong w.objects y.id ticket = subst (λ (m : Option ℕ). MatchOption m (Unit {0}) (IsShadowAmong w.objects y.id)) (has_shadow_is ticket y.body has) fit in
+          absurd (another_directory ticket shadow.0 refl)
+      go false has = refl
 
   dead : is_alive w ticket ≡ false
   dead =
@@ -138,7 +167,10 @@ module _ {K T F I : Type 0} (g : Procedures K T F I) (w : State K T F I) (sound 
       let holds : holds_kept w ticket ≡ false = list_any_none (λ r. (r.directory == ticket) && is_kept w r) w.rows
       (All-weaker (λ (r : Row). IsDirectory w r.directory) (λ r. ((r.directory == ticket) && is_kept w r) ≡ false)
       (λ r inside. ap (λ b. b && is_kept w r) (ne_eqb r.directory ticket (another_directory r.directory inside))) w.rows sound.rows.inside) in
-      λ i. root i || held i || pinned i || (global i || maps i) || (permanent i && has_name w ticket) || holds i
+      let shades : is_shadowing w ticket ≡ false = list_any_none (λ y. has_shadow ticket y.body && is_alive_itself w y.id) w.objects
+      (All-weaker (HasSoundShadowAmong w.objects) (λ y. (has_shadow ticket y.body && is_alive_itself w y.id) ≡ false)
+      (λ y fit. ap (λ b. b && is_alive_itself w y.id) (unshaded y fit)) w.objects sound.objects.shadows) in
+      λ i. root i || held i || pinned i || (global i || maps i) || (permanent i && has_name w ticket) || holds i || shades i
 
   pub made_goes : settle g (record w { set = g.deleted w.set inner }) ≡ settle g (with_instance w ticket face inner)
   unfolding t new
@@ -174,8 +206,8 @@ module _ {K T F I : Type 0} (g : Procedures K T F I) (s : State K T F I) (ticket
 
   less : All (λ y. is_alive (without_pending s ticket) y.id ≡ false → y.id < ticket) s.objects
   less k d below gone =
-      let same : x.object ≡ (get_or s.objects k d).id = only_pinned_goes s ticket x sound.pending.awaited found (get_or s.objects k d).id (settled.objects k d below) gone in
-      omega (arith, pinned_before, same)
+      let before : (get_or s.objects k d).id ≤ x.object = only_pinned_goes s ticket x sound.pending.awaited found sound (get_or s.objects k d).id (settled.objects k d below) gone in
+      omega (arith, pinned_before, before)
 
   pub instance_goes : (face : F) (inner : I) → settle g (without_pending (record s { set = g.deleted s.set inner }) ticket) ≡ settle g (with_instance (without_pending s ticket) ticket face inner)
   instance_goes face inner = made_goes g (without_pending s ticket) (without_pending_sound s ticket sound) rising ticket ticket_free less face inner

@@ -22,16 +22,18 @@ use Rattle.ob_model.specs.PendingOpens.{pending_of, without_pending, with_instan
 use Rattle.ob_model.specs.declared.terms.Reason.TheVariants.{Opened}
 use Rattle.ob_model.specs.Procedures.{Procedures, EndsMade}
 use Rattle.ob_model.specs.Refusals.{answers, gives}
-use Rattle.ob_model.specs.Settle.{IsSettled, settle, is_permanent, has_handle, is_pinned, is_mapped, has_name, is_kept, is_alive}
+use Rattle.ob_model.specs.Settle.{IsSettled, settle, is_permanent, has_handle, is_pinned, is_mapped, has_name, is_kept, has_shadow, is_alive_itself, is_shadowing, is_alive}
 use Rattle.ob_model.specs.Sound.{IsSound}
 use Rattle.ob_model.specs.State.{State, root_id, is_live, object_of, insert_object}
 use Rattle.ob_model.specs.Types.{is_wanted, is_wanted_at}
 use Rattle.ob_model.proofs.InOrder.{free_from_other, in_order-find, in_order-finds, in_order-All, in_order-rising, in_order-map}
 use Rattle.ob_model.proofs.PendingSound.{instance_sound, without_pending_sound}
 use Rattle.ob_model.proofs.Settled.{alive_from_handle, settle-settle}
-use Rattle.ob_model.proofs.Soundness.{opened_object-id}
-use Rattle.ob_model.proofs.Staying.{granted_settled}
+use Rattle.ob_model.proofs.Soundness.{opened_object-id, opened_sound}
+use Rattle.ob_life.specs.Settling.{AreShadowsFit}
+use Rattle.ob_model.proofs.Staying.{granted_settled, shadows_insert}
 use Rattle.ob_space.specs.Orderly.{IsOrderly, IsIdleUnheld}
+use Rattle.ob_opens.proofs.Stays.{both_still}
 use Rattle.ob_opens.proofs.Endings.{is_done, is_refused, of_ticket, its_ticket}
 
 or_right : (a b : Bool) → b ≡ true → (a || b) ≡ true
@@ -67,16 +69,23 @@ module _ {K T F I : Type 0} (s : State K T F I) (settled : IsSettled s) (new : O
   unfolding t
   kept_same r = λ i. permanent_same r.object i || has_handle s r.object
 
-  alive_same : (o : ℕ) → is_alive t o ≡ is_alive s o
+  itself_same : (o : ℕ) → is_alive_itself t o ≡ is_alive_itself s o
   unfolding t
-  alive_same o = λ i. (o == root_id) || has_handle s o || is_pinned s o || is_mapped s o || (permanent_same o i && has_name s o) || list_any (λ r. (r.directory == o) && kept_same r i) s.rows
+  itself_same o = λ i. (o == root_id) || has_handle s o || is_pinned s o || is_mapped s o || (permanent_same o i && has_name s o) || list_any (λ r. (r.directory == o) && kept_same r i) s.rows
+
+  -- so what stayed does
+  alive_more : (o : ℕ) → is_alive s o ≡ true → is_alive t o ≡ true
+  unfolding t
+  alive_more o =
+      both_still (is_alive_itself s o) (is_shadowing s o) (is_alive_itself t o) (is_shadowing t o) (λ e. itself_same o ∙ e)
+      (λ some. shadows_insert new s.objects o (is_alive_itself t) ((λ i. list_any (λ y. has_shadow o y.body && itself_same y.id i) s.objects) ∙ some))
 
   pub one_more_settled : IsSettled (record s { objects = insert_object new s.objects; set = set })
   unfolding t
   one_more_settled = record {
     names = λ k d below. kept_same (get_or s.rows k d) ∙ settled.names k d below;
-    objects = in_order-All (λ x. x.id) (λ x. is_alive t x.id ≡ true) new s.objects (alive_same new.id ∙ alive_from_handle s new.id held)
-        (All-weaker (λ x. is_alive s x.id ≡ true) (λ x. is_alive t x.id ≡ true) (λ x alive. alive_same x.id ∙ alive) s.objects settled.objects);
+    objects = in_order-All (λ x. x.id) (λ x. is_alive t x.id ≡ true) new s.objects (alive_more new.id (alive_from_handle s new.id held))
+        (All-weaker (λ x. is_alive s x.id ≡ true) (λ x. is_alive t x.id ≡ true) (λ x alive. alive_more x.id alive) s.objects settled.objects);
   }
 
 module _ {K T F I : Type 0} (s : State K T F I) (ticket : ℕ) (free : All (λ y. y.id ≢ ticket) s.objects) (face : F) (inner : I) where
@@ -128,6 +137,13 @@ module _ {K T F I : Type 0} (s : State K T F I) (ticket : ℕ) (free : All (λ y
 
     has_one : has_handle (with_handle (with_open g s ticket Opened) p value ticket inherit) ticket ≡ true
     has_one = list_any-append (λ (h : Held). h.object == ticket) s.handles _ ∙ or_right (has_handle s ticket) _ (ap (λ b. b || false) (eq-eqb ticket ticket refl))
+
+    -- and its shadows are fit
+    pub made_fit : IsSound s → ticket < s.next_id → AreShadowsFit both
+    made_fit sound drawn =
+        let there = opened_sound g (with_instance (without_pending s ticket) ticket face inner) ticket Opened
+        (instance_sound (without_pending s ticket) ticket face inner free drawn (other_tickets ticket s.pending) (without_pending_sound s ticket sound)) in
+        record { inside = there.rows.inside; shadows = there.objects.shadows }
 
     pub made_settled : IsSettled s → IsSettled both
     unfolding opened

@@ -39,7 +39,7 @@ none_mapped f None e = refl
 none_mapped f (Some x) e = cc
 
 abbrev inner_in : {F I : Type 0} → Body F I → Option I
-inner_in model.Directory = None
+inner_in (model.Directory shadow) = None
 inner_in (model.Link target) = None
 inner_in (model.Other face inner) = Some inner
 
@@ -77,7 +77,7 @@ module _ {F I : Type 0} where
 
     -- what has a face is of the set
     pub face_only : (body : StoredBody F I) → is_some (face_in (body_of_stored body)) ≡ true → ((face : Arc F Global) → (inner : I) → body ≡ Other face inner → ⊥) → ⊥
-    face_only (Directory entries) has none = false≢true has
+    face_only (Directory entries shadow) has none = false≢true has
     face_only (Link target) has none = false≢true has
     face_only (Other face inner) has none = none face inner refl
 

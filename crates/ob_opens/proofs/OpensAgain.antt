@@ -19,6 +19,9 @@ use Rattle.ob_model.specs.Settle.{IsSettled, settle}
 use Rattle.ob_model.specs.State.{State, is_live}
 use Rattle.ob_model.specs.Types.{is_wanted_at}
 use Rattle.ob_model.proofs.Settled.{settle-settle}
+use Rattle.ob_model.specs.Sound.{IsSound}
+use Rattle.ob_model.proofs.Soundness.{opened_sound}
+use Rattle.ob_life.specs.Settling.{AreShadowsFit}
 use Rattle.ob_model.proofs.Staying.{granted_settled}
 use Rattle.ob_opens.specs.Again.{OpensAgain}
 use Rattle.ob_opens.proofs.Endings.{is_done, is_refused, of_ticket}
@@ -99,6 +102,12 @@ refused_there g s ticket answer t status there told settles = let at = some_is (
 -- the state once a handle was granted is settled
 pub granted_is_settled : {K T F I : Type 0} (g : Procedures K T F I) (s u : State K T F I) (p o value : ℕ) (asked : GrantOptions) → IsSettled s → Grants g s p o asked Opened (Ok value) u → IsSettled u
 granted_is_settled g s u p o value asked settled granted = subst IsSettled (sym granted.2) (granted_settled g s p value o Opened asked.inherit settled)
+
+-- and the shadows of a sound one are fit then
+pub granted_is_fit : {K T F I : Type 0} (g : Procedures K T F I) (s u : State K T F I) (p o value : ℕ) (asked : GrantOptions) → IsSound s → Grants g s p o asked Opened (Ok value) u → AreShadowsFit u
+granted_is_fit g s u p o value asked sound granted =
+    let there = opened_sound g s o Opened sound in
+    subst AreShadowsFit (sym granted.2) (record { inside = there.rows.inside; shadows = there.objects.shadows })
 
 -- an open that is found under its ticket asked for a live process
 pub live_there : {K T F I : Type 0} (s : State K T F I) (ticket : ℕ) (x : Pending K) → pending_of s ticket ≡ Some x → MatchOption (pending_of s ticket) ⊥ (λ y. is_live s y.process ≡ true) → is_live s x.process ≡ true

@@ -1,5 +1,5 @@
 -- An open more is pending: nothing goes, and the state stays orderly.
-use Rattle.std.proofs.Common.{◌≡◌, ◌∙◌, ℕ, ◌==◌, ◌||◌, ◌<◌, ◌≤◌, Bool, true, false, List, [], ◌∷◌, ap, refl, sym, subst, arith}
+use Rattle.std.proofs.Common.{◌≡◌, ◌∙◌, ℕ, ◌==◌, ◌||◌, ◌<◌, ◌≤◌, Bool, true, false, List, [], ◌∷◌, ◌&&◌, get_or, ap, refl, sym, subst, arith}
 use Rattle.std.specs.Prelude.{MatchOption}
 use Rattle.std.proofs.lemmas.List.Elements.{All-weaker}
 use Rattle.std.proofs.lemmas.List.Folds.{list_any-append}
@@ -8,14 +8,15 @@ use Rattle.ob_model.specs.declared.reply.Answer.TheVariants.{Ticket}
 use Rattle.ob_model.specs.declared.state.Pending.{Pending}
 use Rattle.ob_model.specs.declared.state.Wanted.{Wanted}
 use Rattle.ob_model.specs.Procedures.{Procedures}
-use Rattle.ob_model.specs.State.{State, is_store_full}
+use Rattle.ob_model.specs.State.{State, root_id, is_store_full}
 use Rattle.ob_model.specs.PendingOpens.{with_pending}
 use Rattle.ob_model.specs.Grants.{first_refusal}
 use Rattle.ob_model.specs.Opens.{Begins}
 use Rattle.ob_model.specs.Refusals.{IsRefused}
-use Rattle.ob_model.specs.Settle.{IsSettled, settle, is_pinned}
+use Rattle.ob_model.specs.Settle.{IsSettled, settle, has_handle, is_pinned, is_mapped, is_permanent, has_name, holds_kept}
 use Rattle.ob_model.proofs.Staying.{settled_itself}
 use Rattle.ob_space.specs.Orderly.{IsOrderly}
+use Rattle.ob_opens.proofs.Stays.{alive_still}
 
 -- a state stays orderly with another value of the set, where other opens are pending, and where numbers were drawn
 pub pending_orderly : {K T F I : Type 0} (idle : I → Type 0) (s : State K T F I) (set : T) (opens : List (Pending K)) (next : ℕ) → IsOrderly idle s → s.next_id ≤ next
@@ -59,7 +60,10 @@ module _ {K T F I : Type 0} (g : Procedures K T F I) (s : State K T F I) (p attr
   pending_settled settled = record {
     names = settled.names;
     objects = λ k x below.
-        grows _ (is_pinned s _) (is_pinned (with_pending s p attrs wanted o rest n) _) _ _ _ (pinned_still _) (settled.objects k x below);
+        alive_still s (with_pending s p attrs wanted o rest n) refl
+        (λ m itself.
+        grows ((m == root_id) || has_handle s m) (is_pinned s m) (is_pinned (with_pending s p attrs wanted o rest n) m) (is_mapped s m) (is_permanent s m && has_name s m) (holds_kept s m) (pinned_still m) itself)
+        (get_or s.objects k x).id (settled.objects k x below);
   }
 
   pub begins : is_store_full s ≡ false → IsSettled s → (t : State K T F I) → t ≡ with_pending s p attrs wanted o rest n → Begins g s p attrs wanted o rest n (Ticket s.next_id) t

@@ -7,6 +7,7 @@ ghost use Rattle.ob_model.specs.Parses.{Resumes};
 ghost use Rattle.ob_model.specs.PendingOpens.{pending_of, without_pending};
 ghost use Rattle.ob_model.specs.Procedures.{EndsItself};
 ghost use Rattle.ob_model.specs.Refusals.{answers};
+ghost use Rattle.ob_life.specs.Settling.{AreShadowsFit};
 ghost use Rattle.ob_model.specs.Settle.{IsSettled, settle};
 ghost use Rattle.ob_opens.specs.Refusing.{IsBroughtRefused};
 ghost use Rattle.ob_space.specs.Orderly.{IsOrderly};
@@ -22,7 +23,7 @@ use std::alloc::AllocError;
 /// What an open is answered whose parse ended with the object that it reached: a handle to that object. The
 /// open is pending no longer, and where no handle is given what it alone held goes.
 ///
-/// It asks that an open is pending under this ticket, and that the state is orderly and settled, and leaves it
+/// It asks that an open is pending under this ticket, and that the state is orderly, sound and settled, and leaves it
 /// so. The only fault is out of memory, and then nothing has changed: the open is still pending.
 ///
 /// Refusals, in their order: `ProcessGone` where the process that asked is live no longer;
@@ -36,6 +37,7 @@ pub(crate) fn open_pinned<T: TypeSet, H: HandleTable>(
     ticket: u64,
 ) -> Result<Reply, AllocError>
     requires orderly { IsOrderly T.idle space.old }
+    requires shadows { AreShadowsFit space.old }
     requires settled { IsSettled space.old }
     requires pending { IsSome (pending_of space.old ticket) }
     ensures orderly { IsOrderly T.idle space.new }
@@ -83,6 +85,7 @@ pub(crate) fn refuse<T: TypeSet, H: HandleTable>(
     status: Status,
 ) -> Reply
     requires orderly { IsOrderly T.idle space.old }
+    requires shadows { AreShadowsFit space.old }
     requires settled { IsSettled space.old }
     ensures orderly { IsOrderly T.idle space.new }
     ensures answer { Done result ≡ answers status }

@@ -6,6 +6,8 @@ ghost use Rattle.ob_model.specs.Looks.{At, Parse, Refused};
 ghost use Rattle.ob_model.specs.Opens.{open_mode, options_by};
 ghost use Rattle.ob_model.specs.PendingOpens.{face_of, pending_of, without_pending};
 ghost use Rattle.ob_model.specs.Refusals.{answers};
+ghost use Rattle.ob_model.specs.Sound.{IsSound};
+ghost use Rattle.ob_life.specs.Settling.{AreShadowsFit};
 ghost use Rattle.ob_model.specs.Settle.{IsSettled, settle};
 ghost use Rattle.ob_model.specs.State.{is_live, is_store_full};
 ghost use Rattle.ob_space.specs.Found.{is_refused_at};
@@ -51,6 +53,7 @@ pub(crate) fn refuse_open<T: TypeSet, H: HandleTable>(
     status: Status,
 ) -> Reply
     requires orderly { IsOrderly T.idle space.old }
+    requires shadows { AreShadowsFit space.old }
     requires settled { IsSettled space.old }
     requires pending { IsSome (pending_of space.old ticket) }
     ensures orderly { IsOrderly T.idle space.new }
@@ -66,7 +69,7 @@ pub(crate) fn refuse_open<T: TypeSet, H: HandleTable>(
 /// open is pending no longer, and what it alone held goes, which may be the object that it pinned.
 ///
 /// It asks that an open is pending under this ticket, that the process that asked is live, and that the state is
-/// orderly and settled, and leaves it orderly. The only fault is out of memory, and then nothing has changed: the
+/// orderly, sound and settled, and leaves it orderly. The only fault is out of memory, and then nothing has changed: the
 /// open is still pending.
 ///
 /// Refusals, in their order: `ObjectTypeMismatch` where the object isn't of the type that was asked for; and those
@@ -80,6 +83,7 @@ pub(crate) fn open_found<T: TypeSet, H: HandleTable>(
     object: ObjId,
 ) -> Result<Reply, AllocError>
     requires orderly { IsOrderly T.idle space.old }
+    requires sound { IsSound space.old }
     requires settled { IsSettled space.old }
     requires pending { IsSome (pending_of space.old ticket) }
     requires live { MatchOption (pending_of space.old ticket) ⊥ (λ x.

@@ -5,6 +5,7 @@ ghost use Rattle.ob_base.specs.declared.fault.Fault.TheVariants.{Memory};
 ghost use Rattle.ob_model.specs.declared.reply.Event.TheVariants.{Resume};
 ghost use Rattle.ob_model.specs.Parses.{Resumes};
 ghost use Rattle.ob_model.specs.PendingOpens.{pending_of};
+ghost use Rattle.ob_life.specs.Settling.{AreShadowsFit};
 ghost use Rattle.ob_model.specs.Settle.{IsSettled};
 ghost use Rattle.ob_model.specs.Step.{Step};
 ghost use Rattle.ob_opens.specs.Refused.{refusal_of};
@@ -128,6 +129,7 @@ fn refused<T: TypeSet, H: HandleTable>(
     code: Option<u16>,
 ) -> Started<T>
     requires orderly { IsOrderly T.idle space.old }
+    requires shadows { AreShadowsFit space.old }
     requires settled { IsSettled space.old }
     requires pending { IsSome (pending_of space.old ticket) }
     ensures orderly { IsOrderly T.idle space.new }

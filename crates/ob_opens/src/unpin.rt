@@ -6,6 +6,7 @@ ghost use Rattle.std.specs.Option.{is_some};
 ghost use Rattle.ob_model.specs.Parses.{Resumes};
 ghost use Rattle.ob_model.specs.PendingOpens.{pending_of, without_pending};
 ghost use Rattle.ob_model.specs.declared.reply.Answer.TheVariants.{Done};
+ghost use Rattle.ob_life.specs.Settling.{AreShadowsFit};
 ghost use Rattle.ob_model.specs.Settle.{IsSettled, settle};
 ghost use Rattle.ob_space.specs.Orderly.{IsOrderly};
 ghost use Rattle.ob_opens.specs.Refused.{refusal_of, status_of};
@@ -21,7 +22,7 @@ use ob_types::TypeSet;
 /// pending under this ticket, and then nothing changes. The object that it pinned goes if nothing else holds
 /// it, and then the directory of its name. No memory is taken.
 ///
-/// It asks that the state is orderly and settled, and leaves it so.
+/// It asks that the state is orderly and settled and its shadows are fit, and leaves it so.
 ///
 /// Source: Windows Internals, Object Manager (object retention); that an open is given up by its ticket is this
 /// profile.
@@ -30,6 +31,7 @@ pub(crate) fn end_parse<T: TypeSet, H: HandleTable>(
     ticket: u64,
 ) -> Option<Pending<T::Kind>>
     requires orderly { IsOrderly T.idle space.old }
+    requires shadows { AreShadowsFit space.old }
     requires settled { IsSettled space.old }
     ensures orderly { IsOrderly T.idle space.new }
     ensures there { result ≡ pending_of space.old ticket }
@@ -47,7 +49,7 @@ pub(crate) fn end_parse<T: TypeSet, H: HandleTable>(
 /// isn't live, and else `TypeRefused` with the number, or `NoMemory`. There is none where no open is pending
 /// under this ticket, and then nothing changes. No memory is taken.
 ///
-/// It asks that the state is orderly and settled, and leaves it so.
+/// It asks that the state is orderly and settled and its shadows are fit, and leaves it so.
 ///
 /// Source: Windows Internals, Object Manager (parse methods); that a parse is judged when it is brought is this
 /// profile.
@@ -57,6 +59,7 @@ pub(crate) fn refuse_parse<T: TypeSet, H: HandleTable>(
     code: Option<u16>,
 ) -> Option<Reply>
     requires orderly { IsOrderly T.idle space.old }
+    requires shadows { AreShadowsFit space.old }
     requires settled { IsSettled space.old }
     ensures orderly { IsOrderly T.idle space.new }
     ensures there { is_some result ≡ is_some (pending_of space.old ticket) }

@@ -82,7 +82,7 @@ module _ (mode : Mode) (n : ℕ) (end : Look) where
 module _ {K T F I : Type 0} (g : Procedures K T F I) (s : State K T F I) (p : ℕ) (mode : Mode) where
   body_same : (body : Body F I) (o : ℕ) (rest : List ℕ) (n : ℕ) (end : Look)
       → Over end ≡ at_body g mode o body rest zero → Over (with_left n end) ≡ at_body g mode o body rest n
-  body_same Directory o rest n end is = stays n end (At o) refl is
+  body_same (Directory shadow) o rest n end is = stays n end (At o) refl is
   body_same (Link target) o rest n end is = link_same mode n end o target rest is
   body_same (Other face inner) o rest n end is =
       ap Over (other_same (g.parses (g.kind_of face) && not mode.create) o rest n (named_or_mismatch o rest) end (named_same n o rest) (over_is end _ is))
@@ -115,7 +115,7 @@ module _ {K T F I : Type 0} (g : Procedures K T F I) (s : State K T F I) (p : �
   more n (Some root) name end apart looks = go (begins_with_separator name) (body_of s root) looks
     where
       for_body : (body : Body F I) → LooksFrom g s p mode zero root body name end → LooksFrom g s p mode n root body name (with_left n end)
-      for_body Directory looks = from_there n (relative root name).0 (relative root name).1 end apart looks
+      for_body (Directory shadow) looks = from_there n (relative root name).0 (relative root name).1 end apart looks
       for_body (Link target) is = ap (with_left n) is
       for_body (Other face inner) is = other_same (g.parses (g.kind_of face) && not mode.create) root name n (Refused ObjectTypeMismatch) end refl is
 

@@ -16,7 +16,7 @@ use Rattle.ob_model.specs.Grants.{first_refusal}
 use Rattle.ob_model.specs.Refusals.{open_refusals, IsRefused}
 use Rattle.ob_model.specs.Opens.{Opens, open_mode}
 use Rattle.ob_model.specs.Creates.{Making, Creates, create_mode}
-use Rattle.ob_model.specs.Step.{WithRoot, OpensName, CreatesIn}
+use Rattle.ob_model.specs.Step.{WithRoot, WithShadow, OpensName, CreatesIn}
 use Rattle.ob_space.specs.Roots.{root_of}
 use Rattle.ob_space.proofs.Stepping.{is_done}
 
@@ -49,10 +49,15 @@ module _ {K T F I : Type 0} (g : Procedures K T F I) (s t : State K T F I) (p at
 -- what was looked up and then done, relative to the object of a root handle
 module _ {K T F I : Type 0} (g : Procedures K T F I) (s t : State K T F I) (p attrs : ℕ) (answer : Answer)
     (root at : Option ℕ) (rooted : root_of s p root ≡ Some at) (name : List ℕ) (mode : Mode) (look : Look) (looked : LooksUp g s p mode most_reparses at name look) where
-  pub creates_looked : (making : Making K) → mode ≡ create_mode attrs → Creates g s p attrs making look answer t → CreatesIn g s p (place.At root name) attrs making answer t
-  creates_looked making is done =
-      with_root_done s t p answer (λ at. (look : Look) × LooksUp g s p (create_mode attrs) most_reparses at name look × Creates g s p attrs making look answer t) root at rooted
-      (look, subst (λ (m : Mode). LooksUp g s p m most_reparses at name look) is looked, done)
+  -- where the handle to a shadow, if one is given, leads to what may be one
+  pub creates_looked : (shadow d : Option ℕ) (making : Option ℕ → Making K) → ((Does : Option ℕ → Type 0) → Does d → WithShadow s p shadow answer t Does) → mode ≡ create_mode attrs
+      → Creates g s p attrs (making d) look answer t → CreatesIn g s p (place.At root name) attrs shadow making answer t
+  creates_looked shadow d making fit is done =
+      with_root_done s t p answer (λ at. WithShadow s p shadow answer t (Does at)) root at rooted
+      (fit (Does at) (look, subst (λ (m : Mode). LooksUp g s p m most_reparses at name look) is looked, done))
+    where
+      Does : Option ℕ → Option ℕ → Type 0
+      Does at d = (look : Look) × LooksUp g s p (create_mode attrs) most_reparses at name look × Creates g s p attrs (making d) look answer t
 
   pub opens_looked : (wanted : Wanted K) → mode ≡ open_mode wanted attrs → Opens g s p attrs wanted look answer t
       → WithRoot s p root answer t (λ at. (look : Look) × LooksUp g s p (open_mode wanted attrs) most_reparses at name look × Opens g s p attrs wanted look answer t)

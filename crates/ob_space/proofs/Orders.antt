@@ -183,7 +183,7 @@ not_false false h = refl
 module _ {K T F I : Type 0} (g : Procedures K T F I) (idle : I → Type 0) (closed_idle : (set : T) (inner : I) (process_left : ℕ) → idle ((g.closed set inner process_left 0).1)) where
   -- a body as its last close left it is idle
   last_closed_idle : (set : T) (left total : ℕ) (body : Body F I) → total ≡ 0 → IsIdleBody idle (closed_body g set left total body)
-  last_closed_idle set left total Directory none = tt
+  last_closed_idle set left total (Directory shadow) none = tt
   last_closed_idle set left total (Link target) none = tt
   last_closed_idle set left total (Other face inner) none = subst (λ (n : ℕ). idle ((g.closed set inner left n).1)) (sym none) (closed_idle set inner left)
 

@@ -43,6 +43,6 @@ module _ {K T F I : Type 0} (s : State K T F I) (store : Entries F I) (shows : S
 
 -- what is no link has no target
 pub no_target : {F I : Type 0} (body : StoredBody F I) → ((target : List ℕ) → body ≡ Link target → ⊥) → option_and_then target_of (option_map (λ (y : StoredBody F I). body_of_stored y) (Some body)) ≡ None
-no_target (Directory entries) other = refl
+no_target (Directory entries shadow) other = refl
 no_target (Link target) other = absurd (other target refl)
 no_target (Other face inner) other = refl

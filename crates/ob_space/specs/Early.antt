@@ -1,16 +1,16 @@
 -- The commands that are answered without memory: those that take none, and what is refused before its
 -- lookup.
-use Rattle.std.specs.Prelude.{ℕ, Bool, false, ◌||◌, not, nat_le, nat_lt, List, length, Option, is_some}
+use Rattle.std.specs.Prelude.{ℕ, Bool, false, ◌||◌, not, nat_le, nat_lt, List, length, Option, None, is_some}
 use Rattle.std.specs.Option.{option_and_then, option_map_or}
 use Rattle.ob_base.specs.Handle.{key_of}
 use Rattle.ob_model.specs.declared.command.Command.{Command}
-use Rattle.ob_model.specs.declared.command.Command.TheVariants.{CreateDirectory, CreateLink, CreateObject, OpenDirectory, OpenLink, OpenObject, Close, QueryLink, QueryName, QueryDirectory, Duplicate, MakeTemporary, MakePermanent, SetDeviceMap, NewProcess, ExitProcess}
+use Rattle.ob_model.specs.declared.command.Command.TheVariants.{CreateDirectory, CreateShadowed, CreateLink, CreateObject, OpenDirectory, OpenLink, OpenObject, Close, QueryLink, QueryName, QueryDirectory, Duplicate, MakeTemporary, MakePermanent, SetDeviceMap, NewProcess, ExitProcess}
 use Rattle.ob_model.specs.declared.command.Place.{Place}
 use Rattle.ob_model.specs.declared.command.Place.TheVariants.{At, Unnamed}
 use Rattle.ob_model.specs.Creates.{Making, MakesDirectory, MakesLink, MakesObject, is_fit}
 use Rattle.ob_model.specs.Grants.{first_refusal}
 use Rattle.ob_model.specs.Refusals.{create_refusals, open_refusals}
-use Rattle.ob_model.specs.State.{State, is_live, is_directory, held_of, greatest_process}
+use Rattle.ob_model.specs.State.{State, is_live, is_directory, shadow_of, held_of, greatest_process}
 use Rattle.ob_model.specs.Enumeration.{largest_room}
 use Rattle.ob_model.specs.Processes.{most_processes}
 use Rattle.ob_space.specs.Roots.{root_of}
@@ -18,6 +18,7 @@ use Rattle.ob_space.specs.Roots.{root_of}
 -- a command takes no memory: a close, the end of a process, and making an object permanent or temporary
 abbrev pub TakesNoMemory : {K : Type 0} → Command K → Type 0
 TakesNoMemory (CreateDirectory where_to attrs) = ⊥
+TakesNoMemory (CreateShadowed where_to attrs shadow) = ⊥
 TakesNoMemory (CreateLink where_to attrs target) = ⊥
 TakesNoMemory (CreateObject where_to attrs kind args) = ⊥
 TakesNoMemory (OpenDirectory root name attrs) = ⊥
@@ -54,6 +55,11 @@ module _ {K T F I : Type 0} where
   is_create_refused s p where_to attrs making =
       is_some (first_refusal (create_refusals (is_live s p) (is_fit making) where_to attrs)) || lacks_root_at s p where_to
 
+  -- so is one whose shadow is refused: the process has no such handle, or its object is no directory, or has a shadow itself
+  abbrev pub is_shadow_refused : State K T F I → ℕ → ℕ → Bool
+  is_shadow_refused s p shadow =
+      lacks_handle s p shadow || option_map_or (λ h. not (is_directory s h.object) || is_some (shadow_of s h.object)) (option_and_then (held_of s p) (key_of shadow)) false
+
   -- so is an open, which has no other parameters
   abbrev pub is_open_refused : State K T F I → ℕ → Option ℕ → List ℕ → ℕ → Bool
   is_open_refused s p root name attrs = is_some (first_refusal (open_refusals (is_live s p) name attrs)) || lacks_root s p root
@@ -79,7 +85,8 @@ module _ {K T F I : Type 0} where
 
   -- a command is refused before anything is looked up, made or told
   abbrev pub is_refused_early : State K T F I → ℕ → Command K → Bool
-  is_refused_early s p (CreateDirectory where_to attrs) = is_create_refused s p where_to attrs MakesDirectory
+  is_refused_early s p (CreateDirectory where_to attrs) = is_create_refused s p where_to attrs (MakesDirectory None)
+  is_refused_early s p (CreateShadowed where_to attrs shadow) = is_create_refused s p where_to attrs (MakesDirectory None) || is_shadow_refused s p shadow
   is_refused_early s p (CreateLink where_to attrs target) = is_create_refused s p where_to attrs (MakesLink target)
   is_refused_early s p (CreateObject where_to attrs kind args) = is_create_refused s p where_to attrs (MakesObject kind args)
   is_refused_early s p (OpenDirectory root name attrs) = is_open_refused s p root name attrs

@@ -1,5 +1,5 @@
 -- The store of the opening state.
-use Rattle.std.specs.Prelude.{true, false, List, [], ◌∷◌, codes}
+use Rattle.std.specs.Prelude.{true, false, List, [], ◌∷◌, None, codes}
 use Rattle.ob_objects.specs.declared.object.StoredBody.{StoredBody}
 use Rattle.ob_objects.specs.declared.object.StoredBody.TheVariants.{Directory, Link}
 use Rattle.ob_objects.specs.declared.object.StoredObject.{StoredObject}
@@ -13,8 +13,8 @@ module _ {F I : Type 0} where
   -- its objects behind the root, in which these entries lie
   abbrev pub opening_with : List NameEntry → Entries F I
   opening_with entries =
-      (1, standing (Directory entries)) ∷ (2, standing (Directory [])) ∷ (3, standing (Link (codes "\\??")))
-      ∷ (4, standing (Directory [])) ∷ (5, standing (Directory [])) ∷ (6, standing (Directory [])) ∷ []
+      (1, standing (Directory entries None)) ∷ (2, standing (Directory [] None)) ∷ (3, standing (Link (codes "\\??")))
+      ∷ (4, standing (Directory [] None)) ∷ (5, standing (Directory [] None)) ∷ (6, standing (Directory [] None)) ∷ []
 
   -- without a name
   abbrev pub opening_objects : Entries F I

@@ -1,13 +1,13 @@
 -- What is refused at what was found, before anything grows: an open and a create where their name is looked up to,
 -- and a command at the object of its handle.
-use Rattle.std.specs.Prelude.{◌≡◌, ℕ, Bool, true, false, ◌&&◌, ◌||◌, not, nat_lt, List, [], ◌∷◌, Option, Some}
+use Rattle.std.specs.Prelude.{◌≡◌, ℕ, Bool, true, false, ◌&&◌, ◌||◌, not, nat_lt, List, [], ◌∷◌, Option, None, Some}
 use Rattle.std.specs.Option.{is_some, option_and_then, option_map_or}
 use Rattle.ob_base.specs.Attrs.{has_flag, open_if_flag}
 use Rattle.ob_base.specs.Handle.{key_of}
 use Rattle.ob_base.specs.declared.status.Status.{Status}
 use Rattle.ob_base.specs.declared.status.Status.TheVariants.{InvalidParameter, AccessDenied, InsufficientResources}
 use Rattle.ob_model.specs.declared.command.Command.{Command}
-use Rattle.ob_model.specs.declared.command.Command.TheVariants.{CreateDirectory, CreateLink, CreateObject, OpenDirectory, OpenLink, OpenObject, Close, QueryLink, QueryName, QueryDirectory, Duplicate, MakeTemporary, MakePermanent, SetDeviceMap, NewProcess, ExitProcess}
+use Rattle.ob_model.specs.declared.command.Command.TheVariants.{CreateDirectory, CreateShadowed, CreateLink, CreateObject, OpenDirectory, OpenLink, OpenObject, Close, QueryLink, QueryName, QueryDirectory, Duplicate, MakeTemporary, MakePermanent, SetDeviceMap, NewProcess, ExitProcess}
 use Rattle.ob_model.specs.declared.command.Place.{Place}
 use Rattle.ob_model.specs.declared.command.Place.TheVariants as place
 use Rattle.ob_model.specs.declared.state.Held.{Held}
@@ -96,7 +96,8 @@ module _ {K T F I : Type 0} (g : Procedures K T F I) where
   -- A command is refused at what it finds, before anything grows: opens and creates so; a link's target is asked of what
   -- is no link; a handle to the object is refused to a process; another than a directory is to be a device map.
   abbrev pub IsRefusedAtFound : State K T F I → ℕ → Command K → Type 0
-  IsRefusedAtFound s p (CreateDirectory where_to attrs) = IsCreateRefused s p where_to attrs MakesDirectory
+  IsRefusedAtFound s p (CreateDirectory where_to attrs) = IsCreateRefused s p where_to attrs (MakesDirectory None)
+  IsRefusedAtFound s p (CreateShadowed where_to attrs shadow) = IsCreateRefused s p where_to attrs (MakesDirectory None)
   IsRefusedAtFound s p (CreateLink where_to attrs target) = IsCreateRefused s p where_to attrs (MakesLink target)
   IsRefusedAtFound s p (CreateObject where_to attrs kind args) = IsCreateRefused s p where_to attrs (MakesObject kind args)
   IsRefusedAtFound s p (OpenDirectory root name attrs) = IsOpenRefused s p root name attrs wanted.Directory

@@ -12,7 +12,7 @@ use Rattle.ob_model.specs.Sound.{Stands, IsSound}
 
 -- a body has no inner value, or one that stands for no open handle
 abbrev pub IsIdleBody : {F I : Type 0} → (I → Type 0) → Body F I → Type 0
-IsIdleBody idle Directory = Unit {0}
+IsIdleBody idle (Directory shadow) = Unit {0}
 IsIdleBody idle (Link target) = Unit {0}
 IsIdleBody idle (Other face inner) = idle inner
 

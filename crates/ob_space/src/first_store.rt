@@ -52,13 +52,13 @@ fn put_objects<T: TypeSet>(alloc: Global, store: &mut Store<T>) -> Result<(), Al
     requires { store.old ≡ [] }
     ensures { IfOk result (λ _. store.new ≡ opening_objects) }
 {
-    store.insert(ObjId(1), standing(StoredBody::directory(alloc)))?;
-    store.insert(ObjId(2), standing(StoredBody::directory(alloc)))?;
+    store.insert(ObjId(1), standing(StoredBody::directory(alloc, None)))?;
+    store.insert(ObjId(2), standing(StoredBody::directory(alloc, None)))?;
     let view = NameBuf::from_name(alloc, Name::new(b"\\??"))?;
     store.insert(ObjId(3), standing(StoredBody::Link(view)))?;
-    store.insert(ObjId(4), standing(StoredBody::directory(alloc)))?;
-    store.insert(ObjId(5), standing(StoredBody::directory(alloc)))?;
-    store.insert(ObjId(6), standing(StoredBody::directory(alloc)))
+    store.insert(ObjId(4), standing(StoredBody::directory(alloc, None)))?;
+    store.insert(ObjId(5), standing(StoredBody::directory(alloc, None)))?;
+    store.insert(ObjId(6), standing(StoredBody::directory(alloc, None)))
 }
 
 /// An object of the opening state: permanent, and not exclusive.

@@ -194,6 +194,6 @@ pub fn delete_body<T: TypeSet>(set: &mut T, body: StoredBody<T::Face, T::Inner>)
 {
     match body {
         StoredBody::Other { inner, .. } => set.on_delete(inner),
-        StoredBody::Directory(_) | StoredBody::Link(_) => {}
+        StoredBody::Directory(..) | StoredBody::Link(_) => {}
     }
 }

@@ -71,7 +71,7 @@ fn try_place<T: TypeSet>(
     let object = StoredObject {
         permanent: false,
         exclusive: false,
-        body: StoredBody::directory(alloc),
+        body: StoredBody::directory(alloc, None),
     };
     put_in(store, id, stamp, spot, object)?;
     drop(take_back(store, id, stamp, directory));

@@ -18,7 +18,7 @@ fn is_wanted<T: TypeSet>(body: &StoredBody<T::Face, T::Inner>, wanted: Wanted<T:
 {
     match (wanted, body) {
         (Wanted::Anything, _) => true,
-        (Wanted::Directory, StoredBody::Directory(_)) => true,
+        (Wanted::Directory, StoredBody::Directory(..)) => true,
         (Wanted::Link, StoredBody::Link(_)) => true,
         (Wanted::Kind(kind), StoredBody::Other { face, .. }) => {
             is_one_kind::<T>(T::kind_of(face), kind)

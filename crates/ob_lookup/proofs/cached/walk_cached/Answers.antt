@@ -5,4 +5,4 @@ use Rattle.ob_lookup.proofs.cached.walk_cached.Goals as goal
 
 pub returns-clause-stop : goal.returns-clause-stop
 returns-clause-stop g c = λ s p shows of.
-    stop_more s c.args.fold p c.args.start c.onward-from.result (c.onward-from.ensures.leads s p shows of) (stop_of c.walk.result) (c.walk.ensures.stop s p shows of)
+    stop_more s c.args.fold p c.args.start c.onward-from.result c.args.create (c.onward-from.ensures.leads s p shows of) (stop_of c.walk.result) (c.walk.ensures.stop s p shows of)

@@ -11,6 +11,11 @@ pub end_parse-requires-clause-orderly : goal.end_parse-requires-clause-orderly
 end_parse-requires-clause-orderly g c κs within =
     set_orderly g.T.TypeSet.idle (state_of g.row.T-Kind.Denot (parts c.space.inside)) c.on_delete.new.self (rw (← c.space.view_is) at c.requires.between.orderly)
 
+pub end_parse-requires-clause-shadows : goal.end_parse-requires-clause-shadows
+end_parse-requires-clause-shadows g c κs within =
+    let sound = rw (← c.space.view_is) at c.requires.between.sound in
+    record { inside = sound.rows.inside; shadows = sound.objects.shadows }
+
 pub end_parse-requires-clause-settled : goal.end_parse-requires-clause-settled
 end_parse-requires-clause-settled g c κs within =
     let settled = rw (← c.space.view_is) at c.requires.between.settled in

@@ -13,9 +13,10 @@ use Rattle.ob_model.specs.State.{State}
 use Rattle.ob_model.specs.Types.{is_wanted}
 use Rattle.ob_space.proofs.Results.{of_ok, of_err}
 use Rattle.ob_space.proofs.InPlace.{isnt, never}
+use Rattle.ob_life.specs.Settling.{AreShadowsFit}
 use Rattle.ob_opens.proofs.FoundOpen.{found_open}
 use Rattle.ob_opens.proofs.MadeGoes.{ticket_free}
-use Rattle.ob_opens.proofs.MadeOpens.{made_asker_gone, made_other_type, made_refused, made_given, made_settled}
+use Rattle.ob_opens.proofs.MadeOpens.{made_asker_gone, made_other_type, made_refused, made_given, made_settled, made_fit}
 use Rattle.ob_opens.proofs.MadePut.{ticket_drawn, of_on_err}
 use Rattle.ob_opens.proofs.Refusing.{passes_brought}
 use Rattle.ob_model.specs.Procedures.{EndsMade}
@@ -50,6 +51,20 @@ grant_made-requires-clause-free g c κs within =
 pub grant_made-requires-clause-drawn : goal.grant_made-requires-clause-drawn
 grant_made-requires-clause-drawn g c κs within =
     ticket_drawn g.T.TypeSet.procedures c.args.space.now c.args.ticket c.in-Some.pending.now (found_open c.space.view_is c.args.ticket _ c.in-Some.ensures) c.requires.between.sound
+
+pub end_parse-requires-clause-shadows : goal.end_parse-requires-clause-shadows
+end_parse-requires-clause-shadows g c κs within =
+    let s = c.args.space.now in
+    let u = c.grant_made.new.space in
+    let x = c.in-Some.pending.now in
+    let found = found_open c.space.view_is c.args.ticket _ c.in-Some.ensures in
+    let free = ticket_free g.T.TypeSet.procedures s c.args.ticket x found c.requires.between.sound c.requires.between.settled c.requires.between.orderly.rising in
+    let granted : Grants g.T.TypeSet.procedures (with_instance s c.args.ticket (arc_value c.args.face) c.args.inner) x.process c.args.ticket c.options_by-options.result Opened
+    (Ok c.in-Ok-Ok.value) u =
+    of_ok _ _ c.in-Ok-Ok.value c.in-Ok-Ok.field-0-is c.in-Ok-Ok.ensures.granted in
+    subst (λ (v : State _ _ _ _). AreShadowsFit v) (sym granted.2)
+    (made_fit s c.args.ticket free (arc_value c.args.face) c.args.inner g.T.TypeSet.procedures x.process c.in-Ok-Ok.value c.options_by-options.result.inherit c.requires.between.sound
+    (ticket_drawn g.T.TypeSet.procedures s c.args.ticket x found c.requires.between.sound))
 
 pub end_parse-requires-clause-settled : goal.end_parse-requires-clause-settled
 end_parse-requires-clause-settled g c κs within =

@@ -17,6 +17,11 @@ end_parse-requires-clause-orderly g c κs within =
     let s = state_of g.row.T-Kind.Denot (parts c.space.inside) in
     pending_orderly g.T.TypeSet.idle s s.set c.insert.new.self (s.next_id + 1) (rw (← c.space.view_is) at c.requires.between.orderly) (omega (arith))
 
+pub end_parse-requires-clause-shadows : goal.end_parse-requires-clause-shadows
+end_parse-requires-clause-shadows g c κs within =
+    let sound = rw (← c.space.view_is) at c.requires.between.sound in
+    record { inside = sound.rows.inside; shadows = sound.objects.shadows }
+
 pub end_parse-requires-clause-settled : goal.end_parse-requires-clause-settled
 end_parse-requires-clause-settled g c κs within =
     let s = c.args.space.now in

@@ -8,7 +8,7 @@ use Rattle.ob_model.specs.declared.terms.Reason.TheVariants.{Opened}
 use Rattle.ob_model.specs.Settle.{settle}
 use Rattle.ob_space.proofs.InPlace.{isnt, never}
 use Rattle.ob_opens.proofs.FoundOpen.{found_open}
-use Rattle.ob_opens.proofs.OpensAgain.{found_other_type, found_refused, found_given, granted_is_settled, live_there}
+use Rattle.ob_opens.proofs.OpensAgain.{found_other_type, found_refused, found_given, granted_is_settled, granted_is_fit, live_there}
 use Rattle.ob_opens.proofs.Refusing.{passes_at}
 use Rattle.ob_space.specs.Found.{is_grant_refused, is_refused_at}
 use Rattle.ob_model.specs.Opens.{options_by}
@@ -25,6 +25,14 @@ returns-then-not-is_wanted_at-clause-opened g c =
 pub grant-requires-clause-live : goal.grant-requires-clause-live
 grant-requires-clause-live g c κs within =
     live_there c.args.space.now c.args.ticket c.in-Some.pending.now (found_open c.space.view_is c.args.ticket _ c.in-Some.ensures) c.requires.live
+
+pub end_parse-requires-clause-shadows : goal.end_parse-requires-clause-shadows
+end_parse-requires-clause-shadows g c κs within =
+    let s = c.args.space.now in
+    let u = c.grant.new.space in
+    let x = c.in-Some.pending.now in
+    granted_is_fit g.T.TypeSet.procedures s u x.process c.args.object c.in-Ok.value c.options_by-options.result c.requires.sound
+    (subst (λ (r : Result _ _). Grants g.T.TypeSet.procedures s x.process c.args.object c.options_by-options.result Opened r u) c.in-Ok.is c.in_ok-value.ensures.granted)
 
 pub end_parse-requires-clause-settled : goal.end_parse-requires-clause-settled
 end_parse-requires-clause-settled g c κs within =

@@ -25,6 +25,11 @@ settle_after_loss-requires-clause-orderly g c κs within =
     let s = state_of g.row.T-Kind.Denot (parts c.space.inside) in
     opens_orderly g.T.TypeSet.idle s c.take.new.self (rw (← c.space.view_is) at c.requires.orderly)
 
+pub settle_after_loss-requires-clause-shadows : goal.settle_after_loss-requires-clause-shadows
+settle_after_loss-requires-clause-shadows g c κs within =
+    let fit = rw (← c.space.view_is) at c.requires.shadows in
+    record { inside = fit.inside; shadows = fit.shadows }
+
 pub settle_after_loss-requires-clause-kept : goal.settle_after_loss-requires-clause-kept
 settle_after_loss-requires-clause-kept g c κs within =
     let s = state_of g.row.T-Kind.Denot (parts c.space.inside) in

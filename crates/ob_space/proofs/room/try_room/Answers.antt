@@ -1,5 +1,5 @@
 -- What is there stays, and the handle is taken back.
-use Rattle.std.proofs.Common.{[], false, refl, subst, sym}
+use Rattle.std.proofs.Common.{[], None, false, refl, subst, sym}
 use Rattle.ob_objects.specs.declared.object.StoredBody.TheVariants.{Directory}
 use Rattle.ob_space.specs.Orderly.{IsOrderly}
 use Rattle.ob_space.proofs.Placed.{next_is_free, next_is_unnamed, vacant_is_free, is_back}
@@ -28,6 +28,6 @@ try_place-told-requires-clause-free g c κs within =
 pub returns : goal.returns
 returns g c =
     rw (← c.space.view_is) (
-    is_back g.row.T-Kind.Denot g.T.TypeSet.procedures g.T.TypeSet.idle (parts c.space.inside) (subst (IsOrderly g.T.TypeSet.idle) (sym c.space.view_is) c.requires.orderly) c.args.process (rw (← c.space.view_is) at c.requires.room) c.args.spot (subst (λ (s : State _ _ _ _). IsVacantSpot s c.args.spot) (sym c.space.view_is) c.requires.vacant) (record { permanent = false; exclusive = false; body = Directory [] })
+    is_back g.row.T-Kind.Denot g.T.TypeSet.procedures g.T.TypeSet.idle (parts c.space.inside) (subst (IsOrderly g.T.TypeSet.idle) (sym c.space.view_is) c.requires.orderly) c.args.process (rw (← c.space.view_is) at c.requires.room) c.args.spot (subst (λ (s : State _ _ _ _). IsVacantSpot s c.args.spot) (sym c.space.view_is) c.requires.vacant) (record { permanent = false; exclusive = false; body = Directory [] None })
     c.in-Ok.value false c.grant.new.self c.in-Ok.ensures.unused c.in-Ok.ensures.last c.in-Ok.ensures.processes
     c.take.new.self c.take.ensures.others c.take.ensures.processes _ c.try_place-told.new.store c.try_place-told.ensures refl)

@@ -33,13 +33,15 @@ insert_name-requires-clause-newest g c =
     (object_found c.keep_place.new.self c.args.directory _ (sym c.object_mut.ensures.value ∙ ap option_copied_mut c.in-Some.is)) (c.keep_place.ensures.objects ∙ c.self.view_is) refl)) c.requires.newest
 
 pub invariant_of-self-in-Err : goal.invariant_of-self-in-Err
-invariant_of-self-in-Err g c =
-    back_slots_keep g.T.TypeSet.procedures c.self.inside.slots c.keep_place.new.self _ c.forget_place.new.self c.self.inside.types.entries c.args.directory c.args.object
-    (record { directory = c.args.directory; stamp = c.args.stamp }) c.in-Some.stored.now c.insert_name.new.stored c.self.invariant
-    c.keep_place.ensures.objects c.in_ok-keep_place.ensures.kept c.keep_place.ensures.filled
-    (sym c.object_mut.ensures.value ∙ ap option_copied_mut c.in-Some.is) (on_some c.object_mut.result c.in-Some.stored c.in-Some.is (c.object_mut.follows.holds _)) c.in-Err.ensures.unchanged
-    (subst (λ es. All (λ (r : Row). r.object ≢ c.args.object) (rows_of es)) (sym c.self.view_is) c.requires.unnamed)
-    c.forget_place.ensures.objects c.forget_place.ensures.forgotten c.forget_place.ensures.filled
+invariant_of-self-in-Err g c = (
+  back_slots_keep g.T.TypeSet.procedures c.self.inside.slots c.keep_place.new.self _ c.forget_place.new.self c.self.inside.types.entries c.args.directory c.args.object
+      (record { directory = c.args.directory; stamp = c.args.stamp }) c.in-Some.stored.now c.insert_name.new.stored c.self.invariant.0
+      c.keep_place.ensures.objects c.in_ok-keep_place.ensures.kept c.keep_place.ensures.filled
+      (sym c.object_mut.ensures.value ∙ ap option_copied_mut c.in-Some.is) (on_some c.object_mut.result c.in-Some.stored c.in-Some.is (c.object_mut.follows.holds _)) c.in-Err.ensures.unchanged
+      (subst (λ es. All (λ (r : Row). r.object ≢ c.args.object) (rows_of es)) (sym c.self.view_is) c.requires.unnamed)
+      c.forget_place.ensures.objects c.forget_place.ensures.forgotten c.forget_place.ensures.filled,
+  c.self.invariant.1,
+)
 
 pub returns-in-Err-clause-unchanged : goal.returns-in-Err-clause-unchanged
 returns-in-Err-clause-unchanged g c =
@@ -48,20 +50,22 @@ returns-in-Err-clause-unchanged g c =
     (sym c.object_mut.ensures.value ∙ ap option_copied_mut c.in-Some.is) (on_some c.object_mut.result c.in-Some.stored c.in-Some.is (c.object_mut.follows.holds _)) c.in-Err.ensures.unchanged (c.keep_place.ensures.objects ∙ c.self.view_is)
 
 pub invariant_of-self-in_default-insert_name : goal.invariant_of-self-in_default-insert_name
-invariant_of-self-in_default-insert_name g c =
-    let same = sym (entries_found (objects_in c.keep_place.new.self) c.args.self.now c.args.directory c.args.directory (Some c.in-Some.stored.now)
-    (object_found c.keep_place.new.self c.args.directory _ (sym c.object_mut.ensures.value ∙ ap option_copied_mut c.in-Some.is)) (c.keep_place.ensures.objects ∙ c.self.view_is) refl) in
-    named_slots_keep g.T.TypeSet.procedures c.self.inside.slots c.keep_place.new.self _ c.self.inside.types.entries c.args.directory
-    (record { stamp = c.args.stamp; name = c.args.name; object = c.args.object }) c.in-Some.stored.now c.insert_name.new.stored c.self.invariant
-    c.keep_place.ensures.objects c.in_ok-keep_place.ensures.kept c.keep_place.ensures.filled
-    (sym c.object_mut.ensures.value ∙ ap option_copied_mut c.in-Some.is) (on_some c.object_mut.result c.in-Some.stored c.in-Some.is (c.object_mut.follows.holds _)) c.in_default-insert_name.ensures.last
-    (subst (All (λ e. e.name ≢ c.args.name)) same c.requires.free) (subst (All (λ e. e.stamp < c.args.stamp)) same c.requires.newest)
-    (subst (λ es. IsSome (directory_at es c.args.directory)) (sym c.self.view_is) c.requires.there)
-    (subst (λ es. All (λ (r : Row). r.object ≢ c.args.object) (rows_of es)) (sym c.self.view_is) c.requires.unnamed)
+invariant_of-self-in_default-insert_name g c = (
+  let same = sym (entries_found (objects_in c.keep_place.new.self) c.args.self.now c.args.directory c.args.directory (Some c.in-Some.stored.now)
+      (object_found c.keep_place.new.self c.args.directory _ (sym c.object_mut.ensures.value ∙ ap option_copied_mut c.in-Some.is)) (c.keep_place.ensures.objects ∙ c.self.view_is) refl) in
+      named_slots_keep g.T.TypeSet.procedures c.self.inside.slots c.keep_place.new.self _ c.self.inside.types.entries c.args.directory
+      (record { stamp = c.args.stamp; name = c.args.name; object = c.args.object }) c.in-Some.stored.now c.insert_name.new.stored c.self.invariant.0
+      c.keep_place.ensures.objects c.in_ok-keep_place.ensures.kept c.keep_place.ensures.filled
+      (sym c.object_mut.ensures.value ∙ ap option_copied_mut c.in-Some.is) (on_some c.object_mut.result c.in-Some.stored c.in-Some.is (c.object_mut.follows.holds _)) c.in_default-insert_name.ensures.last
+      (subst (All (λ e. e.name ≢ c.args.name)) same c.requires.free) (subst (All (λ e. e.stamp < c.args.stamp)) same c.requires.newest)
+      (subst (λ es. IsSome (directory_at es c.args.directory)) (sym c.self.view_is) c.requires.there)
+      (subst (λ es. All (λ (r : Row). r.object ≢ c.args.object) (rows_of es)) (sym c.self.view_is) c.requires.unnamed),
+  c.self.invariant.1,
+)
 
 pub returns-clause-last : goal.returns-clause-last
 returns-clause-last g c =
     slots_changed_too c.self.inside.slots c.keep_place.new.self _ c.args.self.now c.args.directory
     (λ x. record x { body = body_with_name (record { stamp = c.args.stamp; name = c.args.name; object = c.args.object }) x.body }) (place_in c.self.inside.slots) c.in-Some.stored.now c.insert_name.new.stored
-    c.self.invariant.places c.keep_place.ensures.objects
+    c.self.invariant.0.places c.keep_place.ensures.objects
     (sym c.object_mut.ensures.value ∙ ap option_copied_mut c.in-Some.is) (on_some c.object_mut.result c.in-Some.stored c.in-Some.is (c.object_mut.follows.holds _)) c.in_default-insert_name.ensures.last c.self.view_is

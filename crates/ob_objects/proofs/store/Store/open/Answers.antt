@@ -10,7 +10,10 @@ use Rattle.ob_objects.proofs.Shown.{opened_entries}
 use Rattle.ob_objects.proofs.store.Store.open.Goals as goal
 
 pub invariant_of-self : goal.invariant_of-self
-invariant_of-self g c = same_slots_keep g.T.TypeSet.procedures c.self.inside.slots _ c.self.inside.types.entries c.self.invariant c.object_mut.follows.holds-at-none
+invariant_of-self g c = (
+  same_slots_keep g.T.TypeSet.procedures c.self.inside.slots _ c.self.inside.types.entries c.self.invariant.0 c.object_mut.follows.holds-at-none,
+  c.self.invariant.1,
+)
 
 pub returns-in_default-clause-accepted : goal.returns-in_default-clause-accepted
 returns-in_default-clause-accepted g c =
@@ -27,11 +30,13 @@ returns-in_default-clause-set g c =
     (object_found c.self.inside.slots c.args.id None (sym c.object_mut.ensures.value ∙ ap option_copied_mut c.in_default.is)) c.self.view_is refl c.args.set.now c.args.reason
 
 pub invariant_of-self-2 : goal.invariant_of-self-2
-invariant_of-self-2 g c =
-    changed_slots_keep g.T.TypeSet.procedures c.self.inside.slots _ c.self.inside.types.entries c.args.id
-    (λ x. record x { body = stored_opened g.T.TypeSet.procedures c.args.set.now c.args.reason x.body }) c.in-Some.stored.now c.open.new.stored
-    c.self.invariant (sym c.object_mut.ensures.value ∙ ap option_copied_mut c.in-Some.is) (on_some c.object_mut.result c.in-Some.stored c.in-Some.is (c.object_mut.follows.holds _)) c.open.ensures.opened
-    (λ x. opened_entries g.T.TypeSet.procedures c.args.set.now c.args.reason x.body) (λ x. opened_type g.T.TypeSet.procedures c.args.set.now c.args.reason x.body)
+invariant_of-self-2 g c = (
+  changed_slots_keep g.T.TypeSet.procedures c.self.inside.slots _ c.self.inside.types.entries c.args.id
+      (λ x. record x { body = stored_opened g.T.TypeSet.procedures c.args.set.now c.args.reason x.body }) c.in-Some.stored.now c.open.new.stored
+      c.self.invariant.0 (sym c.object_mut.ensures.value ∙ ap option_copied_mut c.in-Some.is) (on_some c.object_mut.result c.in-Some.stored c.in-Some.is (c.object_mut.follows.holds _)) c.open.ensures.opened
+      (λ x. opened_entries g.T.TypeSet.procedures c.args.set.now c.args.reason x.body) (λ x. opened_type g.T.TypeSet.procedures c.args.set.now c.args.reason x.body),
+  c.self.invariant.1,
+)
 
 pub returns-clause-accepted : goal.returns-clause-accepted
 returns-clause-accepted g c =
@@ -49,7 +54,7 @@ pub returns-clause-opened : goal.returns-clause-opened
 returns-clause-opened g c =
     slots_changed c.self.inside.slots _ c.args.self.now c.args.id
     (λ x. record x { body = stored_opened g.T.TypeSet.procedures c.args.set.now c.args.reason x.body }) (place_in c.self.inside.slots) c.in-Some.stored.now c.open.new.stored
-    c.self.invariant.places (sym c.object_mut.ensures.value ∙ ap option_copied_mut c.in-Some.is) (on_some c.object_mut.result c.in-Some.stored c.in-Some.is (c.object_mut.follows.holds _)) c.open.ensures.opened c.self.view_is
+    c.self.invariant.0.places (sym c.object_mut.ensures.value ∙ ap option_copied_mut c.in-Some.is) (on_some c.object_mut.result c.in-Some.stored c.in-Some.is (c.object_mut.follows.holds _)) c.open.ensures.opened c.self.view_is
 
 pub returns-clause-set : goal.returns-clause-set
 returns-clause-set g c =
