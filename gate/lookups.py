@@ -1,7 +1,8 @@
 """Names in many small namespaces, each with what a plain search over flat rows ends with: scripts for `gate/cases.py`.
 
 A namespace has, beside the opening state's objects, a link `\\b` to `\\GLOBAL??` and up to four objects with names of one letter, each in the root or in the
-latest directory. The last of these directories is the caller's device map. In each namespace, names are opened, opened without case, opened as links, and
+latest directory. The last of these directories is the caller's device map. Each namespace comes twice: without shadows, and with two objects in a directory
+`\\S` that is the shadow of the others, or of some of them. In each, names are opened, opened without case, opened as links, and
 made. The search is that of docs/namespace.md, sections 4 to 6, and uses nothing of the program.
 """
 
@@ -33,6 +34,7 @@ class Row:
     object: int
     kind: str
     target: str = ""
+    shadow: int = 0
 
 
 # the names of the opening state that are looked up
@@ -56,6 +58,13 @@ def find(rows, fold, directory, name):
     return None
 
 
+def see(rows, fold, directory, name, own):
+    """The row that a name is seen by in a directory: of the directory itself, or, unless own rows alone count, else of its shadow."""
+    row = find(rows, fold, directory, name)
+    shadow = next((it.shadow for it in rows if it.object == directory), 0)
+    return row if row or own or not shadow else find(rows, fold, shadow, name)
+
+
 def begin(local, mode, text):
     """The directories in which the first component of a text is searched, and what is still to be used."""
     if text == "\\??":
@@ -75,7 +84,8 @@ def walk(rows, local, mode, text):
         rest = rest[1 + len(name) :]
         if not name:
             return End(status="OBJECT_NAME_INVALID")
-        row = next(filter(None, (find(rows, mode == "folded", it, name) for it in directories)), None)
+        own = mode == "create" and not rest
+        row = next(filter(None, (see(rows, mode == "folded", it, name, own) for it in directories)), None)
         if row is None:
             if rest:
                 return End(status="OBJECT_PATH_NOT_FOUND")
@@ -102,17 +112,34 @@ def search(rows, local, mode, text):
     return end
 
 
-def namespace(number):
+def kind_by(digit):
+    """The kind of an object."""
+    return ("directory", "directory", "directory", "event", "link", "link", "link")[digit]
+
+
+def shadow_rows(digits):
+    """The directory that is a shadow, and what is in it."""
+    rows = [Row(ROOT, "S", 8, "directory")]
+    for place, name in enumerate(("a", "b")):
+        kind = kind_by(digits[place + 1])
+        rows.append(Row(8, name, 9 + place, kind, TARGETS[digits[place]] if kind == "link" else ""))
+    return rows
+
+
+def namespace(number, has_shadows):
     """The rows of a namespace beside those of the opening state, and its last directory."""
     digits = [number * 7 // 7**place % 7 for place in range(6)]
     rows, last = [Row(ROOT, "b", 7, "link", "\\GLOBAL??")], GLOBAL
+    rows += shadow_rows(digits) if has_shadows else []
     for place in range(4):
         directory = ROOT if digits[place] % 2 == 0 else last
         name, made = NAMES[digits[place + 1] % 3], 7 + len(rows)
         if find(rows, False, directory, name):
             continue
-        kind = ("directory", "directory", "directory", "event", "link", "link", "link")[digits[place]]
-        rows.append(Row(directory, name, made, kind, TARGETS[digits[place + 2]] if kind == "link" else ""))
+        kind = kind_by(digits[place])
+        target = TARGETS[digits[place + 2]] if kind == "link" else ""
+        shadow = 8 if has_shadows and kind == "directory" and digits[place + 1] != 0 else 0
+        rows.append(Row(directory, name, made, kind, target, shadow))
         last = made if kind == "directory" else last
     return rows, last
 
@@ -128,7 +155,8 @@ def path_of(rows, number):
 def made(row):
     """The line that makes an object, by the word of its directory."""
     place = f'o{row.directory}:"{row.name}"'
-    ways = {"directory": f"dir {place} -", "link": f'link {place} - "{row.target}"', "event": f'make Event {place} - ""'}
+    directory = f"shadow o{row.shadow} {place} -" if row.shadow else f"dir {place} -"
+    ways = {"directory": directory, "link": f'link {place} - "{row.target}"', "event": f'make Event {place} - ""'}
     return f"p1 {ways[row.kind]} =o{row.object} | SUCCESS"
 
 
@@ -153,9 +181,9 @@ def opened(rows, mode, name, end):
     return [f"{line} | SUCCESS", f'p1 name x | SUCCESS "{path_of(rows, end.object)}"']
 
 
-def script_of(number):
+def script_of(number, has_shadows):
     """A script that makes a namespace and looks names up in it, each line with its reply."""
-    own, last = namespace(number)
+    own, last = namespace(number, has_shadows)
     rows = [*OPENING, *own]
     lines = ['p1 opendir "\\" - =o1 | SUCCESS', 'p1 opendir "\\GLOBAL??" - =o2 | SUCCESS', *map(made, own)]
     if last != GLOBAL:
@@ -170,4 +198,5 @@ def script_of(number):
 def scripts():
     """Each namespace's script, with what it shows."""
     for number in range(NAMESPACES):
-        yield f"names in the namespace {number} as a plain search finds them", script_of(number)
+        yield f"names in the namespace {number} as a plain search finds them", script_of(number, False)
+        yield f"names in the namespace {number} with shadows as a plain search finds them", script_of(number, True)

@@ -93,6 +93,8 @@ pub enum Ask {
         of: Kind,
         /// The target of a link.
         target: Path,
+        /// The value of the handle to the shadow of a directory; none where it is made without a shadow.
+        shadow: Option<u32>,
         /// Its name; none where it is made without one.
         name: Option<Name>,
         /// Its flags, lawful or not.

@@ -39,6 +39,8 @@ pub struct Object {
     of: Kind,
     // That of a link.
     target: Path,
+    // The number of a directory's shadow.
+    shadow: Option<u32>,
     spot: Option<Spot>,
     // It rises in the order of making; what never had a name has 0.
     stamp: u64,
@@ -118,7 +120,7 @@ impl Model {
 
     // The first objects and the first process.
     fn fill(&mut self) -> Result<(), AllocError> {
-        self.add(ROOT, Kind::Directory, VIEW_PATH, None, PERMANENT)?;
+        self.add(ROOT, Kind::Directory, VIEW_PATH, None, None, PERMANENT)?;
         for letter in b"GLDNS".as_slice() {
             let letter = *letter;
             let of = match letter {
@@ -130,6 +132,7 @@ impl Model {
                 number,
                 of,
                 VIEW_PATH,
+                None,
                 Some(Spot { directory, letter }),
                 PERMANENT,
             )?;
@@ -281,7 +284,7 @@ impl Model {
             return Ok(false);
         };
         if waiting.is_there {
-            self.add(waiting.number, Kind::File, VIEW_PATH, None, 0)?;
+            self.add(waiting.number, Kind::File, VIEW_PATH, None, None, 0)?;
         }
         let answer = self.end_of(waiting);
         self.agrees(waiting.process, waiting.ask, answer, reply)
@@ -321,13 +324,15 @@ impl Model {
                 Ask::Make {
                     of,
                     target,
+                    shadow,
                     attrs,
                     ..
                 },
                 Answer::New(spot),
             ) => {
                 let number = self.last_object.wrapping_add(1);
-                let object = self.add(number, of, target, spot, attrs)?;
+                let shadow = self.number_behind(process, shadow);
+                let object = self.add(number, of, target, shadow, spot, attrs)?;
                 return self.hold(process, object, attrs & INHERIT != 0, given);
             }
             (Ask::Make { attrs, .. } | Ask::Open { attrs, .. }, Answer::Found(object, _)) => {
@@ -376,12 +381,18 @@ impl Model {
         Ok(bytes.as_slice() == text.as_slice())
     }
 
+    // The number of the object that a handle of a process leads to, where a value is given.
+    fn number_behind(&self, process: u32, value: Option<u32>) -> Option<u32> {
+        Some(self.behind(process, value?)?.number)
+    }
+
     // A new object of a number, named at a spot where there is one.
     fn add(
         &mut self,
         number: u32,
         of: Kind,
         target: Path,
+        shadow: Option<u32>,
         spot: Option<Spot>,
         attrs: u32,
     ) -> Result<Object, AllocError> {
@@ -391,6 +402,7 @@ impl Model {
             number,
             of,
             target,
+            shadow,
             spot,
             stamp: match spot {
                 Some(_) => self.last_stamp,
@@ -537,8 +549,19 @@ impl Model {
         object.spot.is_some() && (object.is_permanent || self.is_held(object.number, 0))
     }
 
-    // Whether an object stays.
+    // Whether an object stays: by itself, or as the shadow of a directory that stays by itself.
     fn keeps(&self, object: Object) -> bool {
+        let mut keeps = self.keeps_itself(object);
+        for other in &self.objects {
+            if other.shadow == Some(object.number) {
+                keeps = keeps || self.keeps_itself(*other);
+            }
+        }
+        keeps
+    }
+
+    // Whether an object stays by itself.
+    fn keeps_itself(&self, object: Object) -> bool {
         let number = object.number;
         let mut keeps = number == ROOT
             || number == GLOBAL

@@ -44,12 +44,13 @@ fn any_open(dice: &mut Dice) -> Ask {
 pub(crate) fn turn(dice: &mut Dice, model: &Model, done: u32) -> Turn {
     if done == 0 {
         let (of, name, attrs) = (Kind::Device, named(NAMES[0]), PERMANENT);
-        let (target, name) = (name.path, Some(name));
+        let (target, shadow, name) = (name.path, None, Some(name));
         return Turn::Start(
             1,
             Ask::Make {
                 of,
                 target,
+                shadow,
                 name,
                 attrs,
             },

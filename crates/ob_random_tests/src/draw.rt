@@ -158,6 +158,16 @@ pub(crate) fn any_process(dice: &mut Dice, model: &Model) -> u32 {
     }
 }
 
+// The shadow of a directory that is made: every other one has one, mostly a directory to which the process has a handle.
+fn any_shadow(dice: &mut Dice, model: &Model, process: u32) -> Option<u32> {
+    let want = match dice.below(16) {
+        0..=6 => Some(Kind::Directory),
+        7 => None,
+        _ => return None,
+    };
+    Some(any_value(dice, model, process, want))
+}
+
 fn any_make(dice: &mut Dice, model: &Model, process: u32) -> Ask {
     let name = any_name(dice, model, process);
     let (of, target) = match dice.below(8) {
@@ -165,9 +175,14 @@ fn any_make(dice: &mut Dice, model: &Model, process: u32) -> Ask {
         4..=5 => (Kind::Directory, name.path),
         _ => (Kind::Link, any_path(dice)),
     };
+    let shadow = match of {
+        Kind::Directory => any_shadow(dice, model, process),
+        _ => None,
+    };
     Ask::Make {
         of,
         target,
+        shadow,
         name: match dice.below(16) {
             0 => None,
             _ => Some(name),

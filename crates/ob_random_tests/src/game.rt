@@ -74,6 +74,24 @@ fn place_of(alloc: Global, name: Option<Name>) -> Result<Place, AllocError> {
     }
 }
 
+// The create of a directory, with a shadow where one is given.
+fn make_directory<K>(
+    alloc: Global,
+    shadow: Option<u32>,
+    name: Option<Name>,
+    attrs: u32,
+) -> Result<Command<K>, AllocError> {
+    let place = place_of(alloc, name)?;
+    Ok(match shadow {
+        Some(shadow) => Command::CreateShadowed {
+            place,
+            attrs,
+            shadow: Handle(shadow),
+        },
+        None => Command::CreateDirectory { place, attrs },
+    })
+}
+
 // The create of a link.
 fn make_link<K>(
     alloc: Global,
@@ -168,13 +186,11 @@ fn command<S: Played>(
         Ask::Make {
             of,
             target,
+            shadow,
             name,
             attrs,
         } => match of {
-            Kind::Directory => Ok(Command::CreateDirectory {
-                place: place_of(alloc, name)?,
-                attrs,
-            }),
+            Kind::Directory => make_directory(alloc, shadow, name, attrs),
             Kind::Link => make_link(alloc, target, name, attrs),
             _ => make_object::<S>(alloc, of, name, attrs),
         },

@@ -28,6 +28,7 @@ pub(crate) fn turn(dice: &mut Dice, model: &Model, done: u32) -> Turn {
     let make = Ask::Make {
         of,
         target: Path { way, last: None },
+        shadow: None,
         name: Some(Name { root, path }),
         attrs: PERMANENT | INHERIT,
     };

@@ -229,7 +229,7 @@ impl<T: Listing, H: HandleTable> Stage<T, H> {
     /// What the handle that was given to a line leads to, a word and an id.
     pub fn led_to(&self, process: Proc, line: &str) -> (&'static str, u64) {
         match self.space.core.referent(process, self.given_to(line)) {
-            Some((id, Referent::Directory)) => ("directory", id.0),
+            Some((id, Referent::Directory(_))) => ("directory", id.0),
             Some((id, Referent::Link(_))) => ("link", id.0),
             Some((id, Referent::Other { .. })) => ("object", id.0),
             None => ("nothing", u64::from(u32::MAX)),

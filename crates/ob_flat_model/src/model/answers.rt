@@ -21,35 +21,42 @@ impl Model {
                 of,
                 name,
                 attrs,
+                shadow,
                 ..
-            } => self.named(live, name, Some(of), attrs, true),
-            Ask::Open { want, name, attrs } => self.named(live, Some(name), want, attrs, false),
+            } => self.named(live, name, Some(of), attrs, shadow, true),
+            Ask::Open { want, name, attrs } => {
+                self.named(live, Some(name), want, attrs, None, false)
+            }
             Ask::Use { value, deed } => Ok(self.used(live, value, deed)),
             Ask::Begin { .. } | Ask::Exit => Ok(Answer::Done),
         }
     }
 
-    // What a create or an open of a kind is answered to a name.
+    // What a create, with the handle to a shadow where one is given, or an open of a kind is answered to a name.
     fn named(
         &self,
         live: Live,
         name: Option<Name>,
         want: Option<Kind>,
         attrs: u32,
+        shadow: Option<u32>,
         makes: bool,
     ) -> Result<Answer, AllocError> {
         if attrs & !FLAGS != 0 || (attrs & INHERIT != 0 && attrs & EXCLUSIVE != 0) {
             return Ok(Answer::Refused(Status::InvalidParameter));
         }
         let Some(name) = name else {
-            return Ok(Answer::New(None));
+            return Ok(match self.shadow_refusal(live, shadow) {
+                Some(status) => Answer::Refused(status),
+                None => Answer::New(None),
+            });
         };
         let look = Look {
             makes,
             follows: !makes && attrs & OPENLINK == 0 && !matches!(want, Some(Kind::Link)),
             folds: attrs & CASE_INSENSITIVE != 0,
         };
-        let answer = self.found(live, name, look)?;
+        let answer = self.found(live, name, shadow, look)?;
         let Answer::Found(object, status) = answer else {
             return Ok(answer);
         };
@@ -59,6 +66,17 @@ impl Model {
             true => self.granted(live.number, object, attrs, Status::ObjectNameExists),
             false => self.granted(live.number, object, attrs, status),
         })
+    }
+
+    // The refusal of the handle to a shadow, where one is given: what it leads to must be a directory without a shadow.
+    pub(super) fn shadow_refusal(&self, live: Live, shadow: Option<u32>) -> Option<Status> {
+        match self.behind(live.number, shadow?) {
+            None => Some(Status::InvalidHandle),
+            Some(object) if !matches!(object.of, Kind::Directory) => {
+                Some(Status::ObjectTypeMismatch)
+            }
+            Some(object) => object.shadow.map(|_| Status::InvalidParameter),
+        }
     }
 
     // An open of an object, which is told by a status.

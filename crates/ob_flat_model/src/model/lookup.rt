@@ -43,13 +43,35 @@ impl Model {
         None
     }
 
-    // What a process finds by a name.
-    pub(super) fn found(&self, live: Live, name: Name, look: Look) -> Result<Answer, AllocError> {
+    // What is seen in a directory under a letter: what has its name there, or else, where more than own entries is
+    // asked for, in its shadow.
+    fn seen(&self, directory: u32, letter: u8, own: bool, folds: bool) -> Option<Object> {
+        match self.entry(directory, letter, folds) {
+            None if !own => self.entry(self.numbered(directory)?.shadow?, letter, folds),
+            entry => entry,
+        }
+    }
+
+    // What a process finds by a name, where the handle to a shadow, if one is given, is judged after the root's.
+    pub(super) fn found(
+        &self,
+        live: Live,
+        name: Name,
+        shadow: Option<u32>,
+        look: Look,
+    ) -> Result<Answer, AllocError> {
+        let root = match name.root {
+            Some(value) => self.behind(live.number, value),
+            None => None,
+        };
+        if name.root.is_some() && root.is_none() {
+            return Ok(Answer::Refused(Status::InvalidHandle));
+        }
+        if let Some(status) = self.shadow_refusal(live, shadow) {
+            return Ok(Answer::Refused(status));
+        }
         let mut start = None;
-        if let Some(value) = name.root {
-            let Some(root) = self.behind(live.number, value) else {
-                return Ok(Answer::Refused(Status::InvalidHandle));
-            };
+        if let Some(root) = root {
             if !matches!(root.of, Kind::Directory) {
                 return Ok(Answer::Refused(Status::ObjectTypeMismatch));
             }
@@ -101,8 +123,9 @@ impl Model {
         is_shared: bool,
         look: Look,
     ) -> Step<'a> {
-        let entry = match self.entry(at, letter, look.folds) {
-            None if is_shared => self.entry(GLOBAL, letter, look.folds),
+        let own = look.makes && rest.is_empty();
+        let entry = match self.seen(at, letter, own, look.folds) {
+            None if is_shared => self.seen(GLOBAL, letter, own, look.folds),
             entry => entry,
         };
         let Some(object) = entry else {
