@@ -43,8 +43,9 @@ static bool is_closed(const ntns *ns)
 	return ns->words[0] == 0 && ns->words[1] == 0;
 }
 
-/* The answer of each call that gives a handle, with the same arguments; the handle is `*given` behind it. */
-enum { GIVING = 8 };
+/* The answer of each call that gives a handle, with the same arguments; the handle is `*given` behind it. Where there is no root the handle is what is
+ * duplicated, or the shadow. */
+enum { GIVING = 9 };
 
 static ntns_status give(ntns *ns, int call, uint32_t process, uint32_t root, const char *name, size_t length, uint32_t attributes, uint32_t *given)
 {
@@ -64,6 +65,8 @@ static ntns_status give(ntns *ns, int call, uint32_t process, uint32_t root, con
 		return ntns_open_object(ns, process, root, name, length, attributes, NTNS_TYPE_ANY, given);
 	case 6:
 		return ntns_duplicate(ns, process, root, process, attributes & NTNS_OBJ_INHERIT, given);
+	case 7:
+		return ntns_create_shadowed(ns, process, 0, name, length, attributes, root, given);
 	default:
 		return ntns_new_process(ns, process, attributes & NTNS_OBJ_INHERIT, given);
 	}
@@ -132,7 +135,7 @@ static void refused(ntns *ns, uint32_t process, uint32_t handle, ntns_status sta
 	size_t length;
 	char text[4] = "abc";
 
-	for (int call = is_live ? 6 : 0; call < (is_live ? 7 : GIVING); call++)
+	for (int call = is_live ? 6 : 0; call < (is_live ? 8 : GIVING); call++)
 		hold(give(ns, call, process, handle, TEXT("x"), 0, &given) == status && given == 0, "a call that gives a handle is refused", call);
 	for (int call = 0; call < TELLING; call++)
 		hold(tell(ns, call, process, handle, text, sizeof text, &length) == (call == 2 ? looked_at : status) && length == 0 && !strcmp(text, "abc"), "a query is refused", call);

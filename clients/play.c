@@ -30,9 +30,15 @@ size_t play_text(const char *text, char *full)
 	return length;
 }
 
+/* The value of a handle that a step names by its letter, 0 if it names none. */
+static uint32_t value_of(const struct play *play, const struct step *step, char letter)
+{
+	return letter ? play->handles[(int)step->process][(int)letter] + step->more : 0;
+}
+
 static uint32_t handle_of(const struct play *play, const struct step *step)
 {
-	return step->handle ? play->handles[(int)step->process][(int)step->handle] + step->more : 0;
+	return value_of(play, step, step->handle);
 }
 
 /* Makes the call of a create or an open. */
@@ -47,6 +53,10 @@ static void call_by_name(struct play *play, const struct step *step, struct answ
 	switch (step->call) {
 	case CREATE_DIRECTORY:
 		answer->status = ntns_create_directory(ns, process, root, name, length, step->attributes, &answer->number);
+		break;
+	case CREATE_SHADOWED:
+		answer->status = ntns_create_shadowed(ns, process, root, name, length, step->attributes, value_of(play, step, step->shadow),
+						      &answer->number);
 		break;
 	case CREATE_LINK:
 		answer->status = ntns_create_link(ns, process, root, name, length, step->attributes, targets,
@@ -159,6 +169,7 @@ struct answer play_call(struct play *play, const struct step *step, char *text, 
 
 	switch (step->call) {
 	case CREATE_DIRECTORY:
+	case CREATE_SHADOWED:
 	case CREATE_LINK:
 	case CREATE_OBJECT:
 	case OPEN_DIRECTORY:

@@ -10,6 +10,7 @@
 enum call {
 	BEGIN,
 	CREATE_DIRECTORY,
+	CREATE_SHADOWED,
 	CREATE_LINK,
 	CREATE_OBJECT,
 	OPEN_DIRECTORY,
@@ -39,7 +40,8 @@ struct step {
 	enum call call;
 	char process;        /* who calls */
 	char handle;         /* the letter of the handle that is used, of a create or an open as its root */
-	uint32_t more;       /* what is added to that handle's value */
+	char shadow;         /* the letter of the handle of a shadow */
+	uint32_t more;       /* what is added to the values of these handles */
 	const char *name;    /* the name; NULL for none; {N:c} in it is N times the character c */
 	uint32_t attributes;
 	uint32_t type;       /* the type that is made, wanted or told */
@@ -59,6 +61,7 @@ struct step {
 #define CASE(shows) { .call = BEGIN, .name = shows }
 
 #define DIRECTORY(p, root, n, a, k, s) .call = CREATE_DIRECTORY, .process = p, .handle = root, .name = n, .attributes = a, .kept = k, .status = S(s)
+#define SHADOWED(p, d, root, n, a, k, s) .call = CREATE_SHADOWED, .process = p, .shadow = d, .handle = root, .name = n, .attributes = a, .kept = k, .status = S(s)
 #define LINK(p, root, n, a, t, k, s) .call = CREATE_LINK, .process = p, .handle = root, .name = n, .attributes = a, .text = t, .kept = k, .status = S(s)
 #define OBJECT(p, t, root, n, a, w, k, s) .call = CREATE_OBJECT, .process = p, .type = T(t), .handle = root, .name = n, .attributes = a, .user_data = w, .kept = k, .status = S(s)
 #define OPENDIR(p, root, n, a, k, s) .call = OPEN_DIRECTORY, .process = p, .handle = root, .name = n, .attributes = a, .kept = k, .status = S(s)

@@ -203,6 +203,18 @@ INSTEAD(ntns_status, ntns_create_object, ntns *ns, uint32_t process, uint32_t ro
 	return __real_ntns_create_object(ns, process, root, name, length, attributes, type, (uint32_t)user_data, handle);
 }
 
+#elif defined SHADOW_IS_LOST
+INSTEAD(ntns_status, ntns_create_shadowed, ntns *ns, uint32_t process, uint32_t root, const char *name, size_t length, uint32_t attributes, uint32_t shadow, uint32_t *handle)
+{
+	ntns_status status = __real_ntns_create_shadowed(ns, process, root, name, length, attributes, shadow, handle);
+	if (status == S(SUCCESS)) {
+		ntns_make_temporary(ns, process, *handle);
+		ntns_close_handle(ns, process, *handle);
+		status = ntns_create_directory(ns, process, root, name, length, attributes, handle);
+	}
+	return status;
+}
+
 #elif defined REFUSED_MEMORY_AND_DONE
 /* Refuses for want of memory, and makes the directory all the same. */
 INSTEAD(ntns_status, ntns_create_directory, ntns *ns, uint32_t process, uint32_t root, const char *name, size_t length, uint32_t attributes, uint32_t *handle)

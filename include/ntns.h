@@ -155,6 +155,7 @@ void ntns_close(ntns *ns);
  *     OBJECT_NAME_INVALID      a byte of the name outside 0x20 to 0x7E
  *     NAME_TOO_LONG            a name above 32,767 bytes
  *     INVALID_HANDLE           `root` is no handle of the process
+ *     of a shadow:             INVALID_HANDLE, OBJECT_TYPE_MISMATCH (no directory), INVALID_PARAMETER (it has a shadow itself)
  *     OBJECT_PATH_SYNTAX_BAD   an absolute name without a leading backslash, or a relative one with one
  *     OBJECT_TYPE_MISMATCH     `root` is no directory's
  *     of the walk:             OBJECT_NAME_INVALID, OBJECT_PATH_NOT_FOUND, OBJECT_TYPE_MISMATCH, and of links REPARSE_LIMIT,
@@ -169,6 +170,14 @@ void ntns_close(ntns *ns);
 /* NtCreateDirectoryObject */
 ntns_status ntns_create_directory(ntns *ns, uint32_t process, uint32_t root, const char *name, size_t name_len, uint32_t attributes,
 				  uint32_t *handle);
+
+/*
+ * NtCreateDirectoryObjectEx with a shadow directory: where the new directory has no entry of a name, a lookup finds that of the shadow,
+ * a directory to which `shadow` is a handle of the process. The last component of a create is looked up in the new directory alone, and
+ * a listing has its own entries alone. The shadow remains as long as the directory. One that OPENIF opens keeps the shadow that it has.
+ */
+ntns_status ntns_create_shadowed(ntns *ns, uint32_t process, uint32_t root, const char *name, size_t name_len, uint32_t attributes,
+				 uint32_t shadow, uint32_t *handle);
 
 /* NtCreateSymbolicLinkObject. What `target` says is looked up when the link is followed. */
 ntns_status ntns_create_link(ntns *ns, uint32_t process, uint32_t root, const char *name, size_t name_len, uint32_t attributes,

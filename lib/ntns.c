@@ -13,6 +13,12 @@ ntns_status ntns_create_directory(ntns *ns, uint32_t process, uint32_t root, con
 	return ntns_create_directory_raw(ns, process, root, name != NULL, TEXT(name, name_len), attributes, handle);
 }
 
+ntns_status ntns_create_shadowed(ntns *ns, uint32_t process, uint32_t root, const char *name, size_t name_len, uint32_t attributes,
+				 uint32_t shadow, uint32_t *handle)
+{
+	return ntns_create_shadowed_raw(ns, process, root, name != NULL, TEXT(name, name_len), attributes, shadow, handle);
+}
+
 ntns_status ntns_create_link(ntns *ns, uint32_t process, uint32_t root, const char *name, size_t name_len, uint32_t attributes,
 			     const char *target, size_t target_len, uint32_t *handle)
 {

@@ -9,6 +9,8 @@
 
 ntns_status ntns_create_directory_raw(ntns *ns, uint32_t process, uint32_t root, bool named, const char *name, size_t name_len,
 				      uint32_t attributes, uint32_t *handle);
+ntns_status ntns_create_shadowed_raw(ntns *ns, uint32_t process, uint32_t root, bool named, const char *name, size_t name_len,
+				     uint32_t attributes, uint32_t shadow, uint32_t *handle);
 ntns_status ntns_create_link_raw(ntns *ns, uint32_t process, uint32_t root, bool named, const char *name, size_t name_len,
 				 uint32_t attributes, const char *target, size_t target_len, uint32_t *handle);
 ntns_status ntns_create_object_raw(ntns *ns, uint32_t process, uint32_t root, bool named, const char *name, size_t name_len,

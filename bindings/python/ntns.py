@@ -130,6 +130,7 @@ _CALLS = {
     "ntns_open": (c_uint32, [POINTER(_Ntns)]),
     "ntns_close": (None, [POINTER(_Ntns)]),
     "ntns_create_directory": (c_uint32, [POINTER(_Ntns), c_uint32, c_uint32, c_char_p, c_size_t, c_uint32, POINTER(c_uint32)]),
+    "ntns_create_shadowed": (c_uint32, [POINTER(_Ntns), c_uint32, c_uint32, c_char_p, c_size_t, c_uint32, c_uint32, POINTER(c_uint32)]),
     "ntns_create_link": (c_uint32, [POINTER(_Ntns), c_uint32, c_uint32, c_char_p, c_size_t, c_uint32, c_char_p, c_size_t, POINTER(c_uint32)]),
     "ntns_create_object": (c_uint32, [POINTER(_Ntns), c_uint32, c_uint32, c_char_p, c_size_t, c_uint32, c_uint32, c_uint64, POINTER(c_uint32)]),
     "ntns_open_directory": (c_uint32, [POINTER(_Ntns), c_uint32, c_uint32, c_char_p, c_size_t, c_uint32, POINTER(c_uint32)]),
@@ -295,6 +296,10 @@ class Process:
         """NtCreateDirectoryObject. Without a name the directory has none."""
         return self._handle("create_directory", root, *_named(name), attributes)
 
+    def create_shadowed(self, shadow: "Handle", name: Optional[Text] = None, attributes: int = 0, root: Optional["Handle"] = None) -> "Handle":
+        """NtCreateDirectoryObjectEx: a directory that shows the entries of its shadow, another directory, where it has none of that name."""
+        return self._handle("create_shadowed", root, *_named(name), attributes, self._own(shadow, "shadow"))
+
     def create_link(self, name: Optional[Text], target: Text, attributes: int = 0, root: Optional["Handle"] = None) -> "Handle":
         """NtCreateSymbolicLinkObject."""
         return self._handle("create_link", root, *_named(name), attributes, *_named(target))
@@ -330,11 +335,15 @@ class Process:
         return Handle(self, value)
 
     def _handle(self, call, root, *arguments):
-        if root is not None and (root.process.namespace, root.process.number) != (self.namespace, self.number):
-            raise ValueError("the root is a handle of another process")
         number = c_uint32()
-        status = self.namespace._call(call, self.number, 0 if root is None else root.value, *arguments, byref(number))
+        status = self.namespace._call(call, self.number, 0 if root is None else self._own(root, "root"), *arguments, byref(number))
         return Handle(self, number.value, status is Status.OBJECT_NAME_EXISTS)
+
+    def _own(self, handle, use):
+        """The value of a handle, which has to be one of this process."""
+        if (handle.process.namespace, handle.process.number) != (self.namespace, self.number):
+            raise ValueError(f"the {use} is a handle of another process")
+        return handle.value
 
 
 class Handle:

@@ -68,6 +68,17 @@ class Objects(Bound):
             self.system.create_object(Type.MUTANT, "m", root=root)
             self.assertEqual(self.system.open(r"\a\M", attributes=Attribute.CASE_INSENSITIVE).path(), r"\A\m")
 
+    def test_a_directory_shows_the_entries_of_its_shadow(self):
+        shadow = self.system.create_directory(r"\S")
+        self.system.create_object(Type.EVENT, "E", user_data=1, root=shadow)
+        directory = self.system.create_shadowed(shadow, r"\D")
+        self.assertEqual(self.system.open(r"\D\E").path(), r"\S\E")
+        self.system.create_object(Type.EVENT, "E", user_data=2, root=directory)
+        self.assertEqual(self.system.open(r"\D\E").query().user_data, 2)
+        self.assertEqual(list(self.system.create_shadowed(shadow)), [])
+        self.refused(Status.INVALID_PARAMETER, self.system.create_shadowed, directory, r"\F")
+        self.assertRaises(ValueError, self.system.new_process().create_shadowed, shadow)
+
     def test_a_link_is_opened_itself(self):
         self.system.create_link(r"\L", r"\Device")
         self.assertIs(self.system.open_link(r"\L").query().type, Type.SYMBOLIC_LINK)

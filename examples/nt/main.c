@@ -207,6 +207,25 @@ static void maps(struct host *host, uint32_t parent, uint32_t child)
 	hold(NtClose(host, child, link) == S(SUCCESS) && NtClose(host, child, directory) == S(SUCCESS), "both are closed");
 }
 
+/* A directory shows the entries of its shadow where it has none of that name. */
+static void shadows(struct host *host, uint32_t guest)
+{
+	HANDLE shadow, directory, event, other;
+
+	hold(NtCreateDirectoryObject(host, guest, &shadow, at(0, "\\S", 0)) == S(SUCCESS), "a directory is made");
+	hold(NtCreateEvent(host, guest, &event, at(shadow, "E", 0), false) == S(SUCCESS), "an event is made in it");
+	hold(NtCreateDirectoryObjectEx(host, guest, &directory, at(0, "\\D", 0), shadow) == S(SUCCESS), "it is the shadow of another");
+	hold(NtOpenEvent(host, guest, &other, at(directory, "E", 0)) == S(SUCCESS) && is_told(host, guest, other, ObjectNameInformation, "\\S\\E"), "the event is found there too");
+	NtClose(host, guest, other);
+	hold(NtCreateEvent(host, guest, &other, at(directory, "E", 0), false) == S(SUCCESS) && is_told(host, guest, other, ObjectNameInformation, "\\D\\E"), "an event of that name is made beside it");
+	NtClose(host, guest, other);
+	hold(NtCreateDirectoryObjectEx(host, guest, &other, at(0, "\\F", 0), directory) == S(INVALID_PARAMETER) && !other, "what has a shadow is none");
+	hold(NtCreateDirectoryObjectEx(host, guest, &other, at(0, "\\F", 0), event) == S(OBJECT_TYPE_MISMATCH) && !other, "nor is an event");
+	hold(NtCreateDirectoryObjectEx(host, guest, &other, at(0, "\\F", 0), (HANDLE)1 << 32) == S(INVALID_HANDLE) && !other, "nor what has no handle");
+	hold(NtClose(host, guest, shadow) == S(SUCCESS) && NtOpenEvent(host, guest, &other, at(directory, "E", 0)) == S(SUCCESS), "the shadow stays without a handle");
+	hold(NtClose(host, guest, other) == S(SUCCESS) && NtClose(host, guest, event) == S(SUCCESS) && NtClose(host, guest, directory) == S(SUCCESS), "all are closed");
+}
+
 /* A directory is listed into buffers of many lengths, to its end. */
 static void listings(struct host *host, uint32_t guest, bool is_single)
 {
@@ -296,6 +315,7 @@ int main(void)
 	keys(&host, parent);
 	duplicates(&host, parent, child, child_handle);
 	maps(&host, parent, child);
+	shadows(&host, parent);
 	listings(&host, parent, false);
 	listings(&host, parent, true);
 	uint32_t freed = host.freed;

@@ -119,12 +119,19 @@ NTSTATUS NtOpenKey(struct host *host, uint32_t process, HANDLE *key, const OBJEC
 
 NTSTATUS NtCreateDirectoryObject(struct host *host, uint32_t process, HANDLE *directory, const OBJECT_ATTRIBUTES *attributes)
 {
+	return NtCreateDirectoryObjectEx(host, process, directory, attributes, 0);
+}
+
+NTSTATUS NtCreateDirectoryObjectEx(struct host *host, uint32_t process, HANDLE *directory, const OBJECT_ATTRIBUTES *attributes, HANDLE shadow)
+{
 	struct name name;
 	uint32_t handle = 0;
 	NTSTATUS status = take_name(attributes, &name);
 
 	begin(host);
-	if (status == NTNS_STATUS_SUCCESS)
+	if (status == NTNS_STATUS_SUCCESS && shadow)
+		status = ntns_create_shadowed(&host->ns, process, name.root, name.text, name.length, flags_of(attributes, true), value_of(shadow), &handle);
+	else if (status == NTNS_STATUS_SUCCESS)
 		status = ntns_create_directory(&host->ns, process, name.root, name.text, name.length, flags_of(attributes, true), &handle);
 	*directory = handle;
 	return end(host, status);

@@ -89,6 +89,7 @@ NTSTATUS NtQueryFilePosition(struct host *host, uint32_t process, HANDLE file, u
 NTSTATUS NtCreateKey(struct host *host, uint32_t process, HANDLE *key, const OBJECT_ATTRIBUTES *attributes);
 NTSTATUS NtOpenKey(struct host *host, uint32_t process, HANDLE *key, const OBJECT_ATTRIBUTES *attributes);
 NTSTATUS NtCreateDirectoryObject(struct host *host, uint32_t process, HANDLE *directory, const OBJECT_ATTRIBUTES *attributes);
+NTSTATUS NtCreateDirectoryObjectEx(struct host *host, uint32_t process, HANDLE *directory, const OBJECT_ATTRIBUTES *attributes, HANDLE shadow);
 NTSTATUS NtOpenDirectoryObject(struct host *host, uint32_t process, HANDLE *directory, const OBJECT_ATTRIBUTES *attributes);
 NTSTATUS NtQueryDirectoryObject(struct host *host, uint32_t process, HANDLE directory, void *buffer, ULONG length, bool is_single, bool restarts,
 				ULONG *context, ULONG *returned);

@@ -7,7 +7,7 @@ use Rattle.ob_base.specs.Handle.{key_of}
 use Rattle.ob_base.specs.declared.status.Status.{Status}
 use Rattle.ob_base.specs.declared.status.Status.TheVariants.{Success, InvalidHandle, InsufficientResources, NoMemory, ObjectNameExists, ObjectNameCollision, ObjectTypeMismatch, ProcessGone, TypeRefused, NameTooLong}
 use Rattle.ob_model.specs.declared.command.Command.{Command}
-use Rattle.ob_model.specs.declared.command.Command.TheVariants.{CreateDirectory, CreateLink, CreateObject, OpenDirectory, OpenLink, OpenObject, Close, QueryLink, QueryName, QueryDirectory, Duplicate, MakeTemporary, MakePermanent, SetDeviceMap, NewProcess, ExitProcess}
+use Rattle.ob_model.specs.declared.command.Command.TheVariants.{CreateDirectory, CreateShadowed, CreateLink, CreateObject, OpenDirectory, OpenLink, OpenObject, Close, QueryLink, QueryName, QueryDirectory, Duplicate, MakeTemporary, MakePermanent, SetDeviceMap, NewProcess, ExitProcess}
 use Rattle.ob_model.specs.declared.command.Place.{Place}
 use Rattle.ob_model.specs.declared.command.Place.TheVariants as place
 use Rattle.ob_model.specs.declared.reply.Answer.{Answer}
@@ -36,7 +36,7 @@ use Rattle.ob_model.specs.Procedures.{Procedures}
 use Rattle.ob_model.specs.Refusals.{gives, answers, create_refusals, IsRefused, Unless}
 use Rattle.ob_model.specs.Settle.{settle}
 use Rattle.ob_model.specs.State.{State, held_of, body_of, is_directory, is_live}
-use Rattle.ob_model.specs.Step.{WithHandle, WithRoot, CreatesIn, CreatesAt, TellsPage, page_refusals, Starts, Step}
+use Rattle.ob_model.specs.Step.{WithHandle, WithRoot, shadow_refusals, WithShadow, CreatesIn, CreatesAt, TellsPage, page_refusals, Starts, Step}
 use Rattle.ob_model.specs.declared.terms.Reason.TheVariants.{Created, Duplicated, Opened}
 use Rattle.ob_runner.specs.Completes.{Made, Leads, Completes, MayFalter, Falters}
 use Rattle.ob_host.specs.declared.kind.Kind.{Kind}
@@ -113,15 +113,23 @@ module _ {K T F I : Type 0} (g : Procedures K T F I) (n : ℕ) (s t : State K T 
   with_root p None Does never h = never None h
   with_root p (Some handle) Does never h = at_handle p handle (λ x. Does (Some x.object)) (λ x. never (Some x.object)) h
 
-  creates_in : (p : ℕ) (where_to : Place) (attrs : ℕ) (making : Making K) → CreatesIn g s p where_to attrs making (Ticket n) t → ⊥
-  creates_in p (place.At root name) attrs making h =
-      with_root p root (λ at. (look : Look) × LooksUp g s p (create_mode attrs) most_reparses at name look × Creates g s p attrs making look (Ticket n) t)
-      (λ at found. creates p attrs making found.0 found.2) h
-  creates_in p place.Unnamed attrs making h = makes p attrs making None h
+  with_shadow : (p : ℕ) (shadow : Option ℕ) (Does : Option ℕ → Type 0) → ((d : Option ℕ) → Does d → ⊥) → WithShadow s p shadow (Ticket n) t Does → ⊥
+  with_shadow p None Does never h = never None h
+  with_shadow p (Some handle) Does never h =
+      at_handle p handle (λ x. Unless (shadow_refusals s x.object) s (Ticket n) t (Does (Some x.object)))
+      (λ x. unless (shadow_refusals s x.object) (Does (Some x.object)) (never (Some x.object))) h
 
-  creates_at : (p : ℕ) (where_to : Place) (attrs : ℕ) (making : Making K) → CreatesAt g s p where_to attrs making (Ticket n) t → ⊥
-  creates_at p where_to attrs making =
-      unless (create_refusals (is_live s p) (is_fit making) where_to attrs) (CreatesIn g s p where_to attrs making (Ticket n) t) (creates_in p where_to attrs making)
+  creates_in : (p : ℕ) (where_to : Place) (attrs : ℕ) (shadow : Option ℕ) (making : Option ℕ → Making K) → CreatesIn g s p where_to attrs shadow making (Ticket n) t → ⊥
+  creates_in p (place.At root name) attrs shadow making h =
+      with_root p root (λ at. WithShadow s p shadow (Ticket n) t (Does at)) (λ at. with_shadow p shadow (Does at) (λ d found. creates p attrs (making d) found.0 found.2)) h
+    where
+      Does : Option ℕ → Option ℕ → Type 0
+      Does at d = (look : Look) × LooksUp g s p (create_mode attrs) most_reparses at name look × Creates g s p attrs (making d) look (Ticket n) t
+  creates_in p place.Unnamed attrs shadow making h = with_shadow p shadow (λ d. Makes g s p attrs (making d) None (Ticket n) t) (λ d. makes p attrs (making d) None) h
+
+  creates_at : (p : ℕ) (where_to : Place) (attrs : ℕ) (shadow : Option ℕ) (making : Option ℕ → Making K) → CreatesAt g s p where_to attrs shadow making (Ticket n) t → ⊥
+  creates_at p where_to attrs shadow making =
+      unless (create_refusals (is_live s p) (is_fit (making None)) where_to attrs) (CreatesIn g s p where_to attrs shadow making (Ticket n) t) (creates_in p where_to attrs shadow making)
 
   tells_name : (o : ℕ) → TellsName s o (Ticket n) → ⊥
   tells_name o (inl path) = no_path n (nat_lt longest_name (length (path_text path.0))) (path_text path.0) path.2
@@ -147,9 +155,10 @@ module _ {K T F I : Type 0} (g : Procedures K T F I) (n : ℕ) (s t : State K T 
 
   -- no step of a command that doesn't wait is answered with a ticket
   starts : (p : ℕ) (command : Command K) → may_wait command ≡ false → Starts g s p command (Ticket n) t → ⊥
-  starts p (CreateDirectory where_to attrs) e h = creates_at p where_to attrs MakesDirectory h
-  starts p (CreateLink where_to attrs target) e h = creates_at p where_to attrs (MakesLink target) h
-  starts p (CreateObject where_to attrs kind args) e h = creates_at p where_to attrs (MakesObject kind args) h
+  starts p (CreateDirectory where_to attrs) e h = creates_at p where_to attrs None MakesDirectory h
+  starts p (CreateShadowed where_to attrs shadow) e h = creates_at p where_to attrs (Some shadow) MakesDirectory h
+  starts p (CreateLink where_to attrs target) e h = creates_at p where_to attrs None (λ shadow. MakesLink target) h
+  starts p (CreateObject where_to attrs kind args) e h = creates_at p where_to attrs None (λ shadow. MakesObject kind args) h
   starts p (OpenDirectory root name attrs) e h = cc
   starts p (OpenLink root name attrs) e h = cc
   starts p (OpenObject root name attrs want) e h = cc

@@ -9,7 +9,7 @@ use Rattle.ob_base.specs.declared.status.Status.TheVariants.{Success, InvalidPar
 use Rattle.ob_base.specs.Status.{code_of}
 use Rattle.ob_model.specs.Opening.{opening}
 use Rattle.ob_model.specs.declared.command.Command.{Command}
-use Rattle.ob_model.specs.declared.command.Command.TheVariants.{CreateDirectory, CreateLink, CreateObject, OpenDirectory, OpenLink, OpenObject, Close, QueryLink, QueryName, QueryDirectory, Duplicate, MakeTemporary, MakePermanent, SetDeviceMap, NewProcess, ExitProcess}
+use Rattle.ob_model.specs.declared.command.Command.TheVariants.{CreateDirectory, CreateShadowed, CreateLink, CreateObject, OpenDirectory, OpenLink, OpenObject, Close, QueryLink, QueryName, QueryDirectory, Duplicate, MakeTemporary, MakePermanent, SetDeviceMap, NewProcess, ExitProcess}
 use Rattle.ob_model.specs.declared.command.Place.{Place}
 use Rattle.ob_model.specs.declared.command.Place.TheVariants.{At, Unnamed}
 use Rattle.ob_model.specs.declared.reply.Answer.TheVariants.{Done}
@@ -39,6 +39,7 @@ arguments_of user_data = to_le_bytes w64 user_data
 -- a command is handed in with bytes, of which a copy is made
 abbrev pub HasBytes : Command Kind → Type 0
 HasBytes (CreateDirectory where_to attrs) = Unit {0}
+HasBytes (CreateShadowed where_to attrs shadow) = Unit {0}
 HasBytes (CreateLink where_to attrs target) = Unit {0}
 HasBytes (CreateObject where_to attrs kind args) = Unit {0}
 HasBytes (OpenDirectory root name attrs) = Unit {0}
@@ -58,6 +59,7 @@ HasBytes ExitProcess = ⊥
 -- a command is an open, which may wait for parses
 abbrev pub may_wait : {K : Type 0} → Command K → Bool
 may_wait (CreateDirectory where_to attrs) = false
+may_wait (CreateShadowed where_to attrs shadow) = false
 may_wait (CreateLink where_to attrs target) = false
 may_wait (CreateObject where_to attrs kind args) = false
 may_wait (OpenDirectory root name attrs) = true

@@ -37,7 +37,7 @@ has_text kind = same_kind kind File || same_kind kind Key
 
 -- the text of a file or a key; any other object has none
 abbrev pub TellsBodyText : Body HostObject Kept → (status : ℕ) → (old new : List ℕ) → ℕ → Type 0
-TellsBodyText Directory status old new told = FillsNothing status (code_of ObjectTypeMismatch) old new told
+TellsBodyText (Directory shadow) status old new told = FillsNothing status (code_of ObjectTypeMismatch) old new told
 TellsBodyText (Link target) status old new told = FillsNothing status (code_of ObjectTypeMismatch) old new told
 TellsBodyText (Other face inner) status old new told =
     MatchBool (has_text face.kind) (Fills status face.text Success old new told) (FillsNothing status (code_of ObjectTypeMismatch) old new told)

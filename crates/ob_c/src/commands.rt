@@ -1,7 +1,7 @@
 //! Commands made of what a caller in C hands in.
 
 ghost use Rattle.std.specs.Prelude.{◌≡◌, Some, IfOk};
-ghost use Rattle.ob_model.specs.declared.command.Command.TheVariants.{CreateDirectory, CreateLink, CreateObject, OpenDirectory, OpenLink, OpenObject};
+ghost use Rattle.ob_model.specs.declared.command.Command.TheVariants.{CreateDirectory, CreateShadowed, CreateLink, CreateObject, OpenDirectory, OpenLink, OpenObject};
 ghost use Rattle.ob_c.specs.Calls.{arguments_of, place_of, root_of};
 
 use ob_base::Handle;
@@ -43,6 +43,25 @@ pub(crate) fn create_directory(
     Ok(Command::CreateDirectory {
         place: place_of(alloc, root, named, name)?,
         attrs: attributes,
+    })
+}
+
+/// The command that creates a directory with a shadow. The only error is out of memory.
+pub(crate) fn create_shadowed(
+    alloc: Global,
+    root: u32,
+    named: bool,
+    name: &[u8],
+    attributes: u32,
+    shadow: u32,
+) -> Result<Command<Kind>, AllocError>
+    ensures { IfOk result (λ command.
+        command ≡ CreateShadowed (place_of named root name.now) attributes shadow) }
+{
+    Ok(Command::CreateShadowed {
+        place: place_of(alloc, root, named, name)?,
+        attrs: attributes,
+        shadow: Handle(shadow),
     })
 }
 

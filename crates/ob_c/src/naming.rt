@@ -1,12 +1,12 @@
 //! Exports that create what a name stands for.
 
-ghost use Rattle.ob_model.specs.declared.command.Command.TheVariants.{CreateDirectory, CreateLink, CreateObject};
+ghost use Rattle.ob_model.specs.declared.command.Command.TheVariants.{CreateDirectory, CreateShadowed, CreateLink, CreateObject};
 ghost use Rattle.ob_c.specs.Calls.{Does, DoesOfType, arguments_of, place_of};
 ghost use Rattle.ob_c.specs.Told.{TellsHandle};
 
 use crate::Ntns;
 use crate::called::{call, tell_handle};
-use crate::commands::{create_directory, create_link, create_object};
+use crate::commands::{create_directory, create_link, create_object, create_shadowed};
 use ob_base::Status;
 use ob_numbers::kind_of;
 use std::alloc::Global;
@@ -31,6 +31,32 @@ pub extern "C" fn ntns_create_directory_raw(
         ns.old.core ns.new.core (TellsHandle result handle.new) }
 {
     let made = create_directory(alloc, root, named, name, attributes);
+    tell_handle(&call(ns, alloc, process, made), handle)
+}
+
+/// Creates a directory with a shadow, at a name, or without one if `named` is false, and opens a handle to it. `root` is
+/// the handle that the name is relative to, 0 for none. `shadow` is a handle to the shadow: a directory without a shadow, in
+/// which a name is looked up where the new directory has no entry of it. `handle` receives the new handle, 0 if none is given.
+///
+/// The statuses are those of the command `CreateShadowed`, in its order; `InvalidParameter` if the namespace is closed, and
+/// `NoMemory` if out of memory; nothing has changed then. Source: NtCreateDirectoryObjectEx with a shadow directory (Windows);
+/// that a shadow has no shadow, and the order of refusals, are this profile.
+#[unsafe(no_mangle)]
+pub extern "C" fn ntns_create_shadowed_raw(
+    ns: &mut Ntns,
+    alloc: Global,
+    process: u32,
+    root: u32,
+    named: bool,
+    name: &[u8],
+    attributes: u32,
+    shadow: u32,
+    handle: &mut u32,
+) -> u32
+    ensures { Does process (CreateShadowed (place_of named root name.now) attributes shadow)
+        ns.old.core ns.new.core (TellsHandle result handle.new) }
+{
+    let made = create_shadowed(alloc, root, named, name, attributes, shadow);
     tell_handle(&call(ns, alloc, process, made), handle)
 }
 

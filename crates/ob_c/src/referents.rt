@@ -14,7 +14,7 @@ pub(crate) fn type_of(referent: &Referent<'_, HostObject, HostInner>) -> u32
     ensures { result ≡ type_of_body (body_lent referent.now) }
 {
     match referent {
-        Referent::Directory => DIRECTORY,
+        Referent::Directory(_) => DIRECTORY,
         Referent::Link(_) => LINK,
         Referent::Other { face, .. } => type_of_kind(face.kind),
     }
@@ -25,7 +25,7 @@ pub(crate) fn user_data_of(referent: &Referent<'_, HostObject, HostInner>) -> u6
     ensures { result ≡ user_data_of_body (body_lent referent.now) }
 {
     match referent {
-        Referent::Directory => 0,
+        Referent::Directory(_) => 0,
         Referent::Link(_) => 0,
         Referent::Other { face, .. } => face.user_data,
     }
@@ -37,7 +37,7 @@ pub(crate) fn id_of(object: ObjId, referent: &Referent<'_, HostObject, HostInner
     ensures { result ≡ id_of_body object (body_lent referent.now) }
 {
     match referent {
-        Referent::Directory => own_id(object),
+        Referent::Directory(_) => own_id(object),
         Referent::Link(_) => own_id(object),
         Referent::Other { inner, .. } => inner.serial(),
     }

@@ -60,6 +60,7 @@ asks_seen found form process r e f =
 -- a request that sets a process word is one for a child
 pub begins : (r : Request (List ℕ)) (word : List ℕ) (inherit : Bool) → change.SetsProcess word inherit ≡ change_of r → r ≡ request.NewProcess inherit word
 begins (request.CreateDirectory place attrs w) word inherit e = cc
+begins (request.CreateShadowed shadow place attrs w) word inherit e = cc
 begins (request.CreateLink place attrs target w) word inherit e = cc
 begins (request.CreateObject kind place attrs args w) word inherit e = cc
 begins (request.OpenDirectory name attrs w) word inherit e = cc

@@ -1,7 +1,7 @@
 -- What takes no memory is never refused for lack of it.
 use Rattle.std.proofs.Common.{ℕ, List, sym, subst, inl, inr}
 use Rattle.ob_lines.specs.declared.request.Request.{Request}
-use Rattle.ob_lines.specs.declared.request.Request.TheVariants.{CreateDirectory, CreateLink, CreateObject, OpenDirectory, OpenLink, OpenObject, Close, QueryLink, QueryName, QueryDirectory, Duplicate, MakeTemporary, MakePermanent, SetDeviceMap, NewProcess, ExitProcess}
+use Rattle.ob_lines.specs.declared.request.Request.TheVariants.{CreateDirectory, CreateShadowed, CreateLink, CreateObject, OpenDirectory, OpenLink, OpenObject, Close, QueryLink, QueryName, QueryDirectory, Duplicate, MakeTemporary, MakePermanent, SetDeviceMap, NewProcess, ExitProcess}
 use Rattle.ob_model.specs.declared.command.Command.{Command}
 use Rattle.ob_requests.specs.Commands.{IsCommand}
 use Rattle.ob_requests.specs.Room.{Grows}
@@ -14,6 +14,7 @@ use Rattle.ob_effects.specs.Effects.{IsUnanswered, TakesNone}
 
 grows_not : (request : Request (List ℕ)) → TakesNone request → Grows request → ⊥
 grows_not (CreateDirectory place attrs word) takes grows = takes
+grows_not (CreateShadowed shadow place attrs word) takes grows = takes
 grows_not (CreateLink place attrs target word) takes grows = takes
 grows_not (CreateObject kind place attrs args word) takes grows = takes
 grows_not (OpenDirectory name attrs word) takes grows = takes
@@ -33,6 +34,7 @@ grows_not ExitProcess takes grows = grows
 -- nor does its command
 its_command : (request : Request (List ℕ)) (words : Words) (p : ℕ) (c : Command StandardKind) → TakesNone request → IsCommand request words p c → TakesNoMemory c
 its_command (CreateDirectory place attrs word) words p c takes is = absurd takes
+its_command (CreateShadowed shadow place attrs word) words p c takes is = absurd takes
 its_command (CreateLink place attrs target word) words p c takes is = absurd takes
 its_command (CreateObject kind place attrs args word) words p c takes is = absurd takes
 its_command (OpenDirectory name attrs word) words p c takes is = absurd takes

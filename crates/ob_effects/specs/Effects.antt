@@ -15,7 +15,7 @@ use Rattle.ob_lines.specs.declared.form.Form.{Form}
 use Rattle.ob_lines.specs.declared.form.Form.TheVariants.{Nothing, Stat, Asks, Waits}
 use Rattle.ob_lines.specs.declared.pending.PendingForm.{PendingForm}
 use Rattle.ob_lines.specs.declared.request.Request.{Request}
-use Rattle.ob_lines.specs.declared.request.Request.TheVariants.{CreateDirectory, CreateLink, CreateObject, OpenDirectory, OpenLink, OpenObject, Close, QueryLink, QueryName, QueryDirectory, Duplicate, MakeTemporary, MakePermanent, SetDeviceMap, NewProcess, ExitProcess}
+use Rattle.ob_lines.specs.declared.request.Request.TheVariants.{CreateDirectory, CreateShadowed, CreateLink, CreateObject, OpenDirectory, OpenLink, OpenObject, Close, QueryLink, QueryName, QueryDirectory, Duplicate, MakeTemporary, MakePermanent, SetDeviceMap, NewProcess, ExitProcess}
 use Rattle.ob_effects.specs.declared.outcome.LineOutcome.{LineOutcome}
 use Rattle.ob_effects.specs.declared.outcome.LineOutcome.TheVariants as outcome
 use Rattle.ob_effects.specs.declared.notice.Notice.{Notice}
@@ -99,6 +99,7 @@ IsDone (Some (Waits process pending)) words s o words' s' = IsWaitDone pending (
 -- a request takes no memory: a close, the end of a process, and what makes an object permanent or temporary
 abbrev pub TakesNone : Request (List ℕ) → Type 0
 TakesNone (CreateDirectory place attrs word) = ⊥
+TakesNone (CreateShadowed shadow place attrs word) = ⊥
 TakesNone (CreateLink place attrs target word) = ⊥
 TakesNone (CreateObject kind place attrs args word) = ⊥
 TakesNone (OpenDirectory name attrs word) = ⊥

@@ -18,7 +18,7 @@ pub enum Cause {
     /// all. In version 2 also a further line with the key `journal` that isn't the header of the next segment, or where the segment
     /// before has no entry.
     Header,
-    /// A further line is no entry of the form that a journal has.
+    /// A further line is no entry of the form that a journal of its version has.
     Syntax,
     /// The number isn't the next one, or the segment has 1,048,576 entries already. A journal of version 1 is one segment.
     Number,

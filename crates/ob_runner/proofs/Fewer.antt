@@ -8,7 +8,7 @@ use Rattle.std.proofs.lemmas.List.Elements.{All-filter}
 use Rattle.ob_base.specs.declared.status.Status.{Status}
 use Rattle.ob_base.specs.declared.status.Status.TheVariants.{ObjectPathSyntaxBad, ObjectTypeMismatch, NameTooLong, Success, InsufficientResources, NoMemory, TypeRefused, ProcessGone, InvalidHandle}
 use Rattle.ob_model.specs.declared.command.Command.{Command}
-use Rattle.ob_model.specs.declared.command.Command.TheVariants.{CreateDirectory, CreateLink, CreateObject, OpenDirectory, OpenLink, OpenObject, Close, QueryLink, QueryName, QueryDirectory, Duplicate, MakeTemporary, MakePermanent, SetDeviceMap, NewProcess, ExitProcess}
+use Rattle.ob_model.specs.declared.command.Command.TheVariants.{CreateDirectory, CreateShadowed, CreateLink, CreateObject, OpenDirectory, OpenLink, OpenObject, Close, QueryLink, QueryName, QueryDirectory, Duplicate, MakeTemporary, MakePermanent, SetDeviceMap, NewProcess, ExitProcess}
 use Rattle.ob_model.specs.declared.reply.Answer.TheVariants.{Done, Ticket}
 use Rattle.ob_model.specs.declared.reply.Event.TheVariants.{Start, Resume}
 use Rattle.ob_model.specs.declared.reply.Given.TheVariants.{Handle}
@@ -221,6 +221,7 @@ module _ {K T F I : Type 0} (g : Procedures K T F I) (s t : State K T F I) (m : 
   start_begins p (OpenLink root name attrs) h = (opens_name_waits p root name attrs wanted.Link h, refl)
   start_begins p (OpenObject root name attrs want) h = (opens_name_waits p root name attrs (type_wanted want) h, refl)
   start_begins p (CreateDirectory where_to attrs) h = no_reply (start_replies g s t (Ticket m) p (CreateDirectory where_to attrs) refl h)
+  start_begins p (CreateShadowed where_to attrs shadow) h = no_reply (start_replies g s t (Ticket m) p (CreateShadowed where_to attrs shadow) refl h)
   start_begins p (CreateLink where_to attrs target) h = no_reply (start_replies g s t (Ticket m) p (CreateLink where_to attrs target) refl h)
   start_begins p (CreateObject where_to attrs kind args) h = no_reply (start_replies g s t (Ticket m) p (CreateObject where_to attrs kind args) refl h)
   start_begins p (Close handle) h = no_reply (start_replies g s t (Ticket m) p (Close handle) refl h)

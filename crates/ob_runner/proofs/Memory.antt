@@ -1,7 +1,7 @@
 -- A command that takes no memory is answered at once.
 use Rattle.std.proofs.Common.{◌≡◌, ℕ, List, [], ◌∷◌, false, refl, subst}
 use Rattle.ob_model.specs.declared.command.Command.{Command}
-use Rattle.ob_model.specs.declared.command.Command.TheVariants.{CreateDirectory, CreateLink, CreateObject, OpenDirectory, OpenLink, OpenObject, Close, QueryLink, QueryName, QueryDirectory, Duplicate, MakeTemporary, MakePermanent, SetDeviceMap, NewProcess, ExitProcess}
+use Rattle.ob_model.specs.declared.command.Command.TheVariants.{CreateDirectory, CreateShadowed, CreateLink, CreateObject, OpenDirectory, OpenLink, OpenObject, Close, QueryLink, QueryName, QueryDirectory, Duplicate, MakeTemporary, MakePermanent, SetDeviceMap, NewProcess, ExitProcess}
 use Rattle.ob_model.specs.declared.reply.Answer.{Answer}
 use Rattle.ob_model.specs.declared.reply.Answer.TheVariants.{Done, Ticket}
 use Rattle.ob_model.specs.declared.reply.Event.{Event}
@@ -15,6 +15,7 @@ use Rattle.ob_runner.proofs.Replies.{IsReply, is_open, start_replies}
 
 no_open : {K : Type 0} (command : Command K) → TakesNoMemory command → is_open command ≡ false
 no_open (CreateDirectory where_to attrs) takes = absurd takes
+no_open (CreateShadowed where_to attrs shadow) takes = absurd takes
 no_open (CreateLink where_to attrs target) takes = absurd takes
 no_open (CreateObject where_to attrs kind args) takes = absurd takes
 no_open (OpenDirectory root name attrs) takes = absurd takes

@@ -5,7 +5,7 @@ use Rattle.ob_base.specs.declared.status.Status.{Status}
 use Rattle.ob_base.specs.declared.status.Status.TheVariants.{InsufficientResources, InvalidHandle, NoMemory, ObjectTypeMismatch, ProcessGone, Success, TypeRefused}
 use Rattle.ob_base.specs.Handle.{key_of}
 use Rattle.ob_model.specs.declared.command.Command.{Command}
-use Rattle.ob_model.specs.declared.command.Command.TheVariants.{CreateDirectory, CreateLink, CreateObject, OpenDirectory, OpenLink, OpenObject, Close, QueryLink, QueryName, QueryDirectory, Duplicate, MakeTemporary, MakePermanent, SetDeviceMap, NewProcess, ExitProcess}
+use Rattle.ob_model.specs.declared.command.Command.TheVariants.{CreateDirectory, CreateShadowed, CreateLink, CreateObject, OpenDirectory, OpenLink, OpenObject, Close, QueryLink, QueryName, QueryDirectory, Duplicate, MakeTemporary, MakePermanent, SetDeviceMap, NewProcess, ExitProcess}
 use Rattle.ob_model.specs.declared.reply.Answer.TheVariants.{Done, Ticket}
 use Rattle.ob_model.specs.declared.reply.Event.{Event}
 use Rattle.ob_model.specs.declared.reply.Event.TheVariants.{Start, Resume, Abandon}
@@ -83,6 +83,7 @@ module _ {K T F I : Type 0} (g : Procedures K T F I) (t : State K T F I) (m : â„
   start_next s p (OpenLink root name attrs) h = opens_name_next s p root name attrs wanted.Link h
   start_next s p (OpenObject root name attrs want) h = opens_name_next s p root name attrs (type_wanted want) h
   start_next s p (CreateDirectory where_to attrs) h = no_reply (start_replies g s t (Ticket m) p (CreateDirectory where_to attrs) refl h)
+  start_next s p (CreateShadowed where_to attrs shadow) h = no_reply (start_replies g s t (Ticket m) p (CreateShadowed where_to attrs shadow) refl h)
   start_next s p (CreateLink where_to attrs target) h = no_reply (start_replies g s t (Ticket m) p (CreateLink where_to attrs target) refl h)
   start_next s p (CreateObject where_to attrs kind args) h = no_reply (start_replies g s t (Ticket m) p (CreateObject where_to attrs kind args) refl h)
   start_next s p (Close handle) h = no_reply (start_replies g s t (Ticket m) p (Close handle) refl h)

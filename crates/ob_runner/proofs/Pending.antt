@@ -88,7 +88,7 @@ module _ {F I : Type 0} (f : Object F I → Object F I) (same : (x : Object F I)
 
 module _ {K T F I : Type 0} (g : Procedures K T F I) where
   opened_face : (set : T) (reason : Reason) (body : Body F I) → face_in (opened_body g set body reason) ≡ face_in body
-  opened_face set reason Directory = refl
+  opened_face set reason (Directory shadow) = refl
   opened_face set reason (Link target) = refl
   opened_face set reason (Other face inner) = refl
 
@@ -98,7 +98,7 @@ module _ {K T F I : Type 0} (g : Procedures K T F I) where
       [ true ↦ opened_face set reason x.body | false ↦ refl ]
 
   closed_face : (set : T) (left total : ℕ) (body : Body F I) → face_in (closed_body g set left total body) ≡ face_in body
-  closed_face set left total Directory = refl
+  closed_face set left total (Directory shadow) = refl
   closed_face set left total (Link target) = refl
   closed_face set left total (Other face inner) = refl
 

@@ -7,7 +7,7 @@ use Rattle.ob_base.specs.declared.status.Status.TheVariants.{Success, InvalidHan
 use Rattle.ob_base.specs.Attrs.{has_flag, open_if_flag}
 use Rattle.ob_base.specs.Handle.{key_of}
 use Rattle.ob_model.specs.declared.command.Command.{Command}
-use Rattle.ob_model.specs.declared.command.Command.TheVariants.{CreateDirectory, CreateLink, CreateObject, OpenDirectory, OpenLink, OpenObject, Close, QueryLink, QueryName, QueryDirectory, Duplicate, MakeTemporary, MakePermanent, SetDeviceMap, NewProcess, ExitProcess}
+use Rattle.ob_model.specs.declared.command.Command.TheVariants.{CreateDirectory, CreateShadowed, CreateLink, CreateObject, OpenDirectory, OpenLink, OpenObject, Close, QueryLink, QueryName, QueryDirectory, Duplicate, MakeTemporary, MakePermanent, SetDeviceMap, NewProcess, ExitProcess}
 use Rattle.ob_model.specs.declared.command.Place.{Place}
 use Rattle.ob_model.specs.declared.command.Place.TheVariants as place
 use Rattle.ob_model.specs.declared.reply.Answer.{Answer}
@@ -36,7 +36,7 @@ use Rattle.ob_model.specs.Creates.{Making, MakesDirectory, MakesLink, MakesObjec
 use Rattle.ob_model.specs.Naming.{path_text, TellsName, TellsTarget}
 use Rattle.ob_model.specs.Enumeration.{enumerated, context_used, page_answer}
 use Rattle.ob_model.specs.Processes.{values_in, is_crowded, begun, ended}
-use Rattle.ob_model.specs.Step.{WithHandle, WithRoot, CreatesIn, CreatesAt, Turns, page_refusals, TellsPage, Step}
+use Rattle.ob_model.specs.Step.{WithHandle, WithRoot, shadow_refusals, WithShadow, CreatesIn, CreatesAt, Turns, page_refusals, TellsPage, Step}
 
 abbrev pub IsReply : Answer → Type 0
 IsReply answer = (reply : Reply) × (answer ≡ Done reply)
@@ -44,6 +44,7 @@ IsReply answer = (reply : Reply) × (answer ≡ Done reply)
 -- a command is an open
 abbrev pub is_open : {K : Type 0} → Command K → Bool
 is_open (CreateDirectory where_to attrs) = false
+is_open (CreateShadowed where_to attrs shadow) = false
 is_open (CreateLink where_to attrs target) = false
 is_open (CreateObject where_to attrs kind args) = false
 is_open (OpenDirectory root name attrs) = true
@@ -83,6 +84,12 @@ module _ {K T F I : Type 0} (s t : State K T F I) (answer : Answer) where
   with_root_reply : (p : ℕ) (root : Option ℕ) (Does : Option ℕ → Type 0) → ((at : Option ℕ) → Does at → IsReply answer) → WithRoot s p root answer t Does → IsReply answer
   with_root_reply p None Does does h = does None h
   with_root_reply p (Some handle) Does does h = held_reply (option_and_then (held_of s p) (key_of handle)) (λ x. Does (Some x.object)) (λ x. does (Some x.object)) h
+
+  with_shadow_reply : (p : ℕ) (shadow : Option ℕ) (Does : Option ℕ → Type 0) → ((d : Option ℕ) → Does d → IsReply answer) → WithShadow s p shadow answer t Does → IsReply answer
+  with_shadow_reply p None Does does h = does None h
+  with_shadow_reply p (Some handle) Does does h =
+      held_reply (option_and_then (held_of s p) (key_of handle)) (λ x. Unless (shadow_refusals s x.object) s answer t (Does (Some x.object)))
+      (λ x. unless_reply (shadow_refusals s x.object) (Does (Some x.object)) (does (Some x.object))) h
 
   target_reply : (o : ℕ) → TellsTarget s o answer → IsReply answer
   target_reply o h = go _ h
@@ -140,16 +147,20 @@ module _ {K T F I : Type 0} (g : Procedures K T F I) (s t : State K T F I) (answ
   creates_reply p attrs making (Parse o rest n) h = absurd h
   creates_reply p attrs making (Vacant d c) h = makes_reply p attrs making (Some (d, c)) h
 
-  creates_in_reply : (p : ℕ) (where_to : Place) (attrs : ℕ) (making : Making K) → CreatesIn g s p where_to attrs making answer t → IsReply answer
-  creates_in_reply p (place.At root name) attrs making h =
-      with_root_reply s t answer p root
-      (λ at. (look : Look) × LooksUp g s p (create_mode attrs) most_reparses at name look × Creates g s p attrs making look answer t)
-      (λ at does. creates_reply p attrs making does.0 does.2) h
-  creates_in_reply p place.Unnamed attrs making h = makes_reply p attrs making None h
+  creates_in_reply : (p : ℕ) (where_to : Place) (attrs : ℕ) (shadow : Option ℕ) (making : Option ℕ → Making K) → CreatesIn g s p where_to attrs shadow making answer t → IsReply answer
+  creates_in_reply p (place.At root name) attrs shadow making h =
+      with_root_reply s t answer p root (λ at. WithShadow s p shadow answer t (Does at))
+      (λ at. with_shadow_reply s t answer p shadow (Does at) (λ d does. creates_reply p attrs (making d) does.0 does.2)) h
+    where
+      Does : Option ℕ → Option ℕ → Type 0
+      Does at d = (look : Look) × LooksUp g s p (create_mode attrs) most_reparses at name look × Creates g s p attrs (making d) look answer t
+  creates_in_reply p place.Unnamed attrs shadow making h =
+      with_shadow_reply s t answer p shadow (λ d. Makes g s p attrs (making d) None answer t) (λ d. makes_reply p attrs (making d) None) h
 
-  creates_at_reply : (p : ℕ) (where_to : Place) (attrs : ℕ) (making : Making K) → CreatesAt g s p where_to attrs making answer t → IsReply answer
-  creates_at_reply p where_to attrs making h =
-      unless_reply s t answer (create_refusals (is_live s p) (is_fit making) where_to attrs) (CreatesIn g s p where_to attrs making answer t) (creates_in_reply p where_to attrs making) h
+  creates_at_reply : (p : ℕ) (where_to : Place) (attrs : ℕ) (shadow : Option ℕ) (making : Option ℕ → Making K) → CreatesAt g s p where_to attrs shadow making answer t → IsReply answer
+  creates_at_reply p where_to attrs shadow making h =
+      unless_reply s t answer (create_refusals (is_live s p) (is_fit (making None)) where_to attrs) (CreatesIn g s p where_to attrs shadow making answer t)
+      (creates_in_reply p where_to attrs shadow making) h
 
   turns_reply : (p handle : ℕ) (permanent : Bool) → Turns g s p handle permanent answer t → IsReply answer
   turns_reply p handle permanent h =
@@ -157,9 +168,10 @@ module _ {K T F I : Type 0} (g : Procedures K T F I) (s t : State K T F I) (answ
 
   -- a command that isn't an open is answered with a reply
   pub start_replies : (p : ℕ) (command : Command K) → is_open command ≡ false → Step g s (Start p command) answer t → IsReply answer
-  start_replies p (CreateDirectory where_to attrs) none h = creates_at_reply p where_to attrs MakesDirectory h
-  start_replies p (CreateLink where_to attrs target) none h = creates_at_reply p where_to attrs (MakesLink target) h
-  start_replies p (CreateObject where_to attrs kind args) none h = creates_at_reply p where_to attrs (MakesObject kind args) h
+  start_replies p (CreateDirectory where_to attrs) none h = creates_at_reply p where_to attrs None MakesDirectory h
+  start_replies p (CreateShadowed where_to attrs shadow) none h = creates_at_reply p where_to attrs (Some shadow) MakesDirectory h
+  start_replies p (CreateLink where_to attrs target) none h = creates_at_reply p where_to attrs None (λ shadow. MakesLink target) h
+  start_replies p (CreateObject where_to attrs kind args) none h = creates_at_reply p where_to attrs None (λ shadow. MakesObject kind args) h
   start_replies p (OpenDirectory root name attrs) none h = cc
   start_replies p (OpenLink root name attrs) none h = cc
   start_replies p (OpenObject root name attrs want) none h = cc

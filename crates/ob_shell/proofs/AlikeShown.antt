@@ -31,7 +31,7 @@ use Rattle.ob_lines.specs.declared.form.Form.TheVariants.{Nothing, Stat, Asks, W
 use Rattle.ob_lines.specs.declared.pending.PendingForm.{PendingForm}
 use Rattle.ob_lines.specs.declared.pending.PendingForm.TheVariants as pending
 use Rattle.ob_lines.specs.declared.request.Request.{Request}
-use Rattle.ob_lines.specs.declared.request.Request.TheVariants.{CreateDirectory, CreateLink, CreateObject, OpenDirectory, OpenLink, OpenObject, Close, QueryLink, QueryName, QueryDirectory, Duplicate, MakeTemporary, MakePermanent, SetDeviceMap, NewProcess, ExitProcess}
+use Rattle.ob_lines.specs.declared.request.Request.TheVariants.{CreateDirectory, CreateShadowed, CreateLink, CreateObject, OpenDirectory, OpenLink, OpenObject, Close, QueryLink, QueryName, QueryDirectory, Duplicate, MakeTemporary, MakePermanent, SetDeviceMap, NewProcess, ExitProcess}
 use Rattle.ob_lines.specs.Script.{Forms, BeginsWithForms}
 use Rattle.ob_parts.specs.Parts.{text_of}
 use Rattle.ob_parts.proofs.Spelled.{spells_alike}
@@ -103,6 +103,7 @@ opened_alike s t u v p (OpenLink name attrs word) words others c a b before f op
 opened_alike s t u v p (OpenObject want name attrs word) words others c a b before f opens lead hold second same =
     sets s t u v p p a b (λ q value. ⊥) lead hold same words others before (λ q value. ⊥) second (λ q value closed. closed) word
 opened_alike s t u v p (CreateDirectory place attrs word) words others c a b before f opens lead hold second same = let none : is_open c ≡ false = ap is_open f.2 in cc
+opened_alike s t u v p (CreateShadowed shadow place attrs word) words others c a b before f opens lead hold second same = let none : is_open c ≡ false = ap is_open f.2 in cc
 opened_alike s t u v p (CreateLink place attrs target word) words others c a b before f opens lead hold second same = let none : is_open c ≡ false = ap is_open f.4 in cc
 opened_alike s t u v p (CreateObject kind place attrs args word) words others c a b before f opens lead hold second same = let none : is_open c ≡ false = ap is_open f.4 in cc
 opened_alike s t u v p (Close handle) words others c a b before f opens lead hold second same = let none : is_open c ≡ false = ap is_open f in cc

@@ -43,7 +43,7 @@ use Rattle.ob_model.specs.Permanence.{turned}
 use Rattle.ob_model.specs.Maps.{with_map}
 use Rattle.ob_model.specs.Naming.{TellsName, TellsTarget, target_of, path_text}
 use Rattle.ob_model.specs.Enumeration.{enumerated, context_used, page_answer}
-use Rattle.ob_model.specs.Step.{WithHandle, WithRoot, CreatesIn, CreatesAt, OpensName, page_refusals, TellsPage, Step}
+use Rattle.ob_model.specs.Step.{WithHandle, WithRoot, shadow_refusals, WithShadow, CreatesIn, CreatesAt, OpensName, page_refusals, TellsPage, Step}
 use Rattle.ob_parts.specs.declared.handle.Offset.{Offset}
 use Rattle.ob_parts.specs.declared.handle.Offset.TheVariants.{Zero, One, Two, Three}
 use Rattle.ob_requests.specs.Words.{Words, with_number, with_process, with_words, with_word, without_words, is_among}
@@ -92,6 +92,15 @@ module _ {K T F I : Type 0} where
       go : (o : Option Held) → MatchOption o (IsRefused s InvalidHandle answer t) (λ x. Does (Some x.object)) → GivesHandle answer
       go None h = refused_gives s t InvalidHandle answer h
       go (Some x) h = does (Some x.object) h
+
+  with_shadow_gives : (s t : State K T F I) (p : ℕ) (shadow : Option ℕ) (answer : Answer) (Does : Option ℕ → Type 0)
+      → ((d : Option ℕ) → Does d → GivesHandle answer) → WithShadow s p shadow answer t Does → GivesHandle answer
+  with_shadow_gives s t p None answer Does does h = does None h
+  with_shadow_gives s t p (Some handle) answer Does does h = go (option_and_then (held_of s p) (key_of handle)) h
+    where
+      go : (o : Option Held) → MatchOption o (IsRefused s InvalidHandle answer t) (λ x. Unless (shadow_refusals s x.object) s answer t (Does (Some x.object))) → GivesHandle answer
+      go None h = refused_gives s t InvalidHandle answer h
+      go (Some x) h = unless_gives (shadow_refusals s x.object) s t answer (Does (Some x.object)) (does (Some x.object)) h
 
   value_gives : (s : State K T F I) (p value : ℕ) (status : Status) (answer : Answer) → IsFreeValue s p value → answer ≡ gives status (Handle value) → GivesHandle answer
   value_gives s p value status answer free e = subst GivesHandle (sym e) free.0.3
@@ -167,19 +176,22 @@ module _ {K T F I : Type 0} (g : Procedures K T F I) where
   creates_gives s t p attrs making (Parse o rest n) answer h = absurd h
   creates_gives s t p attrs making (Vacant d c) answer h = makes_gives s t p attrs making (Some (d, c)) answer h
 
-  creates_in_gives : (s t : State K T F I) (p : ℕ) (where_to : Place) (attrs : ℕ) (making : Making K) (answer : Answer)
-      → CreatesIn g s p where_to attrs making answer t → GivesHandle answer
-  creates_in_gives s t p (place.At root name) attrs making answer h =
-      with_root_gives s t p root answer
-      (λ at. (look : Look) × LooksUp g s p (create_mode attrs) most_reparses at name look × Creates g s p attrs making look answer t)
-      (λ at does. creates_gives s t p attrs making does.0 answer does.2) h
-  creates_in_gives s t p place.Unnamed attrs making answer h = makes_gives s t p attrs making None answer h
+  creates_in_gives : (s t : State K T F I) (p : ℕ) (where_to : Place) (attrs : ℕ) (shadow : Option ℕ) (making : Option ℕ → Making K) (answer : Answer)
+      → CreatesIn g s p where_to attrs shadow making answer t → GivesHandle answer
+  creates_in_gives s t p (place.At root name) attrs shadow making answer h =
+      with_root_gives s t p root answer (λ at. WithShadow s p shadow answer t (Does at))
+      (λ at. with_shadow_gives s t p shadow answer (Does at) (λ d does. creates_gives s t p attrs (making d) does.0 answer does.2)) h
+    where
+      Does : Option ℕ → Option ℕ → Type 0
+      Does at d = (look : Look) × LooksUp g s p (create_mode attrs) most_reparses at name look × Creates g s p attrs (making d) look answer t
+  creates_in_gives s t p place.Unnamed attrs shadow making answer h =
+      with_shadow_gives s t p shadow answer (λ d. Makes g s p attrs (making d) None answer t) (λ d. makes_gives s t p attrs (making d) None answer) h
 
-  creates_at_gives : (s t : State K T F I) (p : ℕ) (where_to : Place) (attrs : ℕ) (making : Making K) (answer : Answer)
-      → CreatesAt g s p where_to attrs making answer t → GivesHandle answer
-  creates_at_gives s t p where_to attrs making answer h =
-      unless_gives (create_refusals (is_live s p) (is_fit making) where_to attrs) s t answer (CreatesIn g s p where_to attrs making answer t)
-      (creates_in_gives s t p where_to attrs making answer) h
+  creates_at_gives : (s t : State K T F I) (p : ℕ) (where_to : Place) (attrs : ℕ) (shadow : Option ℕ) (making : Option ℕ → Making K) (answer : Answer)
+      → CreatesAt g s p where_to attrs shadow making answer t → GivesHandle answer
+  creates_at_gives s t p where_to attrs shadow making answer h =
+      unless_gives (create_refusals (is_live s p) (is_fit (making None)) where_to attrs) s t answer (CreatesIn g s p where_to attrs shadow making answer t)
+      (creates_in_gives s t p where_to attrs shadow making answer) h
 
   opens_name_gives : (s t : State K T F I) (p : ℕ) (root : Option ℕ) (name : List ℕ) (attrs : ℕ) (wanted : Wanted K) (answer : Answer)
       → OpensName g s p root name attrs wanted answer t → GivesHandle answer
@@ -192,9 +204,10 @@ module _ {K T F I : Type 0} (g : Procedures K T F I) where
 
   -- so does each start
   start_gives : (s t : State K T F I) (p : ℕ) (c : Command K) (answer : Answer) → Step g s (Start p c) answer t → GivesHandle answer
-  start_gives s t p (command.CreateDirectory where_to attrs) answer h = creates_at_gives s t p where_to attrs MakesDirectory answer h
-  start_gives s t p (command.CreateLink where_to attrs target) answer h = creates_at_gives s t p where_to attrs (MakesLink target) answer h
-  start_gives s t p (command.CreateObject where_to attrs kind args) answer h = creates_at_gives s t p where_to attrs (MakesObject kind args) answer h
+  start_gives s t p (command.CreateDirectory where_to attrs) answer h = creates_at_gives s t p where_to attrs None MakesDirectory answer h
+  start_gives s t p (command.CreateShadowed where_to attrs shadow) answer h = creates_at_gives s t p where_to attrs (Some shadow) MakesDirectory answer h
+  start_gives s t p (command.CreateLink where_to attrs target) answer h = creates_at_gives s t p where_to attrs None (λ shadow. MakesLink target) answer h
+  start_gives s t p (command.CreateObject where_to attrs kind args) answer h = creates_at_gives s t p where_to attrs None (λ shadow. MakesObject kind args) answer h
   start_gives s t p (command.OpenDirectory root name attrs) answer h = opens_name_gives s t p root name attrs wanted.Directory answer h
   start_gives s t p (command.OpenLink root name attrs) answer h = opens_name_gives s t p root name attrs wanted.Link answer h
   start_gives s t p (command.OpenObject root name attrs want) answer h = opens_name_gives s t p root name attrs (type_wanted want) answer h

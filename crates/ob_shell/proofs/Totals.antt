@@ -27,7 +27,7 @@ use Rattle.ob_lines.specs.declared.pending.PendingForm.TheVariants as pending
 use Rattle.ob_parts.specs.declared.name.PlaceForm.{PlaceForm}
 use Rattle.ob_parts.specs.declared.name.PlaceForm.TheVariants.{Named, Unnamed}
 use Rattle.ob_lines.specs.declared.request.Request.{Request}
-use Rattle.ob_lines.specs.declared.request.Request.TheVariants.{CreateDirectory, CreateLink, CreateObject, OpenDirectory, OpenLink, OpenObject, Close, QueryLink, QueryName, QueryDirectory, Duplicate, MakeTemporary, MakePermanent, SetDeviceMap, NewProcess, ExitProcess}
+use Rattle.ob_lines.specs.declared.request.Request.TheVariants.{CreateDirectory, CreateShadowed, CreateLink, CreateObject, OpenDirectory, OpenLink, OpenObject, Close, QueryLink, QueryName, QueryDirectory, Duplicate, MakeTemporary, MakePermanent, SetDeviceMap, NewProcess, ExitProcess}
 use Rattle.ob_lines.specs.Grammar.{HasPlaceText, HasTexts, PendingHasTexts}
 use Rattle.ob_parts.specs.Pages.{is_first, is_single}
 use Rattle.ob_lines.specs.Script.{Forms}
@@ -53,6 +53,8 @@ place_total Unnamed values text = (place.Unnamed, refl)
 command_total : (request : Request (List ℕ)) (words : Words) (process : ℕ) → HasTexts request → (c : Command StandardKind) × IsCommand request words process c
 command_total (CreateDirectory form attrs word) words process text =
     let spot = place_total form (words.values process) text in (command.CreateDirectory spot.0 attrs, (spot.0, spot.1, refl))
+command_total (CreateShadowed shadow form attrs word) words process text =
+    let spot = place_total form (words.values process) text in (command.CreateShadowed spot.0 attrs (handle_meant shadow (words.values process)), (spot.0, spot.1, refl))
 command_total (CreateLink form attrs target word) words process (text, (bytes, spelled)) =
     let spot = place_total form (words.values process) text in (command.CreateLink spot.0 attrs bytes, (spot.0, bytes, spot.1, spelled, refl))
 command_total (CreateObject kind form attrs args word) words process (text, (bytes, spelled)) =

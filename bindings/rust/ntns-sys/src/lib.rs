@@ -105,6 +105,7 @@ unsafe extern "C" {
     pub fn ntns_open(ns: *mut ntns) -> ntns_status;
     pub fn ntns_close(ns: *mut ntns);
     pub fn ntns_create_directory(ns: *mut ntns, process: u32, root: u32, name: *const c_char, name_len: usize, attributes: u32, handle: *mut u32) -> ntns_status;
+    pub fn ntns_create_shadowed(ns: *mut ntns, process: u32, root: u32, name: *const c_char, name_len: usize, attributes: u32, shadow: u32, handle: *mut u32) -> ntns_status;
     pub fn ntns_create_link(ns: *mut ntns, process: u32, root: u32, name: *const c_char, name_len: usize, attributes: u32, target: *const c_char, target_len: usize, handle: *mut u32) -> ntns_status;
     pub fn ntns_create_object(ns: *mut ntns, process: u32, root: u32, name: *const c_char, name_len: usize, attributes: u32, kind: u32, user_data: u64, handle: *mut u32) -> ntns_status;
     pub fn ntns_open_directory(ns: *mut ntns, process: u32, root: u32, name: *const c_char, name_len: usize, attributes: u32, handle: *mut u32) -> ntns_status;

@@ -7,6 +7,7 @@ use ntns_sys as raw;
 #[derive(Clone, Copy)]
 pub(crate) enum Kind<'t> {
     Directory,
+    Shadowed(u32),
     Link(&'t [u8]),
     Object(Type, u64),
 }
@@ -32,7 +33,7 @@ impl<'a, 't> Create<'a, 't> {
 
     /// With a name relative to this directory. Panics if that is a handle of another process.
     pub fn root(self, root: &Handle<'a>) -> Self {
-        Self { root: self.process.root(root), ..self }
+        Self { root: self.process.own(root, "root"), ..self }
     }
 
     /// Creates it under a name; with OPENIF, opens what has the name.
@@ -52,6 +53,7 @@ impl<'a, 't> Create<'a, 't> {
         process.handle(|space, handle| unsafe {
             match kind {
                 Kind::Directory => raw::ntns_create_directory(space, number, root, name, length, attributes, handle),
+                Kind::Shadowed(shadow) => raw::ntns_create_shadowed(space, number, root, name, length, attributes, shadow, handle),
                 Kind::Link(target) => {
                     raw::ntns_create_link(space, number, root, name, length, attributes, target.as_ptr().cast(), target.len(), handle)
                 }

@@ -178,6 +178,12 @@ impl<'a> Process<'a> {
         Create::new(self, create::Kind::Directory)
     }
 
+    /// NtCreateDirectoryObjectEx: the directory to create, which shows the entries of its shadow, another directory, where it has none of that name. Panics if
+    /// the shadow is a handle of another process.
+    pub fn shadowed(self, shadow: &Handle<'a>) -> Create<'a, 'static> {
+        Create::new(self, create::Kind::Shadowed(self.own(shadow, "shadow")))
+    }
+
     /// NtCreateSymbolicLinkObject: the link to create.
     pub fn link<'t>(self, target: &'t (impl AsRef<[u8]> + ?Sized)) -> Create<'a, 't> {
         Create::new(self, create::Kind::Link(target.as_ref()))
@@ -195,7 +201,7 @@ impl<'a> Process<'a> {
 
     /// The same with attributes, and relative to a root if there is one. Panics if that is a handle of another process.
     pub fn open_with(self, kind: Type, name: impl AsRef<[u8]>, attributes: Attribute, root: Option<&Handle<'a>>) -> Result<Handle<'a>, Status> {
-        let (name, root) = (name.as_ref(), root.map_or(0, |root| self.root(root)));
+        let (name, root) = (name.as_ref(), root.map_or(0, |root| self.own(root, "root")));
         self.handle(|space, handle| unsafe {
             let text = (name.as_ptr().cast(), name.len());
             match kind {
@@ -224,11 +230,11 @@ impl<'a> Process<'a> {
         Handle { process: self, value }
     }
 
-    /// The value of a root, a handle of this process.
-    pub(crate) fn root(self, root: &Handle<'_>) -> u32 {
-        let is_own = std::ptr::eq(root.process.namespace, self.namespace) && root.process.number == self.number;
-        assert!(is_own, "the root is a handle of another process");
-        root.value
+    /// The value of a handle, which has to be one of this process.
+    pub(crate) fn own(self, handle: &Handle<'_>, what: &str) -> u32 {
+        let is_own = std::ptr::eq(handle.process.namespace, self.namespace) && handle.process.number == self.number;
+        assert!(is_own, "the {} is a handle of another process", what);
+        handle.value
     }
 
     /// The handle that a call gives.

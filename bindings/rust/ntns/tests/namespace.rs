@@ -43,6 +43,21 @@ fn a_handle_closes_when_it_is_dropped_and_not_when_its_value_is_kept() -> Result
 }
 
 #[test]
+fn a_directory_shows_the_entries_of_its_shadow() -> Result<(), Status> {
+    let namespace = Namespace::open()?;
+    let system = namespace.process(1);
+    let shadow = system.directory().create(r"\S")?;
+    let _event = system.object(Type::EVENT, 1).root(&shadow).create("E")?;
+    let directory = system.shadowed(&shadow).create(r"\D")?;
+    assert_eq!(system.open(Type::EVENT, r"\D\E")?.path()?, r"\S\E");
+    let _own = system.object(Type::EVENT, 2).root(&directory).create("E")?;
+    assert_eq!(system.open(Type::EVENT, r"\D\E")?.query()?.user_data, 2);
+    assert_eq!(system.shadowed(&shadow).create_unnamed()?.entries().count(), 0);
+    assert_eq!(system.shadowed(&directory).create(r"\F").unwrap_err(), Status::INVALID_PARAMETER);
+    Ok(())
+}
+
+#[test]
 fn a_directory_lists_its_entries_in_order() -> Result<(), Status> {
     let namespace = Namespace::open()?;
     let system = namespace.process(1);

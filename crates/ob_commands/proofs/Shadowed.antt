@@ -1,0 +1,61 @@
+-- The handle to a shadow: what was judged of it, and what a create does then.
+use Rattle.std.proofs.Common.{◌≡◌, ◌∙◌, ℕ, Bool, true, false, not, ◌||◌, List, [], ◌∷◌, Option, None, Some, refl, ap, sym, subst}
+use Rattle.std.specs.Prelude.{MatchOption, option_map, is_some}
+use Rattle.std.specs.Option.{option_and_then, option_map_or}
+use Rattle.ob_base.specs.Handle.{key_of}
+use Rattle.ob_base.specs.declared.status.Status.{Status}
+use Rattle.ob_base.specs.declared.status.Status.TheVariants.{InvalidHandle, InvalidParameter, ObjectTypeMismatch}
+use Rattle.ob_model.specs.declared.reply.Answer.{Answer}
+use Rattle.ob_model.specs.declared.state.Held.{Held}
+use Rattle.ob_model.specs.State.{State, is_directory, shadow_of, held_of}
+use Rattle.ob_model.specs.Grants.{first_refusal}
+use Rattle.ob_model.specs.Refusals.{IsRefused, Unless}
+use Rattle.ob_model.specs.Step.{WithShadow, shadow_refusals}
+use Rattle.ob_space.specs.Early.{is_shadow_refused}
+use Rattle.ob_space.specs.Roots.{root_of}
+use Rattle.ob_space.proofs.Stepping.{is_done}
+use Rattle.ob_commands.specs.Shadows.{shadow_refusal}
+
+module _ {K T F I : Type 0} (s : State K T F I) (p : ℕ) where
+  -- the refusal of what a handle leads to, where it leads somewhere
+  abbrev judged : Option Held → Option Status
+  judged held = option_map_or (λ object. option_and_then (λ o. first_refusal (shadow_refusals s o)) object) (option_map (λ h. Some h.object) held) (Some InvalidHandle)
+
+  module _ (t : State K T F I) (answer : Answer) where
+    -- what is done with a shadow that is fit
+    pub with_shadow_done : (shadow d : Option ℕ) → root_of s p shadow ≡ Some d → shadow_refusal s p shadow ≡ None
+        → (Does : Option ℕ → Type 0) → Does d → WithShadow s p shadow answer t Does
+    with_shadow_done None d leads fit Does does = let is : None ≡ d = cc in subst Does (sym is) does
+    with_shadow_done (Some handle) d leads fit Does does = go (option_and_then (held_of s p) (key_of handle)) leads fit
+      where
+        go : (held : Option Held) → option_map (λ h. Some h.object) held ≡ Some d → judged held ≡ None
+            → MatchOption held (IsRefused s InvalidHandle answer t) (λ h. Unless (shadow_refusals s h.object) s answer t (Does (Some h.object)))
+        go None leads fit = cc
+        go (Some h) leads fit =
+            let is : Some h.object ≡ d = cc in
+            is_done (shadow_refusals s h.object) s answer t (Does (Some h.object)) fit (subst Does (sym is) does)
+
+    -- a shadow that is refused
+    pub with_shadow_refused : (shadow : Option ℕ) (status : Status) → shadow_refusal s p shadow ≡ Some status → IsRefused s status answer t
+        → (Does : Option ℕ → Type 0) → WithShadow s p shadow answer t Does
+    with_shadow_refused None status is refused Does = let none : None ≡ Some status = is in cc
+    with_shadow_refused (Some handle) status is refused Does = go (option_and_then (held_of s p) (key_of handle)) is
+      where
+        go : (held : Option Held) → judged held ≡ Some status
+            → MatchOption held (IsRefused s InvalidHandle answer t) (λ h. Unless (shadow_refusals s h.object) s answer t (Does (Some h.object)))
+        go None is = let same : InvalidHandle ≡ status = cc in subst (λ (x : Status). IsRefused s x answer t) (sym same) refused
+        go (Some h) is = subst (λ (r : Option Status). MatchOption r (Does (Some h.object)) (λ told. IsRefused s told answer t)) (sym is) refused
+
+  -- a shadow that is refused early isn't fit
+  pub refused_shadow : (shadow : Option ℕ) → option_map_or (is_shadow_refused s p) shadow false ≡ true → shadow_refusal s p shadow ≡ None → ⊥
+  refused_shadow None refused fit = cc
+  refused_shadow (Some handle) refused fit = go (option_and_then (held_of s p) (key_of handle)) refused fit
+    where
+      go : (held : Option Held) → (not (is_some held) || option_map_or (λ h. not (is_directory s h.object) || is_some (shadow_of s h.object)) held false) ≡ true → judged held ≡ None → ⊥
+      go None refused fit = cc
+      go (Some h) refused fit = by (is_directory s h.object) (is_some (shadow_of s h.object)) refused fit
+        where
+          by : (a b : Bool) → (not a || b) ≡ true → first_refusal ((not a, ObjectTypeMismatch) ∷ (b, InvalidParameter) ∷ []) ≡ None → ⊥
+          by false b refused fit = cc
+          by true true refused fit = cc
+          by true false refused fit = cc
