@@ -1,6 +1,6 @@
 -- A table that two maps keep: what is found by a value, what is left when a handle goes, and what holds
 -- of it.
-use Rattle.std.proofs.Common.{◌≡◌, ◌≢◌, ◌∙◌, ℕ, ◌+◌, ◌<◌, ◌==◌, if◌then◌else◌, Bool, true, false, not, cond, List, [], ◌∷◌, ◌++◌, length, map, filter, find, get_or, Option, None, Some, option_map, All, refl, ap, sym, subst, arith, eqb-true, eq-eqb}
+use Rattle.std.proofs.Common.{◌≡◌, ◌≢◌, ◌∙◌, ℕ, ◌+◌, ◌<◌, ◌==◌, ltb, if◌then◌else◌, Bool, true, false, not, ◌&&◌, cond, List, [], ◌∷◌, ◌++◌, length, map, filter, find, get_or, slice_get, Option, None, Some, option_map, All, refl, ap, sym, subst, arith, eqb-true, eq-eqb}
 use Rattle.std.proofs.lemmas.Bool.{false≢true}
 use Rattle.std.proofs.lemmas.Bool.Decides.{nat_tests}
 use Rattle.std.proofs.lemmas.List.{map-append, length-append}
@@ -12,8 +12,10 @@ use Rattle.std.specs.List.{AllPairs, AllByRecursion}
 use Rattle.std.specs.List.Sorted.{IsStrictlySortedBy}
 use Rattle.std.specs.Map.{keys_of, remove_entry}
 use Rattle.std.specs.Option.{option_and_then, is_some}
-use Rattle.std.specs.declared.cmp.Ordering.TheVariants.{Less}
-use Rattle.std.specs.Ordering.{nat_cmp}
+use Rattle.std.specs.BTreeMap.Range.{entries_between, range_contains}
+use Rattle.std.specs.declared.cmp.Ordering.TheVariants.{Less, Equal, Greater}
+use Rattle.std.specs.declared.ops.Bound.TheVariants.{Excluded, Unbounded}
+use Rattle.std.specs.Ordering.{nat_cmp, is_lt}
 use Rattle.ob_model.specs.declared.state.Held.{Held}
 use Rattle.ob_model.specs.Grants.{IsHandleValue}
 use Rattle.ob_model.proofs.Finds.{filter_all}
@@ -52,6 +54,15 @@ find_agrees {X} {Y} f test other (x ∷ xs) same =
     ∙ go (other x) (find_agrees f test other xs (All-tail (λ x. test (f x) ≡ other x) x xs same))
   where
     go : (b : Bool) → find test (map f xs) ≡ option_map f (find other xs) → cond b (Some (f x)) (find test (map f xs)) ≡ option_map f (cond b (Some x) (find other xs))
+    go true more = refl
+    go false more = more
+
+-- what is found is the first of what passes
+find_head : {X : Type 0} (test : X → Bool) (xs : List X) → slice_get (filter test xs) 0 ≡ find test xs
+find_head test [] = refl
+find_head {X} test (x ∷ xs) = go (test x) (find_head test xs)
+  where
+    go : (b : Bool) → slice_get (filter test xs) 0 ≡ find test xs → slice_get (cond b (x ∷ filter test xs) (filter test xs)) 0 ≡ cond b (Some x) (find test xs)
     go true more = refl
     go false more = more
 
@@ -174,6 +185,29 @@ module _ (by_order : List (ℕ × Held)) (by_value : List (ℕ × ℕ)) (is : Is
       → map (λ e. e.1) left ≡ without now value
   something_taken left order leads taken =
       without_one by_order by_value is left key order leads taken ∙ ap (λ hs. without hs key) same ∙ ap (without now) is_value
+
+-- the first entry above an order of opening has the first handle that was opened after it
+pub opened_after : (by_order : List (ℕ × Held)) (by_value : List (ℕ × ℕ)) → IsIndexed by_order by_value → (now : List Held) → map (λ e. e.1) by_order ≡ now
+    → (order : ℕ) (above : List (ℕ × Held)) → above ≡ entries_between nat_cmp (Excluded order) Unbounded by_order
+    → option_map (λ e. e.1) (slice_get above 0) ≡ find (λ h. ltb order h.order) now
+opened_after by_order by_value is now same order above is_above =
+    ap (λ es. option_map (λ (e : ℕ × Held). e.1) (slice_get es 0)) is_above
+    ∙ ap (option_map (λ (e : ℕ × Held). e.1)) (find_head (λ (e : ℕ × Held). range_contains nat_cmp (Excluded order) Unbounded e.0) by_order)
+    ∙ sym (find_agrees (λ (e : ℕ × Held). e.1) (λ h. ltb order h.order) (λ e. range_contains nat_cmp (Excluded order) Unbounded e.0) by_order agree)
+    ∙ ap (find (λ h. ltb order h.order)) same
+  where
+    is_less : (a b : ℕ) → ltb a b ≡ is_lt (nat_cmp a b) && true
+    is_less a b = go (ltb a b) (a == b)
+      where
+        go : (less equal : Bool) → less ≡ is_lt (cond less Less (cond equal Equal Greater)) && true
+        go true equal = refl
+        go false true = refl
+        go false false = refl
+
+    agree : All (λ e. ltb order e.1.order ≡ range_contains nat_cmp (Excluded order) Unbounded e.0) by_order
+    agree = λ k d below.
+        let e : ℕ × Held = get_or by_order k d in
+        ap (ltb order) (is.handles e.0 e.1 (each_found by_order (Differ-from_rising by_order is.orders_rise) k d below)).0 ∙ is_less order e.0
 
 -- ---- a handle comes, or goes
 
