@@ -12,7 +12,7 @@ use Rattle.std.specs.List.{AllPairs, AllByRecursion}
 use Rattle.std.specs.List.Sorted.{IsStrictlySortedBy}
 use Rattle.std.specs.Map.{keys_of, remove_entry}
 use Rattle.std.specs.Option.{option_and_then, is_some}
-use Rattle.std.specs.BTreeMap.Range.{entries_between, range_contains}
+use Rattle.std.specs.BTreeMap.Range.{entries_between}
 use Rattle.std.specs.declared.cmp.Ordering.TheVariants.{Less, Equal, Greater}
 use Rattle.std.specs.declared.ops.Bound.TheVariants.{Excluded, Unbounded}
 use Rattle.std.specs.Ordering.{nat_cmp, is_lt}
@@ -46,7 +46,7 @@ find_none f test (x ∷ xs) none =
     ∙ find_none f test xs (All-tail (λ x. test (f x) ≡ false) x xs none)
 
 -- tests that agree find the same
-find_agrees : {X Y : Type 0} (f : X → Y) (test : Y → Bool) (other : X → Bool) (xs : List X) → All (λ x. test (f x) ≡ other x) xs
+pub find_agrees : {X Y : Type 0} (f : X → Y) (test : Y → Bool) (other : X → Bool) (xs : List X) → All (λ x. test (f x) ≡ other x) xs
     → find test (map f xs) ≡ option_map f (find other xs)
 find_agrees f test other [] same = refl
 find_agrees {X} {Y} f test other (x ∷ xs) same =
@@ -54,15 +54,6 @@ find_agrees {X} {Y} f test other (x ∷ xs) same =
     ∙ go (other x) (find_agrees f test other xs (All-tail (λ x. test (f x) ≡ other x) x xs same))
   where
     go : (b : Bool) → find test (map f xs) ≡ option_map f (find other xs) → cond b (Some (f x)) (find test (map f xs)) ≡ option_map f (cond b (Some x) (find other xs))
-    go true more = refl
-    go false more = more
-
--- what is found is the first of what passes
-find_head : {X : Type 0} (test : X → Bool) (xs : List X) → slice_get (filter test xs) 0 ≡ find test xs
-find_head test [] = refl
-find_head {X} test (x ∷ xs) = go (test x) (find_head test xs)
-  where
-    go : (b : Bool) → slice_get (filter test xs) 0 ≡ find test xs → slice_get (cond b (x ∷ filter test xs) (filter test xs)) 0 ≡ cond b (Some x) (find test xs)
     go true more = refl
     go false more = more
 
@@ -87,6 +78,18 @@ none_below {X} key (e ∷ es) below =
   where
     other : (a : ℕ) → a < key → (a == key) ≡ false
     other a less = grind (arith, nat_tests)
+
+-- the first entry of the range above a number is the first under a greater one
+pub first_above : {X : Type 0} (number : ℕ) (es : List (ℕ × X)) → slice_get (entries_between nat_cmp (Excluded number) Unbounded es) 0 ≡ find (λ e. ltb number e.0) es
+first_above number [] = refl
+first_above {X} number (e ∷ es) = go (ltb number e.0) (number == e.0) (first_above number es)
+  where
+    go : (less equal : Bool) → slice_get (entries_between nat_cmp (Excluded number) Unbounded es) 0 ≡ find (λ (x : ℕ × X). ltb number x.0) es
+        → slice_get (cond (is_lt (cond less Less (cond equal Equal Greater)) && true) (e ∷ entries_between nat_cmp (Excluded number) Unbounded es) (entries_between nat_cmp (Excluded number) Unbounded es)) 0
+        ≡ cond less (Some e) (find (λ (x : ℕ × X). ltb number x.0) es)
+    go true equal more = refl
+    go false true more = more
+    go false false more = more
 
 -- ---- the table
 
@@ -186,28 +189,16 @@ module _ (by_order : List (ℕ × Held)) (by_value : List (ℕ × ℕ)) (is : Is
   something_taken left order leads taken =
       without_one by_order by_value is left key order leads taken ∙ ap (λ hs. without hs key) same ∙ ap (without now) is_value
 
--- the first entry above an order of opening has the first handle that was opened after it
+-- the first entry of the range above an order has the first handle that was opened after it
 pub opened_after : (by_order : List (ℕ × Held)) (by_value : List (ℕ × ℕ)) → IsIndexed by_order by_value → (now : List Held) → map (λ e. e.1) by_order ≡ now
     → (order : ℕ) (above : List (ℕ × Held)) → above ≡ entries_between nat_cmp (Excluded order) Unbounded by_order
     → option_map (λ e. e.1) (slice_get above 0) ≡ find (λ h. ltb order h.order) now
 opened_after by_order by_value is now same order above is_above =
     ap (λ es. option_map (λ (e : ℕ × Held). e.1) (slice_get es 0)) is_above
-    ∙ ap (option_map (λ (e : ℕ × Held). e.1)) (find_head (λ (e : ℕ × Held). range_contains nat_cmp (Excluded order) Unbounded e.0) by_order)
-    ∙ sym (find_agrees (λ (e : ℕ × Held). e.1) (λ h. ltb order h.order) (λ e. range_contains nat_cmp (Excluded order) Unbounded e.0) by_order agree)
+    ∙ ap (option_map (λ (e : ℕ × Held). e.1)) (first_above order by_order)
+    ∙ sym (find_agrees (λ (e : ℕ × Held). e.1) (λ h. ltb order h.order) (λ e. ltb order e.0) by_order
+    (λ k d below. ap (ltb order) (is.handles (get_or by_order k d).0 (get_or by_order k d).1 (there by_order by_value is k d below)).0))
     ∙ ap (find (λ h. ltb order h.order)) same
-  where
-    is_less : (a b : ℕ) → ltb a b ≡ is_lt (nat_cmp a b) && true
-    is_less a b = go (ltb a b) (a == b)
-      where
-        go : (less equal : Bool) → less ≡ is_lt (cond less Less (cond equal Equal Greater)) && true
-        go true equal = refl
-        go false true = refl
-        go false false = refl
-
-    agree : All (λ e. ltb order e.1.order ≡ range_contains nat_cmp (Excluded order) Unbounded e.0) by_order
-    agree = λ k d below.
-        let e : ℕ × Held = get_or by_order k d in
-        ap (ltb order) (is.handles e.0 e.1 (each_found by_order (Differ-from_rising by_order is.orders_rise) k d below)).0 ∙ is_less order e.0
 
 -- ---- a handle comes, or goes
 
