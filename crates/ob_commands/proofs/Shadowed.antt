@@ -7,7 +7,8 @@ use Rattle.ob_base.specs.declared.status.Status.{Status}
 use Rattle.ob_base.specs.declared.status.Status.TheVariants.{InvalidHandle, InvalidParameter, ObjectTypeMismatch}
 use Rattle.ob_model.specs.declared.reply.Answer.{Answer}
 use Rattle.ob_model.specs.declared.state.Held.{Held}
-use Rattle.ob_model.specs.State.{State, is_directory, shadow_of, held_of}
+use Rattle.ob_model.specs.declared.state.Object.{Object}
+use Rattle.ob_model.specs.State.{State, is_directory, shadow_in, shadow_of, object_of, held_of}
 use Rattle.ob_model.specs.Grants.{first_refusal}
 use Rattle.ob_model.specs.Refusals.{IsRefused, Unless}
 use Rattle.ob_model.specs.Step.{WithShadow, shadow_refusals}
@@ -59,3 +60,28 @@ module _ {K T F I : Type 0} (s : State K T F I) (p : ℕ) where
           by false b refused fit = cc
           by true true refused fit = cc
           by true false refused fit = cc
+
+  -- what is refused of the object that the handle leads to
+  module _ (shadow : Option ℕ) (o : ℕ) (leads : root_of s p shadow ≡ Some (Some o)) where
+    refusal_at : shadow_refusal s p shadow ≡ first_refusal (shadow_refusals s o)
+    refusal_at = ap (λ (object : Option (Option ℕ)). option_map_or (λ (x : Option ℕ). option_and_then (λ n. first_refusal (shadow_refusals s n)) x) object (Some InvalidHandle)) leads
+
+    abbrev refusal_by : Bool → Bool → Option Status
+    refusal_by is_there has_shadow = first_refusal ((not is_there, ObjectTypeMismatch) ∷ (has_shadow, InvalidParameter) ∷ [])
+
+    pub no_directory_refused : is_directory s o ≡ false → shadow_refusal s p shadow ≡ Some ObjectTypeMismatch
+    no_directory_refused isnt = refusal_at ∙ ap (λ (b : Bool). refusal_by b (is_some (shadow_of s o))) isnt
+
+    pub shadowed_refused : is_directory s o ≡ true → is_some (shadow_of s o) ≡ true → shadow_refusal s p shadow ≡ Some InvalidParameter
+    shadowed_refused is has = refusal_at ∙ ap (λ (b : Bool). refusal_by b (is_some (shadow_of s o))) is ∙ ap (refusal_by true) has
+
+    pub shadow_fits : is_directory s o ≡ true → is_some (shadow_of s o) ≡ false → shadow_refusal s p shadow ≡ None
+    shadow_fits is hasnt = refusal_at ∙ ap (λ (b : Bool). refusal_by b (is_some (shadow_of s o))) is ∙ ap (refusal_by true) hasnt
+
+-- an object has the shadow that the parts of a namespace show
+pub shadow_shown : {K T F I : Type 0} {s t : State K T F I} → s ≡ t → (o : ℕ) (b : Bool) → b ≡ is_some (option_and_then (λ x. shadow_in x.body) (object_of s o)) → is_some (shadow_of t o) ≡ b
+shadow_shown {K} {T} {F} {I} {s} {t} is o b found = sym (ap (λ (u : State K T F I). is_some (shadow_of u o)) is) ∙ sym (found ∙ go (object_of s o))
+  where
+    go : (x : Option (Object F I)) → is_some (option_and_then (λ y. shadow_in y.body) x) ≡ is_some (option_and_then shadow_in (option_map (λ y. y.body) x))
+    go None = refl
+    go (Some x) = refl

@@ -1,6 +1,6 @@
 //! The shadow of a directory that is made.
 
-ghost use Rattle.std.specs.Prelude.{◌≡◌, ◌×◌, None, Some, MatchResult};
+ghost use Rattle.std.specs.Prelude.{◌≡◌, None, Some, MatchResult};
 ghost use Rattle.ob_space.specs.Roots.{root_of};
 ghost use Rattle.ob_commands.specs.Shadows.{shadow_refusal};
 

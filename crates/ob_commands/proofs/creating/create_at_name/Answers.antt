@@ -25,8 +25,8 @@ returns-in-Refused-clause-step g c =
     creates_looked g.T.TypeSet.procedures s c.look_up.new.space c.args.process c.args.attrs (Done c.status_alone-in-Refused.result) c.args.root c.in-Ok.root c.in-Ok.ensures c.args.name
     c.create_mode.result (Refused c.in-Refused.status)
     (subst (λ look. LooksUp g.T.TypeSet.procedures s c.args.process c.create_mode.result most_reparses c.in-Ok.root c.args.name (look_of look)) c.in-Refused.is c.in_ok-status.ensures.end)
-    c.args.shadow c.in-Ok-2.shadow (making_of c.args.making)
-    (with_shadow_done s c.args.process c.look_up.new.space (Done c.status_alone-in-Refused.result) c.args.shadow c.in-Ok-2.shadow c.in-Ok-2.ensures.0 c.in-Ok-2.ensures.1)
+    c.args.shadow c.in-Ok-shadow_object.shadow (making_of c.args.making)
+    (with_shadow_done s c.args.process c.look_up.new.space (Done c.status_alone-in-Refused.result) c.args.shadow c.in-Ok-shadow_object.shadow c.in-Ok-shadow_object.ensures.0 c.in-Ok-shadow_object.ensures.1)
     c.create_mode.ensures (ap Done c.status_alone-in-Refused.ensures, c.look_up.ensures.unchanged)
 
 pub returns-in-At-clause-step : goal.returns-in-At-clause-step
@@ -36,9 +36,9 @@ returns-in-At-clause-step g c =
     creates_looked g.T.TypeSet.procedures s c.open_there.new.space c.args.process c.args.attrs (Done reply) c.args.root c.in-Ok.root c.in-Ok.ensures c.args.name
     c.create_mode.result (At c.in-At.object)
     (subst (λ look. LooksUp g.T.TypeSet.procedures s c.args.process c.create_mode.result most_reparses c.in-Ok.root c.args.name (look_of look)) c.in-At.is c.in_ok-status.ensures.end)
-    c.args.shadow c.in-Ok-2.shadow (making_of c.args.making)
-    (with_shadow_done s c.args.process c.open_there.new.space (Done reply) c.args.shadow c.in-Ok-2.shadow c.in-Ok-2.ensures.0 c.in-Ok-2.ensures.1)
-    c.create_mode.ensures (rw (← c.look_up.ensures.unchanged) (done c.in-Ok-2.shadow))) c.open_there.ensures.step
+    c.args.shadow c.in-Ok-shadow_object.shadow (making_of c.args.making)
+    (with_shadow_done s c.args.process c.open_there.new.space (Done reply) c.args.shadow c.in-Ok-shadow_object.shadow c.in-Ok-shadow_object.ensures.0 c.in-Ok-shadow_object.ensures.1)
+    c.create_mode.ensures (rw (← c.look_up.ensures.unchanged) (done c.in-Ok-shadow_object.shadow))) c.open_there.ensures.step
 
 pub returns-in-Vacant-clause-step : goal.returns-in-Vacant-clause-step
 returns-in-Vacant-clause-step g c =
@@ -47,8 +47,8 @@ returns-in-Vacant-clause-step g c =
     creates_looked g.T.TypeSet.procedures s c.make_named.new.space c.args.process c.args.attrs (Done reply) c.args.root c.in-Ok.root c.in-Ok.ensures c.args.name
     c.create_mode.result (Vacant c.in-Vacant.directory c.in-Vacant.component)
     (subst (λ look. LooksUp g.T.TypeSet.procedures s c.args.process c.create_mode.result most_reparses c.in-Ok.root c.args.name (look_of look)) c.in-Vacant.is c.in_ok-status.ensures.end)
-    c.args.shadow c.in-Ok-2.shadow (making_of c.args.making)
-    (with_shadow_done s c.args.process c.make_named.new.space (Done reply) c.args.shadow c.in-Ok-2.shadow c.in-Ok-2.ensures.0 c.in-Ok-2.ensures.1)
+    c.args.shadow c.in-Ok-shadow_object.shadow (making_of c.args.making)
+    (with_shadow_done s c.args.process c.make_named.new.space (Done reply) c.args.shadow c.in-Ok-shadow_object.shadow c.in-Ok-shadow_object.ensures.0 c.in-Ok-shadow_object.ensures.1)
     c.create_mode.ensures (rw (← c.look_up.ensures.unchanged) done)) c.make_named.ensures.step
 
 pub returns-in-At-clause-found : goal.returns-in-At-clause-found
