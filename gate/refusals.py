@@ -144,7 +144,7 @@ def without_parse(script, number):
     lines = script.split(b"\n")
     if ended := re.fullmatch(rb"(\w+) end (\w+)", lines[number - 1]):
         lines[number - 1] = b"%s drop %s" % ended.groups()
-    elif opened := re.fullmatch(rb"(\w+) (?:open|opendir|openlink|begin|dir|link|make) .* =(\w+)", lines[number - 1]):
+    elif opened := re.fullmatch(rb"(\w+) (?:open|opendir|openlink|begin|dir|shadow|link|make) .* =(\w+)", lines[number - 1]):
         lines[number - 1] = b'%s opendir "\\%%07" - =%s' % opened.groups()
     else:
         return None

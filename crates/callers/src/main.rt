@@ -3,7 +3,7 @@
 //! `callers` plays scenes of several callers, and then steps as `callers refused` does. The journal of each namespace follows, which
 //! `ntns replay` accepts.
 //!
-//! `callers refused` makes steps under the lock of four seats, each in a namespace of its own, a line each with the journal behind it, and `callers refused N` the
+//! `callers refused` makes steps under the lock of four seats, each in a namespace of its own, a line each with the journal after it, and `callers refused N` the
 //! Nth alone. A library that refuses its requests for memory in turn is to be preloaded. Where a step is refused memory, namespace, journal and pass have to be
 //! as before; then the step is made again. The last line, and the status, tell whether each was so. The requests of a step are those between the first write of
 //! its line and the second.

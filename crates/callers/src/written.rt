@@ -12,7 +12,7 @@ pub(crate) fn mark<W: Write>(writer: &mut W, text: &str) {
     let _ = writer.write_all(text.as_bytes());
 }
 
-/// Puts numbers behind a text, each behind its name.
+/// Puts numbers after a text, each after its name.
 pub(crate) fn put_numbers(
     text: &mut String,
     names: &[&str],
@@ -25,7 +25,7 @@ pub(crate) fn put_numbers(
     Ok(())
 }
 
-/// Puts the lines of a segment of a journal of so many seats behind others: its header, and a line for each entry.
+/// Puts the lines of a segment of a journal of so many seats after others: its header, and a line for each entry.
 pub(crate) fn put_segment(
     alloc: Global,
     lines: &mut Vec<u8>,
@@ -40,7 +40,7 @@ pub(crate) fn put_segment(
     Ok(())
 }
 
-/// Puts the lines of a journal of so many seats behind others: those of its sealed segments, and those of the open one.
+/// Puts the lines of a journal of so many seats after others: those of its sealed segments, and those of the open one.
 pub(crate) fn put_journal(
     alloc: Global,
     lines: &mut Vec<u8>,
@@ -54,7 +54,7 @@ pub(crate) fn put_journal(
     put_segment(alloc, lines, seats, open)
 }
 
-/// Puts the lines of a journal of so many seats behind others, all in one segment.
+/// Puts the lines of a journal of so many seats after others, all in one segment.
 pub(crate) fn put_entries(
     alloc: Global,
     lines: &mut Vec<u8>,

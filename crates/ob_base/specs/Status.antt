@@ -83,6 +83,6 @@ without_number status = status
 abbrev pub CodesTellStatuses : Type 0
 CodesTellStatuses = (a b : Status) → code_of a ≡ code_of b → a ≡ b
 
--- statuses with one word are one status, but for the own number of a type's refusal
+-- statuses with one word are one status, except for the own number of a type's refusal
 abbrev pub TextsTellStatuses : Type 0
 TextsTellStatuses = (a b : Status) → text_of a ≡ text_of b → without_number a ≡ without_number b

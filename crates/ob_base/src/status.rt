@@ -12,7 +12,7 @@ ghost use Rattle.ob_base.specs.Status.{code_of, text_of, CodesTellStatuses, Text
 pub enum Status {
     /// The request was carried out. (STATUS_SUCCESS)
     Success,
-    /// Entries of a directory were shown, and some are left behind them. (STATUS_MORE_ENTRIES)
+    /// Entries of a directory were shown, and some are left after them. (STATUS_MORE_ENTRIES)
     MoreEntries,
     /// A create opened the object that has the name already. (STATUS_OBJECT_NAME_EXISTS)
     ObjectNameExists,

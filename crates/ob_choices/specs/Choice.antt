@@ -47,7 +47,7 @@ module _ {K T F I : Type 0} where
   receiver_of s (Abandon ticket parse) = None
 
   -- Two answers to one event: they are the same, or both give a handle, each under a value of its own that the process
-  -- which gets it doesn't use, and are the same but for these values.
+  -- which gets it doesn't use, and are the same except for these values.
   pub data IsOtherChoice (s : State K T F I) (e : Event K) (a b : Answer) : Type 0 where
     same : b ≡ a → IsOtherChoice s e a b
     under : (value p : ℕ) → handle_given b ≡ Some value → b ≡ answer_under value a → receiver_of s e ≡ Some p → IsFreeValue s p value → IsOtherChoice s e a b

@@ -1,4 +1,4 @@
--- The opens that wait behind a step.
+-- The opens that wait after a step.
 --
 -- Source: Windows Internals, Object Manager (parse methods); that a parse is run between two steps, and the ticket, are
 -- this profile.
@@ -18,7 +18,7 @@ others (Start p command) opens = opens
 others (Resume ticket parse) opens = filter (λ x. not (x.ticket == ticket)) opens
 others (Abandon ticket parse) opens = filter (λ x. not (x.ticket == ticket)) opens
 
--- the opens that wait behind an answer: those from before, and where a ticket is answered one more behind them, under it
+-- the opens that wait after an answer: those from before, and where a ticket is answered one more after them, under it
 abbrev pub WaitBehind : {K : Type 0} → List (Pending K) → Answer → List (Pending K) → Type 0
 WaitBehind before (Done reply) after = after ≡ before
 WaitBehind {K} before (Ticket n) after = (x : Pending K) × (after ≡ before ++ x ∷ []) × (x.ticket ≡ n)

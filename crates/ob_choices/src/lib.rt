@@ -1,4 +1,4 @@
-//! The one choice of the machine, which unused value a new handle gets; and which opens wait behind a step.
+//! The one choice of the machine, which unused value a new handle gets; and which opens wait after a step.
 //!
 //! Each function has an empty body: its contract is a law about the definitions of `ob_model` alone, stated in
 //! `specs/Choice.antt` and `specs/Waiting.antt`. The type parameters are those of the state: the kinds, the value, the faces and the inner
@@ -10,7 +10,7 @@ ghost use Rattle.ob_choices.specs.Choice.{AnyUnusedValueWillDo, NewHandleIsLast,
 ghost use Rattle.ob_choices.specs.Waiting.{OpensWaitByTheirTickets};
 
 /// Where a step gives a handle, it may give it under each value that the process which gets it doesn't use: the answer
-/// and the state that it leaves are the same but for that value.
+/// and the state that it leaves are the same except for that value.
 ///
 /// Source: handles are values of the system's choice (Windows Driver Kit); this profile leaves it open.
 pub fn any_unused_value_will_do<K, T, F, I>()
@@ -23,13 +23,13 @@ pub fn a_new_handle_is_last<K, T, F, I>()
     ensures { NewHandleIsLast K T F I }
 {}
 
-/// From a sound state one event has one answer but for the value of the handle that it gives, where it gives one; and
+/// From a sound state one event has one answer except for the value of the handle that it gives, where it gives one; and
 /// each such value is one that the process which gets it didn't use.
 pub fn nothing_else_is_chosen<K, T, F, I>()
     ensures { NothingElseIsChosen K T F I }
 {}
 
-/// Behind a step those opens wait that waited before it and weren't ended by it, in their order; and where a ticket is
+/// After a step those opens wait that waited before it and weren't ended by it, in their order; and where a ticket is
 /// answered one more, the last, under that ticket.
 ///
 /// Source: Windows Internals, Object Manager (parse methods); the ticket is this profile.

@@ -40,7 +40,7 @@ use std::alloc::AllocError;
 /// `InsufficientResources` where no handle or no object more fits, or no number for one or for the name is left; and
 /// `TypeRefused` with the set's number where the set refuses to make the object, or to open it.
 ///
-/// A refusal changes nothing, but for the last: a new object that the set refuses to open is deleted, and its number
+/// A refusal changes nothing, except for the last: a new object that the set refuses to open is deleted, and its number
 /// stays drawn. The only fault is out of memory, and then nothing has changed; what is refused before the lookup takes none, nor does
 /// what is refused at what the name leads to, before the set is asked, where the lookup follows no link, or without a name
 /// since no handle or object more fits.

@@ -22,7 +22,7 @@ const LARGEST_ROOM: u32 = 1_048_576;
 /// Source: ZwQueryDirectoryObject (Windows Driver Kit).
 #[derive(Clone, Copy)]
 pub struct PageRequest {
-    /// The stamp behind which it begins, any number.
+    /// The stamp after which it begins, any number.
     pub context: u64,
     /// The room, in bytes; any number.
     pub room: u32,
@@ -32,7 +32,7 @@ pub struct PageRequest {
     pub restart: bool,
 }
 
-/// Tells a page of the directory of a handle of the caller: of its entries behind the context, or from the
+/// Tells a page of the directory of a handle of the caller: of its entries after the context, or from the
 /// first on where it restarts, as many as fit into the room, or one alone. Nothing is changed.
 ///
 /// Refusals, in their order: `ProcessGone` for a process that isn't live, `InvalidParameter` for a room
@@ -79,7 +79,7 @@ pub fn query_directory<T: TypeSet, H: HandleTable>(
     Ok(with_page(page))
 }
 
-// The context that a page begins behind: 0 where it restarts.
+// The context that a page begins after: 0 where it restarts.
 fn context_used(restart: bool, context: u64) -> u64
     ensures { result ≡ context_used restart context }
 {

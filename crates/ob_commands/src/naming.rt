@@ -25,7 +25,7 @@ use ob_types::TypeSet;
 use std::alloc::{AllocError, Global};
 
 /// Tells the path of the object of a handle of the caller: the names on the way from the root to it,
-/// each behind a `\`, or `\` alone for the root. An object has the empty text where it, or a directory
+/// each after a `\`, or `\` alone for the root. An object has the empty text where it, or a directory
 /// above it, has no name. Nothing is changed.
 ///
 /// Refusals, in their order: `ProcessGone` for a process that isn't live, `InvalidHandle` where the

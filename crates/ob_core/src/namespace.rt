@@ -63,7 +63,7 @@ impl<T: TypeSet, H: HandleTable> Model for Core<T, H> {
 impl<T: TypeSet, H: HandleTable> Core<T, H> {
     /// The opening state, with a set of types: the root directory, `\GLOBAL??`, `\DosDevices` (a link
     /// to `\??`), `\Device`, `\BaseNamedObjects` and `\Sessions`, all permanent, and process 1 without a
-    /// handle. Names are looked up by a cache of 256 prefixes. The only fault is out of memory, and then the set is let go.
+    /// handle. Names are looked up by a cache of 256 prefixes. The only fault is out of memory, and then the set is dropped.
     pub fn new(alloc: Global, types: T) -> Result<Core<T, H>, Fault>
         ensures opening { IfOk result (λ core. core ≡ opening types) }
         ensures memory { IfErr result (λ fault. fault ≡ Memory) }
@@ -73,7 +73,7 @@ impl<T: TypeSet, H: HandleTable> Core<T, H> {
     }
 
     /// The opening state, as [`Core::new`] has it, whose names are looked up by this cache, which is emptied first. What
-    /// it has room for changes no reply. The only fault is out of memory, and then the set and the cache are let go.
+    /// it has room for changes no reply. The only fault is out of memory, and then the set and the cache are dropped.
     ///
     /// Source: as for [`Core::new`]; the cache is this profile.
     pub fn with_cache(alloc: Global, types: T, cache: Cache) -> Result<Core<T, H>, Fault>
@@ -134,7 +134,7 @@ impl<T: TypeSet, H: HandleTable> Core<T, H> {
     /// one reparse less, and that parse is handed out.
     ///
     /// The faults hand the parse back, and then nothing has changed: `Refused` with `InvalidParameter` exactly where the
-    /// parse is a stranger's, as `abandon` says; and `Memory`, where memory was wanted. A parse that found no
+    /// parse is a stranger's, as `abandon` says; and `Memory`, where memory ran out. A parse that found no
     /// memory, or was refused, takes none, nor does one whose process is gone, or which leads, by a text whose lookup
     /// follows no link, to what isn't opened for another reason than the set's, or to a parse for which no more fits.
     ///
@@ -163,7 +163,7 @@ impl<T: TypeSet, H: HandleTable> Core<T, H> {
     /// where nothing else holds it. No memory is taken.
     ///
     /// It is false exactly for a stranger's parse, whose ticket isn't that of a pending open, or whose face or rest
-    /// isn't that of the open; then nothing changes, and the parse is let go.
+    /// isn't that of the open; then nothing changes, and the parse is dropped.
     ///
     /// Source: Windows Internals, Object Manager (parse methods; object retention); that an open is given up by its
     /// ticket is this profile.
@@ -208,7 +208,7 @@ impl<T: TypeSet, H: HandleTable> Core<T, H> {
     /// `to` instead; nothing else differs. The process must not use that value: it may be any multiple of four from 4 to
     /// 262,140 under which it has no handle.
     ///
-    /// The only error is out of memory, and then the namespace is let go.
+    /// The only error is out of memory, and then the namespace is dropped.
     ///
     /// Source: handles are values of the system's choice (Windows Driver Kit); that a choice may be changed is this profile.
     pub fn revalue(self, process: Proc, from: Handle, to: Handle) -> Result<Core<T, H>, AllocError>

@@ -61,7 +61,7 @@ fn is_counted<T: Listing, H: HandleTable>(stage: &Stage<T, H>, told: &str) -> bo
         && handles == number_of(word_of(told, 1)) as usize
 }
 
-/// Whether the set opened, closed and deleted as often as a line says behind objects and handles.
+/// Whether the set opened, closed and deleted as often as a line says after objects and handles.
 fn is_called<T: Listing, H: HandleTable>(stage: &Stage<T, H>, told: &str) -> bool {
     let (calls, lost) = stage.calls();
     let (opens, closes, deletes) = counts_of(calls);
@@ -156,7 +156,7 @@ fn stage_of<T: TypeSet, H: HandleTable>(
     )
 }
 
-/// The first line of a scene that isn't as it says, in a namespace beside another one, both of which are let go; all of it, where
+/// The first line of a scene that isn't as it says, in a namespace beside another one, both of which are dropped; all of it, where
 /// one found no memory.
 fn other_beside<'a, T: Listing, H: HandleTable>(
     stage: Result<Stage<T, H>, Fault>,

@@ -1,14 +1,14 @@
 //! Scenes: what processes ask of a namespace, line by line, and what each is told. Each is played in a new namespace, beside another one;
 //! an empty line stands between two.
 //!
-//! A step is a line: a process and what it asks for, a bar, and what it is told. `1*9` says that process 1 asks for the same nine times. Behind a second
+//! A step is a line: a process and what it asks for, a bar, and what it is told. `1*9` says that process 1 asks for the same nine times. After a second
 //! bar stands what the step shows. A line that begins with `there` is one of the other namespace, and one with `#` says what the scene shows.
 //!
 //! - `make`, a kind, a name and attributes make an object, and `open` opens one: the kind is `directory`, the `first` or the `other` one of the set, or for an
-//!   open `any`. A name is absolute, and `-` is none; attributes are hexadecimal: 2 inherit, 10 permanent, 20 exclusive. Arguments may stand behind them.
+//!   open `any`. A name is absolute, and `-` is none; attributes are hexadecimal: 2 inherit, 10 permanent, 20 exclusive. Arguments may follow them.
 //! - `close`, `path`, `temporary` and `permanent` use the handle that was given to the line of this number, from 0, or the first one that a new process
 //!   inherited. `duplicate` gives it to a process, whose children `inherit` it, or `not`.
-//! - `list` lists the directory of such a handle behind a context, in a room, `one` entry or `all`, from the `next` on or the `first`.
+//! - `list` lists the directory of such a handle after a context, in a room, `one` entry or `all`, from the `next` on or the `first`.
 //! - `begin` makes a child, which may `inherit` or `not`, and `exit` ends the process.
 //! - `parse run` runs the parse that an open waits for, `parse resume` brings it, and `parse drop` gives the open up. `parse swap` changes it for the parse of
 //!   the other namespace.

@@ -42,7 +42,7 @@ pub struct DeviceInner {
 pub struct DeviceSet;
 
 /// A device is made from the paths of its files, between semicolons; empty arguments are an empty table. Refused
-/// with 1 are arguments with an empty path, also at a semicolon that leads, trails or stands behind
+/// with 1 are arguments with an empty path, also at a semicolon that leads, trails or follows
 /// another, those that are longer than 65,535 bytes, and those with a byte outside 0x20 to 0x7E. A file is
 /// never made so: 5 is answered whatever the arguments are.
 ///

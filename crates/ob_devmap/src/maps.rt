@@ -48,7 +48,7 @@ impl Maps {
         }
     }
 
-    /// Gives a process a map of a directory, in place of the one that it had. Where memory is wanted
+    /// Gives a process a map of a directory, in place of the one that it had. Where memory runs out
     /// nothing has changed.
     pub fn set(&mut self, process: Proc, directory: ObjId) -> Result<(), AllocError>
         ensures set { OnOk result (MapChanges process (Some directory) self.old self.new) }

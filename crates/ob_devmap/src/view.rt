@@ -2,7 +2,7 @@
 
 use ob_base::ObjId;
 
-/// The directories that `\??` stands for: the first component behind it is searched for in the local
+/// The directories that `\??` stands for: the first component after it is searched for in the local
 /// one, and where it isn't found there, in the global one.
 ///
 /// Source: Windows Internals, Object Manager (session namespace: DOS device names, device maps).

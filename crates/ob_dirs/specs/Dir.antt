@@ -65,7 +65,7 @@ NotFoundIsFree =
 abbrev pub NoRowIsNoEntry : Type 0
 NoRowIsNoEntry = (rows : List Row) (directory : ℕ) → All (λ r. r.directory ≢ directory) rows → AreEntries rows directory []
 
--- the row of a further entry, put behind all rows, puts the entry behind the others
+-- the row of a further entry, put after all rows, puts the entry after the others
 abbrev pub NewRowIsLastEntry : Type 0
 NewRowIsLastEntry =
     (rows : List Row) (directory : ℕ) (entries : List DirEntry) (e : DirEntry) → AreEntries rows directory entries

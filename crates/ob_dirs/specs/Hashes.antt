@@ -4,7 +4,7 @@
 use Rattle.std.specs.Prelude.{ℕ, ◌*◌, ◌%◌, ◌^◌, List, fold, map, bit_xor}
 use Rattle.ob_model.specs.Names.{upper}
 
--- a hash behind one byte more
+-- a hash after one byte more
 abbrev pub mixed : ℕ → ℕ → ℕ
 mixed hash byte = (bit_xor hash byte * 1099511628211) % 2 ^ 64
 

@@ -1,4 +1,4 @@
--- Pages of a directory: what is told of its entries behind a context, and what a page gives of it.
+-- Pages of a directory: what is told of its entries after a context, and what a page gives of it.
 --
 -- Sources: ZwQueryDirectoryObject (Windows Driver Kit) for the statuses and the context; that a context is a
 -- stamp, and the size of an entry, are this profile.
@@ -16,7 +16,7 @@ abbrev pub TellsLengths : {F : Type 0} → (F → ℕ → ℕ → F → Type 0) 
 TellsLengths {F} Tells teller type_name =
     (told : List (ℕ × ℕ)) (last : F) → FoldsTo (λ f x g. Tells f x.0 x.1 g) teller told last → All (λ x. x.1 ≡ length (type_name x.0)) told
 
--- the entries of a directory behind a context
+-- the entries of a directory after a context
 abbrev pub entries_behind : List DirEntry → ℕ → List DirEntry
 entries_behind entries context = filter (λ e. nat_lt context e.stamp) entries
 
@@ -37,12 +37,12 @@ pub record IsPage (told : Page) (left : List DirEntry) (page : DirPage) : Type 0
 
 -- ---- on the way to a page
 
--- the room that is left behind what an entry takes; none where it doesn't fit
+-- the room that is left after what an entry takes; none where it doesn't fit
 abbrev pub room_behind : ℕ → ℕ → Option ℕ
 room_behind taken room = if nat_le taken room then Some (room - taken) else None
 
 -- of these entries as many as fit into the room, from the first one on, or the first of them alone: how many are shown
--- with the count before them, whether one that doesn't fit stands behind them, and the stamp of the last
+-- with the count before them, whether one that doesn't fit follows them, and the stamp of the last
 abbrev pub fit_of : List Shown → ℕ → ℕ → ℕ → Bool → Fit
 fit_of [] count context room single = record { count = count; more = false; context = context }
 fit_of (e ∷ es) count context room single =

@@ -1,4 +1,4 @@
--- Entries in runs, one run behind another: what is looked up in them, and where.
+-- Entries in runs, one run after another: what is looked up in them, and where.
 --
 -- Source: this profile.
 use Rattle.std.specs.Prelude.{◌≡◌, ℕ, ◌+◌, ◌^◌, ◌<◌, ◌≤◌, Bool, true, nat_lt, List, [], ◌∷◌, ◌++◌, length, take, drop, map, slice_index_or, All, Vec}
@@ -10,14 +10,14 @@ use Rattle.ob_dirs.specs.declared.entry.DirEntry.{DirEntry}
 abbrev pub Rises : List DirEntry → Type 0
 Rises entries = AllPairs (λ a b. a.stamp < b.stamp) entries
 
--- the entries of a run, and of runs, one behind another
+-- the entries of a run, and of runs, one after another
 abbrev pub entries_of : Vec DirEntry Global → List DirEntry
 entries_of run = run.items
 
 abbrev pub joined : List (Vec DirEntry Global) → List DirEntry
 joined runs = flat_map entries_of runs
 
--- the entries of the run at a place; none behind the last
+-- the entries of the run at a place; none after the last
 abbrev pub run_at : List (Vec DirEntry Global) → ℕ → List DirEntry
 run_at runs place = slice_index_or (map entries_of runs) place []
 

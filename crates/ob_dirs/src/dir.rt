@@ -26,7 +26,7 @@ use std::marker::Model;
 /// strictly and whose spellings differ from one another; two names that only the case of letters
 /// tells apart may stand side by side.
 ///
-/// Most directories of a namespace have no name in them: what holds the entries lies behind a pointer, which
+/// Most directories of a namespace have no name in them: what holds the entries lies after a pointer, which
 /// is made with the first one.
 ///
 /// Source: Windows Internals, Object Manager: object directories; the order is this profile.
@@ -119,7 +119,7 @@ impl Dir {
         }
     }
 
-    /// Puts an entry behind all others. That spelling must be free: no entry has exactly these
+    /// Puts an entry after all others. That spelling must be free: no entry has exactly these
     /// bytes, as where `find` without `fold` gives `None`; a name that differs in the case of
     /// letters alone may be there. The stamp must be above those of all entries.
     ///
@@ -185,7 +185,7 @@ pub fn not_found_is_free()
 {}
 
 /// The laws by which a directory stays that of a state. The rows that stand in it are its entries, in
-/// their order: where there is no row and no entry, when a row comes behind all others as an entry
+/// their order: where there is no row and no entry, when a row comes after all others as an entry
 /// is inserted, when a row of another directory comes, and when the row of a stamp goes as its entry
 /// is removed. Takes nothing and does nothing.
 pub fn entries_follow_the_rows()

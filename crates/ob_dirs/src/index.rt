@@ -46,7 +46,7 @@ impl NameIndex {
         }
     }
 
-    /// Puts a stamp under a hash, behind those that are there. Where memory is wanted nothing has changed.
+    /// Puts a stamp under a hash, after those that are there. Where memory runs out nothing has changed.
     pub(crate) fn add(&mut self, hash: u64, stamp: u64) -> Result<(), AllocError>
         ensures last { OnOk result ((h : ℕ) → stamps_under self.new h
             ≡ (if hash == h then stamps_under self.old h ++ stamp ∷ []
@@ -127,7 +127,7 @@ pub(crate) fn name_hash(name: &[u8]) -> u64
     hash
 }
 
-// A hash behind one byte more.
+// A hash after one byte more.
 fn mixed(hash: u64, byte: u8) -> u64
     ensures { result ≡ mixed hash byte }
 {

@@ -93,7 +93,7 @@ impl NamedEntries {
         named.map(|entry| (entry.stamp, entry.object))
     }
 
-    /// Puts an entry behind all others, as [`Dir::insert`](crate::Dir::insert) has it.
+    /// Puts an entry after all others, as [`Dir::insert`](crate::Dir::insert) has it.
     pub(crate) fn insert(
         &mut self,
         stamp: u64,

@@ -17,7 +17,7 @@ use crate::runs::EntriesBehind;
 use crate::{Dir, DirEntries, DirEntry};
 use ob_base::{Fault, ObjId, Status};
 
-/// A page of a directory: its entries behind a context, as many as fit into a room.
+/// A page of a directory: its entries after a context, as many as fit into a room.
 ///
 /// Source: ZwQueryDirectoryObject (Windows Driver Kit); that a context is a stamp is this profile.
 #[derive(Drop)]
@@ -27,13 +27,13 @@ pub struct DirPage<'a> {
     pub status: Status,
     /// The entries that are shown, by rising stamps: those of the directory, each with its name and its object.
     pub entries: DirEntries<'a>,
-    /// The stamp of the last entry shown, behind which the next page begins; where none is shown, the
+    /// The stamp of the last entry shown, after which the next page begins; where none is shown, the
     /// context that was used.
     pub context: u64,
 }
 
 impl Dir {
-    /// A page of the directory behind a context, which may be any number: of the entries of a greater stamp,
+    /// A page of the directory after a context, which may be any number: of the entries of a greater stamp,
     /// by rising stamps, as many as fit into the room, or the first alone for a single one. An entry takes
     /// 4 bytes of the room, and the lengths of its name and of the name of its object's type, which `len_of`
     /// tells of one entry after another. Where the page begins is sought as in a sorted list; then only what
@@ -66,7 +66,7 @@ impl Dir {
     }
 }
 
-// How many entries a page shows from the first one on, whether one is left behind them, and the stamp of the last, or
+// How many entries a page shows from the first one on, whether one is left after them, and the stamp of the last, or
 // the context before them where none is shown.
 #[derive(Drop)]
 struct Fit {
@@ -113,7 +113,7 @@ fn fitting<F: FnMut(ObjId) -> usize>(
     fit
 }
 
-// The room that is left behind an entry, whose type's name has this length; none where it doesn't fit.
+// The room that is left after an entry, whose type's name has this length; none where it doesn't fit.
 fn room_behind(entry: &DirEntry, type_length: usize, room: usize) -> Option<usize>
     ensures { (type_name : ℕ → List ℕ) → type_length ≡ length (type_name entry.now.object)
         → result ≡ room_behind (room_of (shown_entry type_name entry.now)) room }

@@ -28,7 +28,7 @@ use std::slice::Iter;
 // How many entries a run holds at most.
 const RUN: usize = 32;
 
-/// Entries by strictly rising stamps, in runs, one behind another. A run is full before the next one
+/// Entries by strictly rising stamps, in runs, one after another. A run is full before the next one
 /// begins, so entries that come in order take no more room than they need. A contract sees them as the
 /// list of the entries. (this profile)
 #[derive(Debug, Drop)]
@@ -90,7 +90,7 @@ impl EntryRuns {
         }
     }
 
-    /// Puts an entry behind the others, whose stamps must be below its own. Where memory is wanted nothing
+    /// Puts an entry after the others, whose stamps must be below its own. Where memory runs out nothing
     /// has changed.
     pub(crate) fn push(&mut self, entry: DirEntry) -> Result<(), AllocError>
         requires newest { All (λ e. e.stamp < entry.stamp) self.old }
@@ -145,7 +145,7 @@ impl EntryRuns {
     }
 }
 
-/// Entries by rising stamps, each lent: the rest of a run, then the runs behind it. A contract sees them as
+/// Entries by rising stamps, each lent: the rest of a run, then the runs after it. A contract sees them as
 /// the list of the entries that are left. (this profile)
 #[derive(Drop)]
 pub(crate) struct EntriesBehind<'a> {
@@ -174,7 +174,7 @@ impl<'a> EntriesBehind<'a> {
         EntriesBehind::new(&[], &[])
     }
 
-    // These entries, and behind them those of the runs, of which none may be empty.
+    // These entries, and after them those of the runs, of which none may be empty.
     fn new(here: &'a [DirEntry], runs: &'a [Vec<DirEntry>]) -> EntriesBehind<'a>
         requires filled { AreFilled runs.now }
         ensures { result ≡ here.now ++ joined runs.now }
@@ -257,7 +257,7 @@ fn entries_below(run: &[DirEntry], stamp: u64) -> usize
     run.partition_point(|entry| entry.stamp < stamp)
 }
 
-// Puts an entry behind those of the runs: into the last one where it has room, else into a new one. The first
+// Puts an entry after those of the runs: into the last one where it has room, else into a new one. The first
 // run grows with its entries, and each other one has its whole room from the first entry on.
 fn push_last(runs: &mut Vec<Vec<DirEntry>>, entry: DirEntry) -> Result<(), AllocError>
     requires { AreFilled runs.old.items }

@@ -11,7 +11,7 @@ use Rattle.ob_model.specs.Step.{Step}
 use Rattle.ob_model.specs.Run.{Entry, Run}
 
 module _ {K T F I : Type 0} where
-  -- behind the change opens are refused as before it, and what an open, a close and a delete leave is what they leave
+  -- after the change opens are refused as before it, and what an open, a close and a delete leave is what they leave
   -- before it, with the change made of the set's value
   pub record IsUnnoticed (g : Procedures K T F I) (change : T → T) : Type 0 where
     pub refusals : (set : T) (inner : I) (reason : Reason) → g.refuses_to_open (change set) inner reason ≡ g.refuses_to_open set inner reason

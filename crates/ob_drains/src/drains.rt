@@ -7,7 +7,7 @@ use ob_types::TypeSet;
 
 /// A set of types whose owner takes items from its value between the steps of a namespace, one after another, as a
 /// list of what was deleted. What is taken changes what no procedure of the set reads, so that the steps before and
-/// behind it are a run as if nothing had been taken. (this profile)
+/// after it are a run as if nothing had been taken. (this profile)
 pub trait Drains: TypeSet {
     /// What is taken.
     type Item: Drop + Send;
@@ -15,7 +15,7 @@ pub trait Drains: TypeSet {
     /// What is taken next; none where nothing is left.
     ghost next: { Self → Option Self.Item };
 
-    /// The value behind that, where something is taken. It is a function of every value, for the law below.
+    /// The value after that, where something is taken. It is a function of every value, for the law below.
     ghost behind: { Self → Self };
 
     /// Takes the next item; `None` where nothing is left, and then the set stays as it was. No memory is taken.

@@ -11,12 +11,12 @@ ghost use Rattle.ob_drains.specs.Unnoticed.{ChangesLeaveRuns, ChangesLeaveSteps,
 pub use drains::Drains;
 
 /// A change of the set's value that no procedure notices leaves each step as it is: what may be answered, and what is
-/// left but for the set's value, which is changed behind the step as it is before it.
+/// left except for the set's value, which is changed after the step as it is before it.
 pub fn unnoticed_changes_leave_steps<K, T, F, I>()
     ensures { ChangesLeaveSteps K T F I }
 {}
 
-/// Such a change leaves runs: the same entries lead from the changed first value to the same state but for the set's
+/// Such a change leaves runs: the same entries lead from the changed first value to the same state except for the set's
 /// value, which is changed.
 pub fn unnoticed_changes_leave_runs<K, T, F, I>()
     ensures { ChangesLeaveRuns K T F I }

@@ -1,4 +1,4 @@
--- What a line of a script does: the steps that it makes of the machine, the reply, and the words behind it.
+-- What a line of a script does: the steps that it makes of the machine, the reply, and the words after it.
 --
 -- Source: this profile.
 use Rattle.std.specs.Prelude.{◌≡◌, ◌⊎◌, ℕ, List, [], Option, Some, None, codes}

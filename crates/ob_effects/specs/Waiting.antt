@@ -56,13 +56,13 @@ abbrev pub answer_text : Answer → List ℕ
 answer_text (Done reply) = reply_text reply
 answer_text (Ticket n) = codes "PENDING"
 
--- The words behind its answer. Where that is a reply, no open waits under the word any longer, which is set to the handle
+-- The words after its answer. Where that is a reply, no open waits under the word any longer, which is set to the handle
 -- that was given, or to 0 where none was. Where it is a ticket, the open waits under the word, whose value stays.
 abbrev pub words_answered : Words → ℕ → List ℕ → Answer → Words
 words_answered words process word (Done reply) = with_word (with_ticket words process word 0) process word (given_handle reply.given)
 words_answered words process word (Ticket n) = with_ticket words process word n
 
--- Such a line found no memory, in the state s and with these words: before a step, so that there is none; or behind
+-- Such a line found no memory, in the state s and with these words: before a step, so that there is none; or after
 -- these, which give its open up and lead to the state t and to other words.
 abbrev pub FindsNone : PendingForm (List ℕ) → Words → ℕ → Steps → Space → Space → Words → Type 0
 FindsNone (Begin want name attrs word) words process steps s t words' =

@@ -1,4 +1,4 @@
-//! What a line of a script does: the steps that it makes of the namespace, its reply, and the words behind it.
+//! What a line of a script does: the steps that it makes of the namespace, its reply, and the words after it.
 #![tactic(auto)]
 
 mod asking;

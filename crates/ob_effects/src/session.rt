@@ -18,7 +18,7 @@ use ob_standard_core::{StandardCore, StandardWaits};
 use std::alloc::{AllocError, Global};
 
 /// A script's session with a namespace over the standard set of types: the namespace, the words of the script, and
-/// the opens that wait under its words. It can't be let go: what waits is given up at its [end](Session::end).
+/// the opens that wait under its words. It can't be dropped: what waits is given up at its [end](Session::end).
 ///
 /// A contract sees the words by `words_of`, the state of the abstract machine by `space_of`, and what holds of both
 /// and of the opens that wait as `IsSession`. (this profile)
@@ -41,7 +41,7 @@ impl Session {
         Ok(Session { core, words, waits })
     }
 
-    /// Does what a line of this form says; none: a line that is no script line, which does nothing. What wants memory
+    /// Does what a line of this form says; none: a line that is no script line, which does nothing. What needs memory
     /// comes before the first step, or its open is given up: so no reply is lost. A close, the end of a process, and a line
     /// that makes an object permanent or temporary want none. (this profile)
     pub fn perform(&mut self, form: Option<Form<&[u8]>>) -> LineOutcome
@@ -98,7 +98,7 @@ impl Session {
     }
 }
 
-// Runs the request of a process, and changes the words that its reply changes. All that can want memory
+// Runs the request of a process, and changes the words that its reply changes. All that can need memory
 // comes before the step.
 fn reply_to(
     core: &mut StandardCore,

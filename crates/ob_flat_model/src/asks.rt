@@ -45,7 +45,7 @@ pub enum Kind {
     File,
 }
 
-/// Which page of a directory is asked for. Where it doesn't begin with the first entry, it begins behind the last page that the process was
+/// Which page of a directory is asked for. Where it doesn't begin with the first entry, it begins after the last page that the process was
 /// shown of any directory.
 #[derive(Clone, Copy)]
 pub struct Part {

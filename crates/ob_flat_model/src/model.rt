@@ -215,12 +215,12 @@ impl Model {
         None
     }
 
-    /// The value of the handle at a place in the list of all; none behind them.
+    /// The value of the handle at a place in the list of all; none after them.
     pub fn value_at(&self, place: usize) -> Option<u32> {
         Some(self.handles.get(place)?.value)
     }
 
-    /// The number of the process at a place among those that are live, the oldest of them first; none behind them.
+    /// The number of the process at a place among those that are live, the oldest of them first; none after them.
     pub fn process_at(&self, place: usize) -> Option<u32> {
         Some(self.processes.get(place)?.number)
     }

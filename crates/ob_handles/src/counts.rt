@@ -74,7 +74,7 @@ impl Counts {
         *count
     }
 
-    /// Counts one more of an object. Where memory is wanted nothing has changed.
+    /// Counts one more of an object. Where memory runs out nothing has changed.
     #[inline(always)]
     pub fn add(&mut self, object: ObjId) -> Result<(), AllocError>
         requires room { count_of self.old object ≤ greatest_number }
@@ -95,7 +95,7 @@ impl Counts {
         Ok(())
     }
 
-    // Counts the first of an object of which no count is kept. Where memory is wanted nothing has changed.
+    // Counts the first of an object of which no count is kept. Where memory runs out nothing has changed.
     fn add_first(&mut self, object: ObjId) -> Result<(), AllocError>
         requires { IsPlaceOf object self.old None }
         ensures counted { OnOk result (CountsOneMore object self.old self.new) }

@@ -13,7 +13,7 @@ use std::collections::BTreeMap;
 /// The greatest handle value. (this profile)
 const GREATEST: u32 = 262_140;
 
-/// A handle value that no key is: the one behind the greatest key, or, where there is none behind it,
+/// A handle value that no key is: the one after the greatest key, or, where there is none after it,
 /// the least.
 pub(crate) fn unused_value(values: &BTreeMap<u32, u64>) -> u32
     requires values { All IsHandleValue (keys values.now) }

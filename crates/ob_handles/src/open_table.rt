@@ -15,9 +15,9 @@ use std::marker::Model;
 use std::ops::Bound;
 
 /// A handle table whose handles lie in a map by their orders of opening, beside a map from their values
-/// to these orders. A new handle gets the value behind the greatest one in use, or, where there is none
-/// behind it, the least that is unused. Each call takes a time that grows with the logarithm of the
-/// handles, but for a grant where no value is behind the greatest: that one passes values in use. (this
+/// to these orders. A new handle gets the value after the greatest one in use, or, where there is none
+/// after it, the least that is unused. Each call takes a time that grows with the logarithm of the
+/// handles, except for a grant where no value is after the greatest: that one passes values in use. (this
 /// profile)
 #[derive(Drop)]
 pub struct OpenTable {

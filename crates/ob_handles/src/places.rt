@@ -32,7 +32,7 @@ impl Recent {
     }
 }
 
-/// The place at which an object's count is kept, looked for first where the two stand that were counted last, and behind
+/// The place at which an object's count is kept, looked for first where the two stand that were counted last, and after
 /// the last of them, since what was counted in turn once is counted so again; `None` exactly where none is kept. Takes no
 /// memory, and a time that doesn't grow with the objects.
 #[inline(always)]

@@ -31,7 +31,7 @@ pub trait HandleTable: Sized + Drop + Send {
         ensures { handles result ≡ [] };
 
     /// Makes room for so many handles more at once, as far as the table can; a table that can't make room
-    /// does nothing. The only error is want of memory. The handles stay, whatever the result. (this profile)
+    /// does nothing. The only error is out of memory. The handles stay, whatever the result. (this profile)
     fn reserve(&mut self, more: usize) -> Result<(), AllocError>
         ensures { handles self.new ≡ handles self.old };
 
@@ -66,7 +66,7 @@ pub trait HandleTable: Sized + Drop + Send {
         ensures unchanged { OnErr result (handles self.new ≡ handles self.old) };
 
     /// Opens a handle under a value that is given, as a child does that inherits it. The value must be
-    /// unused, and the order above those of the table. Where memory is wanted nothing has changed.
+    /// unused, and the order above those of the table. Where memory runs out nothing has changed.
     fn put(&mut self, held: Held) -> Result<(), AllocError>
         requires unused { IsUnused (handles self.old) held.value }
         requires newest { All (λ h. h.order < held.order) (handles self.old) }

@@ -10,7 +10,7 @@ use std::marker::Model;
 
 /// Counts of objects that only go down. An object stays listed when its count is 0, so that in the end
 /// it is known which objects there were. A call takes a time that doesn't grow with the objects that are
-/// listed, but for `last_before`, whose time grows with their logarithm, and no memory. (this profile)
+/// listed, except for `last_before`, whose time grows with their logarithm, and no memory. (this profile)
 #[derive(Drop)]
 pub struct Touched {
     pub(crate) numbers: IndexMap<u64, usize>,

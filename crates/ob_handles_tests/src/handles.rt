@@ -161,7 +161,7 @@ const LIVES: [&'static str; 6] = ["come and go", "full", "thinned", "put", "room
 // What a table does in its own way.
 #[derive(Clone, Copy)]
 struct Own {
-    // The value of a first handle behind one that was put under the greatest value.
+    // The value of a first handle after one that was put under the greatest value.
     next: u32,
     // The value of the last of many handles that come one for another.
     last: u32,
@@ -206,7 +206,7 @@ fn is_put<H: HandleTable>(all: &mut Played<H>, next: u32) -> bool {
     all.put(65_535) && all.grant() == Some(next) && all.order_of(262_140) == Some(1)
 }
 
-// Whether the handles stay where room is made for some more, and for more than memory can hold, and others come behind.
+// Whether the handles stay where room is made for some more, and for more than memory can hold, and others come after.
 fn has_room<H: HandleTable>(all: &mut Played<H>, greatest: bool) -> bool {
     all.fills(2)
         && all.reserve(1_000)

@@ -33,7 +33,7 @@ same_object a b = same_kind a.kind b.kind && (nat_eq a.user_data b.user_data && 
 abbrev pub wants_separator : List ℕ → List ℕ → Bool
 wants_separator text rest = not (length text == 0) && not (begins_with_separator rest)
 
--- a text and the rest of a name behind it
+-- a text and the rest of a name after it
 abbrev pub text_below : List ℕ → List ℕ → List ℕ
 text_below text rest = text ++ (if wants_separator text rest then separator ∷ rest else rest)
 

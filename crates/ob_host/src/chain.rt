@@ -10,7 +10,7 @@ use std::mem;
 pub(crate) enum Chain {
     /// No deletion.
     End,
-    /// A deletion, and those behind it.
+    /// A deletion, and those after it.
     More(HostDeletion, Box<Chain>),
 }
 
@@ -22,7 +22,7 @@ impl Chain {
         matches!(self, Chain::End)
     }
 
-    /// Puts a deletion in front. The place behind it is where the deletions so far go; what was there is lost.
+    /// Puts a deletion in front. The place after it is where the deletions so far go; what was there is lost.
     pub(crate) fn push(&mut self, deletion: HostDeletion, mut place: Box<Chain>)
         ensures { items self.new ≡ deletion ∷ items self.old }
     {
@@ -30,7 +30,7 @@ impl Chain {
         *self = Chain::More(deletion, place);
     }
 
-    /// Takes the first deletion, and the place that was behind it.
+    /// Takes the first deletion, and the place that was after it.
     pub(crate) fn pop(&mut self) -> Option<(HostDeletion, Box<Chain>)>
         ensures taken { IfSome result (λ first. items self.old ≡ first.0 ∷ items self.new) }
         ensures none { IfNone result ((items self.old ≡ []) × (items self.new ≡ [])) }
@@ -40,7 +40,7 @@ impl Chain {
         Some((deletion, place))
     }
 
-    // The first deletion, and the place that those behind it stand in.
+    // The first deletion, and the place that those after it stand in.
     fn parted(self) -> Option<(HostDeletion, Box<Chain>)>
         ensures found { IfSome result (λ first. items self ≡ first.0 ∷ items first.1.value) }
         ensures none { IfNone result (items self ≡ []) }

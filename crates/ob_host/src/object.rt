@@ -17,7 +17,7 @@ pub struct HostObject {
     /// The caller's user data: that of its arguments, or of the object whose parse made it.
     pub user_data: u64,
     /// The bytes after the user data in its arguments; where a parse made it, the text of the object whose parse
-    /// that was and the rest of the name behind that object.
+    /// that was and the rest of the name after that object.
     pub text: Bytes,
 }
 
@@ -67,7 +67,7 @@ impl Eq for HostObject {
     ghost laws = { objects_equiv };
 }
 
-// A text and the rest of a name behind it, with a backslash between them where there is a text and the rest
+// A text and the rest of a name after it, with a backslash between them where there is a text and the rest
 // doesn't begin with one.
 fn text_below(alloc: Global, text: &[u8], rest: &[u8]) -> Result<Bytes, AllocError>
     ensures { IfOk result (λ bytes. bytes ≡ text_below text.now rest.now) }

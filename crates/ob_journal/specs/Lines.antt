@@ -24,7 +24,7 @@ use Rattle.ob_journal.specs.Segments.{Segment}
 
 -- ---- texts
 
--- a byte that stands for itself in a text: 0x20 to 0x7E, but for `"` (0x22) and `%` (0x25)
+-- a byte that stands for itself in a text: 0x20 to 0x7E, except for `"` (0x22) and `%` (0x25)
 abbrev pub is_itself : ℕ → Bool
 is_itself byte = nat_le 0x20 byte && nat_le byte 0x7E && not (byte == 0x22) && not (byte == 0x25)
 
@@ -89,7 +89,7 @@ abbrev pub handle_step : List ℕ → ℕ → ℕ → Data
 handle_step op p handle =
     object_of ((codes "handle", number_value handle) ∷ (codes "op", string op) ∷ (codes "proc", number_value p) ∷ [])
 
--- an open, but for the type that it asks for
+-- an open, except for the type that it asks for
 abbrev pub open_step : List ℕ → ℕ → Option ℕ → List ℕ → ℕ → Data
 open_step op p root name flags =
     object_of (

@@ -1,4 +1,4 @@
--- The segments of a journal: it is cut into sealed ones, in order, with the open one behind them.
+-- The segments of a journal: it is cut into sealed ones, in order, with the open one after them.
 --
 -- Source: this profile.
 use Rattle.std.specs.Prelude.{◌≡◌, ℕ, ◌+◌, ◌≤◌, List, [], ◌∷◌, ◌++◌, length}
@@ -22,7 +22,7 @@ abbrev pub joined : {K : Type 0} → List (Segment K) → List (Entry K)
 joined [] = []
 joined (s ∷ ss) = s.entries ++ joined ss
 
--- the open segment behind these, with its entries
+-- the open segment after these, with its entries
 abbrev pub open_after : {K : Type 0} → List (Segment K) → List (Entry K) → Segment K
 open_after sealed entries = record { number = length sealed + 1; first = length (joined sealed) + 1; entries = entries }
 

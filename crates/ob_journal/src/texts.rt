@@ -5,7 +5,7 @@ ghost use Rattle.ob_journal.specs.Lines.{escaped, escaped_byte, is_itself, hex_d
 
 use std::alloc::{AllocError, Global};
 
-/// Bytes in the form of texts: each of 0x20 to 0x7E but for `"` and `%` as itself, any other as `%` and two hexadecimal
+/// Bytes in the form of texts: each of 0x20 to 0x7E except for `"` and `%` as itself, any other as `%` and two hexadecimal
 /// digits in upper case. The only error is out of memory. (this profile)
 pub(crate) fn escape(alloc: Global, bytes: &[u8]) -> Result<String, AllocError>
     ensures { IfOk result (λ text. string_bytes text ≡ escaped bytes.now) }

@@ -14,11 +14,11 @@ use Rattle.ob_key.specs.declared.entry.KeyEntry.{KeyEntry}
 abbrev pub greater : ℕ
 greater = 62
 
--- the target that a piece of arguments says: what stands behind its first `>`, where it has one
+-- the target that a piece of arguments says: what follows its first `>`, where it has one
 abbrev pub target_in : List ℕ → Option (List ℕ)
 target_in piece = if has_byte greater piece then Some (after_first (λ b. b == greater) piece) else None
 
--- the entry that a piece of arguments says: a path, up to the first `>`, and the target behind it
+-- the entry that a piece of arguments says: a path, up to the first `>`, and the target after it
 abbrev pub entry_of : List ℕ → KeyEntry
 entry_of piece = record { path = before_first (λ b. b == greater) piece; target = target_in piece }
 
@@ -43,15 +43,15 @@ is_empty_target (Some target) = length target == 0
 abbrev pub is_fit : KeyEntry → Bool
 is_fit e = is_path e.path && not (is_empty_target e.target)
 
--- a path goes on behind another and a backslash
+-- a path continues after another and a backslash
 abbrev pub goes_on : List ℕ → List ℕ → Bool
 goes_on path front = starts_with nat_eq path front && begins_with_separator (drop (length front) path)
 
--- the other entry is a link, and this one's path goes on behind it
+-- the other entry is a link, and this one's path continues after it
 abbrev pub is_below_link : KeyEntry → KeyEntry → Bool
 is_below_link e other = is_link other && goes_on e.path other.path
 
--- two entries may stand in one table: their paths differ, and neither goes on behind a link of the other
+-- two entries may stand in one table: their paths differ, and neither continues after a link of the other
 abbrev pub are_apart : KeyEntry → KeyEntry → Bool
 are_apart e other = (not (same_path e.path other.path) && not (is_below_link e other)) && not (is_below_link other e)
 

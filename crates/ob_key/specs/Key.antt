@@ -45,13 +45,13 @@ one_more inner = record inner { handles = min (inner.handles + 1) (2 ^ 32 - 1) }
 abbrev pub behind_separator : List ℕ → List ℕ
 behind_separator rest = if begins_with_separator rest then drop 1 rest else rest
 
--- what a link answers to the rest behind it: the name that its target and the rest make together
+-- what a link answers to the rest after it: the name that its target and the rest make together
 abbrev pub link_answer : List ℕ → List ℕ → ParseAnswer KeyPlace KeyInner
 link_answer target rest =
     if not (is_profile_text rest) then Refused 3
     else (if nat_le (length (substituted target rest)) longest_name then Reparse (substituted target rest) else Refused 4)
 
--- what is answered where a rest leads to this path, with so many bytes used, and that rest behind them: the link
+-- what is answered where a rest leads to this path, with so many bytes used, and that rest after them: the link
 -- there, or else the key there
 abbrev pub answer_at : List KeyEntry → Option (List ℕ) → List ℕ → ℕ → List ℕ → ParseAnswer KeyPlace KeyInner
 answer_at entries (Some target) path used behind = link_answer target behind

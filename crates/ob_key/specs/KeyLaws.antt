@@ -69,12 +69,12 @@ itself_of : (face : KeyPlace) (whole : ℕ) (component behind : List ℕ) → an
 itself_of face whole [] behind e = cc
 itself_of face whole (c ∷ cs) behind e = not_itself face.entries (target_of face.entries (path_below face.path (c ∷ cs))) (path_below face.path (c ∷ cs)) behind (whole - length behind) e
 
--- what stands behind a separator is no longer
+-- what follows a separator is no longer
 behind_shorter : (begins : Bool) (b : ℕ) (bs : List ℕ) → length (if begins then bs else b ∷ bs) ≤ length (b ∷ bs)
 behind_shorter true b bs = omega arith
 behind_shorter false b bs = omega arith
 
--- what stands behind a component, which has a byte, is shorter than the rest
+-- what follows a component, which has a byte, is shorter than the rest
 used_some : (rest text : List ℕ) → rest ≢ [] → length text ≤ length rest → 0 < length (next_component (separator ∷ text)) → length (after_component (separator ∷ text)) < length rest
 used_some [] text n l some = absurd (n refl)
 used_some (b ∷ bs) text n l some =

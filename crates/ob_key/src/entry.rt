@@ -74,7 +74,7 @@ pub struct KeyEntry {
 }
 
 impl KeyEntry {
-    /// The entry that a piece of arguments says: a path, or a path and a target behind the first `>`. Either may
+    /// The entry that a piece of arguments says: a path, or a path and a target after the first `>`. Either may
     /// be empty here. The only error is out of memory. (this profile)
     pub(crate) fn read(alloc: Global, piece: &[u8]) -> Result<KeyEntry, AllocError>
         requires { IsTrue (is_profile_text piece.now) }
@@ -106,7 +106,7 @@ impl KeyEntry {
         is_path(self.path.as_slice()) && !has_empty_target(&self.target)
     }
 
-    /// Whether two entries may stand in one table: their paths differ, and neither goes on behind the path of
+    /// Whether two entries may stand in one table: their paths differ, and neither continues after the path of
     /// the other and a backslash where the other is a link. (this profile)
     pub(crate) fn is_apart(&self, other: &KeyEntry) -> bool
         ensures { result ≡ entries.are_apart self.now other.now }
@@ -114,7 +114,7 @@ impl KeyEntry {
         self.path != other.path && !self.is_below_link(other) && !other.is_below_link(self)
     }
 
-    /// Whether the other entry is a link, and this one's path goes on behind its path and a backslash.
+    /// Whether the other entry is a link, and this one's path continues after its path and a backslash.
     pub(crate) fn is_below_link(&self, other: &KeyEntry) -> bool
         ensures { result ≡ entries.is_below_link self.now other.now }
     {
@@ -155,7 +155,7 @@ fn is_path(path: &[u8]) -> bool
     true
 }
 
-// Whether a path goes on behind another and a backslash.
+// Whether a path continues after another and a backslash.
 fn goes_on(path: &[u8], front: &[u8]) -> bool
     ensures { result ≡ entries.goes_on path.now front.now }
 {

@@ -36,13 +36,13 @@ pub struct KeySet;
 /// A key is made, as the root of its table, from entries between semicolons; empty arguments are an empty table. An
 /// entry is a path, or a path, `>` and a target; the first `>` counts. A path is components joined by single
 /// backslashes, none of them empty. Refused with 1 are arguments with an empty path or component, an empty target, the
-/// same path twice, or an entry whose path goes on behind the path of a link and a backslash, those that are
+/// same path twice, or an entry whose path continues after the path of a link and a backslash, those that are
 /// longer than 65,535 bytes, and those with a byte outside 0x20 to 0x7E.
 ///
 /// Each key parses. The empty rest names the key itself. Another rest loses one leading backslash where it has
 /// one, and begins with a component; where it doesn't it is refused with 3. Where the key's path and the component
-/// are the path of a link, the name is looked up again, as the link's target and what stands behind the component;
-/// that is refused with 3 where there is a byte outside 0x20 to 0x7E behind the component, and with 4 where the new
+/// are the path of a link, the name is looked up again, as the link's target and what follows the component;
+/// that is refused with 3 where there is a byte outside 0x20 to 0x7E after the component, and with 4 where the new
 /// name would be longer than 32,767 bytes. Where a key is there the rest leads to it, up to the component's end. All
 /// else is refused with 3. Paths are compared byte by byte.
 ///
@@ -147,7 +147,7 @@ impl TypeSet for KeySet {
     ghost equal_kinds = { elim [ Key ↦ elim [ Key ↦ refl ] ] };
 }
 
-// What a link answers to the rest behind it: the name that its target and the rest make together.
+// What a link answers to the rest after it: the name that its target and the rest make together.
 fn through_link(
     alloc: Global,
     target: &KeyTarget,

@@ -118,7 +118,7 @@ module _ (K T F I : Type 0) where
     pub inner : (o : ℕ) → (after_calls g (begins_with g first steps) log).inner o ≡ inner_in (left_by (opening first) steps) o
 
   -- The calls told of each run are made, in an order in which each object's are as they are told. It holds of each front
-  -- of a run, which is a run too, and so behind each step.
+  -- of a run, which is a run too, and so after each step.
   abbrev pub CallsAreMade : Type 0
   CallsAreMade =
       (g : Procedures K T F I) (first : T) (steps : List (Passed K T F I)) → Passes g (opening first) 0 steps

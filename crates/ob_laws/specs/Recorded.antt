@@ -20,11 +20,11 @@ abbrev pub number_in : List ℕ → ℕ → ℕ
 number_in [] o = 0
 number_in (x ∷ xs) o = if x == o then length (x ∷ xs) else number_in xs o
 
--- the objects that were opened, the last one first, behind one call more: an object comes with its first open
+-- the objects that were opened, the last one first, after one call more: an object comes with its first open
 abbrev pub opened_behind : List ℕ → Made → List ℕ
 opened_behind opened m = if is_open m.call && (number_in opened m.object == 0) then m.object ∷ opened else opened
 
--- and behind these calls
+-- and after these calls
 abbrev pub opened_by : List ℕ → List Made → List ℕ
 opened_by opened [] = opened
 opened_by opened (m ∷ log) = opened_by (opened_behind opened m) log

@@ -12,7 +12,7 @@ use Rattle.ob_model.specs.Lifetimes.{ClosesAreCounted, DeleteIsLast, StepKeepsCo
 use Rattle.ob_model.specs.Scans.{Scans, StandAtTheirSteps, StandsThroughout, shown_in}
 
 module _ (K T F I : Type 0) where
-  -- what holds of the calls on one object in a run, and of the handles of exclusive objects behind each of its steps
+  -- what holds of the calls on one object in a run, and of the handles of exclusive objects after each of its steps
   pub record IsLifetime (first : T) (steps : List (Passed K T F I)) (o : ℕ) : Type 0 where
     pub counted : ClosesAreCounted (calls_of_run (opening first) steps o)
     pub deleted : DeleteIsLast (calls_of_run (opening first) steps o)

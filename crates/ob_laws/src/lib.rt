@@ -13,8 +13,8 @@ ghost use Rattle.ob_laws.specs.Recorded.{RecordersHaveTheirCalls};
 ghost use Rattle.ob_laws.specs.WholeRuns.{Lifetimes, ScansAreWhole};
 
 /// In each run, of each object: a close is given as handles left in the system the accepted opens before it less the
-/// closes up to and with it, and as handles left in its process those that its step leaves there and closes behind
-/// it; a delete stands at most once and last, behind a close with none left or where no open was accepted at all, and
+/// closes up to and with it, and as handles left in its process those that its step leaves there and closes after
+/// it; a delete stands at most once and last, after a close with none left or where no open was accepted at all, and
 /// no pending open pins the object then. All handles of an exclusive object are in one process.
 ///
 /// Source: Windows Internals, Object Manager (object methods, object retention).

@@ -2,7 +2,7 @@
 //!
 //! A child begins with what it inherits of its parent: [`begin_child`]. A process that ends closes its
 //! handles, and lives no longer: [`end_process`]. Each is told by the state of the abstract machine
-//! that the namespace stands for. Nothing settles here: a command does so behind the change.
+//! that the namespace stands for. Nothing settles here: a command does so after the change.
 #![tactic(auto)]
 
 mod child;

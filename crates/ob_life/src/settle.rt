@@ -75,7 +75,7 @@ fn settle_closed<T: TypeSet, H: HandleTable>(
     settle_other_shadow(space, object, other);
 }
 
-/// Settles the shadow of a directory that went, where there is one, but for one object. It has no shadow itself.
+/// Settles the shadow of a directory that went, where there is one, except for one object. It has no shadow itself.
 fn settle_other_shadow<T: TypeSet, H: HandleTable>(
     space: &mut Space<T, H>,
     object: ObjId,

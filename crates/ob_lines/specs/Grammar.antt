@@ -84,11 +84,11 @@ verb_of (SetDeviceMap handle) = verb.Map
 verb_of (NewProcess inherit child) = verb.New
 verb_of ExitProcess = verb.Exit
 
--- what stands behind the verb of a request and a space: `PLACE FLAGS =V` behind `dir`,
--- `H PLACE FLAGS =V` behind `shadow`, `PLACE FLAGS TEXT =V` behind `link`, `KIND PLACE FLAGS TEXT =V` behind `make`, `NAME FLAGS =V` behind
--- `opendir` and `openlink`, `WANT NAME FLAGS =V` behind `open`, `H` behind `close`, `target`, `name`, `temp`,
--- `perm` and `map`, `H ROOM MODE` behind `list`, `H Q plain =V` or `H Q inherit =V` behind `dup`, and `plain =Q` or
--- `inherit =Q` behind `new`. `exit` has no operands.
+-- what follows the verb of a request and a space: `PLACE FLAGS =V` after `dir`,
+-- `H PLACE FLAGS =V` after `shadow`, `PLACE FLAGS TEXT =V` after `link`, `KIND PLACE FLAGS TEXT =V` after `make`, `NAME FLAGS =V` after
+-- `opendir` and `openlink`, `WANT NAME FLAGS =V` after `open`, `H` after `close`, `target`, `name`, `temp`,
+-- `perm` and `map`, `H ROOM MODE` after `list`, `H Q plain =V` or `H Q inherit =V` after `dup`, and `plain =Q` or
+-- `inherit =Q` after `new`. `exit` has no operands.
 abbrev pub IsOperands : List ℕ → Request (List ℕ) → Type 0
 IsOperands bytes (CreateDirectory place attrs word) =
     (rest : List ℕ) × BeginsWithPlace bytes place rest × IsFlagsAndWord rest attrs word
@@ -115,11 +115,11 @@ abbrev pub IsVerbAndOperands : List ℕ → Request (List ℕ) → Type 0
 IsVerbAndOperands bytes request =
     (operands : List ℕ) × (bytes ≡ verb_text (verb_of request) ++ codes " " ++ operands) × IsOperands operands request
 
--- what a process asks for, behind its process word and a space: `exit` alone, or a verb and its operands
+-- what a process asks for, after its process word and a space: `exit` alone, or a verb and its operands
 abbrev pub IsRequest : List ℕ → Request (List ℕ) → Type 0
 IsRequest bytes request = ((bytes ≡ codes "exit") × (request ≡ ExitProcess)) ⊎ IsVerbAndOperands bytes request
 
--- what a process asks of its opens that wait, behind its process word and a space: `begin WANT NAME FLAGS =V`,
+-- what a process asks of its opens that wait, after its process word and a space: `begin WANT NAME FLAGS =V`,
 -- `end V` or `drop V`
 abbrev pub IsPending : List ℕ → PendingForm (List ℕ) → Type 0
 IsPending bytes (Begin want name attrs word) =

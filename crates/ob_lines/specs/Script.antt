@@ -16,11 +16,11 @@ abbrev pub HasForm : List ℕ → Option (Form (List ℕ)) → Type 0
 HasForm line None = (form : Form (List ℕ)) → ¬ IsLine line form
 HasForm line (Some form) = IsLine line form
 
--- the first line of the script is of this form, and the rest's lines are those behind it
+-- the first line of the script is of this form, and the rest's lines are those after it
 abbrev pub BeginsWithLine : List ℕ → Option (Form (List ℕ)) → List ℕ → Type 0
 BeginsWithLine script form rest = (line : List ℕ) × (lines_of script ≡ line ∷ lines_of rest) × HasForm line form
 
--- the lines of the script from its first on are of these forms, and the rest's lines are those behind them
+-- the lines of the script from its first on are of these forms, and the rest's lines are those after them
 abbrev pub BeginsWithForms : List ℕ → Forms → List ℕ → Type 0
 BeginsWithForms script [] rest = script ≡ rest
 BeginsWithForms script (form ∷ forms) rest = (behind : List ℕ) × BeginsWithLine script form behind × BeginsWithForms behind forms rest

@@ -33,7 +33,7 @@ pub enum PendingForm<T> {
     },
 }
 
-// What is asked of the opens that wait, behind the process word and a space.
+// What is asked of the opens that wait, after the process word and a space.
 pub fn pending_of(bytes: &[u8]) -> Option<PendingForm<&[u8]>>
     requires { length bytes.now ≤ 262144 }
     ensures found { IfSome result (λ pending. IsPending bytes.now (pending_seen pending)) }

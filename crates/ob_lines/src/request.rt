@@ -157,7 +157,7 @@ pub enum Request<T> {
     ExitProcess,
 }
 
-// What is asked for, behind the process word and a space.
+// What is asked for, after the process word and a space.
 pub fn request_of(bytes: &[u8]) -> Option<Request<&[u8]>>
     requires { length bytes.now ≤ 262144 }
     ensures found { IfSome result (λ request. IsRequest bytes.now (request_seen request)) }

@@ -8,13 +8,13 @@ ghost use Rattle.ob_lines.specs.Script.{BeginsWithLine, found_seen, HasReading, 
 use crate::form::{Form, form_of};
 use ob_parts::split_at;
 
-/// The form of a script's first line, and the rest of the script behind the line; none where the
+/// The form of a script's first line, and the rest of the script after the line; none where the
 /// script is over.
 ///
 /// A line ends at its LF, or at the script's end. The form is none where the line is no script line,
 /// as one of more than 262,144 bytes. Takes no memory. Source: this profile.
 pub fn read_line(script: &[u8]) -> Option<(Option<Form<&[u8]>>, &[u8])>
-    // The first line is of this form, and the rest stands behind it.
+    // The first line is of this form, and the rest follows it.
     ensures found { IfSome result (λ read.
         BeginsWithLine script.now (found_seen read.0) read.1.now) }
     ensures shorter { IfSome result (λ read. length read.1.now < length script.now) }
@@ -28,7 +28,7 @@ pub fn read_line(script: &[u8]) -> Option<(Option<Form<&[u8]>>, &[u8])>
     Some((form_of(line), rest))
 }
 
-/// The first line of a text, without its LF, and what stands behind it; none where the text is empty. A line ends at its
+/// The first line of a text, without its LF, and what follows it; none where the text is empty. A line ends at its
 /// LF, or at the text's end. Takes no memory. Source: this profile.
 pub fn first_line(bytes: &[u8]) -> Option<(&[u8], &[u8])>
     ensures found { IfSome result (λ x. lines_of bytes.now ≡ x.0.now ∷ lines_of x.1.now) }

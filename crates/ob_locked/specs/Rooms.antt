@@ -7,7 +7,7 @@ use Rattle.ob_model.specs.declared.command.Command.TheVariants.{NewProcess}
 use Rattle.ob_model.specs.declared.reply.Given.{Given}
 use Rattle.ob_model.specs.declared.reply.Given.TheVariants.{Nothing, Handle, Text, Process, Page}
 
--- a copy wants memory: of a text, or of a page
+-- a copy needs memory: of a text, or of a page
 abbrev pub wants_memory : Given → Bool
 wants_memory Nothing = false
 wants_memory (Handle handle) = false

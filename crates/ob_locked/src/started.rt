@@ -12,7 +12,7 @@ use ob_types::TypeSet;
 use std::alloc::Global;
 use std::marker::Model;
 
-/// A parse that is to be run, with the place of the receipt of the step that ends its open. It can't be let go: it is run,
+/// A parse that is to be run, with the place of the receipt of the step that ends its open. It can't be dropped: it is run,
 /// given up, or handed to an abandon. Contracts see the parse: its ticket, its face and its rest.
 ///
 /// Source: Windows Internals, Object Manager (parse methods); that a parse is run between two steps is this profile.
@@ -30,7 +30,7 @@ impl<T: TypeSet> Model for Parsing<T> {
 }
 
 /// A parse that was run, or given up as one that found no memory, with the place of the receipt of the step that ends its
-/// open. It can't be let go: it is handed to a resume or an abandon. Contracts see the parse with its end.
+/// open. It can't be dropped: it is handed to a resume or an abandon. Contracts see the parse with its end.
 ///
 /// Source: Windows Internals, Object Manager (parse methods); that a parse is run between two steps is this profile.
 pub struct Parsed<T: TypeSet> {
@@ -54,7 +54,7 @@ pub enum Started<T: TypeSet> {
     Parsing(Parsing<T>),
 }
 
-/// What is brought when an open that waits is given up: its parse, run or not. It can't be let go.
+/// What is brought when an open that waits is given up: its parse, run or not. It can't be dropped.
 pub enum Pending<T: TypeSet> {
     /// It was not run.
     Unrun(Parsing<T>),

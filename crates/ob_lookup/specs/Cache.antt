@@ -28,7 +28,7 @@ kept room entries hits = record { room = room; entries = entries; hits = hits }
 abbrev pub one_more : ℕ → ℕ
 one_more hits = min (hits + 1) (2 ^ 64 - 1)
 
--- the cache behind a look-up of the prefix: where it is there, it is the most recently used, and a hit
+-- the cache after a look-up of the prefix: where it is there, it is the most recently used, and a hit
 abbrev pub after_find : Prefix → Kept → Kept
 after_find prefix cache =
     kept cache.room (promoted (same_prefix prefix) cache.entries) (if is_some (lookup (same_prefix prefix) cache.entries) then one_more cache.hits else cache.hits)

@@ -58,7 +58,7 @@ abbrev pub turn_of : Next → Turn
 turn_of (next.Over end) = Ended (look_of end)
 turn_of (next.Again text) = Restarted text
 
--- The ends of a lookup with no reparse left for which a lookup with any number left may want memory: the
+-- The ends of a lookup with no reparse left for which a lookup with any number left may need memory: the
 -- refusal in place of a text that a link makes.
 abbrev pub MayWantMemory : machine.Look → Type 0
 MayWantMemory (machine.At id) = ⊥

@@ -25,7 +25,7 @@ abbrev pub is_view : Standpoint → Bool
 is_view (place.InDirectory id) = false
 is_view place.InView = true
 
--- the prefix with these bytes behind its first separator, from a place of this view
+-- the prefix with these bytes after its first separator, from a place of this view
 pub record IsPrefixOf (view : View) (at : Standpoint) (folds : Bool) (text : List ℕ) (prefix : Prefix) : Type 0 where
   pub place : prefix.place ≡ directory_of view at
   pub in_view : prefix.in_view ≡ is_view at

@@ -2,7 +2,7 @@
 -- where it stops.
 --
 -- Sources: Windows Internals, Object Manager (session namespace: the local DOS device directory is
--- searched before `\GLOBAL??`); the rule on creates behind `\??` is this profile.
+-- searched before `\GLOBAL??`); the rule on creates after `\??` is this profile.
 use Rattle.std.specs.Prelude.{◌≡◌, ℕ, Bool, false, ◌&&◌, nat_eq, if◌then◌else◌, List, [], ◌∷◌, drop, Option, None, Some, codes}
 use Rattle.std.specs.List.{starts_with}
 use Rattle.std.specs.Arc.{arc_value}
@@ -27,7 +27,7 @@ use Rattle.ob_lookup.specs.declared.start.Start.{Start}
 use Rattle.ob_lookup.specs.declared.walk.Stop.{Stop}
 use Rattle.ob_lookup.specs.declared.walk.Stop.TheVariants.{Missed, Directory, Link, Other}
 
--- what is left of a text: nothing, or a separator and what stands behind it
+-- what is left of a text: nothing, or a separator and what follows it
 abbrev pub rest_of : Option (List ℕ) → List ℕ
 rest_of None = []
 rest_of (Some behind) = separator ∷ behind
@@ -53,7 +53,7 @@ place_of p start = origin_at p start.place
 abbrev pub text_of : Start → List ℕ
 text_of start = rest_of start.behind
 
--- where what stands behind `\??` begins, with its separator: in the view, but a create of one component
+-- where what follows `\??` begins, with its separator: in the view, but a create of one component
 -- in the local directory alone
 abbrev pub start_behind_view : View → ℕ → Bool → List ℕ → Origin × List ℕ
 start_behind_view view p create text =

@@ -248,7 +248,7 @@ impl<T: TypeSet> CachedStore<T> {
         self.store.insert(id, object)
     }
 
-    /// Stores an object under an id that no object has, and hands it back where memory is wanted: then nothing has
+    /// Stores an object under an id that no object has, and hands it back where memory runs out: then nothing has
     /// changed, and the caller may try again. Source: the ids are this profile.
     pub fn try_insert(
         &mut self,
@@ -279,7 +279,7 @@ impl<T: TypeSet> CachedStore<T> {
         stored
     }
 
-    /// Puts a name for an object behind all entries of a directory, which must be there. That
+    /// Puts a name for an object after all entries of a directory, which must be there. That
     /// spelling must be free in it, and the stamp above those of its entries. The object may have
     /// any id, but not a name already. The only fault is out of memory, and then nothing has changed.
     ///

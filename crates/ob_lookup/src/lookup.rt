@@ -28,8 +28,8 @@ use std::alloc::{AllocError, Global};
 /// In an absolute name, and in a text that a link makes, `\??` is the view of the DOS device names.
 ///
 /// - `\??` itself is its local directory, or the global one where there is no local one.
-/// - The component behind `\??\` is searched for in the local directory first, and then in the global
-///   one; those behind it are searched for where it leads.
+/// - The component after `\??\` is searched for in the local directory first, and then in the global
+///   one; those after it are searched for where it leads.
 /// - A create of `\??\` and one component looks in the local directory alone, so that it may put a name
 ///   there that is in the global one.
 ///
@@ -59,7 +59,7 @@ use std::alloc::{AllocError, Global};
 ///
 /// Source: Windows Internals, Object Manager (object names, symbolic links, parse methods, session namespace);
 /// OBJECT_ATTRIBUTES structure (Windows Driver Kit). The refusals and their order, and the rule on creates
-/// behind `\??`, are this profile.
+/// after `\??`, are this profile.
 pub fn look<'a, T: TypeSet>(
     alloc: Global,
     store: &Store<T>,

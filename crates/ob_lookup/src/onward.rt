@@ -22,7 +22,7 @@ use std::alloc::Global;
 
 /// Where the walk of a text goes on: at the directory to which its prefix leads, by the cache, with the last component
 /// alone; else where the walk through directories has come to, and what came so to the last component is put into the
-/// cache. A text of one component has no prefix. Where memory is wanted, for the key or for what is put, the cache stays
+/// cache. A text of one component has no prefix. Where memory runs out, for the key or for what is put, the cache stays
 /// as it was.
 pub(crate) fn onward<'a, T: TypeSet>(
     alloc: Global,
@@ -76,7 +76,7 @@ fn split_start<'a>(start: &Start<'a>) -> Option<(Name<'a>, Name<'a>)>
     split_last(behind)
 }
 
-/// What stands before the last separator of a name, and what stands behind it; none where it has no separator.
+/// What stands before the last separator of a name, and what follows it; none where it has no separator.
 fn split_last<'a>(name: &Name<'a>) -> Option<(Name<'a>, Name<'a>)>
     ensures parts { IfSome result (λ parts. name.now ≡ parts.0 ++ separator ∷ parts.1) }
     ensures last { IfSome result (λ parts. All (λ b. b ≢ separator) parts.1) }
@@ -169,7 +169,7 @@ fn into_directory<'a, 's, T: TypeSet>(
     Some((next, entries, *beneath))
 }
 
-/// The directory that a walk has come to, where exactly so many bytes are left behind a separator.
+/// The directory that a walk has come to, where exactly so many bytes are left after a separator.
 fn directory_reached(reached: &Start<'_>, last: usize) -> Option<ObjId>
     ensures { result ≡ reached_at reached.now.place reached.now.behind last }
 {

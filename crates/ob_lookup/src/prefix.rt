@@ -28,7 +28,7 @@ pub struct Prefix {
     in_view: bool,
     /// Whether `a` to `z` are equal to `A` to `Z`.
     fold: bool,
-    /// What stands behind the first separator: with `fold`, with `a` to `z` taken to `A` to `Z`.
+    /// What follows the first separator: with `fold`, with `a` to `z` taken to `A` to `Z`.
     bytes: SmallVec<u8, 64>,
 }
 

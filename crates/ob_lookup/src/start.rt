@@ -30,12 +30,12 @@ pub(crate) enum Standpoint {
     InView,
 }
 
-/// Where a walk begins, and over what: nothing, or a separator and what stands behind it.
+/// Where a walk begins, and over what: nothing, or a separator and what follows it.
 #[derive(Drop)]
 pub(crate) struct Start<'a> {
     /// The place.
     pub(crate) place: Standpoint,
-    /// What stands behind the separator that the text begins with.
+    /// What follows the separator that the text begins with.
     pub(crate) behind: Option<Name<'a>>,
 }
 
@@ -83,7 +83,7 @@ pub(crate) fn absolute<'a>(view: &View, text: Name<'a>, create: bool) -> Option<
     }
 }
 
-/// Where a text begins that stands behind `\??\`: in the view, but a create whose last component it is
+/// Where a text begins that follows `\??\`: in the view, but a create whose last component it is
 /// looks in the local directory alone.
 fn behind_view<'a>(view: &View, behind: Name<'a>, create: bool) -> Start<'a>
     ensures { (p : ℕ) → (place_of p result, text_of result)
@@ -100,7 +100,7 @@ fn behind_view<'a>(view: &View, behind: Name<'a>, create: bool) -> Start<'a>
     }
 }
 
-/// Whether what stands behind a separator is one component.
+/// Whether what follows a separator is one component.
 fn is_one_component(behind: &[u8]) -> bool
     ensures { result ≡ paths.is_one_component (separator ∷ behind.now) }
 {

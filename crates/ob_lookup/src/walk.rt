@@ -210,7 +210,7 @@ pub(crate) fn body<T: TypeSet>(store: &Store<T>, id: ObjId) -> &StoredBody<T::Fa
     &object.body
 }
 
-/// What stands behind the separator that a rest begins with; none where it is empty.
+/// What follows the separator that a rest begins with; none where it is empty.
 pub(crate) fn behind_separator<'a>(rest: Name<'a>) -> Option<Name<'a>>
     requires { IsRest rest }
     ensures { rest_of result ≡ rest.entry }

@@ -69,7 +69,7 @@ fn number_of(look: &Look<'_>) -> u64 {
     }
 }
 
-// The number of the object at which a name ends by a cache, or without it, and 0 where it ends otherwise, or memory is wanted.
+// The number of the object at which a name ends by a cache, or without it, and 0 where it ends otherwise, or memory runs out.
 fn object_named<T: TypeSet>(
     alloc: Global,
     cache: &mut Cache,
@@ -103,7 +103,7 @@ fn object_named<T: TypeSet>(
     }
 }
 
-// The numbers of the objects of two names, one behind the other by a new cache, and its hits then.
+// The numbers of the objects of two names, one after the other by a new cache, and its hits then.
 fn in_turn<T: TypeSet>(
     alloc: Global,
     store: &Store<T>,

@@ -86,7 +86,7 @@ impl<T: TypeSet> Space<T> {
         put(&mut self.store, directory, id, name, temporary(body)).is_ok()
     }
 
-    // The body of an object of a kind; a directory is empty. There is none where memory is wanted.
+    // The body of an object of a kind; a directory is empty. There is none where memory runs out.
     fn body(&self, kind: Kind<'_>) -> Option<StoredBody<T::Face, T::Inner>>
         ensures { IfSome result (λ body. entries_in body ≡ []) }
     {
@@ -97,7 +97,7 @@ impl<T: TypeSet> Space<T> {
         }
     }
 
-    // The body of a file. There is none where memory is wanted.
+    // The body of a file. There is none where memory runs out.
     fn file(&self) -> Option<StoredBody<T::Face, T::Inner>>
         ensures { IfSome result (λ body. entries_in body ≡ []) }
     {
@@ -111,7 +111,7 @@ impl<T: TypeSet> Space<T> {
     }
 }
 
-// A name with a copy of these bytes; there is none where they make none, or memory is wanted.
+// A name with a copy of these bytes; there is none where they make none, or memory runs out.
 fn name_of(alloc: Global, bytes: &[u8]) -> Option<NameBuf> {
     let Ok(name) = Name::read(bytes) else {
         return None;

@@ -1,4 +1,4 @@
--- States, commands and answers that are alike: the same but for the values of handles.
+-- States, commands and answers that are alike: the same except for the values of handles.
 --
 -- Source: this profile, by which the machine may choose the value of a new handle.
 use Rattle.std.specs.Prelude.{◌≡◌, ℕ, Bool, true, false, List, [], map, Option, None, Some}
@@ -95,7 +95,7 @@ module _ {K T F I : Type 0} where
   abbrev pub unvalued : State K T F I → State K T F I
   unvalued s = record s { handles = map unvalued_handle s.handles }
 
-  -- two states are the same but for the values of handles
+  -- two states are the same except for the values of handles
   abbrev pub AreAlike : State K T F I → State K T F I → Type 0
   AreAlike s t = unvalued s ≡ unvalued t
 
@@ -136,7 +136,7 @@ module _ {K T F I : Type 0} (s t : State K T F I) (p : ℕ) where
     no_name : AreAlikePlaces Unnamed Unnamed
     names : {root other : Option ℕ} {name : List ℕ} → AreAlikeRoots root other → AreAlikePlaces (At root name) (At other name)
 
-  -- two commands of a process are the same but for the values of handles, which lead alike
+  -- two commands of a process are the same except for the values of handles, which lead alike
   pub data AreAlikeCommands : Command K → Command K → Type 0 where
     create_directories : {place other : Place} {attrs : ℕ} → AreAlikePlaces place other → AreAlikeCommands (CreateDirectory place attrs) (CreateDirectory other attrs)
     create_shadowed : {place other : Place} {attrs shadow same : ℕ} → AreAlikePlaces place other → LeadAlike s t p shadow same

@@ -131,7 +131,7 @@ module _ {K T F I : Type 0} where
   is_drawn s t command o = is_set_create command && (o == s.next_id) && nat_lt s.next_id t.next_id
 
   -- an object that was there or came in the step, and isn't there after it, is deleted: it is taken away at
-  -- the end of the step, or its open was refused at its create or behind its parse
+  -- the end of the step, or its open was refused at its create or after its parse
   abbrev pub calls_of_end : State K T F I → State K T F I → (came : Bool) → ℕ → List Call
   calls_of_end s t came o = if (is_of_set s o || came) && not (is_some (object_of t o)) then Deleted ∷ [] else []
 

@@ -24,7 +24,7 @@ pub record Shown : Type 0 where
   pub name : List ℕ
   pub type_name : List ℕ
 
--- a page: its status, the entries, and the context that the next page begins behind
+-- a page: its status, the entries, and the context that the next page begins after
 pub record Page : Type 0 where
   pub status : Status
   pub entries : List Shown
@@ -60,7 +60,7 @@ page_of (e ∷ es) context room single =
 abbrev pub largest_room : ℕ
 largest_room = 1048576
 
--- the context that a page begins behind: 0 where it restarts
+-- the context that a page begins after: 0 where it restarts
 abbrev pub context_used : (restart : Bool) → ℕ → ℕ
 context_used restart context = if restart then 0 else context
 

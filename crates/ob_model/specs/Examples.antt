@@ -108,7 +108,7 @@ NamesWithAndWithoutCase =
     (same_name true (codes "Foo") (codes "FOO") ≡ true) × (same_name false (codes "Foo") (codes "FOO") ≡ false)
     × (same_name true (codes "[") (codes "{") ≡ false) × (same_name false (codes "[") (codes "{") ≡ false)
 
--- `\Device\Disk\` is split behind each of its components, and its last rest is `\`
+-- `\Device\Disk\` is split after each of its components, and its last rest is `\`
 abbrev pub TextsInComponents : Type 0
 TextsInComponents =
     IsSplit (codes "\\Device\\Disk\\") [] (codes "\\Device\\Disk\\")
@@ -135,7 +135,7 @@ NamesThatAreFound =
     × EndsAt with_disk opens (codes "\\Device\\Disk") (At 7) × LooksUp numbers with_disk 1 opens most_reparses (Some 4) (codes "Disk") (At 7)
 
 -- a component that names nothing is refused by whether it is the last; the last one is a place for
--- a create. An object that is no directory has nothing behind it
+-- a create. An object that is no directory has nothing after it
 abbrev pub NamesThatAreMissing : Type 0
 NamesThatAreMissing =
     EndsAt with_disk opens (codes "\\Missing\\Disk") (Refused ObjectPathNotFound)
@@ -180,7 +180,7 @@ with_links =
     opening_with (standing 7 (Other 0 0) ∷ link_to 8 (codes "\\Device") ∷ link_to 9 (codes "\\Self") ∷ link_to 10 (codes "Device") ∷ [])
     (row_in 4 6 (codes "Disk") 7 ∷ root_row 7 (codes "Link") 8 ∷ root_row 8 (codes "Self") 9 ∷ root_row 9 (codes "Bad") 10 ∷ [])
 
--- a link is followed, and the rest behind it is kept; `\DosDevices` leads to `\??`
+-- a link is followed, and the rest after it is kept; `\DosDevices` leads to `\??`
 abbrev pub LinkIsFollowed : Type 0
 LinkIsFollowed =
     EndsAt with_links opens (codes "\\Link\\Disk") (At 7) × EndsAt with_links opens (codes "\\Link") (At 4)
@@ -249,14 +249,14 @@ with_local =
       next_process = 3;
     }
 
--- an open behind `\??` finds the local directory's entry first, and else the global one
+-- an open after `\??` finds the local directory's entry first, and else the global one
 abbrev pub LocalComesFirst : Type 0
 LocalComesFirst =
     EndsAt with_local opens (codes "\\??\\C:") (At 8) × EndsAt with_local opens (codes "\\??\\D:") (At 10)
     × EndsAt with_local opens (codes "\\GLOBAL??\\C:") (At 9) × LooksUp numbers with_local 2 opens most_reparses None (codes "\\??\\C:") (At 9)
     × EndsAt with_local opens (codes "\\DosDevices\\C:") (At 8)
 
--- a create right behind `\??` looks in the local directory alone, so it doesn't meet the global entry
+-- a create directly after `\??` looks in the local directory alone, so it doesn't meet the global entry
 abbrev pub CreateIsLocal : Type 0
 CreateIsLocal =
     EndsAt with_local creates (codes "\\??\\D:") (Vacant 7 (codes "D:")) × EndsAt with_local creates (codes "\\??\\C:") (At 8)
@@ -322,7 +322,7 @@ shown_b = record { stamp = 7; name = codes "B"; type_name = codes "Directory" }
 abbrev pub shown_c : Shown
 shown_c = record { stamp = 8; name = codes "C"; type_name = codes "Number" }
 
--- the page of `\Device` behind a context is this one
+-- the page of `\Device` after a context is this one
 abbrev pub HasPage : Numbers → (context room : ℕ) → (single : Bool) → Status → List Shown → ℕ → Type 0
 HasPage s context room single status entries next =
     enumerated numbers s 4 context room single ≡ record { status = status; entries = entries; context = next }
@@ -343,7 +343,7 @@ MoreEntriesAreLeft =
     × HasPage with_three_entries 0 14 false MoreEntries (shown_a ∷ []) 6 × HasPage with_three_entries 6 14 false MoreEntries (shown_b ∷ []) 7
 
 -- the row that a page ended with goes, since its object's last handle is closed: the next page begins
--- behind it all the same, and leaves nothing out
+-- after it all the same, and leaves nothing out
 abbrev pub PageBehindARowThatWent : Type 0
 PageBehindARowThatWent =
     let left = settle numbers (closed_handle numbers with_three_entries (handle_to 8 4 1)) in
@@ -449,7 +449,7 @@ with_shadowed_map =
       processes = record { number = 1; map = Some 8 } ∷ [];
     }
 
--- an open behind `\??` sees the shadow of the local directory before the global one; a create looks in the local
+-- an open after `\??` sees the shadow of the local directory before the global one; a create looks in the local
 -- directory alone
 abbrev pub MapHasShadow : Type 0
 MapHasShadow =
@@ -602,7 +602,7 @@ abbrev pub closed_twice : List (Passed ℕ (List (ℕ × Call)) ℕ ℕ)
 closed_twice =
     passed 1 (closes_handle 4) (answers Success) after_one_close ∷ passed 2 (closes_handle 8) (answers Success) after_both_closes ∷ []
 
--- each close is given the handles that are left after it, and the delete comes behind the last
+-- each close is given the handles that are left after it, and the delete comes after the last
 abbrev pub CallsOfTwoCloses : Type 0
 CallsOfTwoCloses =
     Passes recording with_two_handles 0 closed_twice

@@ -54,7 +54,7 @@ SplitIsUnique =
 abbrev pub SplitJoinsBack : Type 0
 SplitJoinsBack = (text : List ℕ) (cs : List (List ℕ)) (rest : List ℕ) → IsSplit text cs rest → joined cs ++ rest ≡ text
 
--- a substitution has the bytes of the target and of the rest, but for the one separator that is
+-- a substitution has the bytes of the target and of the rest, except for the one separator that is
 -- dropped where two meet
 abbrev pub SubstitutedLength : Type 0
 SubstitutedLength =

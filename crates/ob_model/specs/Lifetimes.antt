@@ -35,7 +35,7 @@ ClosesAreCounted calls =
     (before behind : List Call) (process_left system_left : ℕ) → calls ≡ before ++ Closed process_left system_left ∷ behind
     → system_left + (closings before + 1) ≡ opens before
 
--- a delete is the last call, behind a close with no handle left in the system, or where no open was accepted at all
+-- a delete is the last call, after a close with no handle left in the system, or where no open was accepted at all
 abbrev pub DeleteIsLast : List Call → Type 0
 DeleteIsLast calls =
     (before behind : List Call) → calls ≡ before ++ Deleted ∷ behind
@@ -52,7 +52,7 @@ module _ {K T F I : Type 0} where
   calls_in s x o = calls_of_step s x.entry.event x.outcome x.entry.answer x.after o
 
   -- What holds of the calls of one step, from the state s. Each close is given, as the handles that are left in its
-  -- process, those that the step leaves there and those that it closes behind this one. No pending open pins what is
+  -- process, those that the step leaves there and those that it closes after this one. No pending open pins what is
   -- deleted.
   pub record StepKeepsCount (o : ℕ) (s : State K T F I) (x : Passed K T F I) : Type 0 where
     pub process_left :

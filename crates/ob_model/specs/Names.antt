@@ -1,5 +1,5 @@
 -- Names: which bytes they have, when two are equal, how a text is split into components, and what
--- a link's target and the rest behind it make together.
+-- a link's target and the rest after it make together.
 --
 -- Sources: OBJECT_ATTRIBUTES structure and UNICODE_STRING structure (Windows Driver Kit) for counted
 -- names, the separator and OBJ_CASE_INSENSITIVE; Windows Internals, Object Manager, for object names
@@ -44,7 +44,7 @@ same_name fold a b = pointwise (same_byte fold) a b
 abbrev pub IsComponent : List ℕ → Type 0
 IsComponent c = (c ≢ []) × All (λ b. b ≢ separator) c
 
--- each component behind a separator
+-- each component after a separator
 abbrev pub joined : List (List ℕ) → List ℕ
 joined [] = []
 joined (c ∷ cs) = (separator ∷ c) ++ joined cs
@@ -54,17 +54,17 @@ abbrev pub IsRest : List ℕ → Type 0
 IsRest [] = Unit {0}
 IsRest (b ∷ bs) = b ≡ separator
 
--- the text is these components, each behind a separator, and then this rest
+-- the text is these components, each after a separator, and then this rest
 pub record IsSplit (text : List ℕ) (components : List (List ℕ)) (rest : List ℕ) : Type 0 where
   pub each : All IsComponent components
   pub whole : text ≡ joined components ++ rest
   pub bounded : IsRest rest
 
--- the bytes of a rest behind its first separator, up to the next separator or the end
+-- the bytes of a rest after its first separator, up to the next separator or the end
 abbrev pub next_component : List ℕ → List ℕ
 next_component rest = take_while (λ b. not (b == separator)) (drop 1 rest)
 
--- what stands behind that component
+-- what follows that component
 abbrev pub after_component : List ℕ → List ℕ
 after_component rest = drop (1 + length (next_component rest)) rest
 
@@ -79,7 +79,7 @@ abbrev pub begins_with_separator : List ℕ → Bool
 begins_with_separator [] = false
 begins_with_separator (b ∷ bs) = b == separator
 
--- what a lookup goes on with behind a link: the target followed by the rest, where of two
+-- what a lookup goes on with after a link: the target followed by the rest, where of two
 -- separators that meet one is dropped (this profile)
 abbrev pub substituted : List ℕ → List ℕ → List ℕ
 substituted target rest =

@@ -28,7 +28,7 @@ module _ {K T F I : Type 0} where
   IsWayUp s o [] = o ≡ root_id
   IsWayUp s o (c ∷ cs) = (o ≢ root_id) × ((r : Row) × (row_of s o ≡ Some r) × (c ≡ r.name) × IsWayUp s r.directory cs)
 
--- the text of these names, the last of them first, each behind a separator
+-- the text of these names, the last of them first, each after a separator
 abbrev pub names_joined : List (List ℕ) → List ℕ
 names_joined [] = []
 names_joined (c ∷ cs) = names_joined cs ++ separator ∷ c

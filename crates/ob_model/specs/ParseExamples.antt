@@ -101,7 +101,7 @@ AskerIsGone =
     let t = given_none s made in
     Passes parsing s 0 (one_step (Resume 8 Ran) made (answers ProcessGone) t) × (t.set ≡ (98, Deleted) ∷ (1, Deleted) ∷ [])
 
--- an open is given up before its parse was run, or behind it: then what the parse made goes
+-- an open is given up before its parse was run, or after it: then what the parse made goes
 abbrev pub OpenIsGivenUp : Type 0
 OpenIsGivenUp =
     let s = with_open_at (codes "ab") 32 Anything in

@@ -4,7 +4,7 @@
 -- Sources: Windows Internals, Object Manager (object names; object directories and their shadow
 -- directories; session namespace: the local DOS device directory is searched before `\GLOBAL??`);
 -- OBJECT_ATTRIBUTES structure for names relative to a root directory. Which of several matches is
--- found, that the last component of a create is no entry of a shadow, and the rule on creates behind
+-- found, that the last component of a create is no entry of a shadow, and the rule on creates after
 -- `\??`, are this profile.
 use Rattle.std.specs.Prelude.{◌≡◌, ◌≢◌, ℕ, Bool, true, false, ◌&&◌, not, ◌==◌, nat_eq, nat_le, if◌then◌else◌, List, [], ◌∷◌, drop, Option, None, Some, filter, codes, ◌⊎◌}
 use Rattle.std.specs.List.{starts_with}
@@ -33,12 +33,12 @@ pub data Origin : Type 0 where
   InDirectory : ℕ → Origin
   ViewOf : ℕ → Origin
 
--- the place of the component behind these components, which lead to the directory d
+-- the place of the component after these components, which lead to the directory d
 abbrev pub place_behind : Origin → List (List ℕ) → ℕ → Origin
 place_behind place [] d = place
 place_behind place (c ∷ cs) d = InDirectory d
 
--- the text is one component behind a separator
+-- the text is one component after a separator
 abbrev pub is_one_component : List ℕ → Bool
 is_one_component text = begins_with_separator text && not (bytes_eq (next_component text) []) && bytes_eq (after_component text) []
 
@@ -91,7 +91,7 @@ module _ {K T F I : Type 0} where
       × IsPath s (InDirectory m) cs own fold o
 
   -- a walk over the text reaches the object with this rest: components lead to it, and the rest
-  -- stands behind an object that is no directory, or is empty. The last component of a create names
+  -- follows an object that is no directory, or is empty. The last component of a create names
   -- an own entry
   abbrev pub IsReach : State K T F I → Origin → List ℕ → (create fold : Bool) → ℕ → List ℕ → Type 0
   IsReach s place text create fold o rest =
@@ -107,7 +107,7 @@ module _ {K T F I : Type 0} where
       × ((c ≡ []) ⊎ (entry s (place_behind place cs d) c (last && create) fold ≡ None)) × (last ≡ bytes_eq (after_component rest) [])
 
   -- where an absolute text begins, and what is walked from there. `\??` is the process's view, but a
-  -- create whose last component stands right behind it looks in the local directory alone
+  -- create whose last component directly follows it looks in the local directory alone
   abbrev pub origin_of : State K T F I → (p : ℕ) (create : Bool) (text : List ℕ) → Option (Origin × List ℕ)
   origin_of s p create text =
       if bytes_eq text (codes "\\") then Some (InDirectory root_id, [])

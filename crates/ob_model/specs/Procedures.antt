@@ -21,7 +21,7 @@ pub data ParseOutcome (F I : Type 0) : Type 0 where
   EndsReparse : List ℕ → ParseOutcome F I
   EndsRefused : ℕ → ParseOutcome F I
 
--- The procedures of a set of types, each as a function of what it is given (want of memory aside).
+-- The procedures of a set of types, each as a function of what it is given (a lack of memory aside).
 -- A refusal is a number below 2^16.
 pub record Procedures (K T F I : Type 0) : Type 0 where
   -- the name of a type
@@ -67,7 +67,7 @@ module _ {K T F I : Type 0} (g : Procedures K T F I) where
   abbrev pub RefusedOpenKeeps : Type 0
   RefusedOpenKeeps = (set : T) (inner : I) (reason : Reason) (k : ℕ) → g.refuses_to_open set inner reason ≡ Some k → g.opened set inner reason ≡ (set, inner)
 
-  -- what is made is idle: it stands for no open handle
+  -- what is made is idle: it counts no open handle
   abbrev pub MadeIsIdle : (I → Type 0) → Type 0
   MadeIsIdle Idle = (kind : K) (args : List ℕ) → g.refuses_to_make kind args ≡ None → Idle ((g.made kind args).1)
 
@@ -83,7 +83,7 @@ module _ {K T F I : Type 0} (g : Procedures K T F I) where
   abbrev pub OwnKindIsSame : Type 0
   OwnKindIsSame = (a : K) → g.same_kind a a ≡ true
 
-  -- a parse procedure uses a front of the rest, and leaves what is behind it to an instance that parses
+  -- a parse procedure uses a front of the rest, and leaves what follows it to an instance that parses
   abbrev pub FrontIsUsed : Type 0
   FrontIsUsed = (face next : F) (rest : List ℕ) (used : ℕ) (inner : I) → g.parsed face rest ≡ Front used next inner → UsesFront rest used next
 
@@ -112,7 +112,7 @@ module _ {K T F I : Type 0} (g : Procedures K T F I) where
     pub own_face : OwnFaceIsSame
     pub same_answers : SameFacesAnswerAlike
 
-  -- A lawful set, where Idle is the fact that an inner value stands for no open handle.
+  -- A lawful set, where Idle is the fact that an inner value counts no open handle.
   pub record IsLawful (Idle : I → Type 0) : Type 0 where
     pub refused_open : RefusedOpenKeeps
     pub made_idle : MadeIsIdle Idle

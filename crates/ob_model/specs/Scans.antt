@@ -1,5 +1,5 @@
 -- Scans: pages of one directory that are asked for one after another, the first from the beginning and each other
--- one behind the context that the page before it gave. Other steps may stand between them, and the pages may be
+-- one after the context that the page before it gave. Other steps may stand between them, and the pages may be
 -- asked for by any processes, with any room.
 --
 -- Source: ZwQueryDirectoryObject (Windows Driver Kit).
@@ -21,7 +21,7 @@ shown_in (None ∷ pages) = shown_in pages
 shown_in (Some page ∷ pages) = page.entries ++ shown_in pages
 
 module _ {K T F I : Type 0} (g : Procedures K T F I) where
-  -- a step shows a page of a directory, of what lies behind a context: a process asks for it by a handle to the
+  -- a step shows a page of a directory, of what follows a context: a process asks for it by a handle to the
   -- directory, and this page is the answer
   pub record ShowsPage (s : State K T F I) (d context : ℕ) (x : Passed K T F I) (page : Page) : Type 0 where
     pub process : ℕ
@@ -36,8 +36,8 @@ module _ {K T F I : Type 0} (g : Procedures K T F I) where
     pub shows : page ≡ enumerated g s d context room single
     pub answer : x.entry.answer ≡ page_answer page
 
-  -- From the state s on, these steps show these pages of a directory, each behind the context that the one before it
-  -- gave, and the first one behind this context. A step that isn't of the scan shows none of them.
+  -- From the state s on, these steps show these pages of a directory, each after the context that the one before it
+  -- gave, and the first one after this context. A step that isn't of the scan shows none of them.
   abbrev pub ScansOn : State K T F I → (d context : ℕ) → List (Passed K T F I) → List (Option Page) → Type 0
   ScansOn s d context [] [] = Unit {0}
   ScansOn s d context [] (page ∷ pages) = ⊥
@@ -45,7 +45,7 @@ module _ {K T F I : Type 0} (g : Procedures K T F I) where
   ScansOn s d context (x ∷ xs) (None ∷ pages) = ScansOn x.after d context xs pages
   ScansOn s d context (x ∷ xs) (Some page ∷ pages) = ShowsPage s d context x page × ScansOn x.after d page.context xs pages
 
-  -- a scan begins behind 0, which no row's stamp is, as a restart does
+  -- a scan begins after 0, which no row's stamp is, as a restart does
   abbrev pub Scans : State K T F I → ℕ → List (Passed K T F I) → List (Option Page) → Type 0
   Scans s d xs pages = ScansOn s d 0 xs pages
 
@@ -60,6 +60,6 @@ module _ {K T F I : Type 0} (g : Procedures K T F I) where
   StandAtTheirSteps s d (x ∷ xs) (Some page ∷ pages) = All (StandsAt s d) page.entries × StandAtTheirSteps x.after d xs pages
 
 module _ {K T F I : Type 0} where
-  -- a row stands in the state s and behind each of these steps
+  -- a row stands in the state s and after each of these steps
   abbrev pub StandsThroughout : Row → State K T F I → List (Passed K T F I) → Type 0
   StandsThroughout r s xs = Contains s.rows r × All (λ x. Contains x.after.rows r) xs

@@ -15,7 +15,7 @@ pub struct Bytes {
 }
 
 impl Drop for Bytes {
-    // By hand, so that what owns bytes lets go of them by one call, in one way.
+    // By hand, so that what owns bytes drops them by one call, in one way.
     fn drop(self) {
         let Bytes { items } = self;
         drop(items);

@@ -115,12 +115,12 @@ pub enum Command<K> {
         /// The handle.
         handle: Handle,
     },
-    /// Asks for a page of the directory of a handle of the caller: of its entries behind a context, as many as
+    /// Asks for a page of the directory of a handle of the caller: of its entries after a context, as many as
     /// fit into a room. The low two bits of the value are ignored.
     QueryDirectory {
         /// The handle, which must lead to a directory.
         handle: Handle,
-        /// The context: the stamp behind which the page begins, as the page before it gave it, 0 at first;
+        /// The context: the stamp after which the page begins, as the page before it gave it, 0 at first;
         /// any number.
         context: u64,
         /// The room, in bytes: 0 to 1,048,576. An entry takes 4 and the lengths of both its names.

@@ -57,7 +57,7 @@ ghost use Rattle.ob_model.specs.ParseExamples.{
 /// Names are equal with or without case, split into components, and joined at a separator.
 ///
 /// - `names_with_and_without_case`: `Foo` and `FOO` are equal without case and differ with it; `[` is not `{` in either way.
-/// - `texts_in_components`: `\Device\Disk\` is split behind each of its components, and its last rest is `\`.
+/// - `texts_in_components`: `\Device\Disk\` is split after each of its components, and its last rest is `\`.
 /// - `separators_that_meet`: Where a target ends in a separator and the rest begins with one, one of the two is dropped.
 pub fn names_are_read()
     ensures names_with_and_without_case { NamesWithAndWithoutCase }
@@ -69,7 +69,7 @@ pub fn names_are_read()
 ///
 /// - `names_that_are_found`: The root, `\Device` and `\Device\Disk` are found, and `Disk` relative to `\Device`.
 /// - `names_that_are_missing`: A component that names nothing is refused as a path in the middle of a name and as a name at its
-///   end, where it is a place for a create. Nothing stands behind an object that is no directory.
+///   end, where it is a place for a create. Nothing follows an object that is no directory.
 /// - `names_that_are_invalid`: An empty component is refused, as in `\Device\` and `\Device\\Disk`, and so is a name that has no
 ///   separator in front.
 /// - `first_inserted_is_found`: Of `\Foo` and `\FOO` the one inserted first is found without case, and each one with it.
@@ -83,7 +83,7 @@ pub fn names_lead_to_objects()
 /// Links: followed, opened themselves, in a ring, to targets of each form, and as many in a chain as a lookup follows; and a rest that is parsed.
 ///
 /// - `rest_is_parsed`: An open hands what follows a parsing object to its parse, separators and all; a create never parses.
-/// - `link_is_followed`: A link is followed with the rest behind it kept, in an open and in a create.
+/// - `link_is_followed`: A link is followed with the rest after it kept, in an open and in a create.
 /// - `link_is_opened`: A link is opened itself where the last component isn't followed.
 /// - `link_to_itself`: A link that leads to itself ends at the limit of reparses.
 /// - `target_is_no_absolute_name`: A link whose target is no absolute name is refused once it is followed.
@@ -152,13 +152,13 @@ pub fn shadows_are_seen()
     ensures shadows_are_judged { ShadowsAreJudged }
 {}
 
-/// Pages of a directory: what they hold, whether more is left, and one behind a row that went.
+/// Pages of a directory: what they hold, whether more is left, and one after a row that went.
 ///
 /// - `pages_of_a_directory`: A page has all entries that fit, or one alone where one is asked for; none where none is left, or
 ///   where the first doesn't fit.
 /// - `more_entries_are_left`: Where one byte of room is missing, a page says that more entries are left, and the next page begins
 ///   with the first of them.
-/// - `page_behind_a_row_that_went`: Where the row goes that a page ended with, the next page begins behind it and leaves nothing out.
+/// - `page_behind_a_row_that_went`: Where the row goes that a page ended with, the next page begins after it and leaves nothing out.
 pub fn pages_follow_stamps()
     ensures pages_of_a_directory { PagesOfADirectory }
     ensures more_entries_are_left { MoreEntriesAreLeft }
@@ -180,7 +180,7 @@ pub fn paths_are_told()
 /// - `itself_is_opened`: Where no rest is left the object that parsed is opened, though it has no name, and stays.
 /// - `parse_is_refused`: A refusal of the parse is told by the resume.
 /// - `asker_is_gone`: Where the process that asked is gone a resume says so, and what the parse made goes.
-/// - `open_is_given_up`: An open is given up before its parse was run, or behind it: then what the parse made goes.
+/// - `open_is_given_up`: An open is given up before its parse was run, or after it: then what the parse made goes.
 /// - `reparses_are_counted`: A text to look up takes one of the reparses that are left; where none is left that is told.
 pub fn parses_end()
     ensures parse_runs_end { ParseRunsEnd }

@@ -84,7 +84,7 @@ pub fn split_joins_back()
     ensures { SplitJoinsBack }
 {}
 
-/// A substitution has the bytes of the target and of the rest, but for one separator of two that
+/// A substitution has the bytes of the target and of the rest, except for one separator of two that
 /// meet.
 pub fn substituted_length()
     ensures { SubstitutedLength }
@@ -131,7 +131,7 @@ pub fn name_look_is_total<K, T, F, I>()
 
 /// The path of an object, which is the names on the way from it up to the root, names it: looked up as it is,
 /// absolute and with case, it ends at the object, a link too, for every process and with any number of reparses
-/// left. So does each text that a query of a path answers in a run, but for the empty one.
+/// left. So does each text that a query of a path answers in a run, except for the empty one.
 pub fn paths_name_their_objects<K, T, F, I>()
     ensures paths { PathsNameTheirObjects K T F I }
     ensures answers { AnswersNameTheirObjects K T F I }
@@ -254,7 +254,7 @@ pub fn map_is_of_one_process<K, T, F, I>()
     ensures others { OtherMapsAreLeft K T F I }
 {}
 
-/// The directory of a live process's map stays, whatever lets go of it: after each step from a sound state it
+/// The directory of a live process's map stays, whatever drops it: after each step from a sound state it
 /// is there, and is a directory.
 pub fn mapped_directory_stays<K, T, F, I>()
     ensures stays { MappedStays K T F I }

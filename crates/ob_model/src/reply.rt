@@ -19,7 +19,7 @@ pub enum Given {
     Page {
         /// The entries that it shows, by rising stamps.
         entries: Entries,
-        /// The context that the next page begins behind: the stamp of the last entry shown, or the one that
+        /// The context that the next page begins after: the stamp of the last entry shown, or the one that
         /// was used where none is.
         context: u64,
     },

@@ -2,8 +2,8 @@
 use Rattle.std.specs.Prelude.{◌≡◌, ◌≢◌, ℕ, ◌<◌, ◌≤◌, List, [], ◌∷◌, ◌++◌, length, slice_index}
 use Rattle.ob_model.specs.Names.{separator, IsSplit, next_component, after_component}
 
--- where the rest of a split has a next component, that component behind the others and what stands
--- behind it are a split of the same text
+-- where the rest of a split has a next component, that component after the others and what stands
+-- after it are a split of the same text
 abbrev pub SplitsGoOn : Type 0
 SplitsGoOn =
     (text rest : List ℕ) (components : List (List ℕ)) → IsSplit text components rest → next_component rest ≢ []

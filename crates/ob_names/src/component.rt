@@ -9,17 +9,17 @@ ghost use Rattle.ob_names.specs.Splitting.{SplitsGoOn, SplitsAreUnique, IsFirstS
 /// The byte that separates components, `\`.
 pub(crate) const SEPARATOR: u8 = b'\\';
 
-/// What a text behind a separator begins with.
+/// What a text after a separator begins with.
 #[derive(Clone, Copy, Debug)]
 pub enum Component<'a> {
     /// No component: the text is empty, or begins with a separator.
     Empty,
-    /// A component, `name`, of one or more bytes and no separator, and behind it `rest`, which is
+    /// A component, `name`, of one or more bytes and no separator, and after it `rest`, which is
     /// empty or begins with a separator.
     One { name: &'a [u8], rest: &'a [u8] },
 }
 
-/// The first component of a text that stands behind a separator, and what stands behind it. The
+/// The first component of a text that follows a separator, and what follows it. The
 /// text may have any length and any bytes.
 ///
 /// Source: OBJECT_ATTRIBUTES structure (Windows Driver Kit), for names whose components are
@@ -58,8 +58,8 @@ fn component_len(text: &[u8]) -> usize
         .unwrap_or(text.len())
 }
 
-/// Splitting joins back. Where a text is some components and a rest, each behind a separator, and
-/// the rest has a next component, the text is those components, this one, and what stands behind
+/// Splitting joins back. Where a text is some components and a rest, each after a separator, and
+/// the rest has a next component, the text is those components, this one, and what follows
 /// it; and no other components stand before the same rest. So the components that `first` gives,
 /// one after another, are the ones that the text is made of. Takes nothing and does nothing.
 pub fn splitting_joins_back()

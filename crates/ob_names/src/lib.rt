@@ -1,5 +1,5 @@
 //! Names: what a name may be, when two are equal, how a text is split into components, and what a
-//! link's target and the rest behind it make together.
+//! link's target and the rest after it make together.
 //!
 //! A name is counted bytes, with no byte that ends it. Contracts see a name as the list of its
 //! bytes, and speak of it in the words of `ob_model`'s names.

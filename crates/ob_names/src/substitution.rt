@@ -1,4 +1,4 @@
-//! Substitution: what a lookup goes on with behind a link.
+//! Substitution: what a lookup goes on with after a link.
 
 ghost use Rattle.std.specs.Prelude.{◌≡◌, ◌<◌, ◌↔◌, ◌⊎◌, ◌++◌, length, IsTrue, IfOk, IfErr};
 ghost use Rattle.ob_model.specs.Names.{is_profile_text, longest_name, substituted};
@@ -37,7 +37,7 @@ pub fn substitute(alloc: Global, target: &[u8], rest: &[u8]) -> Result<NameBuf, 
     Ok(NameBuf::new(bytes))
 }
 
-// What of the rest follows the target: all, but for the first of two separators that meet.
+// What of the rest follows the target: all, except for the first of two separators that meet.
 fn behind<'a>(target: &[u8], rest: &'a [u8]) -> &'a [u8]
     ensures { target.now ++ result.now ≡ substituted target.now rest.now }
 {

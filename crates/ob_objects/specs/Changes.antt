@@ -27,7 +27,7 @@ module _ {F I : Type 0} where
   abbrev pub without_object : Entries F I → ℕ → Entries F I
   without_object store id = filter (λ e. not (e.0 == id)) store
 
-  -- a directory's entries with one more behind them; any other body stays
+  -- a directory's entries with one more after them; any other body stays
   abbrev pub body_with_name : DirEntry → StoredBody F I → StoredBody F I
   body_with_name entry (Directory entries shadow) = Directory (entries ++ entry ∷ []) shadow
   body_with_name entry (Link target) = Link target

@@ -44,7 +44,7 @@ pub(crate) fn holds_names<F, I>(stored: &StoredObject<F, I>) -> bool
     }
 }
 
-/// Puts an entry behind those of a directory.
+/// Puts an entry after those of a directory.
 pub(crate) fn insert_name<F, I>(
     stored: &mut StoredObject<F, I>,
     stamp: u64,

@@ -16,7 +16,7 @@ use ob_model::{Bytes, Entries, Listed, TypeName};
 use ob_types::TypeSet;
 use std::alloc::{AllocError, Global};
 
-/// A page of a directory: its entries behind a context, as many as fit into a room.
+/// A page of a directory: its entries after a context, as many as fit into a room.
 ///
 /// Source: ZwQueryDirectoryObject (Windows Driver Kit); that a context is a stamp is this profile.
 #[derive(Debug, Drop)]
@@ -26,13 +26,13 @@ pub struct Page {
     pub status: Status,
     /// The entries that are shown, by rising stamps.
     pub entries: Entries,
-    /// The stamp of the last entry shown, behind which the next page begins; where none is shown, the
+    /// The stamp of the last entry shown, after which the next page begins; where none is shown, the
     /// context that was used.
     pub context: u64,
 }
 
 impl<T: TypeSet> Store<T> {
-    /// A page of a directory behind a context, which may be any number: of the entries of a greater stamp,
+    /// A page of a directory after a context, which may be any number: of the entries of a greater stamp,
     /// by rising stamps, as many as fit into the room, or the first alone for a single one. An entry takes
     /// 4 bytes of the room, and the lengths of its name and of the name of its type. An object that is no
     /// directory, or isn't there, has no entries. The only fault is out of memory, which a page that shows

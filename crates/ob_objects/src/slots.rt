@@ -113,7 +113,7 @@ impl<F: Drop, I: Drop> Slots<F, I> {
         }
     }
 
-    /// Puts an object under an id that no object has, and hands it back where memory is wanted.
+    /// Puts an object under an id that no object has, and hands it back where memory runs out.
     pub(crate) fn put_object(
         &mut self,
         id: ObjId,

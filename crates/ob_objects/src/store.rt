@@ -264,7 +264,7 @@ impl<T: TypeSet> Store<T> {
     }
 
     /// Stores an object under an id that no object has, as [`Store::insert`] does, and hands it back where
-    /// memory is wanted: then nothing has changed, and the caller may try again.
+    /// memory runs out: then nothing has changed, and the caller may try again.
     ///
     /// Source: the ids are this profile.
     pub fn try_insert(
@@ -309,7 +309,7 @@ impl<T: TypeSet> Store<T> {
         Some(stored)
     }
 
-    /// Puts a name for an object behind all entries of a directory, which must be there. That
+    /// Puts a name for an object after all entries of a directory, which must be there. That
     /// spelling must be free in it, and the stamp above those of its entries. The object may have
     /// any id, but not a name already.
     ///

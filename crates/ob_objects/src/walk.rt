@@ -14,7 +14,7 @@ use std::marker::Model;
 // How many objects a walk passes by before it seeks one.
 const NEAR: usize = 4;
 
-/// A walk through the types of objects. What stands shortly behind the object that was asked for last is at
+/// A walk through the types of objects. What stands shortly after the object that was asked for last is at
 /// hand; any other is sought. Objects that were made one after another have ids one after another, so who
 /// asks for the objects of a directory in the order of its entries mostly walks.
 ///

@@ -43,7 +43,7 @@ made_in (Some (EndsMade face inner)) = Some inner
 made_in (Some (EndsReparse text)) = None
 made_in (Some (EndsRefused k)) = None
 
--- Why a parse that is brought isn't taken: no open waits for it, so it is a stranger's; or memory was wanted.
+-- Why a parse that is brought isn't taken: no open waits for it, so it is a stranger's; or memory ran out.
 abbrev pub IsNotTaken : {K T F I : Type 0} → Procedures K T F I → State K T F I → ToRun F → Fault → Type 0
 IsNotTaken g s asked Memory = IsAwaited g s asked
 IsNotTaken g s asked (Refused status) = (status ≡ InvalidParameter) × (IsAwaited g s asked → ⊥)

@@ -18,7 +18,7 @@ use ob_types::TypeSet;
 /// Gives up an open whose parse made an instance, and answers with success: the open is pending no longer, the
 /// instance is deleted, and then what the open alone held goes. No memory is taken.
 ///
-/// It asks that an open is pending under this ticket, that the instance stands for no open handle, and that the
+/// It asks that an open is pending under this ticket, that the instance counts no open handle, and that the
 /// state is orderly, sound and settled; it leaves it orderly.
 ///
 /// Source: Windows Internals, Object Manager (parse methods; object retention); that an open is given up by its

@@ -63,7 +63,7 @@ struct Refused<I> {
 /// under the ticket as its number, without a name, temporary and not exclusive. The open is pending no longer, and what
 /// it alone held goes. Where no handle is given, the instance is deleted first.
 ///
-/// It asks that an open is pending under this ticket, that the instance stands for no open handle, and that the state
+/// It asks that an open is pending under this ticket, that the instance counts no open handle, and that the state
 /// is orderly, sound and settled; it leaves it orderly. The only fault is out of memory, and then nothing has changed:
 /// the open is still pending, and the instance is handed back.
 ///
@@ -146,7 +146,7 @@ fn refuse_made<T: TypeSet, H: HandleTable>(
 }
 
 /// Puts an instance under its ticket, and grants a live process a handle to it, unless the grant is refused before the set
-/// is asked. Where the set refuses, the instance is taken out again, and so it is where memory is wanted: then all is as
+/// is asked. Where the set refuses, the instance is taken out again, and so it is where memory runs out: then all is as
 /// it was.
 fn grant_made<T: TypeSet, H: HandleTable>(
     space: &mut Space<T, H>,

@@ -40,7 +40,7 @@ use ob_types::{Brought, Outcome, Parsed, TypeSet};
 ///
 /// It asks that the state is orderly, sound and settled, and leaves it orderly. The faults hand the parse back, and then
 /// nothing has changed: `Refused` with `InvalidParameter` exactly where the parse is a stranger's, whose ticket
-/// isn't that of a pending open, or whose face or rest isn't that of the open; and `Memory` where memory was wanted.
+/// isn't that of a pending open, or whose face or rest isn't that of the open; and `Memory` where memory ran out.
 /// None is where the parse opens nothing, where the process that asked is gone, nor where what it ended with is refused
 /// before the set is asked, and no name is copied.
 ///

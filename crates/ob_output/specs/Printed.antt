@@ -16,7 +16,7 @@ use Rattle.ob_output.specs.declared.counts.Totals.{Totals}
 abbrev pub output_line : ℕ → List ℕ → List ℕ
 output_line number text = decimal number ++ codes ": " ++ text ++ codes "\n"
 
--- what stands behind the word of a status: a type's own number of its refusal, behind a space
+-- what follows the word of a status: a type's own number of its refusal, after a space
 abbrev pub refusal_number_of : Status → List ℕ
 refusal_number_of (TypeRefused number) = codes " " ++ decimal number
 refusal_number_of status = []
@@ -37,7 +37,7 @@ abbrev pub printed_bytes : List ℕ → List ℕ
 printed_bytes [] = []
 printed_bytes (byte ∷ bytes) = printed_byte byte ++ printed_bytes bytes
 
--- an entry of a page: its name between double quotes and its type's name, each behind a space
+-- an entry of a page: its name between double quotes and its type's name, each after a space
 abbrev pub entry_text : Listed → List ℕ
 entry_text e = codes " \"" ++ printed_bytes e.name ++ codes "\" " ++ e.type_name
 
@@ -45,7 +45,7 @@ abbrev pub entries_text : List Listed → List ℕ
 entries_text [] = []
 entries_text (e ∷ es) = entry_text e ++ entries_text es
 
--- what stands behind the status of a reply: a text that is given, between double quotes behind a space,
+-- what follows the status of a reply: a text that is given, between double quotes after a space,
 -- or the entries that a page shows; handles, processes and the contexts of pages are never printed
 abbrev pub given_text : Given → List ℕ
 given_text Nothing = []

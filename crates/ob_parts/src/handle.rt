@@ -11,7 +11,7 @@ use crate::text::is_word;
 /// A number that is added to the value of a handle word. (this profile)
 #[derive(Clone, Copy, PartialEq, Eq, Debug)]
 pub enum Offset {
-    /// Nothing behind the word: 0.
+    /// Nothing after the word: 0.
     Zero,
     /// `+1`.
     One,
@@ -31,7 +31,7 @@ pub struct HandleForm<T> {
     pub offset: Offset,
 }
 
-/// The handle that the bytes are, `H`: none where they are no handle word, and none with `+1`, `+2` or `+3` behind
+/// The handle that the bytes are, `H`: none where they are no handle word, and none with `+1`, `+2` or `+3` after
 /// it. Takes no memory. Source: this profile.
 pub fn handle_of(bytes: &[u8]) -> Option<HandleForm<&[u8]>>
     ensures found { IfSome result (λ handle. IsHandle bytes.now (handle_seen handle)) }
@@ -51,7 +51,7 @@ pub fn handle_of(bytes: &[u8]) -> Option<HandleForm<&[u8]>>
     Some(HandleForm { word, offset })
 }
 
-// The number that stands behind a `+`.
+// The number that follows a `+`.
 fn offset_of(number: &[u8]) -> Option<Offset>
     ensures found { IfSome result (λ offset. codes "+" ++ number.now ≡ offset_text offset) }
     ensures none { IfNone result ((offset : Offset) → codes "+"

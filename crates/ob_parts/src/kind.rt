@@ -24,7 +24,7 @@ pub enum KindForm {
     Key,
 }
 
-/// The kind with which the bytes begin, `KIND`, and what stands behind it and a space: none where they begin with no
+/// The kind with which the bytes begin, `KIND`, and what follows it and a space: none where they begin with no
 /// kind. Takes no memory. Source: this profile.
 pub fn take_kind(bytes: &[u8]) -> Option<(KindForm, &[u8])>
     ensures found { IfSome result (λ found. BeginsWithKind bytes.now found.0 found.1.now) }
@@ -37,7 +37,7 @@ pub fn take_kind(bytes: &[u8]) -> Option<(KindForm, &[u8])>
     Some((kind, rest))
 }
 
-// What an open wants, with which the bytes begin, and what stands behind it and a space: a kind, or
+// What an open wants, with which the bytes begin, and what follows it and a space: a kind, or
 // none for `any`.
 pub fn take_want(bytes: &[u8]) -> Option<(Option<KindForm>, &[u8])>
     ensures found { IfSome result (λ found. BeginsWithWant bytes.now found.0 found.1.now) }

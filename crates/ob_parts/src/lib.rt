@@ -2,7 +2,7 @@
 //!
 //! A part is a word, a text, a handle, a name, a place, a kind, flags, a room, a mode, an inheritance, or the
 //! word that is set. A parser finds a part at the front of bytes, where there is one, and gives what stands
-//! behind it and a space; or it finds several parts behind one another, up to the end. What is found names its
+//! after it and a space; or it finds several parts after one another, up to the end. What is found names its
 //! words and texts as slices of the line. Nothing here knows which lines there are. docs/script.md has the
 //! language.
 #![tactic(auto)]

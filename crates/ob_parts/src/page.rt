@@ -12,11 +12,11 @@ use crate::split::split_at;
 pub enum PageMode {
     /// `first`: from the first entry on, as many as have room.
     First,
-    /// `next`: behind the entries that were given before, as many as have room.
+    /// `next`: after the entries that were given before, as many as have room.
     Next,
     /// `first1`: the first entry alone.
     FirstSingle,
-    /// `next1`: one entry alone, the next behind those that were given before.
+    /// `next1`: one entry alone, the next after those that were given before.
     NextSingle,
 }
 
@@ -60,7 +60,7 @@ pub fn mode_of(word: &[u8]) -> Option<PageMode>
     }
 }
 
-/// The room with which the bytes begin, `ROOM`, and what stands behind it and a space: none where they begin with no
+/// The room with which the bytes begin, `ROOM`, and what follows it and a space: none where they begin with no
 /// decimal number below 2^32, or with one that has needless zeros. Takes no memory. Source: this profile.
 pub fn take_room(bytes: &[u8]) -> Option<(u32, &[u8])>
     ensures found { IfSome result (λ found. BeginsWithRoom bytes.now found.0 found.1.now) }

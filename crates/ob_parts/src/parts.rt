@@ -1,4 +1,4 @@
-//! Texts, names, places, flags and the word that is set, and parts behind one another that several lines have.
+//! Texts, names, places, flags and the word that is set, and parts after one another that several lines have.
 
 ghost use Rattle.std.specs.Prelude.{◌≡◌, ◌≤◌, ℕ, List, Option, length, IfSome, IfNone};
 ghost use Rattle.ob_parts.specs.declared.kind.KindForm.{KindForm};
@@ -13,7 +13,7 @@ use crate::name::{NameForm, PlaceForm};
 use crate::split::{behind_byte, split_at};
 use crate::text::{is_text, is_word};
 
-// The text between double quotes with which the bytes begin, and what stands behind it and a space.
+// The text between double quotes with which the bytes begin, and what follows it and a space.
 fn take_text(bytes: &[u8]) -> Option<(&[u8], &[u8])>
     ensures found { IfSome result (λ found. BeginsWithText bytes.now found.0.now found.1.now) }
     ensures shorter { IfSome result (λ found. length found.1.now ≤ length bytes.now) }
@@ -28,7 +28,7 @@ fn take_text(bytes: &[u8]) -> Option<(&[u8], &[u8])>
     Some((text, rest))
 }
 
-// The name with which the bytes begin, and what stands behind it and a space.
+// The name with which the bytes begin, and what follows it and a space.
 fn take_name(bytes: &[u8]) -> Option<(NameForm<&[u8]>, &[u8])>
     ensures found { IfSome result (λ found.
         BeginsWithName bytes.now (name_seen found.0) found.1.now) }
@@ -45,7 +45,7 @@ fn take_name(bytes: &[u8]) -> Option<(NameForm<&[u8]>, &[u8])>
     Some((NameForm::Relative { root, text }, rest))
 }
 
-/// The place with which the bytes begin, `PLACE`, and what stands behind it and a space: none where they begin with
+/// The place with which the bytes begin, `PLACE`, and what follows it and a space: none where they begin with
 /// no place. Takes no memory. Source: this profile.
 pub fn take_place(bytes: &[u8]) -> Option<(PlaceForm<&[u8]>, &[u8])>
     ensures found { IfSome result (λ found.
@@ -61,7 +61,7 @@ pub fn take_place(bytes: &[u8]) -> Option<(PlaceForm<&[u8]>, &[u8])>
     Some((PlaceForm::Named(name), rest))
 }
 
-// The bits of the flags with which the bytes begin, and what stands behind them and a space.
+// The bits of the flags with which the bytes begin, and what follows them and a space.
 fn take_flags(bytes: &[u8]) -> Option<(u32, &[u8])>
     requires { length bytes.now ≤ 262144 }
     ensures found { IfSome result (λ found. BeginsWithFlags bytes.now found.0 found.1.now) }

@@ -8,7 +8,7 @@ use crate::handle::{HandleForm, handle_of};
 use crate::split::{behind, split_at};
 use crate::text::is_process_word;
 
-/// The handle with which the bytes begin, `H`, and what stands behind it and a space: none where they begin with no
+/// The handle with which the bytes begin, `H`, and what follows it and a space: none where they begin with no
 /// handle. Takes no memory. Source: this profile.
 pub fn take_handle(bytes: &[u8]) -> Option<(HandleForm<&[u8]>, &[u8])>
     ensures found { IfSome result (λ found.
@@ -22,7 +22,7 @@ pub fn take_handle(bytes: &[u8]) -> Option<(HandleForm<&[u8]>, &[u8])>
     Some((handle, rest))
 }
 
-/// The process word with which the bytes begin, `P` or `Q`, and what stands behind it and a space: none where they
+/// The process word with which the bytes begin, `P` or `Q`, and what follows it and a space: none where they
 /// begin with no word, or with one of the language's own. Takes no memory. Source: this profile.
 pub fn take_process(bytes: &[u8]) -> Option<(&[u8], &[u8])>
     ensures found { IfSome result (λ found. BeginsWithProcess bytes.now found.0.now found.1.now) }
@@ -37,7 +37,7 @@ pub fn take_process(bytes: &[u8]) -> Option<(&[u8], &[u8])>
     Some((process, rest))
 }
 
-/// The inheritance with which the bytes begin, and what stands behind it and a space: true for `inherit`, false for
+/// The inheritance with which the bytes begin, and what follows it and a space: true for `inherit`, false for
 /// `plain`, none where they begin with neither. Takes no memory. Source: this profile.
 pub fn take_inherit(bytes: &[u8]) -> Option<(bool, &[u8])>
     ensures found { IfSome result (λ found. BeginsWithInherit bytes.now found.0 found.1.now) }

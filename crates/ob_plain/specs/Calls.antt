@@ -13,7 +13,7 @@ pub record Kept : Type 0 where
 abbrev pub none_kept : ℕ → Kept
 none_kept room = record { calls = []; room = room; lost = 0 }
 
--- one call more: behind the others where there is room, and else counted
+-- one call more: after the others where there is room, and else counted
 abbrev pub noted : Kept → Call → Kept
 noted kept call = cond (ltb (length kept.calls) kept.room) (record kept { calls = kept.calls ++ (call ∷ []) }) (record kept { lost = counted kept.lost })
 

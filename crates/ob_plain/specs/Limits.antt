@@ -10,7 +10,7 @@ greatest_limit = 65535
 abbrev pub is_digit_from : ℕ → ℕ → Bool
 is_digit_from least byte = leb least byte && leb byte 57
 
--- the number that digits make behind the digits of another, where it is no greater than 65,535
+-- the number that digits make after the digits of another, where it is no greater than 65,535
 abbrev pub digits_behind : ℕ → List ℕ → Option ℕ
 digits_behind total [] = Some total
 digits_behind total (byte ∷ rest) = cond (is_digit_from 48 byte && leb (10 * total + (byte - 48)) greatest_limit) (digits_behind (10 * total + (byte - 48)) rest) None

@@ -30,11 +30,11 @@ call serial what = record { serial = serial; what = what }
 abbrev pub opened_call : ℕ → Reason → Call
 opened_call serial reason = call serial (kinds.Opened reason)
 
--- the serial of an object behind an accepted open: the next one at the first, and else its own
+-- the serial of an object after an accepted open: the next one at the first, and else its own
 abbrev pub serial_after : ℕ → ℕ → ℕ
 serial_after last serial = if serial == 0 then counted last else serial
 
--- the last serial that was drawn, behind that open
+-- the last serial that was drawn, after that open
 abbrev pub last_after : ℕ → ℕ → ℕ
 last_after last serial = if serial == 0 then counted last else last
 
@@ -42,7 +42,7 @@ last_after last serial = if serial == 0 then counted last else last
 abbrev pub unopened : {I : Type 0} → I → Recorded I
 unopened inner = record { part = inner; serial = 0 }
 
--- it stands for no open handle where what the set below changes of it does
+-- it counts no open handle where what the set below changes of it does
 abbrev pub IsRecordedIdle : {I : Type 0} → (I → Type 0) → Recorded I → Type 0
 IsRecordedIdle Idle inner = Idle inner.part
 

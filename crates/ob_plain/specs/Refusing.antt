@@ -1,4 +1,4 @@
--- A set that refuses each open behind so many that the set below it accepted.
+-- A set that refuses each open after so many that the set below it accepted.
 use Rattle.std.specs.Prelude.{ℕ, ◌-◌, ◌==◌, cond, Some}
 use Rattle.ob_model.specs.Procedures.{Procedures}
 use Rattle.ob_plain.specs.Plain.{unless_told}

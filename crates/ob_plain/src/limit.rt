@@ -19,7 +19,7 @@ pub fn limit_of(args: &[u8]) -> Option<u16>
     Some(total)
 }
 
-// A number with one digit more behind it.
+// A number with one digit more after it.
 fn with_digit(total: u16, byte: u8) -> Option<u16>
     ensures { result ≡ limits.digits_behind total (byte ∷ []) }
 {

@@ -20,7 +20,7 @@ pub fn is_readable(args: &[u8]) -> bool
     args.len() <= LONGEST_ARGUMENTS && is_profile_text(args)
 }
 
-/// What stands before the first byte of a value in a text, and what stands behind it where there is one.
+/// What stands before the first byte of a value in a text, and what follows it where there is one.
 pub fn cut(text: &[u8], byte: u8) -> (&[u8], Option<&[u8]>)
     ensures before { result.0.now ≡ before_first (λ b. b == byte) text.now }
     ensures behind { IfSome result.1 (λ rest. rest.now ≡ after_first (λ b. b == byte) text.now) }

@@ -65,7 +65,7 @@ impl<T> Recorder<T> {
         self.calls.as_slice()
     }
 
-    /// The number of the calls behind them, which stops at the greatest u64.
+    /// The number of the calls after them, which stops at the greatest u64.
     pub fn lost(&self) -> u64
         ensures { result ≡ (kept_of self.now).lost }
     {

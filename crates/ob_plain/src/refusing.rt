@@ -1,4 +1,4 @@
-//! A set that lets another accept so many opens, and refuses all behind them.
+//! A set that lets another accept so many opens, and refuses all after them.
 
 ghost use Rattle.std.specs.Prelude.{◌≡◌, ℕ, ◌-◌, ◌==◌, cond, None, Some};
 ghost use Rattle.ob_plain.specs.declared.refusing.Refusing.{Refusing};
@@ -11,7 +11,7 @@ use std::alloc::{AllocError, Global};
 /// The number by which an open is refused where none is left. (this profile)
 const NONE_LEFT: u16 = 6;
 
-/// A set of types that lets the set below it accept so many opens, and refuses each open behind them by the number 6,
+/// A set of types that lets the set below it accept so many opens, and refuses each open after them by the number 6,
 /// so that what follows a refusal can be tried wherever a handle is opened. (this profile)
 #[derive(Debug, Drop)]
 pub struct Refusing<T> {

@@ -14,6 +14,6 @@ order_of h = h.order
 abbrev pub by_order : List Held → List Held
 by_order handles = sorted_by order_of handles
 
--- each handle was opened before those behind it
+-- each handle was opened before those after it
 abbrev pub OrdersRise : List Held → Type 0
 OrdersRise handles = AllPairs (λ a b. a.order < b.order) handles

@@ -83,7 +83,7 @@ impl<K: Drop> PendingOpens<K> {
     }
 
     /// An open more is pending, and pins its object. Its ticket must be above those of all that are
-    /// pending, and at most 2^64 - 2. Where memory is wanted the open is dropped and nothing has changed.
+    /// pending, and at most 2^64 - 2. Where memory runs out the open is dropped and nothing has changed.
     ///
     /// Source: the tickets are this profile.
     pub fn insert(&mut self, pending: Pending<K>) -> Result<(), AllocError>

@@ -70,7 +70,7 @@ impl<H: HandleTable> Processes<H> {
     }
 
     /// A process begins, with a device map or without one, and without a handle. Its number must be
-    /// above those of all that are live. Where memory is wanted nothing has changed.
+    /// above those of all that are live. Where memory runs out nothing has changed.
     pub fn start(&mut self, process: Proc, map: Option<ObjId>) -> Result<(), AllocError>
         requires newest { All (λ x. x.number < process) self.old.processes }
         ensures last { OnOk result (self.new.processes
@@ -183,7 +183,7 @@ impl<H: HandleTable> Processes<H> {
     }
 
     /// Gives a process a device map of this directory, in place of the one that it had; where it isn't
-    /// live nothing changes. Where memory is wanted nothing has changed.
+    /// live nothing changes. Where memory runs out nothing has changed.
     ///
     /// Source: Windows Internals, Object Manager (session namespace, device maps).
     pub fn set_map(&mut self, process: Proc, directory: ObjId) -> Result<(), AllocError>
@@ -338,7 +338,7 @@ impl<H: HandleTable> Processes<H> {
 
     /// Opens a handle of a live process under a value that is given, as a child does that inherits it.
     /// The process must not use the value, and the order must be above those of all handles, and at
-    /// most 2^64 - 2. Where memory is wanted nothing has changed.
+    /// most 2^64 - 2. Where memory runs out nothing has changed.
     #[inline(always)]
     pub fn put(&mut self, held: Held) -> Result<(), AllocError>
         requires live { is_some (find (λ x. x.number == held.process) self.old.processes) ≡ true }
@@ -364,9 +364,9 @@ impl<H: HandleTable> Processes<H> {
     }
 
     /// A process begins with these handles, in their order: each under its value and to its object, to
-    /// be inherited again, the first with this order of opening and each other with the one behind. Its
+    /// be inherited again, the first with this order of opening and each other with the one after. Its
     /// number must be above those of all that are live, the values handle values that differ, and the
-    /// orders above those of all handles, and at most 2^64 - 2. Where memory is wanted nothing has
+    /// orders above those of all handles, and at most 2^64 - 2. Where memory runs out nothing has
     /// changed.
     ///
     /// Source: Windows Internals, Processes (inheritance of handles); the orders are this profile.
@@ -408,7 +408,7 @@ impl<H: HandleTable> Processes<H> {
         live.reserve(more)
     }
 
-    /// Gives a live process that has no handle these ones. Where memory is wanted it has some of them.
+    /// Gives a live process that has no handle these ones. Where memory runs out it has some of them.
     fn put_all(&mut self, process: Proc, inherited: &[Held], order: u64) -> Result<(), AllocError>
         requires live { is_some (find (λ x. x.number == process) self.old.processes) ≡ true }
         requires alone { All (λ h. (h.process == process) ≡ false) self.old.handles }

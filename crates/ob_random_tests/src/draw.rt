@@ -122,7 +122,7 @@ fn any_plain(dice: &mut Dice, last: Option<u8>) -> Kind {
     }
 }
 
-/// A place in the model's list of handles, or right behind them, and the value of the handle there, or 0.
+/// A place in the model's list of handles, or directly after them, and the value of the handle there, or 0.
 pub(crate) fn any_handle(dice: &mut Dice, model: &Model) -> (usize, u32) {
     let many = model.handles() as u64;
     let place = dice.below(many.saturating_add(1)) as usize;

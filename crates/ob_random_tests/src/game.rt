@@ -425,7 +425,7 @@ fn agreed_over<S: Played, H: HandleTable>(
 ) -> Result<u32, Fault> {
     let mut core: Core<S, H> = Core::with_cache(model.alloc(), set, cache)?;
     let done = agreed_in(&mut core, model, game, count);
-    // (let go by a call, since the drop of a namespace is long, and would be proved anew on each way out)
+    // (dropped by a call, since the drop of a namespace is long, and would be proved anew on each way out)
     mem::drop(core);
     Ok(done?)
 }

@@ -8,7 +8,7 @@ use ob_flat_model::{Ask, INHERIT, Kind, Model, Name, PERMANENT, Path};
 use std::env;
 use std::test::Fail;
 
-// How many commands are played from one state of the dice, behind the first three.
+// How many commands are played from one state of the dice, after the first three.
 const GAME: u32 = 2_500;
 
 /// What comes next, where so many turns are done. A game begins with what the first process makes: the directories `\2` and `\3`, and the link `\3\3` to the directory

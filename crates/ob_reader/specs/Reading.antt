@@ -60,7 +60,7 @@ only_if test value = if test then value else None
 abbrev pub digit_for : ℕ → Option ℕ
 digit_for byte = only_if (nat_lt (digit_value byte) 16) (Some (digit_value byte))
 
--- the byte that two hexadecimal digits behind `%` stand for; none that stands for itself is written so
+-- the byte that two hexadecimal digits after `%` stand for; none that stands for itself is written so
 abbrev pub byte_for : ℕ → ℕ → Option ℕ
 byte_for high low = do
   h ← digit_for high

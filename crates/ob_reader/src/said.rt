@@ -34,7 +34,7 @@ pub enum Gift {
     Page {
         /// The entries that it shows.
         entries: Entries,
-        /// The context that the next page begins behind.
+        /// The context that the next page begins after.
         context: u64,
     },
 }

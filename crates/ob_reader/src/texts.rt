@@ -71,7 +71,7 @@ fn next_byte(text: &[u8]) -> Option<(u8, &[u8])>
     }
 }
 
-// The byte that the two digits behind `%` stand for, and the rest of the text.
+// The byte that the two digits after `%` stand for, and the rest of the text.
 fn escaped_byte(text: &[u8]) -> Option<(u8, &[u8])>
     ensures found { IfSome result (λ found. unescaped (37 ∷ text.now)
         ≡ with_byte found.0 (unescaped found.1.now)) }

@@ -228,7 +228,7 @@ fn is_unrun(step: &Event<StandardKind>) -> bool
     }
 }
 
-// Makes the step of a line, and gives the core behind it, with the value of a new handle that the line tells.
+// Makes the step of a line, and gives the core after it, with the value of a new handle that the line tells.
 fn make_step(
     core: StandardCore,
     waits: StandardWaits,

@@ -25,19 +25,19 @@ first_words = record {
 }
 
 module _ {N : Type 0} where
-  -- the same numbers of words, but for one word
+  -- the same numbers of words, except for one word
   abbrev pub with_number : (List ℕ → N) → List ℕ → N → List ℕ → N
   with_number numbers word number w = if bytes_eq word w then number else numbers w
 
-  -- the same numbers of each process, but for those of one process
+  -- the same numbers of each process, except for those of one process
   abbrev pub with_own : (ℕ → N) → ℕ → N → ℕ → N
   with_own numbers process own p = if process == p then own else numbers p
 
--- the same numbers of the words of each process, but for one word of one process
+-- the same numbers of the words of each process, except for one word of one process
 abbrev pub with_number_of : {N : Type 0} → (ℕ → List ℕ → N) → ℕ → List ℕ → N → ℕ → List ℕ → N
 with_number_of numbers process word number = with_own numbers process (with_number (numbers process) word number)
 
--- the same words, but for one process word
+-- the same words, except for one process word
 abbrev pub with_process : Words → List ℕ → ℕ → Words
 with_process words word process = record words { processes = with_number words.processes word process }
 

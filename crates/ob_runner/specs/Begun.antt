@@ -57,7 +57,7 @@ IsNoEnd k (Start p command) = Unit {0}
 IsNoEnd k (Resume n parse) = n ≢ k
 IsNoEnd k (Abandon n parse) = n ≢ k
 
--- parses that opens wait for are still those that they wait for behind each step that doesn't end these opens
+-- parses that opens wait for are still those that they wait for after each step that doesn't end these opens
 abbrev pub StayAwaited : {K T F I : Type 0} → Procedures K T F I → Type 0
 StayAwaited {K} {T} {F} {I} g =
     (s t : State K T F I) (event : Event K) (answer : Answer) (parses : List (ToRun F)) → IsSound s → All (λ parse. IsNoEnd parse.ticket event) parses

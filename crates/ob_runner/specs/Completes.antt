@@ -1,5 +1,5 @@
 -- Commands that are run to their replies: an open that waits for a parse is resumed with it, until it is answered; or
--- memory is wanted on the way, and what waits is given up.
+-- memory runs out on the way, and what waits is given up.
 --
 -- Source: Windows Internals, Object Manager (parse methods); that a parse is run between two steps is this profile.
 use Rattle.std.specs.Prelude.{◌≡◌, ℕ, true, List, [], ◌∷◌, ◌⊎◌}
@@ -47,7 +47,7 @@ module _ {K T F I : Type 0} (g : Procedures K T F I) where
       (u : State K T F I) × (step.0 ≡ event) × Step g s event step.1 u
       × Leads step.1 (λ given. (given ≡ reply) × (steps ≡ []) × (t ≡ u)) (λ n. (parse : ParseRun) × HasRun parse × Completes (Resume n parse) steps u reply t)
 
-  -- The open of a ticket is given up, at once or behind more parses, whose last ticket is then the one that is given up;
+  -- The open of a ticket is given up, at once or after more parses, whose last ticket is then the one that is given up;
   -- these are the steps, and they come to the state t.
   abbrev pub GivesUp : ℕ → List (Made K) → State K T F I → State K T F I → Type 0
   GivesUp n [] s t = ⊥
@@ -56,14 +56,14 @@ module _ {K T F I : Type 0} (g : Procedures K T F I) where
       ⊎ ((parse : ParseRun) × (m : ℕ) × (u : State K T F I) × HasRun parse × (step.0 ≡ Resume n parse) × (step.1 ≡ Ticket m)
       × Step g s step.0 step.1 u × GivesUp m steps u t)
 
-  -- The step of an event may want memory: a command that takes some, and isn't refused before anything grows; and the
+  -- The step of an event may need memory: a command that takes some, and isn't refused before anything grows; and the
   -- end of a parse, but not an abandon.
   abbrev pub MayFalter : State K T F I → Event K → Type 0
   MayFalter s (Start p command) = (TakesNoMemory command → ⊥) × (is_refused_early s p command ≡ true → ⊥) × (IsRefusedAtFound g s p command → ⊥)
   MayFalter s (Resume n parse) = Unit {0}
   MayFalter s (Abandon n parse) = ⊥
 
-  -- Memory was wanted while an event was run to its reply: at once, and then no step was made, or behind a ticket,
+  -- Memory was wanted while an event was run to its reply: at once, and then no step was made, or after a ticket,
   -- and then the open that waits is given up.
   abbrev pub Falters : Event K → List (Made K) → State K T F I → State K T F I → Type 0
   Falters event [] s t = (t ≡ s) × MayFalter s event

@@ -13,7 +13,7 @@ use std::marker::Model;
 /// The parses that opens wait for, each under the ticket of its open. A contract sees them as the list of these parses, by
 /// rising tickets.
 ///
-/// It can't be let go, since none of its parses can: each open that waits is ended or given up, all at once by
+/// It can't be dropped, since none of its parses can: each open that waits is ended or given up, all at once by
 /// [`give_all_up`](crate::give_all_up). Each call takes a time that grows with the logarithm of the parses.
 ///
 /// Source: Windows Internals, Object Manager (parse methods); that a parse is run between two steps is this profile.
@@ -52,7 +52,7 @@ impl<T: TypeSet> Waits<T> {
         let _parses = &self.parses;
     }
 
-    /// Keeps a parse, whose ticket must be above those of all that are kept. Where memory is wanted the parse is handed
+    /// Keeps a parse, whose ticket must be above those of all that are kept. Where memory runs out the parse is handed
     /// back, and nothing has changed.
     pub(crate) fn keep(&mut self, parsing: Parsing<T>) -> Result<(), Parsing<T>>
         requires newest { All (λ k. k < parsing.ticket) (tickets_of self.old) }

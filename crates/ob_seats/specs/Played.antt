@@ -1,4 +1,4 @@
--- What the lines of a seat play: the steps that they make, told by the receipts of its pass alone, and the words behind them.
+-- What the lines of a seat play: the steps that they make, told by the receipts of its pass alone, and the words after them.
 --
 -- Source: this profile.
 use Rattle.std.specs.Prelude.{◌≡◌, ◌⊎◌, ℕ, List, [], ◌∷◌, ◌++◌, map, Some}

@@ -14,7 +14,7 @@ use ob_base::{Fault, Proc};
 use ob_model::{Command, Reply};
 use ob_standard::StandardKind;
 
-/// How a step ended: with a reply, or with an open that waits for the parse `P`, which can be let go only where `P` can.
+/// How a step ended: with a reply, or with an open that waits for the parse `P`, which can be dropped only where `P` can.
 pub enum Begun<P> {
     /// The command is done, and this is its reply.
     Replied(Reply),
@@ -28,7 +28,7 @@ pub trait Callers {
     /// A seat's pass.
     type Pass: Drop + Send;
 
-    /// A parse that an open waits for. It can't be let go: it is brought or given up.
+    /// A parse that an open waits for. It can't be dropped: it is brought or given up.
     type Parsing;
 
     /// The seat of a pass.

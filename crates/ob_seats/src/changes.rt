@@ -17,7 +17,7 @@ use ob_requests::{Row, Table, Words, keep};
 use std::alloc::{AllocError, Global};
 use std::collections::BTreeSet;
 
-/// Changes the words as a reply to a process says. Takes no memory but for the words of a child.
+/// Changes the words as a reply to a process says. Takes no memory except for the words of a child.
 pub(crate) fn keep_reply(
     words: &mut Words,
     process: Proc,

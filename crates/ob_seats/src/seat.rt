@@ -30,7 +30,7 @@ use ob_worker_lines::{Part, SeatForm, read_seat_line};
 use std::alloc::{AllocError, Global};
 use std::sync::Wait;
 
-/// What a seat keeps between its lines: the words of its script, and the opens that wait under them. It can't be let go: what waits is given up at
+/// What a seat keeps between its lines: the words of its script, and the opens that wait under them. It can't be dropped: what waits is given up at
 /// its [end](Seat::end). Contracts see the words by `words_in`, and ask as `AreHeld` that the opens that wait are those
 /// under them. (this profile)
 pub struct Seat<C: Callers> {
@@ -71,7 +71,7 @@ impl<C: Callers> Seat<C> {
         words_for_worker(&self.words)
     }
 
-    /// Runs the lines of a part, one after another, by a pass, which comes back with the receipts of their steps. Ok gives the number behind
+    /// Runs the lines of a part, one after another, by a pass, which comes back with the receipts of their steps. Ok gives the number after
     /// that of the last line.
     ///
     /// The fault says which line could not be run to its end, and why. The lines before it were played, and of its own steps a beginning. Where a call

@@ -11,7 +11,7 @@ use std::alloc::Global;
 use std::collections::BTreeMap;
 use std::marker::Model;
 
-/// The parses that a seat's opens wait for, each under the ticket of its open. Contracts see the tickets, which rise. It can't be let go: the
+/// The parses that a seat's opens wait for, each under the ticket of its open. Contracts see the tickets, which rise. It can't be dropped: the
 /// parse of each open is taken out, and brought or given up. Each call takes a time that grows with the logarithm of the parses.
 pub struct SeatWaits<C: Callers> {
     parses: BTreeMap<u64, C::Parsing>,
@@ -39,7 +39,7 @@ impl<C: Callers> SeatWaits<C> {
         }
     }
 
-    /// Keeps a parse under its ticket. Else the parse is handed back, and nothing has changed: where memory is wanted; and where the ticket is 0 or
+    /// Keeps a parse under its ticket. Else the parse is handed back, and nothing has changed: where memory runs out; and where the ticket is 0 or
     /// not above those of all that are kept, which no shared namespace gives.
     pub(crate) fn keep(&mut self, parsing: C::Parsing) -> Result<(), (Stop, C::Parsing)>
         ensures last { OnOk result (self.new ≡ self.old ++ C.ticket_of parsing ∷ []) }

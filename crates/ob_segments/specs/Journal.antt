@@ -1,4 +1,4 @@
--- A journal that is cut into segments: those that are sealed, and the open one behind them.
+-- A journal that is cut into segments: those that are sealed, and the open one after them.
 --
 -- Source: this profile.
 use Rattle.std.specs.Prelude.{◌≡◌, ℕ, ◌≤◌, ◌<◌, ◌+◌, ◌^◌, List, [], ◌∷◌, ◌++◌, length, take, drop}

@@ -20,7 +20,7 @@ enum Turn {
     Closes(u32, u32),
 }
 
-// The kind of an object, its arguments, and the calls on it. Behind these it is closed for the last time, and deleted.
+// The kind of an object, its arguments, and the calls on it. After these it is closed for the last time, and deleted.
 type Life<K> = (K, &'static [u8], &'static [Turn]);
 
 // Whether a call is answered so.
@@ -163,7 +163,7 @@ fn opens_are_refused_by_6_once_none_is_left(rt: HostRuntime) {
     }
 }
 
-// Three lives: an object that was never opened has no serial; one that was draws the next, and keeps it behind an open
+// Three lives: an object that was never opened has no serial; one that was draws the next, and keeps it after an open
 // that is refused.
 const RECORDED: [Life<PlainKind>; 3] = [
     (PlainKind::Mutant, b"", &[Turn::Closes(3, 0)]),

@@ -27,7 +27,7 @@ use Rattle.ob_output.specs.Printed.{output_line, reply_text, counts_text}
 use Rattle.ob_effects.specs.Effects.{WantsMemory}
 use Rattle.ob_effects.specs.Waiting.{Steps, word_of, is_waiting, told_instead, IsEvent, answer_text, words_answered, FindsNone, GiveAllUp}
 
--- the line of this number finds no memory, behind steps that lead to a state and to words: it says so, and ends the run,
+-- the line of this number finds no memory, after steps that lead to a state and to words: it says so, and ends the run,
 -- and all opens that wait are given up
 abbrev pub EndsWanting : ℕ → Words → Space → Steps → List ℕ → Ending → Type 0
 EndsWanting number words t behind output end =
@@ -46,7 +46,7 @@ ShowsRequest number p request words s steps output end Rest =
     × EndsWanting number words t behind output end)
 
 -- What it shows where it is of an open of a process that waits: it tells why it makes no step, and goes on; or it makes
--- one, prints its answer and goes on behind it; or it finds no memory.
+-- one, prints its answer and continues after it; or it finds no memory.
 abbrev pub ShowsWait : ℕ → ℕ → PendingForm (List ℕ) → Words → Space → Steps → List ℕ → Ending → (Words → Space → Steps → List ℕ → Type 0) → Type 0
 ShowsWait number p pending words s steps output end Rest =
     ((text : List ℕ) × (output' : List ℕ) × (told_instead pending (is_waiting words p (word_of pending)) ≡ Some text)
@@ -109,14 +109,14 @@ PlaysBy script steps output end =
 abbrev pub Plays : List ℕ → List ℕ → Ending → Type 0
 Plays script output end = (steps : Steps) × PlaysBy script steps output end
 
--- an ending other than one for want of memory
+-- an ending other than one for a lack of memory
 abbrev pub FindsMemory : Ending → Type 0
 FindsMemory ending.Done = Unit {0}
 FindsMemory (ending.BadLine number) = Unit {0}
 FindsMemory (ending.NoMemoryAt number) = ⊥
 
 -- Lines of all these forms play what the first of them do, which play this output and end so. Where one
--- of those ended the run, all play the same; else all play some output behind it, and want no memory.
+-- of those ended the run, all play the same; else all play some output after it, and want no memory.
 abbrev pub PlaysOn : Forms → List ℕ → Ending → Type 0
 PlaysOn all output ending.Done = (more : List ℕ) × (end : Ending) × FindsMemory end × PlaysForms all (output ++ more) end
 PlaysOn all output (ending.BadLine number) = PlaysForms all output (ending.BadLine number)
@@ -130,7 +130,7 @@ PlaysFirst script output end =
     (forms : Forms) × (rest : List ℕ) × BeginsWithForms script forms rest × PlaysForms forms output end
     × ((all : Forms) → BeginsWithForms script all [] → PlaysOn all output end)
 
--- what lines of the script from its first on play has this beginning, and goes on behind it; and the whole
+-- what lines of the script from its first on play has this beginning, and continues after it; and the whole
 -- script plays that or goes on from there
 abbrev pub PlaysPart : List ℕ → List ℕ → Type 0
 PlaysPart script front = (back : List ℕ) × (end : Ending) × (back ≢ []) × PlaysFirst script (front ++ back) end

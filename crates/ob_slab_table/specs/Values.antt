@@ -22,11 +22,11 @@ key_in rows foreign value = if has_value (rows (row_of value)) value then Some (
 abbrev pub Turns : {X : Type 0} → (ℕ → Option X) → (ℕ → Option X) → ℕ → Option X → Type 0
 Turns old new key slot = (new key ≡ slot) × ((other : ℕ) → other ≢ key → new other ≡ old other)
 
--- the value that is so many behind the one of this fourth, in a circle: behind the greatest comes 4
+-- the value that is so many after the one of this fourth, in a circle: after the greatest comes 4
 abbrev pub behind : ℕ → ℕ → ℕ
 behind fourth step = 4 * ((fourth + step) % 65535 + 1)
 
--- a value is the first that leads nowhere, of those behind this fourth
+-- a value is the first that leads nowhere, of those after this fourth
 pub record IsNextUnused (keys : ℕ → Option ℕ) (fourth value : ℕ) : Type 0 where
   pub step : ℕ
   pub within : step < 65535

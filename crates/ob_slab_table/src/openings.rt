@@ -55,7 +55,7 @@ pub(crate) fn drop_stale(opened: &mut VecDeque<Opening>, rows: &Slab<Held>, hand
     drop_all(opened, rows);
 }
 
-// Drops the stale openings behind all others.
+// Drops the stale openings after all others.
 fn drop_newest(opened: &mut VecDeque<Opening>, rows: &Slab<Held>)
     requires { AreRising opened.old.items }
     ensures stale { OnlyStaleGo (get rows.now) opened.old.items opened.new.items }

@@ -21,11 +21,11 @@ use std::marker::Model;
 /// than two openings for each handle.
 ///
 /// A new handle gets the value of its row, four times the key and one; or, where another handle has that
-/// one, since a child inherited it, the first unused behind the value that was searched for last, in a
+/// one, since a child inherited it, the first unused after the value that was searched for last, in a
 /// circle.
 ///
 /// `get`, `len` and `oldest` take a time that doesn't grow with the handles. So do `grant`, `put` and
-/// `take`, taken together over many calls, but for a grant that searches: it passes values in use, each once
+/// `take`, taken together over many calls, except for a grant that searches: it passes values in use, each once
 /// in a circle. None of these hashes where each handle, a new one too, has the value of its row.
 /// `opened_after` takes a time that grows with their logarithm, and passes the stale openings before the handle
 /// that it gives. `inheritable` passes at most two openings for each handle, and one more. (this profile)

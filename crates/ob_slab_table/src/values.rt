@@ -16,7 +16,7 @@ use std::alloc::AllocError;
 /// How many handle values there are: the multiples of four from 4 to 262,140. (this profile)
 const VALUES: u32 = 65_535;
 
-/// The handle value of a row, by its key: 4 for key 0, and so on; `None` behind the greatest.
+/// The handle value of a row, by its key: 4 for key 0, and so on; `None` after the greatest.
 pub(crate) fn value_of_row(key: usize) -> Option<u32>
     ensures { result ≡ (if nat_lt key most_handles then Some (4 * (key + 1)) else None) }
 {
@@ -60,7 +60,7 @@ fn foreign_key_of(foreign: &IndexMap<u32, usize>, value: u32) -> Option<usize>
     foreign.get(&value).copied()
 }
 
-/// Notes in the map that a value leads to a row, unless the row is the value's own. Where memory is wanted
+/// Notes in the map that a value leads to a row, unless the row is the value's own. Where memory runs out
 /// nothing has changed.
 pub(crate) fn note(
     foreign: &mut IndexMap<u32, usize>,
@@ -88,7 +88,7 @@ pub(crate) fn forget(foreign: &mut IndexMap<u32, usize>, value: u32, key: usize)
     }
 }
 
-/// A handle value that leads to no row: the first unused of those behind the value of this fourth, in a
+/// A handle value that leads to no row: the first unused of those after the value of this fourth, in a
 /// circle. There must be fewer than 65,535 handles, and each value that leads to a row must be that of its
 /// handle. Takes no memory. (this profile)
 pub(crate) fn next_unused(rows: &Slab<Held>, foreign: &IndexMap<u32, usize>, fourth: u16) -> u32

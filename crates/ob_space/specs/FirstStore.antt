@@ -10,7 +10,7 @@ module _ {F I : Type 0} where
   abbrev pub standing : StoredBody F I → StoredObject F I
   standing body = record { permanent = true; exclusive = false; body = body }
 
-  -- its objects behind the root, in which these entries lie
+  -- its objects after the root, in which these entries lie
   abbrev pub opening_with : List NameEntry → Entries F I
   opening_with entries =
       (1, standing (Directory entries None)) ∷ (2, standing (Directory [] None)) ∷ (3, standing (Link (codes "\\??")))

@@ -10,7 +10,7 @@ use Rattle.ob_model.specs.Processes.{most_processes}
 use Rattle.ob_model.specs.Settle.{IsSettled}
 use Rattle.ob_model.specs.Sound.{Stands, IsSound}
 
--- a body has no inner value, or one that stands for no open handle
+-- a body has no inner value, or one that counts no open handle
 abbrev pub IsIdleBody : {F I : Type 0} → (I → Type 0) → Body F I → Type 0
 IsIdleBody idle (Directory shadow) = Unit {0}
 IsIdleBody idle (Link target) = Unit {0}

@@ -92,7 +92,7 @@ pub(crate) fn is_exclusive<T: TypeSet, H: HandleTable>(space: &Space<T, H>, obje
     space.store.is_exclusive(object)
 }
 
-/// The first refusal of a grant of those that come before the set's procedure, but for the one of a process with
+/// The first refusal of a grant of those that come before the set's procedure, except for the one of a process with
 /// 65,535 handles.
 fn early_refusal<T: TypeSet, H: HandleTable>(
     space: &Space<T, H>,

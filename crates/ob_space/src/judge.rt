@@ -36,7 +36,7 @@ pub fn judge_create(live: bool, fit: bool, place: &Place, attrs: u32) -> Result<
 }
 
 /// The flags of an open, or its first refusal, for a process that is live or isn't: as those of a
-/// create, but for the parameters, of which an open has none.
+/// create, except for the parameters, of which an open has none.
 ///
 /// Source: OBJECT_ATTRIBUTES structure (Windows Driver Kit); the order is this profile.
 pub fn judge_open(live: bool, name: &[u8], attrs: u32) -> Result<Attrs, Status>

@@ -37,7 +37,7 @@ pub struct Spot {
 ///
 /// It asks that the process is live and has room, that an id and, where a spot is given, a stamp are
 /// left, that the spot is vacant, that the object, if it is a directory, is empty, and that its inner
-/// value stands for no open handle.
+/// value counts no open handle.
 ///
 /// Where the set refuses, with its number, handle, name and object are taken back, the object is
 /// deleted, and its id stays drawn; all else is as it was. The only fault is out of memory, and then
@@ -187,7 +187,7 @@ pub(crate) fn take_back<T: TypeSet>(
     store.remove(id)
 }
 
-/// Deletes an object that stands for no open handle. Directories and links have no procedures.
+/// Deletes an object that counts no open handle. Directories and links have no procedures.
 pub fn delete_body<T: TypeSet>(set: &mut T, body: StoredBody<T::Face, T::Inner>)
     requires { IsIdleBody T.idle (body_of_stored body) }
     ensures { set.new ≡ deleted_one T.procedures (body_of_stored body) set.old }

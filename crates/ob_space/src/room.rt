@@ -18,7 +18,7 @@ use ob_objects::{StoredBody, StoredObject};
 use ob_types::TypeSet;
 use std::alloc::{AllocError, Global};
 
-/// Takes the memory that a new object of a process takes, at a spot or without a name, and lets go of it again. So a
+/// Takes the memory that a new object of a process takes, at a spot or without a name, and drops it again. So a
 /// create whose arguments the set refuses is answered out of memory before that refusal, where the object would have
 /// found none. All stays as it was, whether the memory is there or not, which is the only error.
 ///

@@ -11,7 +11,7 @@ use std::mem;
 
 /// A set of types whose calls are recorded.
 pub trait Listing: TypeSet {
-    /// The calls that there was room for, the first of them first, and how many are behind them.
+    /// The calls that there was room for, the first of them first, and how many are after them.
     fn calls(&self) -> (&[Call], u64);
 }
 
@@ -70,7 +70,7 @@ fn give_up<T: Listing, H: HandleTable>(
 
 impl<T: Listing, H: HandleTable> Stage<T, H> {
     /// The opening state over a set, whose lines name these two kinds as the first and the other one. The only fault is out of memory, and then
-    /// the set is let go.
+    /// the set is dropped.
     pub fn new(alloc: Global, set: T, kinds: (T::Kind, T::Kind)) -> Result<Stage<T, H>, Fault> {
         let space = Space {
             alloc,
@@ -211,7 +211,7 @@ impl<T: Listing, H: HandleTable> Stage<T, H> {
         (self.space.core.objects(), self.space.core.handles())
     }
 
-    /// The calls of the set that there was room for, and how many are behind them.
+    /// The calls of the set that there was room for, and how many are after them.
     pub fn calls(&self) -> (&[Call], u64) {
         self.space.core.set().calls()
     }

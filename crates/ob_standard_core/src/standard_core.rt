@@ -64,7 +64,7 @@ impl StandardCore {
     }
 
     /// Runs a command of a process to its reply, and each parse that it waits for meanwhile, with nothing else done between
-    /// these steps. The only fault is out of memory: before the first step, where nothing has changed, or behind steps
+    /// these steps. The only fault is out of memory: before the first step, where nothing has changed, or after steps
     /// that give the open up. There is none for a close, the end of a process, and making an object permanent or temporary.
     ///
     /// Source: Windows Internals, Object Manager (parse methods); that a parse is run between two steps is this profile.
@@ -117,7 +117,7 @@ impl StandardCore {
     /// The namespace in which the handle that the last step gave to this process, under the value `from`, has the value
     /// `to` instead, which that process doesn't use; nothing else differs.
     ///
-    /// The only error is out of memory, and then the namespace is let go.
+    /// The only error is out of memory, and then the namespace is dropped.
     ///
     /// Source: handles are values of the system's choice (Windows Driver Kit); that a choice may be changed is this profile.
     pub fn revalue(

@@ -24,7 +24,7 @@ use std::marker::Model;
 /// The parses that opens of a [`StandardCore`] wait for, each under the ticket of its open. A contract sees them as the
 /// list of these parses, by rising tickets.
 ///
-/// It can't be let go, since none of its parses can: each open that waits is ended or given up, all at once by
+/// It can't be dropped, since none of its parses can: each open that waits is ended or given up, all at once by
 /// [`give_all_up`](StandardWaits::give_all_up). Each call takes a time that grows with the logarithm of the parses.
 ///
 /// Source: Windows Internals, Object Manager (parse methods); that a parse is run between two steps is this profile.

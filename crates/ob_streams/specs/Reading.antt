@@ -6,7 +6,7 @@ use Rattle.ob_streams.specs.declared.fault.ShellFault.{ShellFault}
 use Rattle.ob_streams.specs.declared.fault.ShellFault.TheVariants.{Read, Write, TooLong, Memory, Mismatch}
 use Rattle.ob_streams.specs.declared.reading.TheConstants.{SCRIPT_LIMIT}
 
--- of what the reader has left, `taken` is read, and nothing is left behind it
+-- of what the reader has left, `taken` is read, and nothing is left after it
 pub record ReadsWhole (old new : Option (List ℕ)) (taken : List ℕ) : Type 0 where
   pub taken_all : Consumes old new taken
   pub ended : IsAtEnd new
@@ -44,7 +44,7 @@ StopsReadingAt limit Mismatch old new = ⊥
 abbrev pub StopsReading : ShellFault → Option (List ℕ) → Option (List ℕ) → Type 0
 StopsReading fault old new = StopsReadingAt SCRIPT_LIMIT fault old new
 
--- the same as the first, for a reading that goes on behind the bytes that it has already
+-- the same as the first, for a reading that continues after the bytes that it has already
 abbrev pub StopsReadingAfter : (limit had : ℕ) → ShellFault → Option (List ℕ) → Option (List ℕ) → Type 0
 StopsReadingAfter limit had TooLong old new = TakesExactly old new (limit + 1 - had)
 StopsReadingAfter limit had (Read unread) old new = TakesAtMost old new (limit - had)

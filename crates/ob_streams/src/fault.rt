@@ -69,7 +69,7 @@ impl From<Unwritten> for ShellFault {
     }
 }
 
-/// So is want of memory the fault `Memory`.
+/// So is a lack of memory the fault `Memory`.
 impl From<AllocError> for ShellFault {
     ghost from_gives = { λ _ fault. fault ≡ Memory };
 

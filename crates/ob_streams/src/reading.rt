@@ -19,7 +19,7 @@ const CHUNK: usize = 4096;
 /// once: one that is interrupted is a fault as any other. So it returns whatever the reader does.
 /// The faults are `TooLong`, where the reader gave `SCRIPT_LIMIT + 1` bytes; `Read`, where a read
 /// failed; and `Memory`. After one, the bytes that were taken are lost, and the reader stands
-/// behind them. (this profile)
+/// after them. (this profile)
 pub fn read_script<R: Read>(alloc: Global, reader: &mut R) -> Result<Vec<u8>, ShellFault>
     // At any reader.
     ensures within { IfOk result (λ script. vec_len script ≤ SCRIPT_LIMIT) }
@@ -44,7 +44,7 @@ pub fn read_script<R: Read>(alloc: Global, reader: &mut R) -> Result<Vec<u8>, Sh
 /// Never more than `limit + 1` bytes are taken of the reader, and each of its reads is made once: one
 /// that is interrupted is a fault as any other. So it returns whatever the reader does. The faults are
 /// `TooLong`, where the reader gave `limit + 1` bytes; `Read`, where a read failed; and `Memory`. After
-/// one, the bytes that were taken are lost, and the reader stands behind them. (this profile)
+/// one, the bytes that were taken are lost, and the reader follows them. (this profile)
 pub fn read_all<R: Read>(alloc: Global, reader: &mut R, limit: usize) -> Result<Vec<u8>, ShellFault>
     requires { limit + 1 < 2 ^ 64 }
     // At any reader.

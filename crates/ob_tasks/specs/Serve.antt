@@ -57,7 +57,7 @@ pub record Refuses (kind : ErrorKind) (end : End) (line : Told) (written written
   pub mistake : kind ≢ OutOfMemory → (IsRequest kind → ⊥)
       → Blames end line written written' told told' ⊎ Starves end line written written' told told'
 
--- the words have a fault, which is told; words that the parser takes have none but want of memory
+-- the words have a fault, which is told; words that the parser takes have none but a lack of memory
 pub record ServesFault (words : List Text) (end : End) (line : Told) (written written' told told' : Option (List ℕ)) : Type 0 where
   pub kind : ErrorKind
   pub stated : IsAmong kind (fault_of ntns words)

@@ -42,7 +42,7 @@ module _ {F I G J : Type 0} where
   answer_of_second (Refused k) = Refused k
 
 module _ {T U I J : Type 0} where
-  -- what is left behind a call of a part, whose own value and inner value are left so; the other part
+  -- what is left after a call of a part, whose own value and inner value are left so; the other part
   -- is left as it was
   abbrev pub left_first : Both T U → T × I → Both T U × Either I J
   left_first both left = (record both { first = left.0 }, Left left.1)
@@ -62,7 +62,7 @@ module _ {T U I J : Type 0} where
     pub second : second_of left.0 ≡ below.0
     pub inner : left.1 ≡ Right below.1
 
--- it stands for no open handle where the part that owns it says so
+-- it counts no open handle where the part that owns it says so
 abbrev pub IsEitherIdle : {I J : Type 0} → (I → Type 0) → (J → Type 0) → Either I J → Type 0
 IsEitherIdle First Second inner = MatchEither inner First Second
 

@@ -13,7 +13,7 @@ pub record ToRun (F : Type 0) : Type 0 where
   pub face : F
   pub rest : List ℕ
 
--- a parse that was run, with what it ended with: none where memory was wanted
+-- a parse that was run, with what it ended with: none where memory ran out
 pub record HasRun (F I : Type 0) : Type 0 where
   pub ticket : ℕ
   pub face : F
@@ -38,7 +38,7 @@ module _ {K T F I : Type 0} (g : Procedures K T F I) where
   EndsOrWants face rest outcome = MatchOption outcome (Unit {0}) (λ end. ParseEnds g face rest end)
 
   -- What holds of a parse that was run: the kind of its face parses, what it ended with is the end of that parse,
-  -- and what it made stands for no open handle.
+  -- and what it made counts no open handle.
   pub record IsRun (Idle : I → Type 0) (face : F) (rest : List ℕ) (outcome : Option (ParseOutcome F I)) : Type 0 where
     pub parses : g.parses (g.kind_of face) ≡ true
     pub ends : EndsOrWants face rest outcome

@@ -15,7 +15,7 @@ answer_of (Reparse text) = model.Reparse text
 answer_of (Refused k) = model.Refused k
 
 module _ {F I : Type 0} where
-  -- the end, in the words of the procedures; want of memory is none
+  -- the end, in the words of the procedures; a lack of memory is none
   abbrev pub outcome_of : Outcome F I → Option (model.ParseOutcome F I)
   outcome_of run.Itself = Some model.EndsItself
   outcome_of (run.Made face inner) = Some (model.EndsMade (arc_value face) inner)

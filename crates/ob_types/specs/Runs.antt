@@ -8,7 +8,7 @@ use Rattle.ob_types.specs.declared.run.Step.TheVariants.{Over, Onward}
 use Rattle.ob_types.specs.Parsing.{outcome_of, IfMade}
 
 module _ {F I : Type 0} where
-  -- it is the end with this face and this inner value, or memory is wanted
+  -- it is the end with this face and this inner value, or memory runs out
   abbrev pub IsMadeOf : Outcome F I → F → I → Type 0
   IsMadeOf outcome face inner = MatchOption (outcome_of outcome) (Unit {0}) (λ end. end ≡ model.EndsMade face inner)
 

@@ -9,13 +9,13 @@ use ob_names::NameBuf;
 pub enum ParseAnswer<F, I> {
     /// The object itself is what was named; this is answered to the empty rest alone.
     Itself,
-    /// A front of the rest leads to a new instance; what is behind it is for the parse procedure of that one.
+    /// A front of the rest leads to a new instance; what follows it is for the parse procedure of that one.
     Front {
         /// The bytes of the rest that were used: at least one where the rest isn't empty, and at most all.
         used: usize,
         /// The face of the instance. Where bytes are left, its kind parses.
         next: F,
-        /// Its inner value, which stands for no open handle.
+        /// Its inner value, which counts no open handle.
         inner: I,
     },
     /// The name is to be looked up again, as this absolute name.

@@ -7,7 +7,7 @@ ghost use Rattle.ob_types.specs.Brought.{run_of, brought, IsTaken};
 use crate::{Parsed, Parsing, TypeSet};
 use ob_model::{ParseRun, Pending};
 
-/// The parse of a pending open that is given up, run or not. It can't be let go, as the two that it is made of.
+/// The parse of a pending open that is given up, run or not. It can't be dropped, as the two that it is made of.
 /// (Windows Internals, Object Manager: parse methods; that a parse is run between two steps is this profile)
 pub enum Brought<T: TypeSet> {
     /// It was not run.

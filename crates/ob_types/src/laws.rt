@@ -11,7 +11,7 @@ pub fn refused_open<T: TypeSet>()
     ensures { model.RefusedOpenKeeps T.procedures }
 {}
 
-/// What is made stands for no open handle. (this profile)
+/// What is made counts no open handle. (this profile)
 pub fn made_idle<T: TypeSet>()
     ensures { model.MadeIsIdle T.procedures T.idle }
 {}
@@ -38,7 +38,7 @@ pub fn equal_kinds<T: TypeSet>()
 {}
 
 /// A parse procedure uses a front of the rest, at least a byte of one that isn't empty, and leaves what is
-/// behind it only to an instance that parses. (this profile)
+/// after it only to an instance that parses. (this profile)
 pub fn front_is_used<T: TypeSet>()
     ensures { model.FrontIsUsed T.procedures }
 {}
@@ -48,7 +48,7 @@ pub fn itself_at_end<T: TypeSet>()
     ensures { model.ItselfIsAtEnd T.procedures }
 {}
 
-/// An instance that a parse procedure makes stands for no open handle. (this profile)
+/// An instance that a parse procedure makes counts no open handle. (this profile)
 pub fn parsed_idle<T: TypeSet>()
     ensures { model.ParsedIsIdle T.procedures T.idle }
 {}

@@ -17,7 +17,7 @@ use std::sync::Arc;
 /// that were parsed, and what the parse ended with, if it found memory.
 ///
 /// What it ended with is the end of the parse of that very face over that very rest: that is part of the type.
-/// It can't be let go: what its parse made would be lost. (Windows Internals, Object Manager: parse methods;
+/// It can't be dropped: what its parse made would be lost. (Windows Internals, Object Manager: parse methods;
 /// that a parse is run between two steps is this profile)
 pub struct Parsed<T: TypeSet> {
     ticket: u64,

@@ -13,7 +13,7 @@ use std::sync::Arc;
 /// A parse that is to be run: the ticket of the pending open that waits for it, the face of the object that the
 /// open pins, whose kind parses, and a copy of what follows that object in the name.
 ///
-/// It can't be let go: it is run, given up, or handed back as it is. (Windows Internals, Object Manager: parse
+/// It can't be dropped: it is run, given up, or handed back as it is. (Windows Internals, Object Manager: parse
 /// methods; that a parse is run between two steps is this profile)
 pub struct Parsing<T: TypeSet> {
     ticket: u64,
@@ -43,7 +43,7 @@ impl<T: TypeSet> Parsing<T> {
         Parsing { ticket, face, rest }
     }
 
-    /// Runs the parse procedures, one behind the other, until one of them ends the parse or memory is wanted. It
+    /// Runs the parse procedures, one after the other, until one of them ends the parse or memory runs out. It
     /// takes neither the namespace nor a lock. What it ended with is told by every `Parsed`.
     pub fn run(self, alloc: Global) -> Parsed<T>
         ensures ticket { result.ticket ≡ self.ticket }

@@ -1,4 +1,4 @@
-//! A parse run: the answers of parse procedures, one behind the other, until one of them ends it.
+//! A parse run: the answers of parse procedures, one after the other, until one of them ends it.
 
 ghost use Rattle.std.specs.Prelude.{◌≡◌, ◌<◌, length, true, MatchOption};
 ghost use Rattle.ob_model.specs.Procedures.{ParseEnds};
@@ -41,7 +41,7 @@ enum Step<'a, F, I> {
 ///
 /// - An answer that is no front ends the run as it is.
 /// - A front that uses the rest up ends it with its instance.
-/// - Behind another front the run goes on with its instance, which parses what is left. The instance is
+/// - After another front the run goes on with its instance, which parses what is left. The instance is
 ///   dropped then: it was never opened, so there is no call for it.
 /// - Want of memory, in a parse procedure or for what was made, ends it with `NoMemory`.
 ///

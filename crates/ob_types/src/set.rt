@@ -27,7 +27,7 @@ pub trait TypeSet: Sized + Drop + Send {
     /// What each procedure means, as functions.
     ghost procedures: { model.Procedures Self.Kind Self Self.Face Self.Inner };
 
-    /// The inner value stands for no open handle.
+    /// The inner value counts no open handle.
     ghost idle: { Self.Inner → Type 0 };
 
     /// The name of the kind's type.
@@ -91,14 +91,14 @@ pub trait TypeSet: Sized + Drop + Send {
     /// An open that is refused leaves the set and the inner value as they were.
     ghost refused_open: { model.RefusedOpenKeeps procedures };
 
-    /// What is made stands for no open handle.
+    /// What is made counts no open handle.
     ghost made_idle: { model.MadeIsIdle procedures idle };
 
     /// A close that leaves no handle in the system leaves an idle inner value.
     ghost closed_idle: { model.LastClosedIsIdle procedures idle };
 
     /// A parse procedure uses a front of the rest, at least a byte of one that isn't empty, and leaves what
-    /// is behind it only to an instance that parses.
+    /// is after it only to an instance that parses.
     ghost front_is_used: { model.FrontIsUsed procedures };
 
     /// The object itself is answered only to the empty rest.

@@ -106,14 +106,14 @@ task_of (Some used) = if bytes_eq used.0 (codes "run") then option_map run (firs
     else (if bytes_eq used.0 (codes "replay") then option_map replay (first_of (codes "FILE") used.1)
     else (if bytes_eq used.0 (codes "session") then Some session else None)))
 
--- no word stands behind the program's name, or `--` alone, which ends the flags
+-- no word follows the program's name, or `--` alone, which ends the flags
 abbrev pub IsBare : List Text → Type 0
 IsBare [] = Unit {0}
 IsBare (name ∷ []) = Unit {0}
 IsBare (name ∷ word ∷ []) = word ≡ codes "--"
 IsBare (name ∷ word ∷ next ∷ rest) = ⊥
 
--- the words behind a subcommand are the file's path, with `--` before or behind it or without
+-- the words after a subcommand are the file's path, with `--` before or after it or without
 abbrev pub IsFileIn : Text → List Text → Type 0
 IsFileIn file [] = ⊥
 IsFileIn file (word ∷ []) = word ≡ file
@@ -126,7 +126,7 @@ IsOverFile command file [] = ⊥
 IsOverFile command file (name ∷ []) = ⊥
 IsOverFile command file (name ∷ word ∷ rest) = (word ≡ command) × IsFileIn file rest
 
--- nothing stands behind a subcommand that takes no word, or `--` alone
+-- nothing follows a subcommand that takes no word, or `--` alone
 abbrev pub IsNothingMore : List Text → Type 0
 IsNothingMore [] = Unit {0}
 IsNothingMore (word ∷ []) = word ≡ codes "--"
@@ -146,6 +146,6 @@ Spells words (threads file) = IsOverFile (codes "threads") file words
 Spells words (replay file) = IsOverFile (codes "replay") file words
 Spells words session = IsAlone (codes "session") words
 
--- a mistake in the words, or want of memory
+-- a mistake in the words, or a lack of memory
 abbrev pub IsMistakeOrWant : ErrorKind → Type 0
 IsMistakeOrWant k = (k ≡ kind.InvalidValue) ⊎ (k ≡ kind.OutOfMemory)

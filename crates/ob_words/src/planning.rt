@@ -27,12 +27,12 @@ pub enum Task<'a> {
 
 /// The task that the words ask for. The first word is the program's name.
 ///
-/// It is `Script` where no word stands behind the program's name, or `--` alone, and `Run` where
-/// these are `run` and a path, which is taken as it is, with `--` before or behind it or without;
+/// It is `Script` where no word follows the program's name, or `--` alone, and `Run` where
+/// these are `run` and a path, which is taken as it is, with `--` before or after it or without;
 /// so it is `Threads` where they are `threads` and a path, `Replay` where they are `replay` and a path, and `Session` where they are `session` alone. The task is what the parser
 /// `clap` states for these words and the program as `ntns` describes it. The faults are clap's: of the kinds that clap states for the words, which are mistakes, or
 /// the request for help or for the version; or out of memory, which alone can refuse words that name a task, as no
-/// words behind the program's name do. (this profile)
+/// words after the program's name do. (this profile)
 pub fn plan<'a, S: AsStr>(alloc: Global, words: &'a [S]) -> Result<Task<'a>, Error>
     ensures task { IfOk result (λ task.
         task_of (subcommand_of ntns (map S.text words.now)) ≡ Some (named task)) }

@@ -43,16 +43,16 @@ abbrev pub IsStopped : Lines → Type 0
 IsStopped [] = Unit {0}
 IsStopped (line ∷ lines) = ¬ IsSeatLine line
 
--- the lines that workers take in a script: for each a line `thread`, and its own behind it
+-- the lines that workers take in a script: for each a line `thread`, and its own after it
 abbrev pub worker_lines : List Lines → Lines
 worker_lines [] = []
 worker_lines (lines ∷ workers) = thread_line ∷ lines ++ worker_lines workers
 
--- what follows the lines of the workers: nothing; or, where there is a worker, a line `join` and what stands behind it
+-- what follows the lines of the workers: nothing; or, where there is a worker, a line `join` and what follows it
 abbrev pub IsEnd : List Lines → Lines → Lines → Type 0
 IsEnd workers behind end = ((end ≡ []) × (behind ≡ [])) ⊎ ((workers ≢ []) × (end ≡ join_line ∷ behind))
 
--- The lines are cut into those of seat 0 before the workers, those of each worker, and those of seat 0 behind them: one
+-- The lines are cut into those of seat 0 before the workers, those of each worker, and those of seat 0 after them: one
 -- after another they are all the lines, with `thread` before those of each worker, and `join`, where it stands,
 -- before the last. Each is a line of a seat, and there are no more workers than there may be.
 pub record IsCut (lines before : Lines) (workers : List Lines) (behind : Lines) : Type 0 where

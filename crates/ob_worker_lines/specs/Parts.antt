@@ -36,7 +36,7 @@ IsRunnable size part = AreSeatLines (lines_in part) × (part.first + length (lin
 abbrev pub AreRunnable : ℕ → WorkerScript → Type 0
 AreRunnable size cut = IsRunnable size cut.before × All (IsRunnable size) cut.workers.items × IsRunnable size cut.behind
 
--- what is told of the lines where they are not cut; want of memory says nothing of them
+-- what is told of the lines where they are not cut; a lack of memory says nothing of them
 abbrev pub IsFault : Lines → CutFault → Type 0
 IsFault lines (BadLine number) = IsBadLine lines number
 IsFault lines Memory = Unit {0}
@@ -51,19 +51,19 @@ pub record IsFirstLine (bytes line rest : List ℕ) : Type 0 where
   pub lacks : Lacks line_end line
   pub ends : (bytes ≡ line ++ line_end ∷ rest) ⊎ ((bytes ≡ line) × (rest ≡ []) × (line ≢ []))
 
--- the first line is a line of a seat, and the rest stands behind it
+-- the first line is a line of a seat, and the rest follows it
 abbrev pub IsSeatLineBefore : List ℕ → List ℕ → Type 0
 IsSeatLineBefore bytes rest = (line : List ℕ) × IsFirstLine bytes line rest × IsSeatLine line
 
--- what follows the lines of the workers is this part: at the end an empty one, else one behind `join`. What follows
+-- what follows the lines of the workers is this part: at the end an empty one, else one after `join`. What follows
 -- begins with the line of this number.
 abbrev pub IsBehind : Bool → Lines → ℕ → Part → Type 0
 IsBehind has_workers lines number part =
     ((lines ≡ []) × (lines_in part ≡ []) × (part.first ≡ number))
     ⊎ ((has_workers ≡ true) × (lines ≡ join_line ∷ lines_in part) × AreSeatLines (lines_in part) × (part.first ≡ number + 1))
 
--- the line stands in a wrong place behind the lines of the workers: it is the first there, and no `join` that may stand
--- there; or it stands behind `join` and is no line of a seat
+-- the line stands in a wrong place after the lines of the workers: it is the first there, and no `join` that may stand
+-- there; or it follows `join` and is no line of a seat
 abbrev pub IsMisplaced : Bool → Lines → ℕ → ℕ → Type 0
 IsMisplaced has_workers lines number bad =
     ((line : List ℕ) × (rest : Lines) × (lines ≡ line ∷ rest) × (line ≡ join_line → has_workers ≡ false) × (bad ≡ number))

@@ -8,7 +8,7 @@ ghost use Rattle.ob_worker_lines.specs.Cuts.{Lines, IsStopped};
 use crate::form::seat_form_of;
 use ob_parts::split_at;
 
-// What stands behind the first line, where this is a line of a seat.
+// What follows the first line, where this is a line of a seat.
 pub fn behind_seat_line(bytes: &[u8]) -> Option<&[u8]>
     ensures found { IfSome result (λ rest. IsSeatLineBefore bytes.now rest.now) }
     ensures shorter { IfSome result (λ rest. length rest.now < length bytes.now) }
@@ -21,7 +21,7 @@ pub fn behind_seat_line(bytes: &[u8]) -> Option<&[u8]>
     }
 }
 
-// What stands behind the first line, where this is the line that is wanted.
+// What follows the first line, where this is the line that is wanted.
 pub fn behind_line<'a>(bytes: &'a [u8], wanted: &[u8]) -> Option<&'a [u8]>
     ensures found { IfSome result (λ rest. lines_of bytes.now ≡ wanted.now ∷ lines_of rest.now) }
     ensures shorter { IfSome result (λ rest. length rest.now < length bytes.now) }
@@ -31,7 +31,7 @@ pub fn behind_line<'a>(bytes: &'a [u8], wanted: &[u8]) -> Option<&'a [u8]>
     if line == wanted { Some(rest) } else { None }
 }
 
-// The first line, without its LF, and what stands behind it.
+// The first line, without its LF, and what follows it.
 fn first_line(bytes: &[u8]) -> Option<(&[u8], &[u8])>
     ensures found { IfSome result (λ x. IsFirstLine bytes.now x.0.now x.1.now) }
     ensures shorter { IfSome result (λ x. length x.1.now < length bytes.now) }

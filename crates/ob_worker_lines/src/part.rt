@@ -18,12 +18,12 @@ pub struct Part<'a> {
     pub first: u64,
 }
 
-// A part that was read, and what is left behind it.
+// A part that was read, and what is left after it.
 #[derive(Clone, Copy, Debug)]
 pub struct Taken<'a> {
     // The lines that were read.
     pub part: Part<'a>,
-    // The lines behind them, the first of which, where there is one, is no line of a seat.
+    // The lines after them, the first of which, where there is one, is no line of a seat.
     pub rest: &'a [u8],
     // The number of the first of these.
     pub number: u64,

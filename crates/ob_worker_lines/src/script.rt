@@ -25,10 +25,10 @@ pub const MOST_WORKERS: usize = 63;
 pub struct WorkerScript<'a> {
     /// What seat 0 runs before any worker: the lines before the first `thread`.
     pub before: Part<'a>,
-    /// What the workers run, those of seats 1, 2 and so on: for each `thread` the lines behind it. At
+    /// What the workers run, those of seats 1, 2 and so on: for each `thread` the lines after it. At
     /// most 63.
     pub workers: Vec<Part<'a>>,
-    /// What seat 0 runs after all workers: the lines behind `join`; none where there is no `join`.
+    /// What seat 0 runs after all workers: the lines after `join`; none where there is no `join`.
     pub behind: Part<'a>,
 }
 
@@ -36,7 +36,7 @@ pub struct WorkerScript<'a> {
 #[derive(Clone, Copy, PartialEq, Eq, Debug)]
 pub enum CutFault {
     /// The line of this number, from 1, is the first that is no line of a script with workers, or stands in
-    /// a wrong place: a 64th `thread`, a `thread` behind `join`, a `join` before any `thread`, or a second
+    /// a wrong place: a 64th `thread`, a `thread` after `join`, a `join` before any `thread`, or a second
     /// `join`.
     BadLine(u64),
     /// Memory was wanted and there was none.
@@ -86,7 +86,7 @@ pub fn cut(alloc: Global, script: &[u8]) -> Result<WorkerScript<'_>, CutFault>
     }
 }
 
-// The part behind `join`, or an empty one at the end of the script; else the number of the line that stands in a
+// The part after `join`, or an empty one at the end of the script; else the number of the line that stands in a
 // wrong place. The first line of what is left has the number that is given.
 fn take_behind(rest: &[u8], number: u64, has_workers: bool) -> Result<Part<'_>, u64>
     requires { number + length rest.now < 2 ^ 64 }

@@ -1,7 +1,7 @@
 //! Opens that wait for a parse: they go on when it is brought, in the state as it is then, or are given up. The object that they pin stays until then.
 
 /// In each there is a device of the files `com1` and `a\b`, to which process 1 gets the handle 4, and a child without handles. The ticket of the
-/// first open that waits is 8, behind the six objects of a new namespace and the device.
+/// first open that waits is 8, after the six objects of a new namespace and the device.
 pub(super) const WAITING: &str = r"# a file that the device has
 1 make first \Device\Serial0 0 com1;a\b | SUCCESS
 1 begin not | SUCCESS

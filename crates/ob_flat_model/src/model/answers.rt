@@ -121,7 +121,7 @@ impl Model {
         }
     }
 
-    // What an open is answered behind its parse.
+    // What an open is answered after its parse.
     pub(super) fn end_of(&self, waiting: Waiting) -> Answer {
         let Ask::Open { want, attrs, .. } = waiting.ask else {
             return Answer::Done;

@@ -6,7 +6,7 @@ use crate::names::{Name, Path, letters};
 use ob_base::Status;
 use std::alloc::AllocError;
 
-// A lookup looks once, and once more behind each of 32 reparses.
+// A lookup looks once, and once more after each of 32 reparses.
 const LOOKS: u32 = 33;
 
 // The opening state's letter of `??`, which is a process's own view at the beginning of an absolute text.
@@ -21,7 +21,7 @@ pub(super) struct Look {
     pub(super) folds: bool,
 }
 
-// What a lookup finds at a component: a directory to go on in, a link to follow, with what stands behind it, or its end.
+// What a lookup finds at a component: a directory to go on in, a link to follow, with what follows it, or its end.
 #[derive(Clone, Copy)]
 enum Step<'a> {
     In(u32),
@@ -113,7 +113,7 @@ impl Model {
         }
     }
 
-    // What a lookup finds in a directory under a letter, with a rest behind it; what the directory hasn't is looked for in
+    // What a lookup finds in a directory under a letter, with a rest after it; what the directory hasn't is looked for in
     // GLOBAL, where that is shared. A device parses the rest, and has a file for none and for one alone.
     fn step<'a>(
         &self,

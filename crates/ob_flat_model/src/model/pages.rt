@@ -6,7 +6,7 @@ use crate::names::spelled;
 use ob_base::Status;
 use ob_model::{Given, Listed};
 
-// A page of a directory: the stamp behind which it begins, that of the last entry that it shows, or the same where it
+// A page of a directory: the stamp after which it begins, that of the last entry that it shows, or the same where it
 // shows none, and its status.
 #[derive(Clone, Copy)]
 pub(super) struct Page {
@@ -79,7 +79,7 @@ impl Model {
     }
 }
 
-// How the name of an object is spelled, where it stands in a directory behind a stamp.
+// How the name of an object is spelled, where it stands in a directory after a stamp.
 fn shown(object: Object, directory: u32, stamp: u64) -> Option<&'static [u8]> {
     match object.spot {
         Some(spot) if spot.directory == directory && object.stamp > stamp => {
