@@ -10,12 +10,14 @@ use Rattle.ob_model.specs.declared.state.Held.{Held}
 use Rattle.ob_model.specs.declared.state.Object.{Object}
 use Rattle.ob_model.specs.declared.state.Row.{Row}
 use Rattle.ob_model.specs.State.{State, root_id, held_of, object_of, handle_count, handle_count_in}
-use Rattle.ob_model.specs.Settle.{IsSettled, is_permanent, has_handle, has_name, is_kept, is_alive, is_pinned, is_mapped}
+use Rattle.ob_model.specs.Settle.{IsSettled, is_permanent, has_handle, has_name, is_kept, is_alive_itself, is_alive, is_pinned, is_mapped}
 use Rattle.ob_model.specs.Sound.{IsSound}
 use Rattle.ob_model.specs.Procedures.{Procedures}
 use Rattle.ob_model.specs.Closing.{is_handle, without_handle, closed_body, closed_object, closed_handle}
-use Rattle.ob_model.proofs.Soundness.{find_id-map, closed_object-id, closed_object-is_directory}
-use Rattle.ob_life.specs.Settling.{with_handle_to}
+use Rattle.ob_model.proofs.Soundness.{find_id-map, closed_object-id, closed_object-is_directory, closed_object-shadow, closed_sound}
+use Rattle.ob_model.proofs.Staying.{shadows_map}
+use Rattle.ob_commands.proofs.Alive.{alive_too}
+use Rattle.ob_life.specs.Settling.{AreShadowsFit, with_handle_to}
 use Rattle.ob_life.proofs.HandleClosed.{held_alone}
 use Rattle.ob_space.proofs.Handles.{found_passes}
 use Rattle.ob_space.proofs.Orders.{any_stays}
@@ -104,16 +106,29 @@ module _ {K T F I : Type 0} (g : Procedures K T F I) (s : State K T F I) (h : He
   kept_same : (r : Row) → is_kept u r ≡ is_kept s r
   kept_same r = λ i. permanent_same r.object i || handle_same r.object i
 
-  alive_same : (o : ℕ) → is_alive u o ≡ is_alive s o
-  alive_same o = λ i. (o == root_id) || handle_same o i || is_pinned s o || is_mapped s o || (permanent_same o i && has_name s o) || list_any (λ r. (r.directory == o) && kept_same r i) s.rows
+  itself_same : (o : ℕ) → is_alive_itself u o ≡ is_alive_itself s o
+  itself_same o = λ i. (o == root_id) || handle_same o i || is_pinned s o || is_mapped s o || (permanent_same o i && has_name s o) || list_any (λ r. (r.directory == o) && kept_same r i) s.rows
+
+  alive_still : (o : ℕ) → is_alive s o ≡ true → is_alive u o ≡ true
+  unfolding left_count all_count
+  alive_still =
+      alive_too s u
+      (shadows_map (closed_object g s.set h.object left_count all_count) (closed_object-id g s.set h.object left_count all_count) (closed_object-shadow g s.set h.object left_count all_count) s.objects)
+      (λ o alive. itself_same o ∙ alive)
 
   was_settled : IsSettled s → IsSettled u
   unfolding left_count all_count
   was_settled settled = record {
     names = λ k d below. kept_same (get_or s.rows k d) ∙ settled.names k d below;
     objects = All-map (λ x. is_alive u x.id ≡ true) (closed_object g s.set h.object left_count all_count) s.objects
-        (λ k d below. ap (is_alive u) (closed_object-id g s.set h.object left_count all_count (get_or s.objects k d)) ∙ alive_same (get_or s.objects k d).id ∙ settled.objects k d below);
+        (λ k d below. ap (is_alive u) (closed_object-id g s.set h.object left_count all_count (get_or s.objects k d)) ∙ alive_still (get_or s.objects k d).id (settled.objects k d below));
   }
+
+  -- the shadows of the state that a close leaves are fit
+  pub closed_fit : (t : State K T F I) → t ≡ closed_handle g s h → AreShadowsFit t
+  closed_fit t is =
+      let left = closed_sound g s h sound in
+      subst (λ (v : State K T F I). AreShadowsFit v) (sym is) (record { inside = left.rows.inside; shadows = left.objects.shadows })
 
   -- the state that a close leaves was settled with that handle
   pub closed_was_settled : (t : State K T F I) → IsSettled s → t ≡ closed_handle g s h → IsSettled (with_handle_to t h.object)

@@ -1,3 +1,4 @@
+pub mod Alive
 pub mod Closed
 pub mod Listings
 pub mod Made
@@ -5,3 +6,4 @@ pub mod Mapped
 pub mod Queries
 pub mod WaysUp
 pub mod Passed
+pub mod Shadowed

@@ -18,13 +18,14 @@ use Rattle.ob_model.specs.Grants.{first_refusal}
 use Rattle.ob_model.specs.Maps.{with_own_map, map_of, with_map}
 use Rattle.ob_model.specs.Procedures.{Procedures}
 use Rattle.ob_model.specs.Refusals.{IsRefused, Unless, answers}
-use Rattle.ob_model.specs.Settle.{IsSettled, settle, has_handle, has_name, is_kept, is_alive, is_permanent, is_pinned, is_mapped, holds_kept}
+use Rattle.ob_model.specs.Settle.{IsSettled, settle, has_handle, has_name, is_kept, is_alive_itself, is_permanent, is_pinned, is_mapped, holds_kept}
 use Rattle.ob_model.specs.Step.{SetsMap}
 use Rattle.ob_model.proofs.Finds.{find_none}
 use Rattle.ob_processes.specs.Running.{Running}
 use Rattle.ob_space.specs.Namespace.{Parts, state_of}
 use Rattle.ob_space.specs.Orderly.{IsOrderly}
 use Rattle.ob_life.specs.Settling.{with_handle_to}
+use Rattle.ob_commands.proofs.Alive.{or_true, imply_or, alive_too}
 use Rattle.ob_space.proofs.Stepping.{is_done}
 
 -- ---- lists of processes
@@ -42,10 +43,6 @@ none_behind p x ps rising same =
     find_none (λ y. y.number == p) ps
     (λ k d below. ne_eqb (get_or ps k d).number p
     (λ equal. let less : x.number < (get_or ps k d).number = rising 0 (suc k) d (omega arith) (omega (arith, below)) in absurd (omega (arith, less, equal, same))))
-
-or_true : (b : Bool) → (b || true) ≡ true
-or_true true = refl
-or_true false = refl
 
 or_none : (b : Bool) → (b || false) ≡ b
 or_none true = refl
@@ -78,10 +75,6 @@ map_stays p o d (x ∷ ps) rising other some =
 
 -- ---- settled states
 
-imply_or : (a b c d : Bool) → (a ≡ true → b ≡ true) → (c ≡ true → d ≡ true) → (a || c) ≡ true → (b || d) ≡ true
-imply_or true b c d first second h = ap (λ x. x || d) (first refl)
-imply_or false b c d first second h = ap (λ x. b || x) (second h) ∙ or_true b
-
 module _ {K T F I : Type 0} (s : State K T F I) (p d : ℕ) where
   -- an orderly state stays orderly
   pub mapped_orderly : (idle : I → Type 0) → IsOrderly idle s → IsOrderly idle (with_map s p d)
@@ -109,9 +102,9 @@ module _ {K T F I : Type 0} (s : State K T F I) (p d : ℕ) where
     mapped_still : (o : ℕ) → option_map_or (λ n. n == o) (map_of s p) false ≡ false → is_mapped s o ≡ true → is_mapped (with_map s p d) o ≡ true
     mapped_still o other = imply_or (o == global_id) (o == global_id) _ _ (λ same. same) (map_stays p o d s.processes rising other)
 
-    -- an object stays as it did, where it isn't the map that goes
-    still_alive : (o : ℕ) → option_map_or (λ n. n == o) (map_of s p) false ≡ false → is_alive s o ≡ true → is_alive (with_map s p d) o ≡ true
-    still_alive o other =
+    -- an object stays by itself as it did, where it isn't the map that goes
+    still_itself : (o : ℕ) → option_map_or (λ n. n == o) (map_of s p) false ≡ false → is_alive_itself s o ≡ true → is_alive_itself (with_map s p d) o ≡ true
+    still_itself o other =
         imply_or (((o == root_id) || has_handle s o || is_pinned s o || is_mapped s o) || (is_permanent s o && has_name s o))
         (((o == root_id) || has_handle s o || is_pinned s o || is_mapped (with_map s p d) o) || (is_permanent s o && has_name s o)) (holds_kept s o) (holds_kept s o)
         (imply_or ((o == root_id) || has_handle s o || is_pinned s o || is_mapped s o) ((o == root_id) || has_handle s o || is_pinned s o || is_mapped (with_map s p d) o)
@@ -124,7 +117,10 @@ module _ {K T F I : Type 0} (s : State K T F I) (p d : ℕ) where
     pub nothing_goes : map_of s p ≡ None → IsSettled (with_map s p d)
     nothing_goes none = record {
       names = settled.names;
-      objects = λ k e below. still_alive (get_or s.objects k e).id (ap (λ (m : Option ℕ). option_map_or (λ n. n == (get_or s.objects k e).id) m false) none) (settled.objects k e below);
+      objects = λ k e below.
+          alive_too s (with_map s p d) (λ o keeps some. some)
+          (λ o. still_itself o (ap (λ (m : Option ℕ). option_map_or (λ n. n == o) m false) none))
+          (get_or s.objects k e).id (settled.objects k e below);
     }
 
     -- and else nothing would, were there a handle to that directory
@@ -151,10 +147,10 @@ module _ {K T F I : Type 0} (s : State K T F I) (p d : ℕ) where
           both true h = kept_still r h
           both false h = h
 
-      alive_still : (o : ℕ) → is_alive s o ≡ true → is_alive u o ≡ true
-      alive_still o alive = go (m == o) refl
+      itself_more : (o : ℕ) → is_alive_itself s o ≡ true → is_alive_itself u o ≡ true
+      itself_more o alive = go (m == o) refl
         where
-          go : (b : Bool) → (m == o) ≡ b → is_alive u o ≡ true
+          go : (b : Bool) → (m == o) ≡ b → is_alive_itself u o ≡ true
           go true same =
               ap (λ b. (o == root_id) || b || is_pinned u o || is_mapped u o || (is_permanent u o && has_name u o) || holds_kept u o) (held_itself o same)
               ∙ ap (λ b. b || is_pinned u o || is_mapped u o || (is_permanent u o && has_name u o) || holds_kept u o) (or_true (o == root_id))
@@ -174,7 +170,7 @@ module _ {K T F I : Type 0} (s : State K T F I) (p d : ℕ) where
       pub was_mapped : IsSettled u
       was_mapped = record {
         names = λ k e below. kept_still (get_or s.rows k e) (settled.names k e below);
-        objects = λ k e below. alive_still (get_or s.objects k e).id (settled.objects k e below);
+        objects = λ k e below. alive_too s u (λ o keeps some. some) itself_more (get_or s.objects k e).id (settled.objects k e below);
       }
 
 -- ---- the parts

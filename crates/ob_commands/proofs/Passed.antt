@@ -25,6 +25,6 @@ link_wanted g s o target is = go (body_of s o) is
   where
     go : (x : Option (Body _ _)) → option_and_then target_of x ≡ Some target → not (option_map_or (is_wanted g Link) x false) ≡ false
     go None is = let none : None ≡ Some target = is in cc
-    go (Some body.Directory) is = let none : None ≡ Some target = is in cc
+    go (Some (body.Directory shadow)) is = let none : None ≡ Some target = is in cc
     go (Some (body.Link text)) is = refl
     go (Some (body.Other face inner)) is = let none : None ≡ Some target = is in cc

@@ -2,10 +2,9 @@
 
 ghost use Rattle.std.specs.Prelude.{◌≡◌, true, IsOk, IfOk, IfErr, OnErr};
 ghost use Rattle.ob_model.specs.declared.reply.Answer.TheVariants.{Done};
-ghost use Rattle.ob_model.specs.Settle.{IsSettled};
 ghost use Rattle.ob_model.specs.Step.{SetsMap};
 ghost use Rattle.ob_space.specs.Early.{is_use_refused, lacks_directory};
-ghost use Rattle.ob_space.specs.Orderly.{IsOrderly};
+ghost use Rattle.ob_space.specs.Orderly.{IsBetweenSteps, IsOrderly};
 
 use ob_base::{Handle, Proc, Status};
 use ob_handles::HandleTable;
@@ -23,7 +22,7 @@ use std::alloc::AllocError;
 /// `InvalidHandle` where the process has no such handle, and `ObjectTypeMismatch` where its object is no
 /// directory. The only fault is out of memory, and then nothing has changed; the refusals take none.
 ///
-/// It asks that the state is orderly and settled, and leaves it orderly.
+/// It asks that the state is orderly, settled and sound, and leaves it orderly.
 ///
 /// Source: Windows Internals, Object Manager (session namespace: device maps); NtSetInformationProcess
 /// (ProcessDeviceMap). The order of refusals is this profile.
@@ -32,8 +31,7 @@ pub fn set_device_map<T: TypeSet, H: HandleTable>(
     process: Proc,
     handle: Handle,
 ) -> Result<Reply, AllocError>
-    requires orderly { IsOrderly T.idle space.old }
-    requires settled { IsSettled space.old }
+    requires between { IsBetweenSteps T.idle space.old }
     ensures orderly { IsOrderly T.idle space.new }
     ensures step { IfOk result (λ reply.
         SetsMap T.procedures space.old process handle (Done reply) space.new) }

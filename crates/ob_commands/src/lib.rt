@@ -20,6 +20,7 @@ mod lives;
 mod making;
 mod naming;
 mod replies;
+mod shadows;
 
 pub use closing::close;
 pub use creating::create;

@@ -1,6 +1,6 @@
 //! Making an object: what is made, and the making itself.
 
-ghost use Rattle.std.specs.Prelude.{◌≡◌, ◌&&◌, ◌||◌, true, false, [], None, Some, IsOk, IfOk, IfErr, OnErr};
+ghost use Rattle.std.specs.Prelude.{◌≡◌, ◌&&◌, ◌||◌, ℕ, true, false, [], Option, None, Some, IsOk, IfOk, IfErr, OnErr};
 ghost use Rattle.std.specs.Option.{is_some};
 ghost use Rattle.ob_base.specs.Attrs.{has_flag, permanent_flag, exclusive_flag};
 ghost use Rattle.ob_types.specs.Told.{IsTold};
@@ -43,7 +43,7 @@ pub enum Making<'a, K> {
 
 /// A link to a target, as it is handed in: any bytes, which a create judges. Source: this profile.
 pub fn link_to<K>(target: &Bytes) -> Making<'_, K>
-    ensures { making_of result ≡ machine.MakesLink target.now }
+    ensures { making_of result ≡ (λ shadow. machine.MakesLink target.now) }
 {
     Making::Link {
         target: target.as_slice(),
@@ -52,7 +52,7 @@ pub fn link_to<K>(target: &Bytes) -> Making<'_, K>
 
 /// An object of a kind, with arguments as they are handed in: any bytes, which the set judges. Source: this profile.
 pub fn object_of<K>(kind: K, args: &Bytes) -> Making<'_, K>
-    ensures { making_of result ≡ machine.MakesObject kind args.now }
+    ensures { making_of result ≡ (λ shadow. machine.MakesObject kind args.now) }
 {
     Making::Object {
         kind,
@@ -62,7 +62,7 @@ pub fn object_of<K>(kind: K, args: &Bytes) -> Making<'_, K>
 
 /// The type of what a create makes.
 pub(crate) fn type_made<K: Copy>(making: Making<'_, K>) -> Wanted<K>
-    ensures { result ≡ machine.type_made (making_of making.entry) }
+    ensures { (shadow : Option ℕ) → result ≡ machine.type_made (making_of making.entry shadow) }
 {
     match making {
         Making::Directory => Wanted::Directory,
@@ -73,7 +73,7 @@ pub(crate) fn type_made<K: Copy>(making: Making<'_, K>) -> Wanted<K>
 
 /// Whether a create's parameters are fit: a link's target has 1 to 32,767 bytes of the profile.
 pub(crate) fn is_fit<K>(making: &Making<'_, K>) -> bool
-    ensures { result ≡ machine.is_fit (making_of making.now) }
+    ensures { result ≡ machine.is_fit (making_of making.now None) }
 {
     match making {
         Making::Link { target } => Name::read(target).is_ok() && !target.is_empty(),
@@ -81,23 +81,25 @@ pub(crate) fn is_fit<K>(making: &Making<'_, K>) -> bool
     }
 }
 
-/// Makes an object at a component that is free in a directory, and opens a handle to it.
+/// Makes an object at a component that is free in a directory, and opens a handle to it. A directory gets this shadow, where one
+/// is given.
 pub(crate) fn make_named<T: TypeSet, H: HandleTable>(
     space: &mut Space<T, H>,
     process: Proc,
     directory: ObjId,
     component: Remainder<'_>,
     attrs: Attrs,
+    shadow: Option<ObjId>,
     making: Making<'_, T::Kind>,
 ) -> Result<Reply, AllocError>
     requires orderly { IsOrderly T.idle space.old }
     requires settled { IsSettled space.old }
     requires live { is_live space.old process ≡ true }
-    requires fit { machine.is_fit (making_of making) ≡ true }
+    requires fit { machine.is_fit (making_of making None) ≡ true }
     requires vacant { IsVacant space.old directory component }
     ensures orderly { IsOrderly T.idle space.new }
     ensures step { IfOk result (λ reply.
-        machine.Makes T.procedures space.old process attrs (making_of making.entry) (Some
+        machine.Makes T.procedures space.old process attrs (making_of making.entry shadow) (Some
         (directory, component.entry))
         (Done reply) space.new) }
     ensures full { (is_table_full space.old process || is_store_full space.old
@@ -109,23 +111,24 @@ pub(crate) fn make_named<T: TypeSet, H: HandleTable>(
     }
     let name = component.into_name(space.alloc)?;
     let spot = Spot { directory, name };
-    make_in_room(space, process, Some(spot), attrs, making)
+    make_in_room(space, process, Some(spot), attrs, shadow, making)
 }
 
-/// Makes an object without a name, and opens a handle to it.
+/// Makes an object without a name, and opens a handle to it. A directory gets this shadow, where one is given.
 pub(crate) fn make_unnamed<T: TypeSet, H: HandleTable>(
     space: &mut Space<T, H>,
     process: Proc,
     attrs: Attrs,
+    shadow: Option<ObjId>,
     making: Making<'_, T::Kind>,
 ) -> Result<Reply, AllocError>
     requires orderly { IsOrderly T.idle space.old }
     requires settled { IsSettled space.old }
     requires live { is_live space.old process ≡ true }
-    requires fit { machine.is_fit (making_of making) ≡ true }
+    requires fit { machine.is_fit (making_of making None) ≡ true }
     ensures orderly { IsOrderly T.idle space.new }
     ensures step { IfOk result (λ reply.
-        machine.Makes T.procedures space.old process attrs (making_of making.entry) None
+        machine.Makes T.procedures space.old process attrs (making_of making.entry shadow) None
         (Done reply) space.new) }
     ensures full { (is_table_full space.old process || is_store_full space.old) ≡ true
         → IsOk result }
@@ -134,7 +137,7 @@ pub(crate) fn make_unnamed<T: TypeSet, H: HandleTable>(
     if is_full(space, process) {
         return Ok(status_alone(Status::InsufficientResources));
     }
-    make_in_room(space, process, None, attrs, making)
+    make_in_room(space, process, None, attrs, shadow, making)
 }
 
 /// Makes an object for which there is room, at a spot, where one is given, and opens a handle to it.
@@ -145,23 +148,24 @@ fn make_in_room<T: TypeSet, H: HandleTable>(
     process: Proc,
     spot: Option<Spot>,
     attrs: Attrs,
+    shadow: Option<ObjId>,
     making: Making<'_, T::Kind>,
 ) -> Result<Reply, AllocError>
     requires orderly { IsOrderly T.idle space.old }
     requires settled { IsSettled space.old }
     requires live { is_live space.old process ≡ true }
-    requires fit { machine.is_fit (making_of making) ≡ true }
+    requires fit { machine.is_fit (making_of making None) ≡ true }
     requires room { (is_table_full space.old process || is_store_full space.old) ≡ false }
     requires stamp { is_some spot ≡ true → is_stampless space.old ≡ false }
     requires vacant { IsVacantSpot space.old spot }
     ensures orderly { IsOrderly T.idle space.new }
     ensures step { IfOk result (λ reply.
-        machine.MakesInRoom T.procedures space.old process attrs (making_of making.entry)
+        machine.MakesInRoom T.procedures space.old process attrs (making_of making.entry shadow)
         (spot_of spot) (Done reply)
         space.new) }
     ensures err { OnErr result (space.new ≡ space.old) }
 {
-    let body = match make_body::<T>(space.alloc, making) {
+    let body = match make_body::<T>(space.alloc, shadow, making) {
         Ok(body) => body,
         Err(Refusal::Code(code)) => {
             try_room(space, process, spot)?;
@@ -179,20 +183,21 @@ fn make_in_room<T: TypeSet, H: HandleTable>(
 /// The body of what is made.
 fn make_body<T: TypeSet>(
     alloc: Global,
+    shadow: Option<ObjId>,
     making: Making<'_, T::Kind>,
 ) -> Result<StoredBody<T::Face, T::Inner>, Refusal>
-    requires fit { machine.is_fit (making_of making) ≡ true }
-    ensures accepted { IfOk result (λ _. machine.make_refusal T.procedures (making_of making.entry)
+    requires fit { machine.is_fit (making_of making None) ≡ true }
+    ensures accepted { IfOk result (λ _. machine.make_refusal T.procedures (making_of making.entry shadow)
         ≡ None) }
     ensures made { IfOk result (λ body. body_of_stored body
-        ≡ machine.body_made T.procedures (making_of making.entry)) }
+        ≡ machine.body_made T.procedures (making_of making.entry shadow)) }
     ensures empty { IfOk result (λ body. entries_in body ≡ []) }
     ensures idle { IfOk result (λ body. IsIdleBody T.idle (body_of_stored body)) }
     ensures refused { IfErr result (λ refusal.
-        IsTold refusal (machine.make_refusal T.procedures (making_of making.entry))) }
+        IsTold refusal (machine.make_refusal T.procedures (making_of making.entry shadow))) }
 {
     match making {
-        Making::Directory => Ok(StoredBody::directory(alloc)),
+        Making::Directory => Ok(StoredBody::directory(alloc, shadow)),
         Making::Link { target } => {
             let target = NameBuf::from_name(alloc, Name::new(target))?;
             Ok(StoredBody::Link(target))

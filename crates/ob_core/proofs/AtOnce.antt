@@ -2,7 +2,7 @@
 use Rattle.std.proofs.Common.{◌≡◌, ℕ, List, refl}
 use Rattle.std.specs.Prelude.{Option}
 use Rattle.ob_model.specs.declared.command.Command.{Command}
-use Rattle.ob_model.specs.declared.command.Command.TheVariants.{CreateDirectory, CreateLink, CreateObject, OpenDirectory, OpenLink, OpenObject, Close, QueryLink, QueryName, QueryDirectory, Duplicate, MakeTemporary, MakePermanent, SetDeviceMap, NewProcess, ExitProcess}
+use Rattle.ob_model.specs.declared.command.Command.TheVariants.{CreateDirectory, CreateShadowed, CreateLink, CreateObject, OpenDirectory, OpenLink, OpenObject, Close, QueryLink, QueryName, QueryDirectory, Duplicate, MakeTemporary, MakePermanent, SetDeviceMap, NewProcess, ExitProcess}
 use Rattle.ob_core.specs.AtOnce.{IsNoOpen}
 
 pub no_open : {K : Type 0} (command : Command K)
@@ -10,6 +10,7 @@ pub no_open : {K : Type 0} (command : Command K)
     → ((root : Option ℕ) (name : List ℕ) (attrs : ℕ) → command ≡ OpenLink root name attrs → ⊥)
     → ((root : Option ℕ) (name : List ℕ) (attrs : ℕ) (want : Option K) → command ≡ OpenObject root name attrs want → ⊥) → IsNoOpen command
 no_open (CreateDirectory where_to attrs) directory link object = tt
+no_open (CreateShadowed where_to attrs shadow) directory link object = tt
 no_open (CreateLink where_to attrs target) directory link object = tt
 no_open (CreateObject where_to attrs kind args) directory link object = tt
 no_open (OpenDirectory root name attrs) directory link object = directory root name attrs refl

@@ -11,7 +11,7 @@ use Rattle.std.proofs.lemmas.List.Sums.{sum_by-cons}
 use Rattle.ob_model.specs.declared.state.Held.{Held}
 use Rattle.ob_model.specs.Closing.{is_handle}
 use Rattle.ob_model.specs.Grants.{IsFreeValue}
-use Rattle.ob_model.specs.Settle.{IsSettled, is_permanent, has_name, is_pinned, is_mapped}
+use Rattle.ob_model.specs.Settle.{IsSettled, has_shadow, is_permanent, has_name, is_pinned, is_mapped}
 use Rattle.ob_model.specs.Sound.{IsSound, Stands}
 use Rattle.ob_model.specs.State.{State, root_id, is_live}
 use Rattle.ob_model.proofs.Finds.{find_none, not_found, filter_all}
@@ -90,16 +90,18 @@ module _ (value : ℕ) where
     kept_by : (ℕ → Bool) → ℕ → Bool
     kept_by has o = is_permanent s o || has o
 
+    -- an object stays by itself
+    itself_by : (ℕ → Bool) → ℕ → Bool
+    itself_by has o =
+        (o == root_id) || has o || is_pinned s o || is_mapped s o || (is_permanent s o && has_name s o)
+        || list_any (λ r. (r.directory == o) && kept_by has r.object) s.rows
+
     settled_revalued : IsSettled s → IsSettled (revalued value s)
-    unfolding kept_by led_to
+    unfolding kept_by itself_by led_to
     settled_revalued settled = record {
       names = subst (λ (has : ℕ → Bool). All (λ r. kept_by has r.object ≡ true) s.rows) (led_alike s.handles) settled.names;
       objects = subst
-          (λ (has : ℕ → Bool).
-          All
-          (λ x.
-          ((x.id == root_id) || has x.id || is_pinned s x.id || is_mapped s x.id || (is_permanent s x.id && has_name s x.id)
-          || list_any (λ r. (r.directory == x.id) && kept_by has r.object) s.rows) ≡ true) s.objects)
+          (λ (has : ℕ → Bool). All (λ x. (itself_by has x.id || list_any (λ y. has_shadow x.id y.body && itself_by has y.id) s.objects) ≡ true) s.objects)
           (led_alike s.handles) settled.objects;
     }
 

@@ -83,7 +83,15 @@ fn reply_for<T: TypeSet, H: HandleTable>(
     match command {
         Command::CreateDirectory { place, attrs } => {
             let making = Making::Directory;
-            create(space, process, place, *attrs, making)
+            create(space, process, place, *attrs, None, making)
+        }
+        Command::CreateShadowed {
+            place,
+            attrs,
+            shadow,
+        } => {
+            let making = Making::Directory;
+            create(space, process, place, *attrs, Some(*shadow), making)
         }
         Command::CreateLink {
             place,
@@ -91,7 +99,7 @@ fn reply_for<T: TypeSet, H: HandleTable>(
             target,
         } => {
             let making = link_to(target);
-            create(space, process, place, *attrs, making)
+            create(space, process, place, *attrs, None, making)
         }
         Command::CreateObject {
             place,
@@ -100,7 +108,7 @@ fn reply_for<T: TypeSet, H: HandleTable>(
             args,
         } => {
             let making = object_of(*kind, args);
-            create(space, process, place, *attrs, making)
+            create(space, process, place, *attrs, None, making)
         }
         Command::OpenDirectory { .. } | Command::OpenLink { .. } | Command::OpenObject { .. } => {
             unreachable!()

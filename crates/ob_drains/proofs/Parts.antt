@@ -26,17 +26,17 @@ module _ {K T F I : Type 0} (g : Procedures K T F I) (change : T → T) (unnotic
   -- ---- an open
 
   open_refusal_of-changed : (set : T) (body : Body F I) (reason : Reason) → open_refusal_of g (change set) body reason ≡ open_refusal_of g set body reason
-  open_refusal_of-changed set Directory reason = refl
+  open_refusal_of-changed set (Directory shadow) reason = refl
   open_refusal_of-changed set (Link target) reason = refl
   open_refusal_of-changed set (Other face inner) reason = unnoticed.refusals set inner reason
 
   opened_body-changed : (set : T) (body : Body F I) (reason : Reason) → opened_body g (change set) body reason ≡ opened_body g set body reason
-  opened_body-changed set Directory reason = refl
+  opened_body-changed set (Directory shadow) reason = refl
   opened_body-changed set (Link target) reason = refl
   opened_body-changed set (Other face inner) reason = λ i. Other face ((unnoticed.opens set inner reason i).1)
 
   opened_set-changed : (set : T) (body : Body F I) (reason : Reason) → opened_set g (change set) body reason ≡ change (opened_set g set body reason)
-  opened_set-changed set Directory reason = refl
+  opened_set-changed set (Directory shadow) reason = refl
   opened_set-changed set (Link target) reason = refl
   opened_set-changed set (Other face inner) reason = λ i. (unnoticed.opens set inner reason i).0
 
@@ -66,12 +66,12 @@ module _ {K T F I : Type 0} (g : Procedures K T F I) (change : T → T) (unnotic
   -- ---- a close
 
   closed_body-changed : (set : T) (process_left system_left : ℕ) (body : Body F I) → closed_body g (change set) process_left system_left body ≡ closed_body g set process_left system_left body
-  closed_body-changed set process_left system_left Directory = refl
+  closed_body-changed set process_left system_left (Directory shadow) = refl
   closed_body-changed set process_left system_left (Link target) = refl
   closed_body-changed set process_left system_left (Other face inner) = λ i. Other face ((unnoticed.closes set inner process_left system_left i).1)
 
   closed_set-changed : (set : T) (process_left system_left : ℕ) (body : Body F I) → closed_set g (change set) process_left system_left body ≡ change (closed_set g set process_left system_left body)
-  closed_set-changed set process_left system_left Directory = refl
+  closed_set-changed set process_left system_left (Directory shadow) = refl
   closed_set-changed set process_left system_left (Link target) = refl
   closed_set-changed set process_left system_left (Other face inner) = λ i. (unnoticed.closes set inner process_left system_left i).0
 
@@ -93,7 +93,7 @@ module _ {K T F I : Type 0} (g : Procedures K T F I) (change : T → T) (unnotic
   -- ---- deletes, and what settles
 
   deleted_one-changed : (body : Body F I) (set : T) → deleted_one g body (change set) ≡ change (deleted_one g body set)
-  deleted_one-changed Directory set = refl
+  deleted_one-changed (Directory shadow) set = refl
   deleted_one-changed (Link target) set = refl
   deleted_one-changed (Other face inner) set = unnoticed.deletes set inner
 

@@ -9,7 +9,7 @@ use Rattle.ob_base.specs.Handle.{key_of}
 use Rattle.ob_model.specs.declared.command.Place.{Place}
 use Rattle.ob_model.specs.declared.command.Place.TheVariants as place
 use Rattle.ob_model.specs.declared.command.Command.{Command}
-use Rattle.ob_model.specs.declared.command.Command.TheVariants.{CreateDirectory, CreateLink, CreateObject, OpenDirectory, OpenLink, OpenObject, Close, QueryLink, QueryName, QueryDirectory, Duplicate, MakeTemporary, MakePermanent, SetDeviceMap, NewProcess, ExitProcess}
+use Rattle.ob_model.specs.declared.command.Command.TheVariants.{CreateDirectory, CreateShadowed, CreateLink, CreateObject, OpenDirectory, OpenLink, OpenObject, Close, QueryLink, QueryName, QueryDirectory, Duplicate, MakeTemporary, MakePermanent, SetDeviceMap, NewProcess, ExitProcess}
 use Rattle.ob_model.specs.declared.reply.Answer.{Answer}
 use Rattle.ob_model.specs.declared.reply.Answer.TheVariants.{Ticket}
 use Rattle.ob_model.specs.declared.reply.Event.{Event}
@@ -39,7 +39,7 @@ use Rattle.ob_model.specs.Creates.{Making, MakesDirectory, MakesLink, MakesObjec
 use Rattle.ob_model.specs.Naming.{TellsName, TellsTarget}
 use Rattle.ob_model.specs.Enumeration.{enumerated, context_used, page_answer}
 use Rattle.ob_model.specs.Processes.{values_in, is_crowded, begun, ended, Duplicates}
-use Rattle.ob_model.specs.Step.{WithHandle, WithRoot, CreatesIn, CreatesAt, OpensName, Turns, SetsMap, page_refusals, TellsPage, QueriesDirectory, Starts, Step}
+use Rattle.ob_model.specs.Step.{WithHandle, WithRoot, shadow_refusals, WithShadow, CreatesIn, CreatesAt, OpensName, Turns, SetsMap, page_refusals, TellsPage, QueriesDirectory, Starts, Step}
 use Rattle.ob_drains.specs.Unnoticed.{IsUnnoticed, with_change}
 use Rattle.ob_drains.proofs.Parts.{grant_refusal-changed, with_open-changed, closed_handle-changed, settle-changed, created-changed, dropped-changed, open_refusal_made-changed, turned-changed, parsed_state-changed, begun-changed, ended-changed}
 
@@ -82,6 +82,14 @@ module _ {K T F I : Type 0} (g : Procedures K T F I) (change : T → T) (unnotic
   with_root_changed s t p None answer Does Now does h = does None h
   with_root_changed s t p (Some handle) answer Does Now does h =
       held s t (option_and_then (held_of s p) (key_of handle)) answer (λ x. Does (Some x.object)) (λ x. Now (Some x.object)) (λ x. does (Some x.object)) h
+
+  with_shadow_changed : (s t : State K T F I) (p : ℕ) (shadow : Option ℕ) (answer : Answer) (Does Now : Option ℕ → Type 0) → ((d : Option ℕ) → Does d → Now d)
+      → WithShadow s p shadow answer t Does → WithShadow (on s) p shadow answer (on t) Now
+  with_shadow_changed s t p None answer Does Now does h = does None h
+  with_shadow_changed s t p (Some handle) answer Does Now does h =
+      held s t (option_and_then (held_of s p) (key_of handle)) answer (λ x. Unless (shadow_refusals s x.object) s answer t (Does (Some x.object)))
+      (λ x. Unless (shadow_refusals (on s) x.object) (on s) answer (on t) (Now (Some x.object)))
+      (λ x. unless (shadow_refusals s x.object) s t answer (Does (Some x.object)) (Now (Some x.object)) (does (Some x.object))) h
 
   -- ---- opens
 
@@ -183,18 +191,26 @@ module _ {K T F I : Type 0} (g : Procedures K T F I) (change : T → T) (unnotic
   creates s t p attrs making (Parse o rest n) answer h = h
   creates s t p attrs making (Vacant d c) answer h = makes s t p attrs making (Some (d, c)) answer h
 
-  creates_in : (s t : State K T F I) (p : ℕ) (where_to : Place) (attrs : ℕ) (making : Making K) (answer : Answer) → CreatesIn g s p where_to attrs making answer t → CreatesIn g (on s) p where_to attrs making answer (on t)
-  creates_in s t p (place.At root name) attrs making answer h =
-      with_root_changed s t p root answer
-      (λ at. (look : Look) × LooksUp g s p (create_mode attrs) most_reparses at name look × Creates g s p attrs making look answer t)
-      (λ at. (look : Look) × LooksUp g (on s) p (create_mode attrs) most_reparses at name look × Creates g (on s) p attrs making look answer (on t))
-      (λ at does. (does.0, does.1, creates s t p attrs making does.0 answer does.2)) h
-  creates_in s t p place.Unnamed attrs making answer h = makes s t p attrs making None answer h
+  creates_in : (s t : State K T F I) (p : ℕ) (where_to : Place) (attrs : ℕ) (shadow : Option ℕ) (making : Option ℕ → Making K) (answer : Answer)
+      → CreatesIn g s p where_to attrs shadow making answer t → CreatesIn g (on s) p where_to attrs shadow making answer (on t)
+  creates_in s t p (place.At root name) attrs shadow making answer h =
+      with_root_changed s t p root answer (λ at. WithShadow s p shadow answer t (Does at)) (λ at. WithShadow (on s) p shadow answer (on t) (Now at))
+      (λ at. with_shadow_changed s t p shadow answer (Does at) (Now at) (λ d does. (does.0, does.1, creates s t p attrs (making d) does.0 answer does.2))) h
+    where
+      Does : Option ℕ → Option ℕ → Type 0
+      Does at d = (look : Look) × LooksUp g s p (create_mode attrs) most_reparses at name look × Creates g s p attrs (making d) look answer t
 
-  creates_at : (s t : State K T F I) (p : ℕ) (where_to : Place) (attrs : ℕ) (making : Making K) (answer : Answer) → CreatesAt g s p where_to attrs making answer t → CreatesAt g (on s) p where_to attrs making answer (on t)
-  creates_at s t p where_to attrs making answer h =
-      unless (create_refusals (is_live s p) (is_fit making) where_to attrs) s t answer (CreatesIn g s p where_to attrs making answer t) (CreatesIn g (on s) p where_to attrs making answer (on t))
-      (creates_in s t p where_to attrs making answer) h
+      Now : Option ℕ → Option ℕ → Type 0
+      Now at d = (look : Look) × LooksUp g (on s) p (create_mode attrs) most_reparses at name look × Creates g (on s) p attrs (making d) look answer (on t)
+  creates_in s t p place.Unnamed attrs shadow making answer h =
+      with_shadow_changed s t p shadow answer (λ d. Makes g s p attrs (making d) None answer t) (λ d. Makes g (on s) p attrs (making d) None answer (on t))
+      (λ d. makes s t p attrs (making d) None answer) h
+
+  creates_at : (s t : State K T F I) (p : ℕ) (where_to : Place) (attrs : ℕ) (shadow : Option ℕ) (making : Option ℕ → Making K) (answer : Answer)
+      → CreatesAt g s p where_to attrs shadow making answer t → CreatesAt g (on s) p where_to attrs shadow making answer (on t)
+  creates_at s t p where_to attrs shadow making answer h =
+      unless (create_refusals (is_live s p) (is_fit (making None)) where_to attrs) s t answer (CreatesIn g s p where_to attrs shadow making answer t)
+      (CreatesIn g (on s) p where_to attrs shadow making answer (on t)) (creates_in s t p where_to attrs shadow making answer) h
 
   -- ---- commands that change by handles, and queries
 
@@ -315,9 +331,10 @@ module _ {K T F I : Type 0} (g : Procedures K T F I) (change : T → T) (unnotic
   -- ---- a step
 
   starts : (s t : State K T F I) (p : ℕ) (command : Command K) (answer : Answer) → Starts g s p command answer t → Starts g (on s) p command answer (on t)
-  starts s t p (CreateDirectory where_to attrs) answer h = creates_at s t p where_to attrs MakesDirectory answer h
-  starts s t p (CreateLink where_to attrs target) answer h = creates_at s t p where_to attrs (MakesLink target) answer h
-  starts s t p (CreateObject where_to attrs kind args) answer h = creates_at s t p where_to attrs (MakesObject kind args) answer h
+  starts s t p (CreateDirectory where_to attrs) answer h = creates_at s t p where_to attrs None MakesDirectory answer h
+  starts s t p (CreateShadowed where_to attrs shadow) answer h = creates_at s t p where_to attrs (Some shadow) MakesDirectory answer h
+  starts s t p (CreateLink where_to attrs target) answer h = creates_at s t p where_to attrs None (λ shadow. MakesLink target) answer h
+  starts s t p (CreateObject where_to attrs kind args) answer h = creates_at s t p where_to attrs None (λ shadow. MakesObject kind args) answer h
   starts s t p (OpenDirectory root name attrs) answer h = opens_name s t p root name attrs wanted.Directory answer h
   starts s t p (OpenLink root name attrs) answer h = opens_name s t p root name attrs wanted.Link answer h
   starts s t p (OpenObject root name attrs want) answer h = opens_name s t p root name attrs (type_wanted want) answer h

@@ -8,7 +8,7 @@ use Rattle.serde_json.specs.Written.{has_float, items_have_float}
 use Rattle.serde_json.specs.declared.value.Value.{Value}
 use Rattle.ob_base.specs.Status.{code_of}
 use Rattle.ob_model.specs.declared.command.Command.{Command}
-use Rattle.ob_model.specs.declared.command.Command.TheVariants.{CreateDirectory, CreateLink, CreateObject, OpenDirectory, OpenLink, OpenObject, Close, QueryLink, QueryName, QueryDirectory, Duplicate, MakeTemporary, MakePermanent, SetDeviceMap, NewProcess, ExitProcess}
+use Rattle.ob_model.specs.declared.command.Command.TheVariants.{CreateDirectory, CreateShadowed, CreateLink, CreateObject, OpenDirectory, OpenLink, OpenObject, Close, QueryLink, QueryName, QueryDirectory, Duplicate, MakeTemporary, MakePermanent, SetDeviceMap, NewProcess, ExitProcess}
 use Rattle.ob_model.specs.declared.command.Place.{Place}
 use Rattle.ob_model.specs.declared.reply.Answer.{Answer}
 use Rattle.ob_model.specs.declared.reply.Answer.TheVariants.{Done, Ticket}
@@ -62,6 +62,7 @@ module _ {K : Type 0} (type_name : K → List ℕ) where
 
   command_whole : (p : ℕ) (command : Command K) → has_float (command_step type_name p command) ≡ false
   command_whole p (CreateDirectory place flags) = place_whole place
+  command_whole p (CreateShadowed place flags shadow) = place_whole place
   command_whole p (CreateLink place flags target) = place_whole place
   command_whole p (CreateObject place flags kind args) = place_whole place
   command_whole p (OpenDirectory root name flags) = ap (λ z. z || false) (root_whole root)

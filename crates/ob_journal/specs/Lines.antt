@@ -7,7 +7,7 @@ use Rattle.serde_json.specs.Data.{Data, null, boolean, number, unsigned, string,
 use Rattle.serde_json.specs.Written.{compact_text}
 use Rattle.ob_base.specs.Status.{code_of}
 use Rattle.ob_model.specs.declared.command.Command.{Command}
-use Rattle.ob_model.specs.declared.command.Command.TheVariants.{CreateDirectory, CreateLink, CreateObject, OpenDirectory, OpenLink, OpenObject, Close, QueryLink, QueryName, QueryDirectory, Duplicate, MakeTemporary, MakePermanent, SetDeviceMap, NewProcess, ExitProcess}
+use Rattle.ob_model.specs.declared.command.Command.TheVariants.{CreateDirectory, CreateShadowed, CreateLink, CreateObject, OpenDirectory, OpenLink, OpenObject, Close, QueryLink, QueryName, QueryDirectory, Duplicate, MakeTemporary, MakePermanent, SetDeviceMap, NewProcess, ExitProcess}
 use Rattle.ob_model.specs.declared.command.Place.{Place}
 use Rattle.ob_model.specs.declared.command.Place.TheVariants.{At, Unnamed}
 use Rattle.ob_model.specs.declared.entries.Listed.{Listed}
@@ -118,6 +118,14 @@ module _ {K : Type 0} (type_name : K → List ℕ) where
       ∷ (codes "op", string (codes "dir"))
       ∷ (codes "proc", number_value p)
       ∷ (codes "root", value_or_null number_value (root_of place)) ∷ [])
+  command_step p (CreateShadowed place flags shadow) =
+      object_of (
+      (codes "flags", number_value flags)
+      ∷ (codes "name", value_or_null text_value (name_of place))
+      ∷ (codes "op", string (codes "shadow"))
+      ∷ (codes "proc", number_value p)
+      ∷ (codes "root", value_or_null number_value (root_of place))
+      ∷ (codes "shadow", number_value shadow) ∷ [])
   command_step p (CreateLink place flags target) =
       object_of (
       (codes "flags", number_value flags)

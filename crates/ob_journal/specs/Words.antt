@@ -6,11 +6,12 @@ use Rattle.ob_model.specs.declared.reply.ParseRun.{ParseRun}
 use Rattle.ob_model.specs.declared.reply.ParseRun.TheVariants.{Unrun, Ran, NoMemory}
 use Rattle.ob_journal.specs.Lines.{parse_word}
 use Rattle.ob_journal.specs.declared.words.Operation.{Operation}
-use Rattle.ob_journal.specs.declared.words.Operation.TheVariants.{Directory, Link, Make, OpenDirectory, OpenLink, Open, Close, Temporary, Permanent, Target, Name, DeviceMap, Duplicate, Page, NewProcess, Exit, Resume, Abandon}
+use Rattle.ob_journal.specs.declared.words.Operation.TheVariants.{Directory, Shadow, Link, Make, OpenDirectory, OpenLink, Open, Close, Temporary, Permanent, Target, Name, DeviceMap, Duplicate, Page, NewProcess, Exit, Resume, Abandon}
 
 -- the word of an operation, as bytes of ASCII
 abbrev pub operation_word : Operation → List ℕ
 operation_word Directory = codes "dir"
+operation_word Shadow = codes "shadow"
 operation_word Link = codes "link"
 operation_word Make = codes "make"
 operation_word OpenDirectory = codes "opendir"
@@ -32,7 +33,7 @@ operation_word Abandon = codes "abandon"
 -- all operations
 abbrev pub operations : List Operation
 operations =
-    Directory ∷ Link ∷ Make ∷ OpenDirectory ∷ OpenLink ∷ Open ∷ Close ∷ Temporary ∷ Permanent ∷ Target ∷ Name ∷ DeviceMap ∷ Duplicate ∷ Page ∷ NewProcess ∷ Exit ∷ Resume ∷ Abandon ∷ []
+    Directory ∷ Shadow ∷ Link ∷ Make ∷ OpenDirectory ∷ OpenLink ∷ Open ∷ Close ∷ Temporary ∷ Permanent ∷ Target ∷ Name ∷ DeviceMap ∷ Duplicate ∷ Page ∷ NewProcess ∷ Exit ∷ Resume ∷ Abandon ∷ []
 
 -- the operation that a word stands for
 abbrev pub operation_for : List ℕ → Option Operation

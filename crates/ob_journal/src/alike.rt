@@ -111,6 +111,11 @@ fn is_same_command<T: TypeSet>(a: &Command<T::Kind>, b: &Command<T::Kind>) -> bo
 {
     match a {
         Command::CreateDirectory { place, attrs } => is_directory(b, place, *attrs),
+        Command::CreateShadowed {
+            place,
+            attrs,
+            shadow,
+        } => is_shadowed(b, place, *attrs, *shadow),
         Command::CreateLink {
             place,
             attrs,
@@ -169,6 +174,20 @@ fn is_directory<K>(command: &Command<K>, place: &Place, attrs: u32) -> bool
             place: other,
             attrs: bits,
         } => { *bits == attrs && is_same_place(other, place) }
+        _ => false,
+    }
+}
+
+/// Whether a command is this create of a directory with a shadow.
+fn is_shadowed<K>(command: &Command<K>, place: &Place, attrs: u32, shadow: Handle) -> bool
+    ensures { IsTrue result ↔ command.now ≡ Command.CreateShadowed place.now attrs shadow }
+{
+    match command {
+        Command::CreateShadowed {
+            place: other,
+            attrs: bits,
+            shadow: handle,
+        } => { *bits == attrs && *handle == shadow && is_same_place(other, place) }
         _ => false,
     }
 }

@@ -72,6 +72,15 @@ pub fn copy_command<K: Copy>(alloc: Global, command: &Command<K>) -> Result<Comm
             place: copy_place(alloc, place)?,
             attrs: *attrs,
         }),
+        Command::CreateShadowed {
+            place,
+            attrs,
+            shadow,
+        } => Ok(Command::CreateShadowed {
+            place: copy_place(alloc, place)?,
+            attrs: *attrs,
+            shadow: *shadow,
+        }),
         Command::CreateLink {
             place,
             attrs,

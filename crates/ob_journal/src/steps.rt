@@ -47,6 +47,11 @@ fn make_command<T: TypeSet>(
         Command::CreateDirectory { place, attrs } => {
             make_directory::<T>(alloc, process, place, *attrs)
         }
+        Command::CreateShadowed {
+            place,
+            attrs,
+            shadow,
+        } => make_shadowed::<T>(alloc, process, place, *attrs, *shadow),
         Command::CreateLink {
             place,
             attrs,
@@ -117,6 +122,23 @@ fn make_directory<T: TypeSet>(
         ≡ command_step (T.procedures).type_name process (Command.CreateDirectory place.now attrs)) }
 {
     let step = begin_create(alloc, Operation::Directory, process, place, attrs)?;
+    Ok(Value::Object(step))
+}
+
+// The value of a create of a directory with a shadow.
+fn make_shadowed<T: TypeSet>(
+    alloc: Global,
+    process: Proc,
+    place: &Place,
+    attrs: u32,
+    shadow: Handle,
+) -> Result<Value, AllocError>
+    ensures { IfOk result (λ step. view step
+        ≡ command_step (T.procedures).type_name process
+        (Command.CreateShadowed place.now attrs shadow)) }
+{
+    let step = begin_create(alloc, Operation::Shadow, process, place, attrs)?;
+    let step = with_value(alloc, step, "shadow", Value::from(shadow.0))?;
     Ok(Value::Object(step))
 }
 

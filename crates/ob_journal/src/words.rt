@@ -11,6 +11,8 @@ use ob_model::ParseRun;
 pub enum Operation {
     /// Makes a directory.
     Directory,
+    /// Makes a directory with a shadow.
+    Shadow,
     /// Makes a symbolic link.
     Link,
     /// Makes an object of a kind of the set.
@@ -54,6 +56,7 @@ impl Operation {
     {
         match self {
             Operation::Directory => "dir",
+            Operation::Shadow => "shadow",
             Operation::Link => "link",
             Operation::Make => "make",
             Operation::OpenDirectory => "opendir",
@@ -81,6 +84,7 @@ impl Operation {
     {
         match word {
             "dir" => Some(Operation::Directory),
+            "shadow" => Some(Operation::Shadow),
             "link" => Some(Operation::Link),
             "make" => Some(Operation::Make),
             "opendir" => Some(Operation::OpenDirectory),

@@ -117,7 +117,7 @@ module _ {K T F I : Type 0} (g : Procedures K T F I) where
           at false e = refl
 
       go : (body : Body F I) → x.body ≡ body → after_calls g (gone v xs) (if is_set_body body then record { object = x.id; call = Deleted } ∷ [] else []) ≡ gone v (x ∷ xs)
-      go Directory e = λ i. record { set = deleted_one g (sym e i) (deleted_all g v.set xs); inner = λ o. still (ap inner_of e) o i }
+      go (Directory shadow) e = λ i. record { set = deleted_one g (sym e i) (deleted_all g v.set xs); inner = λ o. still (ap inner_of e) o i }
       go (Link target) e = λ i. record { set = deleted_one g (sym e i) (deleted_all g v.set xs); inner = λ o. still (ap inner_of e) o i }
       go (Other face inner) e =
           ap (λ found. option_map_or (λ n. record { set = g.deleted (deleted_all g v.set xs) n; inner = λ o. if o == x.id then None else (gone v xs).inner o }) found (gone v xs)) (here (Other face inner) e)
@@ -145,7 +145,7 @@ module _ {K T F I : Type 0} (g : Procedures K T F I) where
       behind = All-tail (λ y. v.inner y.id ≡ inner_of y.body) x xs own
 
       go : (body : Body F I) → x.body ≡ body → FindValues g (gone v xs) (if is_set_body body then record { object = x.id; call = Deleted } ∷ [] else [])
-      go Directory e = tt
+      go (Directory shadow) e = tt
       go (Link target) e = tt
       go (Other face inner) e = (
         ap (λ found. is_some (if is_some found then None else v.inner x.id)) (absent x.id xs (others_behind x xs rise))

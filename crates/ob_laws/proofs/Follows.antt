@@ -88,9 +88,9 @@ body_changed {F} {I} change m o (x ∷ xs) = go (x.id == m) (x.id == o) refl ref
 
 -- a change of one body is what a call makes of it: of an object of the set its inner value, and else nothing
 module _ {K T F I : Type 0} (g : Procedures K T F I) (s : State K T F I) (m : ℕ) (call : Call) (change : Body F I → Body F I) (set_by : Body F I → T)
-    (keeps_directory : inner_of (change Directory) ≡ None) (keeps_link : (target : List ℕ) → inner_of (change (Link target)) ≡ None)
+    (keeps_directory : (shadow : Option ℕ) → inner_of (change (Directory shadow)) ≡ None) (keeps_link : (target : List ℕ) → inner_of (change (Link target)) ≡ None)
     (changes : (face : F) (inner : I) → inner_of (change (Other face inner)) ≡ (called g call s.set inner).1)
-    (set_directory : set_by Directory ≡ s.set) (set_link : (target : List ℕ) → set_by (Link target) ≡ s.set) (taken : option_and_then (refuses g call s.set) (inner_in s m) ≡ None)
+    (set_directory : (shadow : Option ℕ) → set_by (Directory shadow) ≡ s.set) (set_link : (target : List ℕ) → set_by (Link target) ≡ s.set) (taken : option_and_then (refuses g call s.set) (inner_in s m) ≡ None)
     (sets : (face : F) (inner : I) → set_by (Other face inner) ≡ (called g call s.set inner).0) where
   -- what the change leaves, of an object with this body
   abbrev left_of : Option (Body F I) → Inside T I
@@ -134,7 +134,8 @@ module _ {K T F I : Type 0} (g : Procedures K T F I) (s : State K T F I) (m : �
     where
       go : (found : Option (Body F I)) → body_of s m ≡ found → Follows g (inside s) (left_of found) (λ o. if option_map_or is_set_body found false && (m == o) then call ∷ [] else [])
       go None e = follows_still g (inside s) (left_of None) (unchanged None e refl refl refl)
-      go (Some Directory) e = follows_still g (inside s) (left_of (Some Directory)) (unchanged (Some Directory) e refl keeps_directory set_directory)
+      go (Some (Directory shadow)) e =
+          follows_still g (inside s) (left_of (Some (Directory shadow))) (unchanged (Some (Directory shadow)) e refl (keeps_directory shadow) (set_directory shadow))
       go (Some (Link target)) e = follows_still g (inside s) (left_of (Some (Link target))) (unchanged (Some (Link target)) e refl (keeps_link target) (set_link target))
       go (Some (Other face inner)) e = (
         record { object = m; call = call } ∷ [],
@@ -152,11 +153,11 @@ module _ {K T F I : Type 0} (g : Procedures K T F I) (s : State K T F I) where
   pub open_follows : (m : ℕ) (reason : Reason) → open_refusal g s m reason ≡ None → Follows g (inside s) (inside (with_open g s m reason)) (λ o. if is_of_set s m && (m == o) then Opened reason ∷ [] else [])
   open_follows m reason taken =
       change_follows g s m (Opened reason) (λ body. opened_body g s.set body reason) (λ body. opened_set g s.set body reason)
-      refl (λ target. refl) (λ face inner. refl) refl (λ target. refl) (go (body_of s m) ∙ taken) (λ face inner. refl)
+      (λ shadow. refl) (λ target. refl) (λ face inner. refl) (λ shadow. refl) (λ target. refl) (go (body_of s m) ∙ taken) (λ face inner. refl)
     where
       go : (found : Option (Body F I)) → option_and_then (λ inner. g.refuses_to_open s.set inner reason) (option_and_then inner_of found) ≡ option_and_then (λ body. open_refusal_of g s.set body reason) found
       go None = refl
-      go (Some Directory) = refl
+      go (Some (Directory shadow)) = refl
       go (Some (Link target)) = refl
       go (Some (Other face inner)) = refl
 
@@ -165,4 +166,4 @@ module _ {K T F I : Type 0} (g : Procedures K T F I) (s : State K T F I) where
       → Follows g (inside s) (inside (with_close g s p m)) (λ o. if is_of_set s m && (m == o) then Closed (handle_count_in s p m) (handle_count s m) ∷ [] else [])
   close_follows p m =
       change_follows g s m (Closed (handle_count_in s p m) (handle_count s m)) (closed_body g s.set (handle_count_in s p m) (handle_count s m)) (closed_set g s.set (handle_count_in s p m) (handle_count s m))
-      refl (λ target. refl) (λ face inner. refl) refl (λ target. refl) (none_refused (inner_in s m)) (λ face inner. refl)
+      (λ shadow. refl) (λ target. refl) (λ face inner. refl) (λ shadow. refl) (λ target. refl) (none_refused (inner_in s m)) (λ face inner. refl)

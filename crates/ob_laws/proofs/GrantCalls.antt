@@ -56,10 +56,11 @@ module _ {K T F I : Type 0} (g : Procedures K T F I) (s : State K T F I) (p o : 
       (count-inserted s (record { id = s.next_id; body = opened_body g s.set body Created; permanent = is_some spot && has_flag permanent_flag attrs; exclusive = has_flag exclusive_flag attrs }) o sound
       (undrawn s s.next_id sound (omega arith))) reason
 
-  pub create_tells : (t : State K T F I) (where_to : Place) (attrs : ℕ) (making : Making K) (answer : Answer) → CreatesAt g s p where_to attrs making answer t → GrantTells answer t
-  create_tells t where_to attrs making answer h =
+  pub create_tells : (t : State K T F I) (where_to : Place) (attrs : ℕ) (shadow : Option ℕ) (making : Option ℕ → Making K) (answer : Answer)
+      → CreatesAt g s p where_to attrs shadow making answer t → GrantTells answer t
+  create_tells t where_to attrs shadow making answer h =
       creates_at_lands g s p GrantTells (λ why. Unit {0}) (λ body. Unit {0}) (λ status. nothing_tells s refl) (λ status body made. nothing_tells (dropped g s body) refl)
-      (λ status value m asked why fits free taken. grant_tells value m asked why free) (λ spot body attrs value made free taken. make_tells spot body attrs value free) t where_to attrs making answer tt tt h
+      (λ status value m asked why fits free taken. grant_tells value m asked why free) (λ spot body attrs value made free taken. make_tells spot body attrs value free) t where_to attrs shadow making answer tt (λ d. tt) h
 
   pub duplicate_tells : (t : State K T F I) (from handle : ℕ) (inherit : Bool) (answer : Answer) → Duplicates g s from handle p inherit answer t → GrantTells answer t
   duplicate_tells t from handle inherit answer h =
@@ -113,11 +114,11 @@ module _ {K T F I : Type 0} (g : Procedures K T F I) where
       (subst (λ n. Tells n (calls_of_grant reason (settle g h.0) x.process (handle_given answer) o) (set_count (settle g h.0) o)) (count-parsed s x.ticket outcome o sound ticket.0) told)
 
   -- where a create draws a number, no ticket has it
-  pub create_unawaited : (s t : State K T F I) (p : ℕ) (where_to : Place) (attrs : ℕ) (making : Making K) (answer : Answer)
-      → IsSound s → CreatesAt g s p where_to attrs making answer t → All (λ x. x.ticket ≢ s.next_id) t.pending
-  create_unawaited s t p where_to attrs making answer sound h =
+  pub create_unawaited : (s t : State K T F I) (p : ℕ) (where_to : Place) (attrs : ℕ) (shadow : Option ℕ) (making : Option ℕ → Making K) (answer : Answer)
+      → IsSound s → CreatesAt g s p where_to attrs shadow making answer t → All (λ x. x.ticket ≢ s.next_id) t.pending
+  create_unawaited s t p where_to attrs shadow making answer sound h =
       creates_at_lands g s p (λ a u. All (λ x. x.ticket ≢ s.next_id) u.pending) (λ why. Unit {0}) (λ body. Unit {0}) (λ status. others) (λ status body made. others) (λ status value m asked why fits free taken. others)
-      (λ spot body attrs value made free taken. others) t where_to attrs making answer tt tt h
+      (λ spot body attrs value made free taken. others) t where_to attrs shadow making answer tt (λ d. tt) h
     where
       others : All (λ x. x.ticket ≢ s.next_id) s.pending
       others = All-weaker (λ x. x.ticket < s.next_id) (λ x. x.ticket ≢ s.next_id) (λ x less same. omega (arith, less, same)) s.pending sound.pending.ticketed

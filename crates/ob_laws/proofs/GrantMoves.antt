@@ -60,8 +60,9 @@ module _ {K T F I : Type 0} (g : Procedures K T F I) (s : State K T F I) (p : �
     CreateMoves answer t = Moves g s t (made t) (λ o. calls_of_grant (open_reason s o) t p (handle_given answer) o)
 
     -- it is refused, its new object is dropped, it opens what is there, or what it makes is there
-    pub create_moves : (t : State K T F I) (where_to : Place) (attrs : ℕ) (making : Making K) (answer : Answer) → IsMade (body_made g making) → CreatesAt g s p where_to attrs making answer t → CreateMoves answer t
-    create_moves t where_to attrs making answer is h =
+    pub create_moves : (t : State K T F I) (where_to : Place) (attrs : ℕ) (shadow : Option ℕ) (making : Option ℕ → Making K) (answer : Answer)
+        → ((d : Option ℕ) → IsMade (body_made g (making d))) → CreatesAt g s p where_to attrs shadow making answer t → CreateMoves answer t
+    create_moves t where_to attrs shadow making answer is h =
         creates_at_lands g s p CreateMoves (λ reason. reason ≡ ForOpen) IsMade
         (λ status.
         moves_made g s s (λ o. None) (made s) (λ o. calls_of_grant (open_reason s o) s p None o) (λ o. sym (none s o refl))
@@ -77,7 +78,7 @@ module _ {K T F I : Type 0} (g : Procedures K T F I) (s : State K T F I) (p : �
         let u = settle g (created g s p spot body attrs value) in
         moves_made g s u (newly g s sound body) (made u) (λ o. calls_of_grant (open_reason s o) u p (Some value) o) (λ o. sym (one u o body is refl))
         (created_moves g s sound body p spot attrs value (open_reason s) free taken rises new_for_create))
-        t where_to attrs making answer refl is h
+        t where_to attrs shadow making answer refl is h
 
   -- ---- an open, and a duplicate into this process
 

@@ -31,7 +31,7 @@ use Rattle.ob_model.specs.Parses.{EndsOpen}
 use Rattle.ob_model.specs.Opens.{GivesHandle, OpensAt, Opens, options_by, open_mode}
 use Rattle.ob_model.specs.Creates.{Making, is_fit, create_mode, type_made, Spot, room_refusals, make_refusal, body_made, created, dropped, Makes, Creates}
 use Rattle.ob_model.specs.Processes.{Duplicates}
-use Rattle.ob_model.specs.Step.{WithRoot, CreatesIn, CreatesAt, OpensName}
+use Rattle.ob_model.specs.Step.{WithRoot, shadow_refusals, WithShadow, CreatesIn, CreatesAt, OpensName}
 
 -- where there is no refusal at all, there is none of the set
 behind : (first : Option Status) (told : Option ℕ) → option_or first (option_map TypeRefused told) ≡ None → told ≡ None
@@ -67,6 +67,15 @@ module _ {K T F I : Type 0} (g : Procedures K T F I) (s : State K T F I) (p : �
       go : (o : Option Held) → MatchOption o (IsRefused s InvalidHandle answer t) (λ x. Does (Some x.object)) → P answer t
       go None h = refused_lands t InvalidHandle answer h
       go (Some x) h = does (Some x.object) h
+
+  with_shadow_lands : (t : State K T F I) (shadow : Option ℕ) (answer : Answer) (Does : Option ℕ → Type 0) → ((d : Option ℕ) → Does d → P answer t) → WithShadow s p shadow answer t Does → P answer t
+  with_shadow_lands t None answer Does does h = does None h
+  with_shadow_lands t (Some handle) answer Does does h = go (option_and_then (held_of s p) (key_of handle)) h
+    where
+      go : (o : Option Held)
+          → MatchOption o (IsRefused s InvalidHandle answer t) (λ x. Unless (shadow_refusals s x.object) s answer t (Does (Some x.object))) → P answer t
+      go None h = refused_lands t InvalidHandle answer h
+      go (Some x) h = unless_lands (shadow_refusals s x.object) t answer (Does (Some x.object)) (does (Some x.object)) h
 
   gives_handle_lands : (t : State K T F I) (m : ℕ) (asked : GrantOptions) (reason : Reason) (status : Status) (answer : Answer) → Fits reason → GivesHandle g s p m asked reason status answer t → P answer t
   gives_handle_lands t m asked reason status answer fits h = go h.0 h.1 h.2 h.3
@@ -112,17 +121,23 @@ module _ {K T F I : Type 0} (g : Procedures K T F I) (s : State K T F I) (p : �
   creates_lands t attrs making (Parse m rest n) answer fits made h = absurd h
   creates_lands t attrs making (Vacant d c) answer fits made h = makes_lands t attrs making (Some (d, c)) answer made h
 
-  creates_in_lands : (t : State K T F I) (where_to : Place) (attrs : ℕ) (making : Making K) (answer : Answer) → Fits Opened → IsMade (body_made g making) → CreatesIn g s p where_to attrs making answer t → P answer t
-  creates_in_lands t (place.At root name) attrs making answer fits made h =
-      with_root_lands t root answer
-      (λ at. (look : Look) × LooksUp g s p (create_mode attrs) most_reparses at name look × Creates g s p attrs making look answer t)
-      (λ at does. creates_lands t attrs making does.0 answer fits made does.2) h
-  creates_in_lands t place.Unnamed attrs making answer fits made h = makes_lands t attrs making None answer made h
+  creates_in_lands : (t : State K T F I) (where_to : Place) (attrs : ℕ) (shadow : Option ℕ) (making : Option ℕ → Making K) (answer : Answer)
+      → Fits Opened → ((d : Option ℕ) → IsMade (body_made g (making d))) → CreatesIn g s p where_to attrs shadow making answer t → P answer t
+  creates_in_lands t (place.At root name) attrs shadow making answer fits made h =
+      with_root_lands t root answer (λ at. WithShadow s p shadow answer t (Does at))
+      (λ at. with_shadow_lands t shadow answer (Does at) (λ d does. creates_lands t attrs (making d) does.0 answer fits (made d) does.2)) h
+    where
+      Does : Option ℕ → Option ℕ → Type 0
+      Does at d = (look : Look) × LooksUp g s p (create_mode attrs) most_reparses at name look × Creates g s p attrs (making d) look answer t
+  creates_in_lands t place.Unnamed attrs shadow making answer fits made h =
+      with_shadow_lands t shadow answer (λ d. Makes g s p attrs (making d) None answer t) (λ d. makes_lands t attrs (making d) None answer (made d)) h
 
   -- a create
-  pub creates_at_lands : (t : State K T F I) (where_to : Place) (attrs : ℕ) (making : Making K) (answer : Answer) → Fits Opened → IsMade (body_made g making) → CreatesAt g s p where_to attrs making answer t → P answer t
-  creates_at_lands t where_to attrs making answer fits made h =
-      unless_lands (create_refusals (is_live s p) (is_fit making) where_to attrs) t answer (CreatesIn g s p where_to attrs making answer t) (creates_in_lands t where_to attrs making answer fits made) h
+  pub creates_at_lands : (t : State K T F I) (where_to : Place) (attrs : ℕ) (shadow : Option ℕ) (making : Option ℕ → Making K) (answer : Answer)
+      → Fits Opened → ((d : Option ℕ) → IsMade (body_made g (making d))) → CreatesAt g s p where_to attrs shadow making answer t → P answer t
+  creates_at_lands t where_to attrs shadow making answer fits made h =
+      unless_lands (create_refusals (is_live s p) (is_fit (making None)) where_to attrs) t answer (CreatesIn g s p where_to attrs shadow making answer t)
+      (creates_in_lands t where_to attrs shadow making answer fits made) h
 
   -- a duplicate into this process
   pub duplicates_lands : (t : State K T F I) (from handle : ℕ) (inherit : Bool) (answer : Answer) → Fits Duplicated → Duplicates g s from handle p inherit answer t → P answer t

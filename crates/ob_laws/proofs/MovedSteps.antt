@@ -159,7 +159,7 @@ module _ {K T F I : Type 0} (g : Procedures K T F I) (s : State K T F I) (sound 
       t = dropped g s body
 
       is_set_inner : (found : Body F I) → is_set_body found ≡ is_some (inner_of found)
-      is_set_inner Directory = refl
+      is_set_inner (Directory shadow) = refl
       is_set_inner (Link target) = refl
       is_set_inner (Other face inner) = refl
 
@@ -176,7 +176,7 @@ module _ {K T F I : Type 0} (g : Procedures K T F I) (s : State K T F I) (sound 
               ∙ (λ i. if (is_of_set s o || is_some (if sym (ne_eqb o s.next_id (λ same. false≢true (sym other ∙ eq-eqb s.next_id o (sym same)))) i then inner_of body else None)) && not (is_some (object_of s o)) then Deleted ∷ [] else [])
 
       go : (found : Body F I) → body ≡ found → Follows g (joined (inside s) newly) (inside t) (λ o. if is_set_body found && (s.next_id == o) then Deleted ∷ [] else [])
-      go Directory e = follows_still g (joined (inside s) newly) (inside t) (λ i. record { set = deleted_one g (e i) s.set; inner = λ o. sym (without (inner_of body) o (ap inner_of e)) i })
+      go (Directory shadow) e = follows_still g (joined (inside s) newly) (inside t) (λ i. record { set = deleted_one g (e i) s.set; inner = λ o. sym (without (inner_of body) o (ap inner_of e)) i })
       go (Link target) e = follows_still g (joined (inside s) newly) (inside t) (λ i. record { set = deleted_one g (e i) s.set; inner = λ o. sym (without (inner_of body) o (ap inner_of e)) i })
       go (Other face inner) e = (
         record { object = s.next_id; call = Deleted } ∷ [],
@@ -203,7 +203,7 @@ module _ {K T F I : Type 0} (g : Procedures K T F I) (s : State K T F I) (sound 
 
     -- an open leaves what has an inner value
     some_opened : (found : Body F I) → is_some (inner_of (opened_body g s.set found Created)) ≡ is_some (inner_of found)
-    some_opened Directory = refl
+    some_opened (Directory shadow) = refl
     some_opened (Link target) = refl
     some_opened (Other face inner) = refl
 
@@ -220,7 +220,7 @@ module _ {K T F I : Type 0} (g : Procedures K T F I) (s : State K T F I) (sound 
     opens = go body refl
       where
         go : (found : Body F I) → body ≡ found → Follows g (joined (inside s) newly) (inside made_state) (λ o. if is_some (inner_of found) && (s.next_id == o) then Opened Created ∷ [] else [])
-        go Directory e =
+        go (Directory shadow) e =
             follows_still g (joined (inside s) newly) (inside made_state)
             (λ i. record { set = opened_set g s.set (e i) Created; inner = λ o. (inner-created o ∙ without _ o (ap (λ b. inner_of (opened_body g s.set b Created)) e) ∙ sym (without (inner_of body) o (ap inner_of e))) i })
         go (Link target) e =

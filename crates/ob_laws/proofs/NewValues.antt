@@ -85,7 +85,7 @@ module _ {K T F I : Type 0} where
     where
       go : (found : Option (Body F I)) → option_map_or is_set_body found false ≡ is_some (option_and_then inner_of found)
       go None = refl
-      go (Some Directory) = refl
+      go (Some (Directory shadow)) = refl
       go (Some (Link target)) = refl
       go (Some (Other face inner)) = refl
 

@@ -65,7 +65,7 @@ module _ {K T F I : Type 0} (g : Procedures K T F I) where
       (object_of s m)
     where
       stays : (body : Body F I) → is_set_body (opened_body g s.set body reason) ≡ is_set_body body
-      stays Directory = refl
+      stays (Directory shadow) = refl
       stays (Link target) = refl
       stays (Other face inner) = refl
 
@@ -83,7 +83,7 @@ module _ {K T F I : Type 0} (g : Procedures K T F I) where
       total = handle_count (without_handle s h.process h.value) h.object
 
       stays : (body : Body F I) → is_set_body (closed_body g s.set left total body) ≡ is_set_body body
-      stays Directory = refl
+      stays (Directory shadow) = refl
       stays (Link target) = refl
       stays (Other face inner) = refl
 

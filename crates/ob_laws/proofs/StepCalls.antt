@@ -8,7 +8,7 @@ use Rattle.ob_base.specs.Handle.{key_of}
 use Rattle.ob_base.specs.declared.status.Status.{Status}
 use Rattle.ob_base.specs.declared.status.Status.TheVariants.{Success, InvalidHandle, InsufficientResources, ObjectTypeMismatch, ProcessGone}
 use Rattle.ob_model.specs.declared.command.Command.{Command}
-use Rattle.ob_model.specs.declared.command.Command.TheVariants.{CreateDirectory, CreateLink, CreateObject, OpenDirectory, OpenLink, OpenObject, Close, QueryLink, QueryName, QueryDirectory, Duplicate, MakeTemporary, MakePermanent, SetDeviceMap, NewProcess, ExitProcess}
+use Rattle.ob_model.specs.declared.command.Command.TheVariants.{CreateDirectory, CreateShadowed, CreateLink, CreateObject, OpenDirectory, OpenLink, OpenObject, Close, QueryLink, QueryName, QueryDirectory, Duplicate, MakeTemporary, MakePermanent, SetDeviceMap, NewProcess, ExitProcess}
 use Rattle.ob_model.specs.declared.command.Place.{Place}
 use Rattle.ob_model.specs.declared.reply.Answer.{Answer}
 use Rattle.ob_model.specs.declared.reply.Event.{Event}
@@ -316,13 +316,13 @@ module _ {K T F I : Type 0} (g : Procedures K T F I) (s t : State K T F I) (o : 
 
   -- ---- a create
 
-  pub drawn_is_taken : (p : ℕ) (where_to : Place) (attrs : ℕ) (kind : K) (args : List ℕ) (answer : Answer) → CreatesAt g s p where_to attrs (MakesObject kind args) answer t
+  pub drawn_is_taken : (p : ℕ) (where_to : Place) (attrs : ℕ) (kind : K) (args : List ℕ) (answer : Answer) → CreatesAt g s p where_to attrs None (λ shadow. MakesObject kind args) answer t
       → is_drawn s t (CreateObject where_to attrs kind args) o ≡ true → IsTaken t o
   drawn_is_taken p where_to attrs kind args answer h e =
       let parts = and_parts (o == s.next_id) (nat_lt s.next_id t.next_id) e in
       let same : o ≡ s.next_id = eqb-true o s.next_id parts.0 in
       let less : s.next_id < t.next_id = less_from_test s.next_id t.next_id parts.1 in
-      subst (IsTaken t) (sym same) (record { drawn = less; unawaited = create_unawaited g s t p where_to attrs (MakesObject kind args) answer sound h })
+      subst (IsTaken t) (sym same) (record { drawn = less; unawaited = create_unawaited g s t p where_to attrs None (λ shadow. MakesObject kind args) answer sound h })
 
   -- ---- the end of a pending open
 
@@ -361,12 +361,15 @@ module _ {K T F I : Type 0} (g : Procedures K T F I) where
   pub step_tells : (s t : State K T F I) (event : Event K) (outcome : Option (ParseOutcome F I)) (answer : Answer) (o : ℕ)
       → IsSound s → Step g s event answer t → StepTells s t o (handle_count_in t (maker_of s event) o) (calls_of_step s event outcome answer t o)
   step_tells s t (Start p (CreateDirectory where_to attrs)) outcome answer o sound h =
-      undrawn_grant s t p (CreateDirectory where_to attrs) answer o (handle_count_in t p o) p (open_reason s o) sound h (create_tells g s p o (open_reason s o) sound t where_to attrs MakesDirectory answer h)
+      undrawn_grant s t p (CreateDirectory where_to attrs) answer o (handle_count_in t p o) p (open_reason s o) sound h (create_tells g s p o (open_reason s o) sound t where_to attrs None MakesDirectory answer h)
+  step_tells s t (Start p (CreateShadowed where_to attrs shadow)) outcome answer o sound h =
+      undrawn_grant s t p (CreateShadowed where_to attrs shadow) answer o (handle_count_in t p o) p (open_reason s o) sound h
+      (create_tells g s p o (open_reason s o) sound t where_to attrs (Some shadow) MakesDirectory answer h)
   step_tells s t (Start p (CreateLink where_to attrs target)) outcome answer o sound h =
-      undrawn_grant s t p (CreateLink where_to attrs target) answer o (handle_count_in t p o) p (open_reason s o) sound h (create_tells g s p o (open_reason s o) sound t where_to attrs (MakesLink target) answer h)
+      undrawn_grant s t p (CreateLink where_to attrs target) answer o (handle_count_in t p o) p (open_reason s o) sound h (create_tells g s p o (open_reason s o) sound t where_to attrs None (λ shadow. MakesLink target) answer h)
   step_tells s t (Start p (CreateObject where_to attrs kind args)) outcome answer o sound h =
       grant_step s t o (handle_count_in t p o) p (open_reason s o) answer (is_drawn s t (CreateObject where_to attrs kind args) o) sound
-      (started_on g o s t p (CreateObject where_to attrs kind args) answer h) (create_tells g s p o (open_reason s o) sound t where_to attrs (MakesObject kind args) answer h)
+      (started_on g o s t p (CreateObject where_to attrs kind args) answer h) (create_tells g s p o (open_reason s o) sound t where_to attrs None (λ shadow. MakesObject kind args) answer h)
       (drawn_is_taken g s t o sound p where_to attrs kind args answer h) (undrawn_of_gone s t (CreateObject where_to attrs kind args) o)
   step_tells s t (Start p (OpenDirectory root name attrs)) outcome answer o sound h =
       undrawn_grant s t p (OpenDirectory root name attrs) answer o (handle_count_in t p o) p (open_reason s o) sound h (open_tells g s p o (open_reason s o) sound t root name attrs wanted.Directory answer h)

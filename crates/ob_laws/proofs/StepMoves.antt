@@ -4,7 +4,7 @@ use Rattle.std.specs.Option.{option_and_then, option_map_or}
 use Rattle.std.proofs.lemmas.Bool.Decides.{nat_tests}
 use Rattle.ob_base.specs.Handle.{key_of}
 use Rattle.ob_base.specs.declared.status.Status.TheVariants.{Success, InvalidHandle, InsufficientResources, ObjectTypeMismatch, ProcessGone}
-use Rattle.ob_model.specs.declared.command.Command.TheVariants.{CreateDirectory, CreateLink, CreateObject, OpenDirectory, OpenLink, OpenObject, Close, QueryLink, QueryName, QueryDirectory, Duplicate, MakeTemporary, MakePermanent, SetDeviceMap, NewProcess, ExitProcess}
+use Rattle.ob_model.specs.declared.command.Command.TheVariants.{CreateDirectory, CreateShadowed, CreateLink, CreateObject, OpenDirectory, OpenLink, OpenObject, Close, QueryLink, QueryName, QueryDirectory, Duplicate, MakeTemporary, MakePermanent, SetDeviceMap, NewProcess, ExitProcess}
 use Rattle.ob_model.specs.declared.command.Place.{Place}
 use Rattle.ob_model.specs.declared.reply.Answer.{Answer}
 use Rattle.ob_model.specs.declared.reply.Event.{Event}
@@ -172,10 +172,11 @@ module _ {K T F I : Type 0} (g : Procedures K T F I) (s t : State K T F I) (soun
   -- ---- a create
 
   -- of no object of the set
-  plain_create : (p : ℕ) (where_to : Place) (attrs : ℕ) (making : Making K) (answer : Answer) → inner_of (body_made g making) ≡ None → CreatesAt g s p where_to attrs making answer t
+  plain_create : (p : ℕ) (where_to : Place) (attrs : ℕ) (shadow : Option ℕ) (making : Option ℕ → Making K) (answer : Answer)
+      → ((d : Option ℕ) → inner_of (body_made g (making d)) ≡ None) → CreatesAt g s p where_to attrs shadow making answer t
       → Moves g s t (λ o. None) (λ o. calls_of_grant (open_reason s o) t p (handle_given answer) o)
-  plain_create p where_to attrs making answer none h =
-      create_moves g s p sound rises (λ u o. None) (λ body. inner_of body ≡ None) (λ u o e. refl) (λ u o body is e. sym (newly_none g s sound body is o)) t where_to attrs making answer none h
+  plain_create p where_to attrs shadow making answer none h =
+      create_moves g s p sound rises (λ u o. None) (λ body. inner_of body ≡ None) (λ u o e. refl) (λ u o body is e. sym (newly_none g s sound body is o)) t where_to attrs shadow making answer none h
 
   -- and of one of the set, under the number that it draws
   module _ (where_to : Place) (attrs : ℕ) (kind : K) (args : List ℕ) where
@@ -192,10 +193,10 @@ module _ {K T F I : Type 0} (g : Procedures K T F I) (s t : State K T F I) (soun
         (λ i. if (o == s.next_id) && (ap (nat_lt s.next_id) next ∙ is_below s.next_id) i then sym is i else None)
         ∙ elim (o == s.next_id) as (λ b. (if b && true then inner_of body else None) ≡ (if b then inner_of body else None)) [ true ↦ refl | false ↦ refl ]
 
-    set_create : (p : ℕ) (answer : Answer) → CreatesAt g s p where_to attrs (MakesObject kind args) answer t
+    set_create : (p : ℕ) (answer : Answer) → CreatesAt g s p where_to attrs None (λ shadow. MakesObject kind args) answer t
         → Moves g s t (drawn_in t) (λ o. calls_of_grant (open_reason s o) t p (handle_given answer) o)
     set_create p answer h =
-        create_moves g s p sound rises drawn_in (λ body. inner_of body ≡ Some ((g.made kind args).1)) undrawn_in newly_drawn t where_to attrs (MakesObject kind args) answer refl h
+        create_moves g s p sound rises drawn_in (λ body. inner_of body ≡ Some ((g.made kind args).1)) undrawn_in newly_drawn t where_to attrs None (λ shadow. MakesObject kind args) answer (λ d. refl) h
 
 -- ---- what is brought
 
@@ -243,8 +244,10 @@ module _ {K T F I : Type 0} (g : Procedures K T F I) where
 
   pub step_follows : (s t : State K T F I) (event : Event K) (outcome : Option (ParseOutcome F I)) (answer : Answer)
       → IsSound s → Rises s → IsBrought g s event outcome → Step g s event answer t → StepFollows s t event outcome answer
-  step_follows s t (Start p (CreateDirectory where_to attrs)) outcome answer sound rises brought h = plain_create g s t sound rises p where_to attrs MakesDirectory answer refl h
-  step_follows s t (Start p (CreateLink where_to attrs target)) outcome answer sound rises brought h = plain_create g s t sound rises p where_to attrs (MakesLink target) answer refl h
+  step_follows s t (Start p (CreateDirectory where_to attrs)) outcome answer sound rises brought h = plain_create g s t sound rises p where_to attrs None MakesDirectory answer (λ d. refl) h
+  step_follows s t (Start p (CreateShadowed where_to attrs shadow)) outcome answer sound rises brought h =
+      plain_create g s t sound rises p where_to attrs (Some shadow) MakesDirectory answer (λ d. refl) h
+  step_follows s t (Start p (CreateLink where_to attrs target)) outcome answer sound rises brought h = plain_create g s t sound rises p where_to attrs None (λ shadow. MakesLink target) answer (λ d. refl) h
   step_follows s t (Start p (CreateObject where_to attrs kind args)) outcome answer sound rises brought h =
       follows_told g (joined (inside s) made) (inside t) (λ o. calls_of_grant (open_reason s o) t p (handle_given answer) o ++ calls_of_end s t (is_some (made o)) o)
       (calls_of_step s (Start p (CreateObject where_to attrs kind args)) outcome answer t)

@@ -4,7 +4,7 @@ use Rattle.std.specs.Option.{option_and_then, option_map_or}
 use Rattle.std.proofs.lemmas.Bool.{false≢true, ne_eqb}
 use Rattle.ob_base.specs.Handle.{key_of}
 use Rattle.ob_model.specs.declared.command.Command.{Command}
-use Rattle.ob_model.specs.declared.command.Command.TheVariants.{CreateDirectory, CreateLink, CreateObject, OpenDirectory, OpenLink, OpenObject, Close, QueryLink, QueryName, QueryDirectory, Duplicate, MakeTemporary, MakePermanent, SetDeviceMap, NewProcess, ExitProcess}
+use Rattle.ob_model.specs.declared.command.Command.TheVariants.{CreateDirectory, CreateShadowed, CreateLink, CreateObject, OpenDirectory, OpenLink, OpenObject, Close, QueryLink, QueryName, QueryDirectory, Duplicate, MakeTemporary, MakePermanent, SetDeviceMap, NewProcess, ExitProcess}
 use Rattle.ob_model.specs.declared.reply.Answer.{Answer}
 use Rattle.ob_model.specs.declared.reply.Event.{Event}
 use Rattle.ob_model.specs.declared.reply.Event.TheVariants.{Start, Resume, Abandon}
@@ -43,6 +43,7 @@ module _ {K T F I : Type 0} (s t : State K T F I) (o : ℕ) (before : is_of_set 
 
   no_command : (p : ℕ) (command : Command K) (given : Option ℕ) → calls_of_command s t p command given o ≡ []
   no_command p (CreateDirectory where_to attrs) given = no_grant (open_reason s o) p given
+  no_command p (CreateShadowed where_to attrs shadow) given = no_grant (open_reason s o) p given
   no_command p (CreateLink where_to attrs target) given = no_grant (open_reason s o) p given
   no_command p (CreateObject where_to attrs kind args) given = no_grant (open_reason s o) p given
   no_command p (OpenDirectory root name attrs) given = no_grant (open_reason s o) p given

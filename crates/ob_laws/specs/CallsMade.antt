@@ -29,7 +29,7 @@ pub record Inside (T I : Type 0) : Type 0 where
 
 -- the inner value of an object of the set, by its body
 abbrev pub inner_of : {F I : Type 0} → Body F I → Option I
-inner_of Directory = None
+inner_of (Directory shadow) = None
 inner_of (Link target) = None
 inner_of (Other face inner) = Some inner
 

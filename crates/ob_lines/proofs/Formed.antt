@@ -14,13 +14,13 @@ use Rattle.ob_parts.specs.declared.name.NameForm.TheVariants.{Absolute, Relative
 use Rattle.ob_parts.specs.declared.name.PlaceForm.{PlaceForm}
 use Rattle.ob_parts.specs.declared.name.PlaceForm.TheVariants.{Named, Unnamed}
 use Rattle.ob_lines.specs.declared.request.Request.{Request}
-use Rattle.ob_lines.specs.declared.request.Request.TheVariants.{CreateDirectory, CreateLink, CreateObject, OpenDirectory, OpenLink, OpenObject, Close, QueryLink, QueryName, QueryDirectory, Duplicate, MakeTemporary, MakePermanent, SetDeviceMap, NewProcess, ExitProcess}
+use Rattle.ob_lines.specs.declared.request.Request.TheVariants.{CreateDirectory, CreateShadowed, CreateLink, CreateObject, OpenDirectory, OpenLink, OpenObject, Close, QueryLink, QueryName, QueryDirectory, Duplicate, MakeTemporary, MakePermanent, SetDeviceMap, NewProcess, ExitProcess}
 use Rattle.ob_lines.specs.declared.verb.Verb.{Verb}
 use Rattle.ob_lines.specs.declared.verb.Verb.TheVariants as verb
 use Rattle.ob_parts.specs.Text.{Lacks, IsText}
 use Rattle.ob_parts.specs.Parts.{text_of, BeginsWithName, BeginsWithPlace, BeginsWithRoom, BeginsWithProcess, BeginsWithInherit, SetsWord, SetsProcess, IsFlagsAndWord, IsFlagsTextAndWord, IsWantNameFlagsAndWord, IsPlaceFlagsTextAndWord}
 use Rattle.ob_lines.specs.Script.{HasForm, found_seen}
-use Rattle.ob_lines.specs.Grammar.{HasPlaceText, HasTexts, PendingHasTexts, FormHasTexts, verb_text, verb_of, IsOperands, IsVerbAndOperands, IsRequest, IsPending, IsHandleRoomAndMode, IsHandleProcessAndWord, IsInheritAndProcess, IsIdle, IsLine, LinesHaveOneForm, form_seen}
+use Rattle.ob_lines.specs.Grammar.{HasPlaceText, HasTexts, PendingHasTexts, FormHasTexts, verb_text, verb_of, IsOperands, IsVerbAndOperands, IsRequest, IsPending, IsHandlePlaceFlagsAndWord, IsHandleRoomAndMode, IsHandleProcessAndWord, IsInheritAndProcess, IsIdle, IsLine, LinesHaveOneForm, form_seen}
 use Rattle.ob_parts.proofs.Cuts.{lacks_no_cut}
 use Rattle.ob_parts.proofs.Flagged.{lacks_from_test}
 use Rattle.ob_parts.proofs.Handles.{handle_alike}
@@ -28,6 +28,15 @@ use Rattle.ob_parts.proofs.Parted.{apart, differ, moved, spaced, spaced_alike, p
 use Rattle.ob_parts.proofs.Processed.{handle_first_alike, process_alike, process_uncut, inherit_alike, set_process_alike}
 use Rattle.ob_parts.proofs.Paged.{room_alike, mode_same}
 use Rattle.ob_lines.proofs.Verbs.{verb_lacks, verb_same, Each, of_verb, begin_no_verb, end_no_verb, drop_no_verb}
+
+-- an H PLACE FLAGS =V has one reading
+handle_place_ends_alike : (bytes : List ℕ) (h : HandleForm (List ℕ)) (p : PlaceForm (List ℕ)) (a : ℕ) (w : List ℕ) (h' : HandleForm (List ℕ)) (p' : PlaceForm (List ℕ)) (a' : ℕ) (w' : List ℕ)
+    → IsHandlePlaceFlagsAndWord bytes h p a w → IsHandlePlaceFlagsAndWord bytes h' p' a' w' → (h ≡ h') × (p ≡ p') × (a ≡ a') × (w ≡ w')
+handle_place_ends_alike bytes h p a w h' p' a' w' (r, m, b, c, f) (r', m', b', c', f') =
+    let handle = handle_first_alike bytes h r h' r' b b' in
+    let place = place_alike r p m p' m' c (moved (λ x. BeginsWithPlace x p' m') r r' handle.1 c') in
+    let same = ends_alike m a w a' w' f (moved (λ x. IsFlagsAndWord x a' w') m m' place.1 f') in
+    (handle.0, place.0, same.0, same.1)
 
 -- an H ROOM MODE has one reading
 page_ends_alike : (bytes : List ℕ) (h : HandleForm (List ℕ)) (n : ℕ) (m : PageMode) (h' : HandleForm (List ℕ)) (n' : ℕ) (m' : PageMode)
@@ -58,6 +67,9 @@ reads_alone bytes (CreateDirectory p a w) (r, b, f) = λ p' a' w' s.
     let place = place_alike bytes p r p' s.0 b s.1 in
     let same = ends_alike r a w a' w' f (moved (λ x. IsFlagsAndWord x a' w') r s.0 place.1 s.2) in
     rw (place.0, same.0, same.1) refl
+reads_alone bytes (CreateShadowed h p a w) s = λ h' p' a' w' s'.
+    let same = handle_place_ends_alike bytes h p a w h' p' a' w' s s' in
+    rw (same.0, same.1, same.2, same.3) refl
 reads_alone bytes (CreateLink p a t w) s = λ p' a' t' w' s'.
     let same = place_ends_alike bytes p a t w p' a' t' w' s s' in
     rw (same.0, same.1, same.2, same.3) refl
@@ -249,6 +261,7 @@ ends_have_text bytes a t w (rest, more, f, b, s) = b.0
 
 request_has_texts : (bytes : List ℕ) (r : Request (List ℕ)) → IsOperands bytes r → HasTexts r
 request_has_texts bytes (CreateDirectory p a w) (rest, b, f) = place_has_text bytes p rest b
+request_has_texts bytes (CreateShadowed h p a w) (rest, more, c, b, f) = place_has_text rest p more b
 request_has_texts bytes (CreateLink p a t w) (rest, b, f) = (place_has_text bytes p rest b, ends_have_text rest a t w f)
 request_has_texts bytes (CreateObject k p a t w) (more, c, (rest, b, f)) = (place_has_text more p rest b, ends_have_text rest a t w f)
 request_has_texts bytes (OpenDirectory n a w) (rest, b, f) = name_has_text bytes n rest b

@@ -9,7 +9,7 @@ use Rattle.ob_parts.specs.declared.page.PageMode.{PageMode}
 use Rattle.ob_parts.specs.declared.name.NameForm.{NameForm}
 use Rattle.ob_parts.specs.declared.name.PlaceForm.{PlaceForm}
 use Rattle.ob_lines.specs.declared.request.Request.{Request}
-use Rattle.ob_lines.specs.declared.request.Request.TheVariants.{CreateDirectory, CreateLink, CreateObject, OpenDirectory, OpenLink, OpenObject, Close, QueryLink, QueryName, QueryDirectory, Duplicate, MakeTemporary, MakePermanent, SetDeviceMap, NewProcess, ExitProcess}
+use Rattle.ob_lines.specs.declared.request.Request.TheVariants.{CreateDirectory, CreateShadowed, CreateLink, CreateObject, OpenDirectory, OpenLink, OpenObject, Close, QueryLink, QueryName, QueryDirectory, Duplicate, MakeTemporary, MakePermanent, SetDeviceMap, NewProcess, ExitProcess}
 use Rattle.ob_lines.specs.declared.verb.Verb.{Verb}
 use Rattle.ob_lines.specs.declared.verb.Verb.TheVariants as verb
 use Rattle.ob_parts.specs.Text.{Lacks}
@@ -19,6 +19,7 @@ use Rattle.ob_parts.proofs.Flagged.{lacks_from_test}
 -- the words of verbs have no space
 pub verb_lacks : (v : Verb) → Lacks 0x20 (verb_text v)
 verb_lacks verb.Dir = lacks_from_test 0x20 (codes "dir") refl
+verb_lacks verb.Shadow = lacks_from_test 0x20 (codes "shadow") refl
 verb_lacks verb.Link = lacks_from_test 0x20 (codes "link") refl
 verb_lacks verb.Make = lacks_from_test 0x20 (codes "make") refl
 verb_lacks verb.OpenDir = lacks_from_test 0x20 (codes "opendir") refl
@@ -39,6 +40,7 @@ verb_lacks verb.Exit = lacks_from_test 0x20 (codes "exit") refl
 read : List ℕ → Verb
 read word =
     if bytes_eq word (codes "dir") then verb.Dir
+    else if bytes_eq word (codes "shadow") then verb.Shadow
     else if bytes_eq word (codes "link") then verb.Link
     else if bytes_eq word (codes "make") then verb.Make
     else if bytes_eq word (codes "opendir") then verb.OpenDir
@@ -58,6 +60,7 @@ read word =
 reads_back : (v : Verb) → read (verb_text v) ≡ v
 unfolding read
 reads_back verb.Dir = refl
+reads_back verb.Shadow = refl
 reads_back verb.Link = refl
 reads_back verb.Make = refl
 reads_back verb.OpenDir = refl
@@ -98,6 +101,7 @@ drop_no_verb v = no_verb (codes "drop") v refl
 -- each request of a verb is so
 abbrev pub Each : Verb → (Request (List ℕ) → Type 0) → Type 0
 Each verb.Dir P = (p : PlaceForm (List ℕ)) (a : ℕ) (w : List ℕ) → P (CreateDirectory p a w)
+Each verb.Shadow P = (h : HandleForm (List ℕ)) (p : PlaceForm (List ℕ)) (a : ℕ) (w : List ℕ) → P (CreateShadowed h p a w)
 Each verb.Link P = (p : PlaceForm (List ℕ)) (a : ℕ) (t w : List ℕ) → P (CreateLink p a t w)
 Each verb.Make P = (k : KindForm) (p : PlaceForm (List ℕ)) (a : ℕ) (t w : List ℕ) → P (CreateObject k p a t w)
 Each verb.OpenDir P = (n : NameForm (List ℕ)) (a : ℕ) (w : List ℕ) → P (OpenDirectory n a w)
@@ -117,6 +121,7 @@ Each verb.Exit P = P ExitProcess
 -- what each request of a verb is, is a request of this verb
 of_own : (P : Request (List ℕ) → Type 0) (r : Request (List ℕ)) → Each (verb_of r) P → P r
 of_own P (CreateDirectory p a w) each = each p a w
+of_own P (CreateShadowed h p a w) each = each h p a w
 of_own P (CreateLink p a t w) each = each p a t w
 of_own P (CreateObject k p a t w) each = each k p a t w
 of_own P (OpenDirectory n a w) each = each n a w

@@ -6,11 +6,12 @@ use Rattle.std.specs.Borrow.{Bor}
 use Rattle.ob_lines.specs.declared.change.Change.{Change}
 use Rattle.ob_lines.specs.declared.change.Change.TheVariants.{Nothing, Sets, SetsFor, GivesUp, TurnsPage, GivesAllUp, SetsProcess}
 use Rattle.ob_lines.specs.declared.request.Request.{Request}
-use Rattle.ob_lines.specs.declared.request.Request.TheVariants.{CreateDirectory, CreateLink, CreateObject, OpenDirectory, OpenLink, OpenObject, Close, QueryLink, QueryName, QueryDirectory, Duplicate, MakeTemporary, MakePermanent, SetDeviceMap, NewProcess, ExitProcess}
+use Rattle.ob_lines.specs.declared.request.Request.TheVariants.{CreateDirectory, CreateShadowed, CreateLink, CreateObject, OpenDirectory, OpenLink, OpenObject, Close, QueryLink, QueryName, QueryDirectory, Duplicate, MakeTemporary, MakePermanent, SetDeviceMap, NewProcess, ExitProcess}
 
 -- what the reply to a request changes
 abbrev pub change_of : Request (List ℕ) → Change (List ℕ)
 change_of (CreateDirectory place attrs word) = Sets word
+change_of (CreateShadowed shadow place attrs word) = Sets word
 change_of (CreateLink place attrs target word) = Sets word
 change_of (CreateObject kind place attrs args word) = Sets word
 change_of (OpenDirectory name attrs word) = Sets word

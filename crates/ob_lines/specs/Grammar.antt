@@ -13,7 +13,7 @@ use Rattle.ob_lines.specs.declared.pending.PendingForm.TheVariants.{Begin, End, 
 use Rattle.ob_parts.specs.declared.name.PlaceForm.{PlaceForm}
 use Rattle.ob_parts.specs.declared.name.PlaceForm.TheVariants.{Named, Unnamed}
 use Rattle.ob_lines.specs.declared.request.Request.{Request}
-use Rattle.ob_lines.specs.declared.request.Request.TheVariants.{CreateDirectory, CreateLink, CreateObject, OpenDirectory, OpenLink, OpenObject, Close, QueryLink, QueryName, QueryDirectory, Duplicate, MakeTemporary, MakePermanent, SetDeviceMap, NewProcess, ExitProcess}
+use Rattle.ob_lines.specs.declared.request.Request.TheVariants.{CreateDirectory, CreateShadowed, CreateLink, CreateObject, OpenDirectory, OpenLink, OpenObject, Close, QueryLink, QueryName, QueryDirectory, Duplicate, MakeTemporary, MakePermanent, SetDeviceMap, NewProcess, ExitProcess}
 use Rattle.ob_lines.specs.declared.verb.Verb.{Verb}
 use Rattle.ob_lines.specs.declared.verb.Verb.TheVariants as verb
 use Rattle.ob_parts.specs.Text.{IsText, IsWord}
@@ -23,6 +23,11 @@ use Rattle.ob_parts.specs.Parts.{IsHandle, BeginsWithHandle, BeginsWithPlace, Be
 -- the most bytes that a line may have, without its LF
 abbrev pub longest_line : ℕ
 longest_line = 262144
+
+-- `H PLACE FLAGS =V`
+abbrev pub IsHandlePlaceFlagsAndWord : List ℕ → HandleForm (List ℕ) → PlaceForm (List ℕ) → ℕ → List ℕ → Type 0
+IsHandlePlaceFlagsAndWord bytes handle place attrs word =
+    (rest more : List ℕ) × BeginsWithHandle bytes handle rest × BeginsWithPlace rest place more × IsFlagsAndWord more attrs word
 
 -- `H ROOM MODE`
 abbrev pub IsHandleRoomAndMode : List ℕ → HandleForm (List ℕ) → ℕ → PageMode → Type 0
@@ -42,6 +47,7 @@ IsInheritAndProcess bytes inherit process = (rest : List ℕ) × BeginsWithInher
 -- the word of a verb
 abbrev pub verb_text : Verb → List ℕ
 verb_text verb.Dir = codes "dir"
+verb_text verb.Shadow = codes "shadow"
 verb_text verb.Link = codes "link"
 verb_text verb.Make = codes "make"
 verb_text verb.OpenDir = codes "opendir"
@@ -61,6 +67,7 @@ verb_text verb.Exit = codes "exit"
 -- the verb of a request
 abbrev pub verb_of : Request (List ℕ) → Verb
 verb_of (CreateDirectory place attrs word) = verb.Dir
+verb_of (CreateShadowed shadow place attrs word) = verb.Shadow
 verb_of (CreateLink place attrs target word) = verb.Link
 verb_of (CreateObject kind place attrs args word) = verb.Make
 verb_of (OpenDirectory name attrs word) = verb.OpenDir
@@ -78,13 +85,14 @@ verb_of (NewProcess inherit child) = verb.New
 verb_of ExitProcess = verb.Exit
 
 -- what stands behind the verb of a request and a space: `PLACE FLAGS =V` behind `dir`,
--- `PLACE FLAGS TEXT =V` behind `link`, `KIND PLACE FLAGS TEXT =V` behind `make`, `NAME FLAGS =V` behind
+-- `H PLACE FLAGS =V` behind `shadow`, `PLACE FLAGS TEXT =V` behind `link`, `KIND PLACE FLAGS TEXT =V` behind `make`, `NAME FLAGS =V` behind
 -- `opendir` and `openlink`, `WANT NAME FLAGS =V` behind `open`, `H` behind `close`, `target`, `name`, `temp`,
 -- `perm` and `map`, `H ROOM MODE` behind `list`, `H Q plain =V` or `H Q inherit =V` behind `dup`, and `plain =Q` or
 -- `inherit =Q` behind `new`. `exit` has no operands.
 abbrev pub IsOperands : List ℕ → Request (List ℕ) → Type 0
 IsOperands bytes (CreateDirectory place attrs word) =
     (rest : List ℕ) × BeginsWithPlace bytes place rest × IsFlagsAndWord rest attrs word
+IsOperands bytes (CreateShadowed shadow place attrs word) = IsHandlePlaceFlagsAndWord bytes shadow place attrs word
 IsOperands bytes (CreateLink place attrs target word) = IsPlaceFlagsTextAndWord bytes place attrs target word
 IsOperands bytes (CreateObject kind place attrs args word) =
     (rest : List ℕ) × BeginsWithKind bytes kind rest × IsPlaceFlagsTextAndWord rest place attrs args word
@@ -144,6 +152,7 @@ HasPlaceText Unnamed = Unit {0}
 -- the texts of a request, where it has some, are texts
 abbrev pub HasTexts : Request (List ℕ) → Type 0
 HasTexts (CreateDirectory place attrs word) = HasPlaceText place
+HasTexts (CreateShadowed shadow place attrs word) = HasPlaceText place
 HasTexts (CreateLink place attrs target word) = HasPlaceText place × IsText target
 HasTexts (CreateObject kind place attrs args word) = HasPlaceText place × IsText args
 HasTexts (OpenDirectory name attrs word) = IsText (text_of name)
@@ -177,6 +186,7 @@ FormHasTexts (Waits process pending) = PendingHasTexts pending
 -- hold
 abbrev pub request_seen : Request (Bor (List ℕ)) → Request (List ℕ)
 request_seen (CreateDirectory place attrs word) = CreateDirectory (place_seen place) attrs word.now
+request_seen (CreateShadowed shadow place attrs word) = CreateShadowed (handle_seen shadow) (place_seen place) attrs word.now
 request_seen (CreateLink place attrs target word) = CreateLink (place_seen place) attrs target.now word.now
 request_seen (CreateObject kind place attrs args word) = CreateObject kind (place_seen place) attrs args.now word.now
 request_seen (OpenDirectory name attrs word) = OpenDirectory (name_seen name) attrs word.now

@@ -48,6 +48,7 @@ pub fn change_of<'a>(request: &Request<&'a [u8]>) -> Change<&'a [u8]>
 {
     match *request {
         Request::CreateDirectory { word, .. } => Change::Sets(word),
+        Request::CreateShadowed { word, .. } => Change::Sets(word),
         Request::CreateLink { word, .. } => Change::Sets(word),
         Request::CreateObject { word, .. } => Change::Sets(word),
         Request::OpenDirectory { word, .. } => Change::Sets(word),

@@ -31,6 +31,17 @@ pub enum Request<T> {
         /// The handle word that is set.
         word: T,
     },
+    /// `shadow H PLACE FLAGS =V`: a new directory with a shadow.
+    CreateShadowed {
+        /// The handle of the shadow.
+        shadow: HandleForm<T>,
+        /// Where the directory is to stand.
+        place: PlaceForm<T>,
+        /// The attribute flags, as raw bits.
+        attrs: u32,
+        /// The handle word that is set.
+        word: T,
+    },
     /// `link PLACE FLAGS TEXT =V`: a new symbolic link.
     CreateLink {
         /// Where the link is to stand.
@@ -180,6 +191,7 @@ fn operands_of(verb: Verb, operands: &[u8]) -> Option<Request<&[u8]>>
 {
     match verb {
         Verb::Dir => directory_of(operands),
+        Verb::Shadow => shadowed_of(operands),
         Verb::Link => link_of(operands),
         Verb::Make => object_of(operands),
         Verb::OpenDir => open_directory_of(operands),
@@ -221,6 +233,26 @@ fn directory_of(operands: &[u8]) -> Option<Request<&[u8]>>
     let (place, rest) = take_place(operands)?;
     let (attrs, word) = flags_and_word(rest)?;
     Some(Request::CreateDirectory { place, attrs, word })
+}
+
+// The create of a directory with a shadow: `H PLACE FLAGS =V`.
+fn shadowed_of(operands: &[u8]) -> Option<Request<&[u8]>>
+    requires { length operands.now ≤ 262144 }
+    ensures verb { IfSome result (λ request. verb_of (request_seen request) ≡ Verb.Shadow) }
+    ensures found { IfSome result (λ request. IsOperands operands.now (request_seen request)) }
+    ensures none { IfNone result ((shadow : HandleForm (List ℕ)) (place : PlaceForm (List ℕ))
+        (attrs : ℕ) (word : List ℕ)
+        → ¬ IsOperands operands.now (Request.CreateShadowed shadow place attrs word)) }
+{
+    let (shadow, rest) = take_handle(operands)?;
+    let (place, rest) = take_place(rest)?;
+    let (attrs, word) = flags_and_word(rest)?;
+    Some(Request::CreateShadowed {
+        shadow,
+        place,
+        attrs,
+        word,
+    })
 }
 
 // The create of a symbolic link: `PLACE FLAGS TEXT =V`.

@@ -9,6 +9,8 @@ ghost use Rattle.ob_lines.specs.Grammar.{verb_text};
 pub enum Verb {
     // `dir`: a new directory.
     Dir,
+    // `shadow`: a new directory with a shadow.
+    Shadow,
     // `link`: a new symbolic link.
     Link,
     // `make`: a new object.
@@ -48,6 +50,7 @@ pub fn verb_of(word: &[u8]) -> Option<Verb>
 {
     match word {
         b"dir" => Some(Verb::Dir),
+        b"shadow" => Some(Verb::Shadow),
         b"link" => Some(Verb::Link),
         b"make" => Some(Verb::Make),
         b"opendir" => Some(Verb::OpenDir),

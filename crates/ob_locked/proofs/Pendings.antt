@@ -139,7 +139,7 @@ module _ {K T F I : Type 0} (g : Procedures K T F I) where
       other false e = subst (HandsOn n) (sym e) tt
 
       from : (body : Body F I) → LooksFrom g s p mode n root body name look → HandsOn n look
-      from Directory h = looks_hand_on g s p mode n (relative root name).0 (relative root name).1 look h
+      from (Directory shadow) h = looks_hand_on g s p mode n (relative root name).0 (relative root name).1 look h
       from (Link target) e = subst (HandsOn n) (sym e) tt
       from (Other face inner) e = other (g.parses (g.kind_of face) && not mode.create) e
 

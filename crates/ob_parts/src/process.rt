@@ -13,6 +13,7 @@ use crate::text::is_process_word;
 pub fn take_handle(bytes: &[u8]) -> Option<(HandleForm<&[u8]>, &[u8])>
     ensures found { IfSome result (λ found.
         BeginsWithHandle bytes.now (handle_seen found.0) found.1.now) }
+    ensures shorter { IfSome result (λ found. length found.1.now ≤ length bytes.now) }
     ensures none { IfNone result ((handle : HandleForm (List ℕ)) (rest : List ℕ)
         → ¬ BeginsWithHandle bytes.now handle rest) }
 {

@@ -8,7 +8,7 @@ use Rattle.serde_json.specs.Data.{Data}
 use Rattle.serde_json.specs.Written.{compact_text}
 use Rattle.ob_base.specs.Status.{code_of}
 use Rattle.ob_model.specs.declared.command.Command.{Command}
-use Rattle.ob_model.specs.declared.command.Command.TheVariants.{CreateDirectory, CreateLink, CreateObject, OpenDirectory, OpenLink, OpenObject, Close, QueryLink, QueryName, QueryDirectory, Duplicate, MakeTemporary, MakePermanent, SetDeviceMap, NewProcess, ExitProcess}
+use Rattle.ob_model.specs.declared.command.Command.TheVariants.{CreateDirectory, CreateShadowed, CreateLink, CreateObject, OpenDirectory, OpenLink, OpenObject, Close, QueryLink, QueryName, QueryDirectory, Duplicate, MakeTemporary, MakePermanent, SetDeviceMap, NewProcess, ExitProcess}
 use Rattle.ob_model.specs.declared.command.Place.{Place}
 use Rattle.ob_model.specs.declared.command.Place.TheVariants.{At, Unnamed}
 use Rattle.ob_model.specs.declared.entries.Listed.{Listed}
@@ -31,7 +31,7 @@ use Rattle.ob_reader.specs.declared.header.Header.TheVariants.{Segment}
 use Rattle.ob_reader.specs.declared.line.Line.{Line}
 use Rattle.ob_reader.specs.declared.line.SegmentLine.TheVariants as segment_line
 use Rattle.ob_reader.specs.declared.said.Said.TheVariants as said
-use Rattle.ob_reader.specs.Reading.{kind_for, root_in, want_in, place_of, each_in, u64_in, place_in, directory_in, link_in, object_in, open_directory_in, open_link_in, open_object_in, duplicate_in, query_in, start_in, resume_in, abandon_in, step_in, type_name_for, type_names, listed_in, handle_or_text_in, process_in, page_in, process_or_page_in, gift_in, done_in, reply_in, has_key, line_in, seats_in, segment_in, header_in, value_for, line_for, header_for, is_header, segment_line_for, gift_of, said_of, line_about}
+use Rattle.ob_reader.specs.Reading.{kind_for, root_in, want_in, place_of, each_in, u64_in, place_in, directory_in, shadowed_in, link_in, object_in, open_directory_in, open_link_in, open_object_in, duplicate_in, query_in, start_in, resume_in, abandon_in, step_in, type_name_for, type_names, listed_in, handle_or_text_in, process_in, page_in, process_or_page_in, gift_in, done_in, reply_in, has_key, line_in, in_version_1, seats_in, segment_in, header_in, value_for, line_for, entry_for, header_for, is_header, segment_line_for, gift_of, said_of, line_about}
 use Rattle.ob_reader.specs.Laws.{IsFitRoot, IsFitPlace, IsFitCommand, IsFitEvent, IsFitListed, IsFitGiven, IsFitAnswer, IsFit, EntryLinesAreRead, HeaderLinesAreRead}
 use Rattle.ob_reader.proofs.Escapes.{escaped_read, escaped_ascii}
 use Rattle.ob_reader.proofs.Plain.{IsPlain, ItemsArePlain, plain_read}
@@ -75,6 +75,8 @@ parse_ascii NoMemory = refl
 
 command_plain : (p : ℕ) (c : Command StandardKind) → p < 2 ^ 32 → IsFitCommand c → IsPlain 4 (command_step standard.type_name p c)
 command_plain p (CreateDirectory place flags) h f = (refl, (short_plain 3 flags f.1, (name_plain 3 place f.0, (refl, (short_plain 3 p h, (place_root_plain 3 place f.0, tt))))))
+command_plain p (CreateShadowed place flags shadow) h f =
+    (refl, (short_plain 3 flags f.1, (name_plain 3 place f.0, (refl, (short_plain 3 p h, (place_root_plain 3 place f.0, (short_plain 3 shadow f.2, tt)))))))
 command_plain p (CreateLink place flags target) h f =
     (refl, (short_plain 3 flags f.1, (name_plain 3 place f.0, (refl, (short_plain 3 p h, (place_root_plain 3 place f.0, (escaped_ascii target f.2, tt)))))))
 command_plain p (CreateObject place flags kind args) h f =
@@ -162,8 +164,9 @@ place_read (At root name) h = rw (root_read root h.0, escaped_read name h.1) ref
 place_read Unnamed h = refl
 
 command_read : (p : ℕ) (c : Command StandardKind) → p < 2 ^ 32 → IsFitCommand c → step_in (command_step standard.type_name p c) ≡ Some (Start p c)
-unfolding step_in start_in place_in directory_in link_in object_in open_directory_in open_link_in open_object_in duplicate_in query_in
+unfolding step_in start_in place_in directory_in shadowed_in link_in object_in open_directory_in open_link_in open_object_in duplicate_in query_in
 command_read p (CreateDirectory place flags) h f = rw (place_read place f.0, fits flags f.1, fits p h) refl
+command_read p (CreateShadowed place flags shadow) h f = rw (place_read place f.0, fits flags f.1, fits shadow f.2, fits p h) refl
 command_read p (CreateLink place flags target) h f = rw (place_read place f.0, fits flags f.1, escaped_read target f.2, fits p h) refl
 command_read p (CreateObject place flags kind args) h f = rw (place_read place f.0, fits flags f.1, kind_read kind, escaped_read args f.2, fits p h) refl
 command_read p (OpenDirectory root name flags) h f = rw (root_read root f.0, escaped_read name f.1, fits flags f.2, fits p h) refl
@@ -223,9 +226,13 @@ entry_read e h = rw (step_read e.event h.2, answer_read e.answer h.3) refl
 
 -- a line is the text of this value
 module _ (line : List ℕ) (d : Data) (is : value_for line ≡ Some d) where
-  line_of_value : (found : Line) → line_in d ≡ Some found → line_for line ≡ Some found
+  line_of_value : (found : Line) → line_in d ≡ Some found → line_for line ≡ in_version_1 found
   unfolding line_for
-  line_of_value found says = rw is says
+  line_of_value found says = rw (is, says) refl
+
+  entry_of_value : (found : Line) → line_in d ≡ Some found → entry_for line ≡ Some found
+  unfolding entry_for
+  entry_of_value found says = rw is says
 
   header_of_value : (found : Header) → header_in d ≡ Some found → header_for line ≡ Some found
   unfolding header_for
@@ -235,7 +242,7 @@ module _ (line : List ℕ) (d : Data) (is : value_for line ≡ Some d) where
   unfolding is_header
   key_of_value = rw is refl
 
-  entry_in_segments : (found : Option Line) → has_key (codes "journal") d ≡ false → line_for line ≡ found → segment_line_for line ≡ segment_line.Entry found
+  entry_in_segments : (found : Option Line) → has_key (codes "journal") d ≡ false → entry_for line ≡ found → segment_line_for line ≡ segment_line.Entry found
   unfolding segment_line_for
   entry_in_segments found lacks says = rw (sym key_of_value ∙ lacks, says) refl
 
@@ -248,8 +255,8 @@ entry_lines_are_read e line h written =
     let d = entry_value standard.type_name e in
     let same : compact_text d ≡ line = append_cancel_right _ line (codes "\n") written in
     let is : value_for line ≡ Some d = ap value_for (sym same) ∙ plain_read d (entry_plain e h) in
-    let says = line_of_value line d is (line_about e) (entry_read e h) in
-    (says, entry_in_segments line d is (Some (line_about e)) refl says)
+    let read = entry_read e h in
+    (line_of_value line d is (line_about e) read, entry_in_segments line d is (Some (line_about e)) refl (entry_of_value line d is (line_about e) read))
 
 header_read : (seats segment first : ℕ) → 1 ≤ seats → seats ≤ 1024 → header_in (header_value seats segment first) ≡ Some (Segment seats segment first)
 unfolding header_in segment_in seats_in

@@ -5,7 +5,7 @@ use Rattle.std.specs.Prelude.{◌≡◌, ◌≢◌, ℕ, ◌^◌, ◌<◌, ◌�
 use Rattle.std.specs.List.{AllByRecursion}
 use Rattle.ob_base.specs.Status.{code_of}
 use Rattle.ob_model.specs.declared.command.Command.{Command}
-use Rattle.ob_model.specs.declared.command.Command.TheVariants.{CreateDirectory, CreateLink, CreateObject, OpenDirectory, OpenLink, OpenObject, Close, QueryLink, QueryName, QueryDirectory, Duplicate, MakeTemporary, MakePermanent, SetDeviceMap, NewProcess, ExitProcess}
+use Rattle.ob_model.specs.declared.command.Command.TheVariants.{CreateDirectory, CreateShadowed, CreateLink, CreateObject, OpenDirectory, OpenLink, OpenObject, Close, QueryLink, QueryName, QueryDirectory, Duplicate, MakeTemporary, MakePermanent, SetDeviceMap, NewProcess, ExitProcess}
 use Rattle.ob_model.specs.declared.command.Place.{Place}
 use Rattle.ob_model.specs.declared.command.Place.TheVariants.{At, Unnamed}
 use Rattle.ob_model.specs.declared.entries.Listed.{Listed}
@@ -21,7 +21,7 @@ use Rattle.ob_standard.specs.Standard.{StandardKind, standard}
 use Rattle.ob_journal.specs.Lines.{header_line, entry_line}
 use Rattle.ob_reader.specs.declared.header.Header.TheVariants.{Segment}
 use Rattle.ob_reader.specs.declared.line.SegmentLine.TheVariants as segment_line
-use Rattle.ob_reader.specs.Reading.{type_name_for, is_page_status, line_for, header_for, line_about, segment_line_for}
+use Rattle.ob_reader.specs.Reading.{only_if, type_name_for, is_page_status, is_in_version_1, line_for, header_for, line_about, segment_line_for}
 
 -- each is a byte
 abbrev pub AreBytes : List ℕ → Type 0
@@ -39,6 +39,7 @@ IsFitPlace Unnamed = ⊤
 -- the numbers of a command fit 32 and 64 bits, and its names and texts are bytes
 abbrev pub IsFitCommand : Command StandardKind → Type 0
 IsFitCommand (CreateDirectory place flags) = IsFitPlace place × (flags < 2 ^ 32)
+IsFitCommand (CreateShadowed place flags shadow) = IsFitPlace place × (flags < 2 ^ 32) × (shadow < 2 ^ 32)
 IsFitCommand (CreateLink place flags target) = IsFitPlace place × (flags < 2 ^ 32) × AreBytes target
 IsFitCommand (CreateObject place flags kind args) = IsFitPlace place × (flags < 2 ^ 32) × AreBytes args
 IsFitCommand (OpenDirectory root name flags) = IsFitRoot root × AreBytes name × (flags < 2 ^ 32)
@@ -80,11 +81,12 @@ IsFitAnswer (Ticket ticket) = ticket < 2 ^ 64
 abbrev pub IsFit : Entry StandardKind → Type 0
 IsFit e = (e.number < 2 ^ 64) × (e.seat < 2 ^ 64) × IsFitEvent e.event × IsFitAnswer e.answer
 
--- the line of an entry, without its LF, says the entry, in both versions
+-- the line of an entry, without its LF, says the entry in version 2; in version 1 it does where that version has its event, and else
+-- it says nothing
 abbrev pub EntryLinesAreRead : Type 0
 EntryLinesAreRead =
     (e : Entry StandardKind) (line : List ℕ) → IsFit e → entry_line standard.type_name e ≡ line ++ codes "\n"
-    → (line_for line ≡ Some (line_about e)) × (segment_line_for line ≡ segment_line.Entry (Some (line_about e)))
+    → (line_for line ≡ only_if (is_in_version_1 e.event) (Some (line_about e))) × (segment_line_for line ≡ segment_line.Entry (Some (line_about e)))
 
 -- the line of a header, without its LF, says how many seats there are, which segment begins, and the number of its first entry: as line 1,
 -- and as any other

@@ -178,6 +178,13 @@ directory_in d = do
   flags ← u32_at (codes "flags") d
   Some (command.CreateDirectory place flags)
 
+unfoldable pub shadowed_in : Data → Option (Command StandardKind)
+shadowed_in d = do
+  place ← place_in d
+  flags ← u32_at (codes "flags") d
+  shadow ← u32_at (codes "shadow") d
+  Some (command.CreateShadowed place flags shadow)
+
 unfoldable pub link_in : Data → Option (Command StandardKind)
 link_in d = do
   place ← place_in d
@@ -271,6 +278,7 @@ abandon_in d = do
 -- how many keys the step of an operation has, `op` among them
 abbrev pub keys_of : Operation → ℕ
 keys_of operation.Directory = 5
+keys_of operation.Shadow = 6
 keys_of operation.Link = 6
 keys_of operation.Make = 7
 keys_of operation.OpenDirectory = 5
@@ -292,6 +300,7 @@ keys_of operation.Abandon = 3
 -- the event that the keys of an operation's step say
 abbrev pub event_in : Operation → Data → Option (Event StandardKind)
 event_in operation.Directory d = start_in (directory_in d) d
+event_in operation.Shadow d = start_in (shadowed_in d) d
 event_in operation.Link d = start_in (link_in d) d
 event_in operation.Make d = start_in (object_in d) d
 event_in operation.OpenDirectory d = start_in (open_directory_in d) d
@@ -373,6 +382,15 @@ line_in d = only_if (has_members 4 d) (do
   reply ← get (codes "reply") d >>= reply_in
   Some (record { number = number; seat = seat; step = step; reply = reply }))
 
+-- whether version 1 has an event: it has no create of a directory with a shadow
+abbrev pub is_in_version_1 : Event StandardKind → Bool
+is_in_version_1 (Start p (command.CreateShadowed place flags shadow)) = false
+is_in_version_1 event = true
+
+-- an entry, where version 1 has its event
+abbrev pub in_version_1 : Line → Option Line
+in_version_1 line = only_if (is_in_version_1 line.step) (Some line)
+
 -- how many seats a header says that there are
 unfoldable pub seats_in : Data → Option ℕ
 seats_in d = do
@@ -401,9 +419,12 @@ header_in d = if has_members 2 d then whole_in d else segment_in d
 unfoldable pub value_for : List ℕ → Option Data
 value_for line = only_if (is_utf8 line) (read line)
 
--- what a line says, without its LF: an entry, or a header of either version
+-- what a line says, without its LF: an entry in version 1, an entry in version 2, or a header of either version
 unfoldable pub line_for : List ℕ → Option Line
-line_for line = value_for line >>= line_in
+line_for line = value_for line >>= line_in >>= in_version_1
+
+unfoldable pub entry_for : List ℕ → Option Line
+entry_for line = value_for line >>= line_in
 
 unfoldable pub header_for : List ℕ → Option Header
 header_for line = value_for line >>= header_in
@@ -414,7 +435,7 @@ is_header line = option_map_or (has_key (codes "journal")) (value_for line) fals
 
 -- what a line of version 2 says, other than the first: one with that key a header, or nothing; any other an entry, or nothing
 unfoldable pub segment_line_for : List ℕ → SegmentLine
-segment_line_for line = if is_header line then segment_line.Header (header_for line) else segment_line.Entry (line_for line)
+segment_line_for line = if is_header line then segment_line.Header (header_for line) else segment_line.Entry (entry_for line)
 
 -- ---- what a line says of an answer
 

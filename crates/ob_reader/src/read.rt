@@ -2,13 +2,15 @@
 
 ghost use Rattle.std.specs.Prelude.{◌≡◌, option_map, IfOk};
 ghost use Rattle.serde_json.specs.View.{view};
-ghost use Rattle.ob_reader.specs.Reading.{value_for, seats_in, whole_in, segment_in, header_in, line_in, header_for, line_for, segment_line_for};
+ghost use Rattle.ob_reader.specs.Reading.{value_for, seats_in, whole_in, segment_in, header_in, is_in_version_1, line_in, header_for, line_for, segment_line_for};
 
 use crate::header::Header;
 use crate::line::{Line, SegmentLine};
 use crate::members::{has_key, has_members, u64_at};
 use crate::replies::read_reply;
 use crate::steps::read_step;
+use ob_model::{Command, Event};
+use ob_standard::StandardKind;
 use serde_json::Value;
 use std::alloc::{AllocError, Global};
 
@@ -24,7 +26,8 @@ pub fn read_header(alloc: Global, line: &[u8]) -> Result<Option<Header>, AllocEr
     Ok(header_in(&header))
 }
 
-/// What a line says of an entry, without its LF: none where the line isn't of the form of an entry. Whether the number is the
+/// What a line of a journal of version 1 says of an entry, without its LF: none where the line isn't of the form of an entry, and
+/// where it is the create of a directory with a shadow, which version 1 doesn't have. Whether the number is the
 /// next, the seat is one of the journal's and the step gives the reply isn't judged here. The only error is out of memory.
 /// (RFC 8259; the keys: this profile)
 #[tactic(auto, unfolding(crate::specs::Reading::line_for))]
@@ -34,12 +37,19 @@ pub fn read_line(alloc: Global, line: &[u8]) -> Result<Option<Line>, AllocError>
     let Some(entry) = read_value(alloc, line)? else {
         return Ok(None);
     };
-    read_entry(alloc, &entry)
+    let Some(entry) = read_entry(alloc, &entry)? else {
+        return Ok(None);
+    };
+    if is_in_version_1(&entry.step) {
+        Ok(Some(entry))
+    } else {
+        Ok(None)
+    }
 }
 
 /// What a line of a journal of version 2 says, other than its first, without its LF: an object with the key `journal` is a header, or of no
 /// form; any other line is an entry, or of no form. The only error is out of memory. (RFC 8259; the keys: this profile)
-#[tactic(auto, unfolding(crate::specs::Reading::segment_line_for, crate::specs::Reading::is_header, crate::specs::Reading::header_for, crate::specs::Reading::line_for))]
+#[tactic(auto, unfolding(crate::specs::Reading::segment_line_for, crate::specs::Reading::is_header, crate::specs::Reading::header_for, crate::specs::Reading::entry_for))]
 pub fn read_segment_line(alloc: Global, line: &[u8]) -> Result<SegmentLine, AllocError>
     ensures { IfOk result (λ found. found ≡ segment_line_for line.now) }
 {
@@ -130,6 +140,19 @@ fn seats_in(header: &Value) -> Option<u32>
     } else {
         None
     }
+}
+
+// Whether version 1 has an event.
+fn is_in_version_1(event: &Event<StandardKind>) -> bool
+    ensures { result ≡ is_in_version_1 event.now }
+{
+    !matches!(
+        event,
+        Event::Start {
+            command: Command::CreateShadowed { .. },
+            ..
+        }
+    )
 }
 
 // What an entry says.

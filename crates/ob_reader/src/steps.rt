@@ -2,7 +2,7 @@
 
 ghost use Rattle.std.specs.Prelude.{◌≡◌, Some, is_none, option_and_then, codes, IfOk};
 ghost use Rattle.serde_json.specs.View.{view};
-ghost use Rattle.ob_reader.specs.Reading.{only_if, u32_at, text_at, kind_for, root_in, want_in, root_at, want_at, place_of, place_in, directory_in, link_in, object_in, open_directory_in, open_link_in, open_object_in};
+ghost use Rattle.ob_reader.specs.Reading.{only_if, u32_at, text_at, kind_for, root_in, want_in, root_at, want_at, place_of, place_in, directory_in, shadowed_in, link_in, object_in, open_directory_in, open_link_in, open_object_in};
 ghost use Rattle.ob_reader.specs.Reading.{duplicate_in, query_in, of_handle_in, child_in, start_in, parse_at, resume_in, abandon_in, keys_of, event_in, step_in};
 
 use crate::members::{bool_at, has_members, text_at, u32_at, u32_in, u64_at};
@@ -56,7 +56,7 @@ fn keys_of(operation: Operation) -> usize
         | Operation::OpenDirectory
         | Operation::OpenLink
         | Operation::Duplicate => 5,
-        Operation::Link | Operation::Open => 6,
+        Operation::Shadow | Operation::Link | Operation::Open => 6,
         Operation::Make | Operation::Page => 7,
     }
 }
@@ -71,6 +71,7 @@ fn read_event(
 {
     match operation {
         Operation::Directory => Ok(start_in(read_directory(alloc, step)?, step)),
+        Operation::Shadow => Ok(start_in(read_shadowed(alloc, step)?, step)),
         Operation::Link => Ok(start_in(read_link(alloc, step)?, step)),
         Operation::Make => Ok(start_in(read_object(alloc, step)?, step)),
         Operation::OpenDirectory => Ok(start_in(read_open_directory(alloc, step)?, step)),
@@ -116,6 +117,27 @@ fn read_directory(alloc: Global, step: &Value) -> Result<Asked, AllocError>
         return Ok(None);
     };
     Ok(Some(Command::CreateDirectory { place, attrs }))
+}
+
+// The create of a directory with a shadow.
+#[tactic(auto, unfolding(crate::specs::Reading::shadowed_in))]
+fn read_shadowed(alloc: Global, step: &Value) -> Result<Asked, AllocError>
+    ensures { IfOk result (λ asked. asked ≡ shadowed_in (view step.now)) }
+{
+    let Some(place) = read_place(alloc, step)? else {
+        return Ok(None);
+    };
+    let Some(attrs) = u32_at(step, "flags") else {
+        return Ok(None);
+    };
+    let Some(shadow) = u32_at(step, "shadow") else {
+        return Ok(None);
+    };
+    Ok(Some(Command::CreateShadowed {
+        place,
+        attrs,
+        shadow: Handle(shadow),
+    }))
 }
 
 // The create of a symbolic link.

@@ -10,7 +10,7 @@ use Rattle.ob_model.specs.declared.command.Place.TheVariants as place
 use Rattle.ob_model.specs.State.{State}
 use Rattle.ob_model.specs.Closing.{is_handle}
 use Rattle.ob_model.specs.Grants.{IsHandleValue}
-use Rattle.ob_model.specs.Alike.{is_named, AreAlike, LeadAlike, AreAlikeRoots, no_root, roots, AreAlikePlaces, no_name, names, AreAlikeCommands, create_directories, create_links, create_objects, open_directories, open_links, open_objects, closes, queries_of_links, queries_of_names, queries_of_directories, duplicates, temporaries, permanents, device_maps, new_processes, exits}
+use Rattle.ob_model.specs.Alike.{is_named, AreAlike, LeadAlike, AreAlikeRoots, no_root, roots, AreAlikePlaces, no_name, names, AreAlikeCommands, create_directories, create_shadowed, create_links, create_objects, open_directories, open_links, open_objects, closes, queries_of_links, queries_of_names, queries_of_directories, duplicates, temporaries, permanents, device_maps, new_processes, exits}
 use Rattle.ob_model.proofs.AlikeHandles.{plain_places}
 use Rattle.ob_standard.specs.Standard.{StandardKind}
 use Rattle.ob_parts.specs.declared.handle.HandleForm.{HandleForm}
@@ -21,7 +21,7 @@ use Rattle.ob_parts.specs.declared.name.NameForm.TheVariants.{Absolute, Relative
 use Rattle.ob_parts.specs.declared.name.PlaceForm.{PlaceForm}
 use Rattle.ob_parts.specs.declared.name.PlaceForm.TheVariants.{Named, Unnamed}
 use Rattle.ob_lines.specs.declared.request.Request.{Request}
-use Rattle.ob_lines.specs.declared.request.Request.TheVariants.{CreateDirectory, CreateLink, CreateObject, OpenDirectory, OpenLink, OpenObject, Close, QueryLink, QueryName, QueryDirectory, Duplicate, MakeTemporary, MakePermanent, SetDeviceMap, NewProcess, ExitProcess}
+use Rattle.ob_lines.specs.declared.request.Request.TheVariants.{CreateDirectory, CreateShadowed, CreateLink, CreateObject, OpenDirectory, OpenLink, OpenObject, Close, QueryLink, QueryName, QueryDirectory, Duplicate, MakeTemporary, MakePermanent, SetDeviceMap, NewProcess, ExitProcess}
 use Rattle.ob_parts.specs.Pages.{is_first, is_single}
 use Rattle.ob_parts.specs.Parts.{offset_value, text_of}
 use Rattle.ob_parts.proofs.Spelled.{spells_alike}
@@ -102,6 +102,9 @@ module _ {T F I : Type 0} (s t : State StandardKind T F I) (alike : AreAlike s t
   commands_alike : (request : Request (List ℕ)) (c d : Command StandardKind) → IsCommand request words p c → IsCommand request others p d → AreAlikeCommands s t p c d
   commands_alike (CreateDirectory form attrs word) c d h k =
       told c d (command.CreateDirectory h.0 attrs) (command.CreateDirectory k.0 attrs) h.2 k.2 (create_directories (places_alike form h.0 k.0 h.1 k.1))
+  commands_alike (CreateShadowed shadow form attrs word) c d h k =
+      told c d (command.CreateShadowed h.0 attrs (handle_meant shadow (words.values p))) (command.CreateShadowed k.0 attrs (handle_meant shadow (others.values p))) h.2 k.2
+      (create_shadowed (places_alike form h.0 k.0 h.1 k.1) (handles_alike shadow))
   commands_alike (CreateLink form attrs target word) c d h k =
       let bytes : k.1 ≡ h.1 = spells_alike target k.1 h.1 k.3 h.3 in
       told c d (command.CreateLink h.0 attrs h.1) (command.CreateLink k.0 attrs h.1) h.4 (k.4 ∙ ap (λ (b : List ℕ). command.CreateLink k.0 attrs b) bytes)

@@ -30,7 +30,7 @@ use Rattle.ob_model.proofs.AlikeSteps.{steps_stay, steps_lead, step_holds}
 use Rattle.ob_standard.specs.Standard.{StandardKind}
 use Rattle.ob_parts.specs.declared.handle.HandleForm.{HandleForm}
 use Rattle.ob_lines.specs.declared.request.Request.{Request}
-use Rattle.ob_lines.specs.declared.request.Request.TheVariants.{CreateDirectory, CreateLink, CreateObject, OpenDirectory, OpenLink, OpenObject, Close, QueryLink, QueryName, QueryDirectory, Duplicate, MakeTemporary, MakePermanent, SetDeviceMap, NewProcess, ExitProcess}
+use Rattle.ob_lines.specs.declared.request.Request.TheVariants.{CreateDirectory, CreateShadowed, CreateLink, CreateObject, OpenDirectory, OpenLink, OpenObject, Close, QueryLink, QueryName, QueryDirectory, Duplicate, MakeTemporary, MakePermanent, SetDeviceMap, NewProcess, ExitProcess}
 use Rattle.ob_parts.specs.Parts.{offset_value}
 use Rattle.ob_requests.specs.Words.{Words, with_number, with_own, with_number_of, with_process, with_words, with_word, without_words, is_among, handed_on}
 use Rattle.ob_requests.specs.Commands.{kind_meant, handle_meant, is_success, given_handle, with_child, with_page, IsCommand, words_after}
@@ -409,6 +409,8 @@ module _ {T F I : Type 0} (g : Procedures StandardKind T F I) (s t u v : State S
     done : (request : Request (List ℕ)) → IsCommand request words p c → IsCommand request others p d → Step g s (Start p c) (Done a) u → Step g t (Start p d) (Done b) v
         → AreAlikeWords u v (words_after request p a words) (words_after request p b others)
     done (CreateDirectory form attrs word) f e h k = sets_for p (command.CreateDirectory f.0 attrs) f.2 (ap (receiver p) f.2) (ap (receiver p) e.2) (λ q value closed. closed) word
+    done (CreateShadowed shadow form attrs word) f e h k =
+        sets_for p (command.CreateShadowed f.0 attrs (handle_meant shadow (words.values p))) f.2 (ap (receiver p) f.2) (ap (receiver p) e.2) (λ q value closed. closed) word
     done (CreateLink form attrs target word) f e h k = sets_for p (command.CreateLink f.0 attrs f.1) f.4 (ap (receiver p) f.4) (ap (receiver p) e.4) (λ q value closed. closed) word
     done (CreateObject kind form attrs args word) f e h k = sets_for p (command.CreateObject f.0 attrs (kind_meant kind) f.1) f.4 (ap (receiver p) f.4) (ap (receiver p) e.4) (λ q value closed. closed) word
     done (OpenDirectory name attrs word) f e h k = sets_for p _ f.2 (ap (receiver p) f.2) (ap (receiver p) e.2) (λ q value closed. closed) word

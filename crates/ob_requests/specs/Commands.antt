@@ -25,7 +25,7 @@ use Rattle.ob_parts.specs.declared.name.NameForm.TheVariants.{Absolute, Relative
 use Rattle.ob_parts.specs.declared.name.PlaceForm.{PlaceForm}
 use Rattle.ob_parts.specs.declared.name.PlaceForm.TheVariants.{Named, Unnamed}
 use Rattle.ob_lines.specs.declared.request.Request.{Request}
-use Rattle.ob_lines.specs.declared.request.Request.TheVariants.{CreateDirectory, CreateLink, CreateObject, OpenDirectory, OpenLink, OpenObject, Close, QueryLink, QueryName, QueryDirectory, Duplicate, MakeTemporary, MakePermanent, SetDeviceMap, NewProcess, ExitProcess}
+use Rattle.ob_lines.specs.declared.request.Request.TheVariants.{CreateDirectory, CreateShadowed, CreateLink, CreateObject, OpenDirectory, OpenLink, OpenObject, Close, QueryLink, QueryName, QueryDirectory, Duplicate, MakeTemporary, MakePermanent, SetDeviceMap, NewProcess, ExitProcess}
 use Rattle.ob_parts.specs.Text.{Spells}
 use Rattle.ob_parts.specs.Pages.{is_first, is_single}
 use Rattle.ob_parts.specs.Parts.{offset_value, text_of}
@@ -67,6 +67,10 @@ IsPlace Unnamed values where_to = where_to ≡ place.Unnamed
 abbrev pub IsCreateDirectory : PlaceForm (List ℕ) → ℕ → (List ℕ → ℕ) → Command StandardKind → Type 0
 IsCreateDirectory place attrs values c = (where_to : Place) × IsPlace place values where_to × (c ≡ command.CreateDirectory where_to attrs)
 
+abbrev pub IsCreateShadowed : HandleForm (List ℕ) → PlaceForm (List ℕ) → ℕ → (List ℕ → ℕ) → Command StandardKind → Type 0
+IsCreateShadowed shadow place attrs values c =
+    (where_to : Place) × IsPlace place values where_to × (c ≡ command.CreateShadowed where_to attrs (handle_meant shadow values))
+
 abbrev pub IsCreateLink : PlaceForm (List ℕ) → ℕ → List ℕ → (List ℕ → ℕ) → Command StandardKind → Type 0
 IsCreateLink place attrs target values c =
     (where_to : Place) × (bytes : List ℕ) × IsPlace place values where_to × Spells target bytes
@@ -92,6 +96,7 @@ IsOpenObject want name attrs values c =
 -- the command that a request of a process spells, with these words
 abbrev pub IsCommand : Request (List ℕ) → Words → ℕ → Command StandardKind → Type 0
 IsCommand (CreateDirectory place attrs word) words process c = IsCreateDirectory place attrs (words.values process) c
+IsCommand (CreateShadowed shadow place attrs word) words process c = IsCreateShadowed shadow place attrs (words.values process) c
 IsCommand (CreateLink place attrs target word) words process c = IsCreateLink place attrs target (words.values process) c
 IsCommand (CreateObject kind place attrs args word) words process c = IsCreateObject kind place attrs args (words.values process) c
 IsCommand (OpenDirectory name attrs word) words process c = IsOpenDirectory name attrs (words.values process) c

@@ -6,7 +6,7 @@ ghost use Rattle.ob_lines.specs.Grammar.{HasPlaceText, HasTexts, request_seen};
 ghost use Rattle.ob_parts.specs.Text.{IsText, Spells};
 ghost use Rattle.ob_requests.specs.Room.{Grows};
 ghost use Rattle.ob_requests.specs.Tables.{words_in};
-ghost use Rattle.ob_requests.specs.Commands.{greatest_named, kind_meant, handle_meant, root_of, IsCommand, IsCreateDirectory, IsCreateLink, IsCreateObject, IsOpenDirectory, IsOpenLink, IsOpenObject, IsPlace};
+ghost use Rattle.ob_requests.specs.Commands.{greatest_named, kind_meant, handle_meant, root_of, IsCommand, IsCreateDirectory, IsCreateShadowed, IsCreateLink, IsCreateObject, IsOpenDirectory, IsOpenLink, IsOpenObject, IsPlace};
 
 use crate::words::Words;
 use either::Either;
@@ -41,6 +41,12 @@ pub fn command_of(asker: &Asker<'_>, request: &Request<&[u8]>) -> Asked
 {
     match *request {
         Request::CreateDirectory { place, attrs, .. } => create_directory(asker, place, attrs),
+        Request::CreateShadowed {
+            shadow,
+            place,
+            attrs,
+            ..
+        } => create_shadowed(asker, shadow, place, attrs),
         Request::CreateLink {
             place,
             attrs,
@@ -124,6 +130,26 @@ fn create_directory(asker: &Asker<'_>, place: PlaceForm<&[u8]>, attrs: u32) -> A
 {
     let place = place_of(asker, place)?;
     Ok(Command::CreateDirectory { place, attrs })
+}
+
+// The create of a directory with a shadow.
+fn create_shadowed(
+    asker: &Asker<'_>,
+    shadow: HandleForm<&[u8]>,
+    place: PlaceForm<&[u8]>,
+    attrs: u32,
+) -> Asked
+    requires { HasPlaceText (place_seen place) }
+    ensures { IfOk result (IsCreateShadowed (handle_seen shadow.entry) (place_seen place.entry) attrs
+        ((words_in asker.now.words.now).values asker.now.process)) }
+{
+    let place = place_of(asker, place)?;
+    let shadow = handle_meant(asker, shadow);
+    Ok(Command::CreateShadowed {
+        place,
+        attrs,
+        shadow,
+    })
 }
 
 // The create of a symbolic link.

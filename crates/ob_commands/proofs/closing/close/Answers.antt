@@ -3,13 +3,19 @@ use Rattle.std.proofs.Common.{ap, sym, ◌∙◌}
 use Rattle.ob_base.specs.Handle.{key_of}
 use Rattle.ob_model.specs.Settle.{settle}
 use Rattle.ob_model.specs.declared.reply.Answer.TheVariants.{Done}
-use Rattle.ob_commands.proofs.Closed.{found_itself, closed_was_settled}
+use Rattle.ob_commands.proofs.Closed.{found_itself, closed_fit, closed_was_settled}
 use Rattle.ob_space.proofs.Stepping.{closes}
 use Rattle.ob_commands.proofs.closing.close.Goals as goal
 
 pub close_handle-requires-clause-held : goal.close_handle-requires-clause-held
 close_handle-requires-clause-held g c κs within =
     found_itself c.args.space.now c.args.process (key_of c.args.handle) c.in-Some.held (sym c.in-Some.ensures)
+
+pub settle_after_loss-requires-clause-shadows : goal.settle_after_loss-requires-clause-shadows
+settle_after_loss-requires-clause-shadows g c κs within =
+    closed_fit g.T.TypeSet.procedures c.args.space.now c.in-Some.held c.requires.between.sound
+    (found_itself c.args.space.now c.args.process (key_of c.args.handle) c.in-Some.held (sym c.in-Some.ensures))
+    c.close_handle.new.space c.close_handle.ensures.closed
 
 pub settle_after_loss-requires-clause-kept : goal.settle_after_loss-requires-clause-kept
 settle_after_loss-requires-clause-kept g c κs within =

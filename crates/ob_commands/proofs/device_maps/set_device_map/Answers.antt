@@ -5,12 +5,12 @@ use Rattle.ob_model.specs.declared.reply.Answer.TheVariants.{Done}
 use Rattle.ob_model.specs.Maps.{with_map}
 use Rattle.ob_model.specs.Settle.{IsSettled, settle}
 use Rattle.ob_model.proofs.Staying.{settled_itself}
-use Rattle.ob_model.specs.State.{is_directory}
+use Rattle.ob_model.specs.State.{State, is_directory}
 use Rattle.ob_space.proofs.InPlace.{never}
 use Rattle.ob_commands.proofs.Passed.{passes_handle}
 use Rattle.ob_space.specs.Namespace.{parts}
 use Rattle.ob_space.specs.Orderly.{IsOrderly}
-use Rattle.ob_life.specs.Settling.{with_handle_to}
+use Rattle.ob_life.specs.Settling.{AreShadowsFit, with_handle_to}
 use Rattle.ob_commands.proofs.Mapped.{set_shown, rising_shown, map_shown, directory_shown, mapped_orderly, nothing_goes, was_mapped, sets_map, no_directory}
 use Rattle.ob_commands.proofs.device_maps.set_device_map.Goals.{in-Some-old, in_default-old}
 use Rattle.ob_commands.proofs.device_maps.set_device_map.Goals as goal
@@ -21,7 +21,14 @@ settle_after_loss-requires-clause-orderly g c κs within =
     let d = c.in-Some.held.object in
     subst (IsOrderly g.T.TypeSet.idle)
     (sym (set_shown g.row.T-Kind.Denot (parts c.space.inside) c.space.view_is c.set_map.new.self c.args.process d c.in_ok-set_map.ensures.processes c.set_map.ensures.handles))
-    (mapped_orderly s c.args.process d g.T.TypeSet.idle c.requires.orderly)
+    (mapped_orderly s c.args.process d g.T.TypeSet.idle c.requires.between.orderly)
+
+pub settle_after_loss-requires-clause-shadows : goal.settle_after_loss-requires-clause-shadows
+settle_after_loss-requires-clause-shadows g c κs within =
+    let sound = c.requires.between.sound in
+    subst (λ (t : State _ _ _ _). AreShadowsFit t)
+    (sym (set_shown g.row.T-Kind.Denot (parts c.space.inside) c.space.view_is c.set_map.new.self c.args.process c.in-Some.held.object c.in_ok-set_map.ensures.processes c.set_map.ensures.handles))
+    (record { inside = sound.rows.inside; shadows = sound.objects.shadows })
 
 pub settle_after_loss-requires-clause-kept : goal.settle_after_loss-requires-clause-kept
 settle_after_loss-requires-clause-kept g c κs within =
@@ -29,7 +36,7 @@ settle_after_loss-requires-clause-kept g c κs within =
     let d = c.in-Some.held.object in
     subst (λ t. IsSettled (with_handle_to t c.in-Some-old.old))
     (sym (set_shown g.row.T-Kind.Denot (parts c.space.inside) c.space.view_is c.set_map.new.self c.args.process d c.in_ok-set_map.ensures.processes c.set_map.ensures.handles))
-    (was_mapped s c.args.process d (rising_shown c.space.view_is c.view-old.ensures.rising) c.requires.settled c.in-Some-old.old
+    (was_mapped s c.args.process d (rising_shown c.space.view_is c.view-old.ensures.rising) c.requires.between.settled c.in-Some-old.old
     (map_shown c.space.view_is c.args.process (Some c.in-Some-old.old) (sym c.view-old.ensures.local ∙ c.in-Some-old.is)))
 
 pub returns-clause-orderly : goal.returns-clause-orderly
@@ -41,7 +48,7 @@ returns-clause-orderly g c =
       | in_default-old w ↦
           subst (λ a. IsOrderly g.T.TypeSet.idle a)
           (sym (w.space-is ∙ set_shown g.row.T-Kind.Denot (parts c.space.inside) c.space.view_is c.set_map.new.self c.args.process d c.in_ok-set_map.ensures.processes c.set_map.ensures.handles))
-          (mapped_orderly s c.args.process d g.T.TypeSet.idle c.requires.orderly)
+          (mapped_orderly s c.args.process d g.T.TypeSet.idle c.requires.between.orderly)
     ]
 
 pub returns-clause-step : goal.returns-clause-step
@@ -55,7 +62,7 @@ returns-clause-step g c =
       | in_default-old w ↦
           w.space-is ∙ set
           ∙ sym (settled_itself g.T.TypeSet.procedures (with_map s c.args.process d)
-          (nothing_goes s c.args.process d (rising_shown c.space.view_is c.view-old.ensures.rising) c.requires.settled
+          (nothing_goes s c.args.process d (rising_shown c.space.view_is c.view-old.ensures.rising) c.requires.between.settled
           (map_shown c.space.view_is c.args.process None (sym c.view-old.ensures.local ∙ w.in_default-old.is))))
     ] in
     sets_map g.T.TypeSet.procedures s t c.args.process c.args.handle (Done c.status_alone-2.result) c.in-Some.held (sym c.is_live.ensures ∙ c.if-not-is_live.false) (sym c.in-Some.ensures)

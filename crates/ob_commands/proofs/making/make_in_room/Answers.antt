@@ -15,5 +15,5 @@ returns-in-Ok-2-clause-step g c =
     makes_given g.T.TypeSet.procedures s after c.args.process c.args.attrs c.in-Ok-2.value c.is_inherit.result c.is_inherit.ensures
     c.args.spot c.object_made-object.result c.is_some.result c.is_some.ensures
     (ap (λ x. x.permanent) c.object_made-object.ensures) (ap (λ x. x.exclusive) c.object_made-object.ensures) accepted.2 accepted.1
-    (making_of c.args.making) (Done c.with_handle.result) (ap (λ x. body_of_stored x.body) c.object_made-object.ensures ∙ c.in-Ok.ensures.made) c.in-Ok.ensures.accepted accepted.0
+    (making_of c.args.making c.args.shadow) (Done c.with_handle.result) (ap (λ x. body_of_stored x.body) c.object_made-object.ensures ∙ c.in-Ok.ensures.made) c.in-Ok.ensures.accepted accepted.0
     (ap Done c.with_handle.ensures) c.requires.settled

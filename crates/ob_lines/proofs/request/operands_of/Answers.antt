@@ -6,6 +6,9 @@ use Rattle.ob_lines.proofs.request.operands_of.Goals as goal
 pub returns-in-Dir-clause-none : goal.returns-in-Dir-clause-none
 returns-in-Dir-clause-none c = IfNone-map c.directory_of.result _ _ (no_request _ _ _ c.in-Dir.is) c.directory_of.ensures.none
 
+pub returns-in-Shadow-clause-none : goal.returns-in-Shadow-clause-none
+returns-in-Shadow-clause-none c = IfNone-map c.shadowed_of.result _ _ (no_request _ _ _ c.in-Shadow.is) c.shadowed_of.ensures.none
+
 pub returns-in-Link-clause-none : goal.returns-in-Link-clause-none
 returns-in-Link-clause-none c = IfNone-map c.link_of.result _ _ (no_request _ _ _ c.in-Link.is) c.link_of.ensures.none
 
