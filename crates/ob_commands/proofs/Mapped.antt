@@ -18,7 +18,7 @@ use Rattle.ob_model.specs.Grants.{first_refusal}
 use Rattle.ob_model.specs.Maps.{with_own_map, map_of, with_map}
 use Rattle.ob_model.specs.Procedures.{Procedures}
 use Rattle.ob_model.specs.Refusals.{IsRefused, Unless, answers}
-use Rattle.ob_model.specs.Settle.{IsSettled, settle, has_handle, has_name, is_kept, is_alive_itself, is_alive, is_permanent, is_pinned, is_mapped, holds_kept}
+use Rattle.ob_model.specs.Settle.{IsSettled, settle, has_handle, has_name, is_kept, is_alive_itself, is_permanent, is_pinned, is_mapped, holds_kept}
 use Rattle.ob_model.specs.Step.{SetsMap}
 use Rattle.ob_model.proofs.Finds.{find_none}
 use Rattle.ob_processes.specs.Running.{Running}

@@ -11,9 +11,14 @@ use Rattle.ob_model.specs.declared.state.Object.{Object}
 use Rattle.ob_model.specs.State.{State, is_directory, shadow_in, shadow_of, object_of, held_of}
 use Rattle.ob_model.specs.Grants.{first_refusal}
 use Rattle.ob_model.specs.Refusals.{IsRefused, Unless}
-use Rattle.ob_model.specs.Step.{WithShadow, shadow_refusals}
+use Rattle.ob_model.specs.declared.command.Place.TheVariants as place
+use Rattle.ob_model.specs.Creates.{Making, Creates, Makes, create_mode}
+use Rattle.ob_model.specs.Looks.{Look, LooksUp, most_reparses}
+use Rattle.ob_model.specs.Procedures.{Procedures}
+use Rattle.ob_model.specs.Step.{CreatesIn, WithShadow, shadow_refusals}
 use Rattle.ob_space.specs.Early.{is_shadow_refused}
 use Rattle.ob_space.specs.Roots.{root_of}
+use Rattle.ob_space.proofs.Naming.{with_root_done}
 use Rattle.ob_space.proofs.Stepping.{is_done}
 use Rattle.ob_commands.specs.Shadows.{shadow_refusal}
 
@@ -85,3 +90,22 @@ shadow_shown {K} {T} {F} {I} {s} {t} is o b found = sym (ap (λ (u : State K T F
     go : (x : Option (Object F I)) → is_some (option_and_then (λ y. shadow_in y.body) x) ≡ is_some (option_and_then shadow_in (option_map (λ y. y.body) x))
     go None = refl
     go (Some x) = refl
+
+module _ {K T F I : Type 0} (g : Procedures K T F I) (s t : State K T F I) (p attrs : ℕ) (shadow : Option ℕ) (making : Option ℕ → Making K) (answer : Answer) where
+  -- a create at a name whose shadow is refused
+  pub create_refused : (root at : Option ℕ) → root_of s p root ≡ Some at → (name : List ℕ) (status : Status) → shadow_refusal s p shadow ≡ Some status → IsRefused s status answer t
+      → CreatesIn g s p (place.At root name) attrs shadow making answer t
+  create_refused root at rooted name status is refused =
+      with_root_done s t p answer (λ o. WithShadow s p shadow answer t (Does o)) root at rooted (with_shadow_refused s p t answer shadow status is refused (Does at))
+    where
+      Does : Option ℕ → Option ℕ → Type 0
+      Does o d = (look : Look) × LooksUp g s p (create_mode attrs) most_reparses o name look × Creates g s p attrs (making d) look answer t
+
+  -- a create without a name whose shadow is fit
+  pub unnamed_created : (d : Option ℕ) → root_of s p shadow ≡ Some d → shadow_refusal s p shadow ≡ None → Makes g s p attrs (making d) None answer t
+      → CreatesIn g s p place.Unnamed attrs shadow making answer t
+  unnamed_created d leads fit made = with_shadow_done s p t answer shadow d leads fit (λ o. Makes g s p attrs (making o) None answer t) made
+
+  -- or is refused
+  pub unnamed_refused : (status : Status) → shadow_refusal s p shadow ≡ Some status → IsRefused s status answer t → CreatesIn g s p place.Unnamed attrs shadow making answer t
+  unnamed_refused status is refused = with_shadow_refused s p t answer shadow status is refused (λ o. Makes g s p attrs (making o) None answer t)

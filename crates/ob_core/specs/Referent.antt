@@ -12,7 +12,7 @@ use Rattle.ob_core.specs.declared.referent.Referent.TheVariants.{Directory, Link
 
 -- what is lent of an object is its body
 abbrev pub body_lent : {F I : Type 0} → Referent F I → Body F I
-body_lent (Directory shadow) = body.Directory shadow
+body_lent (Directory shadow) = body.Directory shadow.now
 body_lent (Link target) = body.Link target.now
 body_lent (Other face inner) = body.Other face.now inner.now
 

@@ -19,7 +19,7 @@ use ob_types::TypeSet;
 #[derive(Drop)]
 pub enum Referent<'a, F, I> {
     /// An object directory, with its shadow, where it has one.
-    Directory(Option<ObjId>),
+    Directory(&'a Option<ObjId>),
     /// A symbolic link, with the bytes of its target.
     Link(&'a [u8]),
     /// An object of the set.
@@ -48,7 +48,7 @@ fn lent<F, I>(body: &StoredBody<F, I>) -> Referent<'_, F, I>
     ensures { body_lent result ≡ body_of_stored body.now }
 {
     match body {
-        StoredBody::Directory(_, shadow) => Referent::Directory(*shadow),
+        StoredBody::Directory(_, shadow) => Referent::Directory(shadow),
         StoredBody::Link(target) => Referent::Link(target.as_slice()),
         StoredBody::Other { face, inner } => Referent::Other { face, inner },
     }
