@@ -1,6 +1,6 @@
 -- A table that two maps keep: what is found by a value, what is left when a handle goes, and what holds
 -- of it.
-use Rattle.std.proofs.Common.{◌≡◌, ◌≢◌, ◌∙◌, ℕ, ◌+◌, ◌<◌, ◌==◌, if◌then◌else◌, Bool, true, false, not, cond, List, [], ◌∷◌, ◌++◌, length, map, filter, find, get_or, Option, None, Some, option_map, All, refl, ap, sym, subst, arith, eqb-true, eq-eqb}
+use Rattle.std.proofs.Common.{◌≡◌, ◌≢◌, ◌∙◌, ℕ, ◌+◌, ◌<◌, ◌==◌, ltb, if◌then◌else◌, Bool, true, false, not, ◌&&◌, cond, List, [], ◌∷◌, ◌++◌, length, map, filter, find, get_or, slice_get, Option, None, Some, option_map, All, refl, ap, sym, subst, arith, eqb-true, eq-eqb}
 use Rattle.std.proofs.lemmas.Bool.{false≢true}
 use Rattle.std.proofs.lemmas.Bool.Decides.{nat_tests}
 use Rattle.std.proofs.lemmas.List.{map-append, length-append}
@@ -12,8 +12,10 @@ use Rattle.std.specs.List.{AllPairs, AllByRecursion}
 use Rattle.std.specs.List.Sorted.{IsStrictlySortedBy}
 use Rattle.std.specs.Map.{keys_of, remove_entry}
 use Rattle.std.specs.Option.{option_and_then, is_some}
-use Rattle.std.specs.declared.cmp.Ordering.TheVariants.{Less}
-use Rattle.std.specs.Ordering.{nat_cmp}
+use Rattle.std.specs.BTreeMap.Range.{entries_between}
+use Rattle.std.specs.declared.cmp.Ordering.TheVariants.{Less, Equal, Greater}
+use Rattle.std.specs.declared.ops.Bound.TheVariants.{Excluded, Unbounded}
+use Rattle.std.specs.Ordering.{nat_cmp, is_lt}
 use Rattle.ob_model.specs.declared.state.Held.{Held}
 use Rattle.ob_model.specs.Grants.{IsHandleValue}
 use Rattle.ob_model.proofs.Finds.{filter_all}
@@ -44,7 +46,7 @@ find_none f test (x ∷ xs) none =
     ∙ find_none f test xs (All-tail (λ x. test (f x) ≡ false) x xs none)
 
 -- tests that agree find the same
-find_agrees : {X Y : Type 0} (f : X → Y) (test : Y → Bool) (other : X → Bool) (xs : List X) → All (λ x. test (f x) ≡ other x) xs
+pub find_agrees : {X Y : Type 0} (f : X → Y) (test : Y → Bool) (other : X → Bool) (xs : List X) → All (λ x. test (f x) ≡ other x) xs
     → find test (map f xs) ≡ option_map f (find other xs)
 find_agrees f test other [] same = refl
 find_agrees {X} {Y} f test other (x ∷ xs) same =
@@ -76,6 +78,18 @@ none_below {X} key (e ∷ es) below =
   where
     other : (a : ℕ) → a < key → (a == key) ≡ false
     other a less = grind (arith, nat_tests)
+
+-- the first entry of the range above a number is the first under a greater one
+pub first_above : {X : Type 0} (number : ℕ) (es : List (ℕ × X)) → slice_get (entries_between nat_cmp (Excluded number) Unbounded es) 0 ≡ find (λ e. ltb number e.0) es
+first_above number [] = refl
+first_above {X} number (e ∷ es) = go (ltb number e.0) (number == e.0) (first_above number es)
+  where
+    go : (less equal : Bool) → slice_get (entries_between nat_cmp (Excluded number) Unbounded es) 0 ≡ find (λ (x : ℕ × X). ltb number x.0) es
+        → slice_get (cond (is_lt (cond less Less (cond equal Equal Greater)) && true) (e ∷ entries_between nat_cmp (Excluded number) Unbounded es) (entries_between nat_cmp (Excluded number) Unbounded es)) 0
+        ≡ cond less (Some e) (find (λ (x : ℕ × X). ltb number x.0) es)
+    go true equal more = refl
+    go false true more = more
+    go false false more = more
 
 -- ---- the table
 
@@ -174,6 +188,17 @@ module _ (by_order : List (ℕ × Held)) (by_value : List (ℕ × ℕ)) (is : Is
       → map (λ e. e.1) left ≡ without now value
   something_taken left order leads taken =
       without_one by_order by_value is left key order leads taken ∙ ap (λ hs. without hs key) same ∙ ap (without now) is_value
+
+-- the first entry of the range above an order has the first handle that was opened after it
+pub opened_after : (by_order : List (ℕ × Held)) (by_value : List (ℕ × ℕ)) → IsIndexed by_order by_value → (now : List Held) → map (λ e. e.1) by_order ≡ now
+    → (order : ℕ) (above : List (ℕ × Held)) → above ≡ entries_between nat_cmp (Excluded order) Unbounded by_order
+    → option_map (λ e. e.1) (slice_get above 0) ≡ find (λ h. ltb order h.order) now
+opened_after by_order by_value is now same order above is_above =
+    ap (λ es. option_map (λ (e : ℕ × Held). e.1) (slice_get es 0)) is_above
+    ∙ ap (option_map (λ (e : ℕ × Held). e.1)) (first_above order by_order)
+    ∙ sym (find_agrees (λ (e : ℕ × Held). e.1) (λ h. ltb order h.order) (λ e. ltb order e.0) by_order
+    (λ k d below. ap (ltb order) (is.handles (get_or by_order k d).0 (get_or by_order k d).1 (there by_order by_value is k d below)).0))
+    ∙ ap (find (λ h. ltb order h.order)) same
 
 -- ---- a handle comes, or goes
 

@@ -12,6 +12,7 @@ use ob_model::Held;
 use std::alloc::{AllocError, Global};
 use std::collections::BTreeMap;
 use std::marker::Model;
+use std::ops::Bound;
 
 /// A handle table whose handles lie in a map by their orders of opening, beside a map from their values
 /// to these orders. A new handle gets the value behind the greatest one in use, or, where there is none
@@ -108,6 +109,12 @@ impl HandleTable for OpenTable {
 
     fn oldest(&self) -> Option<Held> {
         let (_, held) = self.by_order.first_key_value()?;
+        Some(*held)
+    }
+
+    fn opened_after(&self, order: u64) -> Option<Held> {
+        let after = (Bound::Excluded(order), Bound::Unbounded);
+        let (_, held) = self.by_order.range(after).next()?;
         Some(*held)
     }
 

@@ -1,7 +1,7 @@
 //! What every handle table promises.
 
 ghost use Rattle.std.specs.Prelude.{◌≡◌, ◌<◌, ◌≤◌, ◌==◌, List, [], ◌∷◌, ◌++◌, Err};
-ghost use Rattle.std.specs.Prelude.{◌⊎◌, length, filter, All, IfOk, IfErr, OnOk, OnErr};
+ghost use Rattle.std.specs.Prelude.{◌⊎◌, length, filter, nat_lt, All, IfOk, IfErr, OnOk, OnErr};
 ghost use Rattle.std.specs.List.{find, slice_get};
 ghost use Rattle.ob_base.specs.declared.fault.Fault.TheVariants.{Memory, Refused};
 ghost use Rattle.ob_base.specs.declared.status.Status.TheVariants.{InsufficientResources};
@@ -94,6 +94,11 @@ pub trait HandleTable: Sized + Drop + Send {
     /// memory.
     fn oldest(&self) -> Option<Held>
         ensures { result ≡ slice_get (handles self.now) 0 };
+
+    /// The first handle that was opened after an order of opening, and `None` exactly where there is none.
+    /// Takes no memory.
+    fn opened_after(&self, order: u64) -> Option<Held>
+        ensures { result ≡ find (λ h. nat_lt order h.order) (handles self.now) };
 
     /// The handles that a child inherits, in the order in which they were opened. The only error is want
     /// of memory.

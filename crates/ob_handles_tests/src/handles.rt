@@ -1,5 +1,5 @@
-//! Handle tables: which value a new handle gets, and tables that are full, thinned and long in use. All but the test is over
-//! any type of table.
+//! Handle tables: which value a new handle gets, tables that are full, thinned and long in use, and handles listed one after
+//! another. All but the tests is over any type of table.
 
 ghost use Rattle.std.specs.Prelude.{◌<◌, All};
 
@@ -92,6 +92,14 @@ impl<H: HandleTable> Played<H> {
     fn oldest(&self) -> Option<u32> {
         match self.table.oldest() {
             Some(held) => Some(held.value.0),
+            None => None,
+        }
+    }
+
+    // The order of the first handle that was opened after an order.
+    fn after(&self, order: u64) -> Option<u64> {
+        match self.table.opened_after(order) {
+            Some(held) => Some(held.order),
             None => None,
         }
     }
@@ -226,6 +234,116 @@ fn is_turned<H: HandleTable>(all: &mut Played<H>, last: u32) -> bool {
         && all.table.len() == 2
 }
 
+// A listing of handles, each call with the order of the handle before.
+#[derive(Clone, Copy)]
+struct Listing {
+    // How many handles come.
+    opened: u16,
+    // The values of those that go before the listing.
+    gone: &'static [u32],
+    // The order after which a handle goes, and the value of that handle; 0 for none.
+    closed: (u64, u32),
+    // The orders that are listed.
+    listed: &'static [u64],
+}
+
+const LISTINGS: [Listing; 10] = [
+    Listing {
+        opened: 0,
+        gone: &[],
+        closed: (0, 0),
+        listed: &[],
+    },
+    Listing {
+        opened: 3,
+        gone: &[],
+        closed: (0, 0),
+        listed: &[1, 2, 3],
+    },
+    Listing {
+        opened: 3,
+        gone: &[4],
+        closed: (0, 0),
+        listed: &[2, 3],
+    },
+    Listing {
+        opened: 6,
+        gone: &[8, 16, 12],
+        closed: (0, 0),
+        listed: &[1, 5, 6],
+    },
+    Listing {
+        opened: 4,
+        gone: &[12, 16],
+        closed: (0, 0),
+        listed: &[1, 2],
+    },
+    Listing {
+        opened: 3,
+        gone: &[8, 4, 12],
+        closed: (0, 0),
+        listed: &[],
+    },
+    Listing {
+        opened: 5,
+        gone: &[],
+        closed: (2, 8),
+        listed: &[1, 2, 3, 4, 5],
+    },
+    Listing {
+        opened: 5,
+        gone: &[],
+        closed: (2, 4),
+        listed: &[1, 2, 3, 4, 5],
+    },
+    Listing {
+        opened: 5,
+        gone: &[16],
+        closed: (2, 12),
+        listed: &[1, 2, 5],
+    },
+    Listing {
+        opened: 4,
+        gone: &[],
+        closed: (3, 16),
+        listed: &[1, 2, 3],
+    },
+];
+
+// Whether a new table lists its handles so: each once, in the order of opening.
+fn lists<H: HandleTable>(alloc: Global, listing: Listing) -> bool {
+    let mut all: Played<H> = Played::new(alloc);
+    if !all.fills(listing.opened) {
+        return false;
+    }
+    for value in listing.gone {
+        if all.take(*value).is_none() {
+            return false;
+        }
+    }
+    let mut order = 0;
+    for next in listing.listed {
+        if all.after(order) != Some(*next) {
+            return false;
+        }
+        order = *next;
+        if order == listing.closed.0 && all.take(listing.closed.1).is_none() {
+            return false;
+        }
+    }
+    all.after(order).is_none()
+}
+
+// The place of the first listing that a table doesn't give.
+fn first_unlisted<H: HandleTable>(alloc: Global) -> Option<usize> {
+    for (place, listing) in LISTINGS.iter().enumerate() {
+        if !lists::<H>(alloc, *listing) {
+            return Some(place);
+        }
+    }
+    None
+}
+
 // Plays a life of a new table: whether all is as the life says.
 fn plays<H: HandleTable>(alloc: Global, life: &str, own: Own) -> bool {
     let mut all: Played<H> = Played::new(alloc);
@@ -257,4 +375,10 @@ fn open_tables_are_full_thinned_and_long_in_use(rt: HostRuntime) {
 #[test]
 fn slab_tables_are_full_thinned_and_long_in_use(rt: HostRuntime) {
     assert_eq!(rt; first_other::<SlabTable>(rt.alloc(), SLAB), None);
+}
+
+#[test]
+fn tables_list_their_handles_in_the_order_of_opening(rt: HostRuntime) {
+    assert_eq!(rt; first_unlisted::<OpenTable>(rt.alloc()), None);
+    assert_eq!(rt; first_unlisted::<SlabTable>(rt.alloc()), None);
 }

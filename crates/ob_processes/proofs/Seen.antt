@@ -1,5 +1,5 @@
 -- What the calls of the map give, of the processes as they are seen.
-use Rattle.std.proofs.Common.{◌≡◌, ◌∙◌, ℕ, ◌<◌, ◌≤◌, ◌==◌, ◌&&◌, Bool, true, false, not, cond, List, [], ◌∷◌, length, filter, find, map, count_by, get_or, Option, None, Some, option_map, All, refl, ap, sym, subst, arith}
+use Rattle.std.proofs.Common.{◌≡◌, ◌∙◌, ℕ, ◌<◌, ◌≤◌, ◌==◌, ◌&&◌, ltb, Bool, true, false, not, cond, List, [], ◌∷◌, length, filter, find, map, count_by, get_or, Option, None, Some, option_map, All, refl, ap, sym, subst, arith}
 use Rattle.std.proofs.lemmas.Bool.{false≢true, ne_eqb}
 use Rattle.std.proofs.lemmas.List.Elements.{All-nil, All-cons, All-head, All-tail, All-weaker}
 use Rattle.std.proofs.lemmas.List.Sums.{length-filter}
@@ -8,7 +8,9 @@ use Rattle.std.specs.BTreeMap.{is_at}
 use Rattle.std.proofs.lemmas.List.Kept.{AllPairs-cons}
 use Rattle.std.proofs.lemmas.Bool.Decides.{nat_tests}
 use Rattle.std.proofs.lemmas.Map.Keys.{sorted_head, sorted_tail}
+use Rattle.std.specs.BTreeMap.Range.{entries_between}
 use Rattle.std.specs.declared.cmp.Ordering.TheVariants.{Less}
+use Rattle.std.specs.declared.ops.Bound.TheVariants.{Excluded, Unbounded}
 use Rattle.std.specs.List.{slice_get, AllByRecursion, AllPairs}
 use Rattle.std.specs.List.Sorted.{IsStrictlySortedBy}
 use Rattle.std.specs.Map.{keys_of}
@@ -19,6 +21,7 @@ use Rattle.ob_model.specs.declared.state.Process.{Process}
 use Rattle.ob_model.specs.Closing.{is_handle}
 use Rattle.ob_model.proofs.Finds.{filter_all, find_none}
 use Rattle.ob_model.proofs.Ids.{Differ-from_rising, lookup-id}
+use Rattle.ob_handles.proofs.Tables.{find_agrees, first_above}
 use Rattle.ob_devmap.specs.Maps.{Directories, map_in}
 use Rattle.ob_processes.specs.Running.{Running, Entries, process_of_entry, processes_of, OnlyLiveHaveMaps, handles_of, seen, IsRunning}
 use Rattle.ob_processes.proofs.ByOrder.{fewer_than_orders}
@@ -90,8 +93,11 @@ module _ (maps : Directories) (es : Entries) (kept : ℕ) (is : IsRunning es kep
       pub in_found : filter (is_of p) now.handles ≡ handles_in o
       in_found = of_now ∙ ap handles_in found
 
+      pub first_seen : (test : Held → Bool) → find test (handles_in o) ≡ find (λ h. is_of p h && test h) now.handles
+      first_seen test = sym (find_both (is_of p) test now.handles ∙ ap (find test) in_found)
+
       pub get_seen : (value : ℕ) → find (λ h. h.value == value) (handles_in o) ≡ find (is_handle p value) now.handles
-      get_seen value = sym (find_both (is_of p) (λ h. h.value == value) now.handles ∙ ap (find (λ h. h.value == value)) in_found)
+      get_seen value = first_seen (λ h. h.value == value)
 
       pub oldest_seen : slice_get (handles_in o) 0 ≡ find (is_of p) now.handles
       oldest_seen = sym (find_first (is_of p) now.handles ∙ ap (λ hs. slice_get hs 0) in_found)
@@ -101,6 +107,21 @@ module _ (maps : Directories) (es : Entries) (kept : ℕ) (is : IsRunning es kep
 
       pub live_seen : is_some o ≡ is_some (find (λ x. x.number == p) now.processes)
       live_seen = sym (ap is_some process_now ∙ map_some maps p (at es key) ∙ ap is_some found)
+
+    -- the first entry of the range above the number has that of the next process
+    pub next_seen : (above : Entries) → above ≡ entries_between nat_cmp (Excluded key) Unbounded es
+        → option_map (λ e. e.0) (slice_get above 0) ≡ option_map (λ x. x.number) (find (λ x. ltb p x.number) now.processes)
+    next_seen above is_above =
+        ap (λ xs. option_map (λ (e : ℕ × List Held). e.0) (slice_get xs 0)) is_above
+        ∙ ap (option_map (λ (e : ℕ × List Held). e.0)) (first_above key es)
+        ∙ number_of (find (λ e. ltb key e.0) es)
+        ∙ ap (option_map (λ (x : Process). x.number))
+        (sym (find_agrees (process_of_entry maps) (λ x. ltb key x.number) (λ e. ltb key e.0) es (λ k d below. refl))
+        ∙ ap (find (λ (x : Process). ltb key x.number)) processes_now ∙ ap (λ n. find (λ (x : Process). ltb n x.number) now.processes) is_p)
+      where
+        number_of : (o : Option (ℕ × List Held)) → option_map (λ e. e.0) o ≡ option_map (λ x. x.number) (option_map (process_of_entry maps) o)
+        number_of None = refl
+        number_of (Some e) = refl
 
     -- the map under the number is that of the process, since no other has one
     pub map_seen : OnlyLiveHaveMaps maps es → map_in maps p ≡ option_and_then (λ x. x.map) (find (λ x. x.number == p) now.processes)

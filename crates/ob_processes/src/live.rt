@@ -1,7 +1,7 @@
 //! One live process.
 
 ghost use Rattle.std.specs.Prelude.{◌≡◌, ◌≢◌, ◌+◌, ◌<◌, ◌≤◌, ◌==◌, if◌then◌else◌, [], ◌∷◌, ◌++◌, Err, true};
-ghost use Rattle.std.specs.Prelude.{◌⊎◌, length, filter, count_by, All, AllPairs, IfSome, IfOk, IfErr, OnOk, OnErr};
+ghost use Rattle.std.specs.Prelude.{◌⊎◌, length, filter, nat_lt, count_by, All, AllPairs, IfSome, IfOk, IfErr, OnOk, OnErr};
 ghost use Rattle.std.specs.List.{find, slice_get};
 ghost use Rattle.std.specs.Option.{is_some};
 ghost use Rattle.ob_base.specs.declared.fault.Fault.TheVariants.{Memory, Refused};
@@ -77,6 +77,13 @@ impl<H: HandleTable> Live<H> {
         ensures { result ≡ slice_get self.now 0 }
     {
         self.table.oldest()
+    }
+
+    /// The first of its handles that was opened after an order of opening.
+    pub(crate) fn opened_after(&self, order: u64) -> Option<Held>
+        ensures { result ≡ find (λ h. nat_lt order h.order) self.now }
+    {
+        self.table.opened_after(order)
     }
 
     /// Those of its handles that a child inherits.

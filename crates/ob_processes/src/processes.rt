@@ -1,9 +1,9 @@
 //! The live processes.
 
 ghost use Rattle.std.specs.Prelude.{◌≡◌, ◌≢◌, ◌+◌, ◌<◌, ◌≤◌, ◌==◌, ◌&&◌, not, [], ◌∷◌, ◌++◌, None, Some, Err, true, false};
-ghost use Rattle.std.specs.Prelude.{◌⊎◌, length, filter, map, count_by, All, AllPairs, IfSome, IfOk, IfErr, OnOk, OnErr};
+ghost use Rattle.std.specs.Prelude.{◌⊎◌, length, filter, nat_lt, map, count_by, All, AllPairs, IfSome, IfOk, IfErr, OnOk, OnErr};
 ghost use Rattle.std.specs.List.{find, list_any};
-ghost use Rattle.std.specs.Option.{is_some, option_and_then, option_map_or};
+ghost use Rattle.std.specs.Option.{is_some, option_and_then, option_map, option_map_or};
 ghost use Rattle.ob_base.specs.declared.fault.Fault.TheVariants.{Memory, Refused};
 ghost use Rattle.ob_base.specs.declared.status.Status.TheVariants.{InsufficientResources};
 ghost use Rattle.ob_model.specs.State.{global_id, greatest_number, most_handles};
@@ -23,6 +23,7 @@ use ob_model::Held;
 use std::alloc::{AllocError, Global};
 use std::collections::BTreeMap;
 use std::marker::Model;
+use std::ops::Bound;
 
 /// The live processes, each with its device map and its handle table. A contract sees the processes by
 /// rising numbers, and the handles of all of them in the order in which they were opened, as the
@@ -136,6 +137,19 @@ impl<H: HandleTable> Processes<H> {
         self.live.contains_key(&process.0)
     }
 
+    /// The live process with the least number above that of a process, be that one live or not; `None`
+    /// exactly where there is none. Takes no memory.
+    ///
+    /// Source: the numbers of processes are this profile.
+    pub fn live_after(&self, process: Proc) -> Option<Proc>
+        ensures { result ≡ option_map (λ x. x.number)
+            (find (λ x. nat_lt process x.number) self.now.processes) }
+    {
+        let after = (Bound::Excluded(process.0), Bound::Unbounded);
+        let (number, _) = self.live.range(after).next()?;
+        Some(Proc(*number))
+    }
+
     /// How many processes are live. Takes no memory.
     pub fn count(&self) -> usize
         ensures { result ≡ length self.now.processes }
@@ -218,6 +232,17 @@ impl<H: HandleTable> Processes<H> {
         ensures { result ≡ find (λ h. h.process == process) self.now.handles }
     {
         self.live.get(&process.0)?.oldest()
+    }
+
+    /// Of the handles of a process the first that was opened after an order of opening, and `None` exactly
+    /// where it has none. Takes no memory.
+    ///
+    /// Source: the orders of opening are this profile.
+    pub fn opened_after(&self, process: Proc, order: u64) -> Option<Held>
+        ensures { result
+            ≡ find (λ h. h.process == process && nat_lt order h.order) self.now.handles }
+    {
+        self.live.get(&process.0)?.opened_after(order)
     }
 
     /// The handles of a process that a child inherits, in the order in which they were opened, with values

@@ -4,3 +4,4 @@ pub mod Stale
 pub mod Tables
 pub mod Inside
 pub mod Foreign
+pub mod Later

@@ -1,6 +1,7 @@
 //! The openings of a table's handles, in their order, beside the rows in which the handles lie.
 
-ghost use Rattle.std.specs.Prelude.{◌≡◌, ◌+◌, ◌*◌, ◌≤◌, filter, is_some, length};
+ghost use Rattle.std.specs.Prelude.{◌≡◌, ◌+◌, ◌*◌, ◌≤◌, filter, is_some, length, nat_lt};
+ghost use Rattle.std.specs.List.{find};
 ghost use Rattle.slab.specs.Slab.{get};
 ghost use Rattle.ob_slab_table.specs.Openings.{held_by, handles_of, AreRising, LeadsToFirst, NoneIsNewer, OnlyStaleGo};
 
@@ -22,6 +23,18 @@ pub(crate) fn held_by(rows: &Slab<Held>, opening: Opening) -> Option<Held>
 {
     let held = rows.get(opening.key)?;
     (held.order == opening.order).then_some(*held)
+}
+
+/// The first handle that was opened after an order; `None` exactly where there is none. Takes no memory.
+///
+/// It searches for the first opening after that order, and passes those that are stale.
+pub(crate) fn held_after(opened: &VecDeque<Opening>, rows: &Slab<Held>, order: u64) -> Option<Held>
+    requires { AreRising opened.now.items }
+    ensures { result ≡ find (λ h. nat_lt order h.order) (handles_of (get rows.now) opened.now.items) }
+{
+    let before = opened.partition_point(|opening| opening.order <= order);
+    let mut handles = opened.range(before..).filter_map(|o| held_by(rows, *o));
+    handles.next()
 }
 
 /// Drops stale openings, so that the first and the last that are left lead to handles, and that there

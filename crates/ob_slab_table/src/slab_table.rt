@@ -4,7 +4,7 @@ ghost use Rattle.std.specs.Prelude.{◌≡◌, ◌<◌, length};
 ghost use Rattle.ob_model.specs.State.{most_handles};
 ghost use Rattle.ob_handles.specs.Table.{IsUnused};
 
-use crate::openings::{Opening, drop_stale, held_by};
+use crate::openings::{Opening, drop_stale, held_after, held_by};
 use crate::values::{forget, key_of, next_unused, note, value_of_row};
 use indexmap::IndexMap;
 use ob_base::{Fault, Handle, ObjId, Proc, Status};
@@ -27,7 +27,8 @@ use std::marker::Model;
 /// `get`, `len` and `oldest` take a time that doesn't grow with the handles. So do `grant`, `put` and
 /// `take`, taken together over many calls, but for a grant that searches: it passes values in use, each once
 /// in a circle. None of these hashes where each handle, a new one too, has the value of its row.
-/// `inheritable` passes at most two openings for each handle, and one more. (this profile)
+/// `opened_after` takes a time that grows with their logarithm, and passes the stale openings before the handle
+/// that it gives. `inheritable` passes at most two openings for each handle, and one more. (this profile)
 #[derive(Drop)]
 pub struct SlabTable {
     rows: Slab<Held>,
@@ -146,6 +147,10 @@ impl HandleTable for SlabTable {
     fn oldest(&self) -> Option<Held> {
         let oldest = self.opened.front()?;
         held_by(&self.rows, *oldest)
+    }
+
+    fn opened_after(&self, order: u64) -> Option<Held> {
+        held_after(&self.opened, &self.rows, order)
     }
 
     fn inheritable(&self, alloc: Global) -> Result<Vec<Held>, AllocError> {
