@@ -150,10 +150,31 @@ static bool is_none(const struct ntns_deletion *deletion)
 	return deletion->type == 0 && deletion->user_data == 0 && deletion->id == 0 && !deletion->parsed;
 }
 
+/* Whether each field of a handle is 0. */
+static bool is_no_handle(const struct ntns_handle *handle)
+{
+	return handle->value == 0 && handle->type == 0 && handle->user_data == 0 && handle->id == 0 && !handle->inherit && !handle->permanent && !handle->exclusive &&
+	       handle->handles == 0;
+}
+
+/* Whether a query and a listing of handles report none, and leave the context. */
+static bool reports_no_handle(ntns *ns, uint32_t process, uint32_t value, ntns_status queried, ntns_status listed, uint64_t context)
+{
+	struct ntns_handle handle;
+	uint64_t at = context;
+
+	memset(&handle, 0x5A, sizeof handle);
+	if (ntns_query_handle(ns, process, value, &handle) != queried || !is_no_handle(&handle))
+		return false;
+	memset(&handle, 0x5A, sizeof handle);
+	return ntns_next_handle(ns, process, &at, &handle) == listed && at == context && is_no_handle(&handle);
+}
+
 static void closed_namespaces(void)
 {
 	ntns ns = NTNS_CLOSED;
 	struct ntns_deletion deletion;
+	uint32_t process = 5;
 
 	ntns_close(&ns);
 	hold(is_closed(&ns), "a closed namespace is closed again", 0);
@@ -161,6 +182,8 @@ static void closed_namespaces(void)
 		refused(&ns, 1, 4, S(INVALID_PARAMETER), false);
 		memset(&deletion, 0x5A, sizeof deletion);
 		hold(ntns_next_deletion(&ns, &deletion) == S(INVALID_PARAMETER) && is_none(&deletion), "a closed one reports no deletion", round);
+		hold(reports_no_handle(&ns, 1, 4, S(INVALID_PARAMETER), S(INVALID_PARAMETER), 3), "nor a handle", round);
+		hold(ntns_next_process(&ns, &process) == S(INVALID_PARAMETER) && process == 5, "nor a process", round);
 		hold(is_closed(&ns), "what is refused leaves it closed", round);
 		hold(ntns_open(&ns) == S(SUCCESS), "it is opened", round);
 		ntns before = ns;
@@ -451,6 +474,56 @@ static void handles_and_processes(void)
 	ntns_close(&ns);
 }
 
+/* Lists the handles of a process from a context on, as their values, at most eight; how many there are. */
+static size_t listed(ntns *ns, uint32_t process, uint64_t context, uint32_t values[8])
+{
+	struct ntns_handle handle;
+	size_t count = 0;
+
+	while (count < 8 && ntns_next_handle(ns, process, &context, &handle) == S(SUCCESS))
+		values[count++] = handle.value;
+	return count;
+}
+
+static void handles_listed(void)
+{
+	ntns ns = opened();
+	uint32_t directory, link, event, again, child, others, number = 0, values[8];
+	uint64_t context = 0, id, user_data;
+	struct ntns_handle handle;
+
+	hold(ntns_next_process(&ns, &number) == S(SUCCESS) && number == 1, "the first process is listed", 0);
+	hold(ntns_next_process(&ns, &number) == S(NO_MORE_ENTRIES) && number == 1, "and no other", 0);
+	hold(reports_no_handle(&ns, 1, 4, S(INVALID_HANDLE), S(NO_MORE_ENTRIES), 0), "it has no handle", 0);
+	ntns_create_directory(&ns, 1, 0, TEXT("\\D"), NTNS_OBJ_PERMANENT | NTNS_OBJ_INHERIT, &directory);
+	ntns_create_link(&ns, 1, 0, TEXT("\\L"), 0, TEXT("\\D"), &link);
+	ntns_create_object(&ns, 1, directory, TEXT("E"), NTNS_OBJ_EXCLUSIVE, NTNS_TYPE_EVENT, 70, &event);
+	hold(ntns_query_object(&ns, 1, directory, &number, &user_data, &id) == S(SUCCESS), "a directory has an id", 0);
+	hold(ntns_next_handle(&ns, 1, &context, &handle) == S(SUCCESS) && handle.value == directory && handle.type == NTNS_TYPE_DIRECTORY && handle.id == id && handle.inherit &&
+	     handle.permanent && !handle.exclusive && handle.handles == 1, "handles are listed from the oldest on", 0);
+	ntns_close_handle(&ns, 1, directory);
+	ntns_open_directory(&ns, 1, 0, TEXT("\\D"), 0, &again);
+	hold(listed(&ns, 1, context, values) == 3 && values[0] == link && values[1] == event && values[2] == again, "a close between two calls skips none, and a new one is the last", 0);
+	hold(ntns_next_handle(&ns, 1, &context, &handle) == S(SUCCESS) && handle.value == link && handle.type == NTNS_TYPE_SYMBOLIC_LINK && handle.user_data == 0 && !handle.inherit &&
+	     !handle.permanent, "a link is listed", 0);
+	hold(ntns_query_handle(&ns, 1, event | 3, &handle) == S(SUCCESS) && handle.value == event && handle.type == NTNS_TYPE_EVENT && handle.user_data == 70 && handle.id == 1 &&
+	     handle.exclusive && !handle.permanent, "the low bits of a handle don't count in a query", 0);
+	hold(ntns_new_process(&ns, 1, true, &child) == S(SUCCESS), "a child begins", 0);
+	hold(listed(&ns, child, 0, values) == 0, "it inherits what children inherit alone", 0);
+	hold(ntns_duplicate(&ns, 1, again, child, true, &others) == S(SUCCESS), "a handle is handed on", 0);
+	hold(ntns_query_handle(&ns, child, others, &handle) == S(SUCCESS) && handle.handles == 2 && handle.inherit, "handles are counted over all processes", 0);
+	number = 0;
+	hold(ntns_next_process(&ns, &number) == S(SUCCESS) && number == 1 && ntns_next_process(&ns, &number) == S(SUCCESS) && number == child &&
+	     ntns_next_process(&ns, &number) == S(NO_MORE_ENTRIES) && number == child, "processes are listed by their numbers", 0);
+	hold(ntns_exit_process(&ns, child) == S(SUCCESS), "a process ends", 0);
+	hold(reports_no_handle(&ns, child, others, S(INVALID_HANDLE), S(NO_MORE_ENTRIES), 0), "and has no handle any more", 0);
+	number = 1;
+	hold(ntns_next_process(&ns, &number) == S(NO_MORE_ENTRIES) && number == 1, "nor is it listed", 0);
+	context = UINT64_MAX;
+	hold(reports_no_handle(&ns, 1, 0, S(INVALID_HANDLE), S(NO_MORE_ENTRIES), UINT64_MAX), "nothing follows the last context", 0);
+	ntns_close(&ns);
+}
+
 static void two_namespaces(void)
 {
 	ntns one = opened(), other = opened();
@@ -482,6 +555,7 @@ int main(void)
 	types();
 	attributes();
 	handles_and_processes();
+	handles_listed();
 	two_namespaces();
 	printf("%d passed, %d failed\n", passed, failed);
 	return failed != 0;

@@ -117,6 +117,44 @@ INSTEAD(ntns_status, ntns_next_deletion, ntns *ns, struct ntns_deletion *deletio
 	return status;
 }
 
+#elif defined LISTING_SKIPS_AFTER_A_CLOSE
+/* Takes the context for the number of the handles that were listed. */
+INSTEAD(ntns_status, ntns_next_handle, ntns *ns, uint32_t process, uint64_t *context, struct ntns_handle *handle)
+{
+	uint64_t at = 0;
+	for (uint64_t count = 0; count < *context && count < 64; count++)
+		__real_ntns_next_handle(ns, process, &at, handle);
+	ntns_status status = __real_ntns_next_handle(ns, process, &at, handle);
+	*context += status == S(SUCCESS);
+	return status;
+}
+
+#elif defined COUNTS_HANDLES_OF_ONE_PROCESS
+INSTEAD(ntns_status, ntns_query_handle, ntns *ns, uint32_t process, uint32_t value, struct ntns_handle *handle)
+{
+	struct ntns_handle other;
+	uint64_t context = 0;
+	ntns_status status = __real_ntns_query_handle(ns, process, value, handle);
+	if (status == S(SUCCESS)) {
+		handle->handles = 0;
+		while (ntns_next_handle(ns, process, &context, &other) == S(SUCCESS))
+			handle->handles += other.id == handle->id;
+	}
+	return status;
+}
+
+#elif defined ENDED_PROCESS_IS_LISTED
+INSTEAD(ntns_status, ntns_next_process, ntns *ns, uint32_t *process)
+{
+	uint32_t before = *process;
+	ntns_status status = __real_ntns_next_process(ns, process);
+	if (status == S(NO_MORE_ENTRIES) && before == 1) {
+		*process = 2;
+		return S(SUCCESS);
+	}
+	return status;
+}
+
 #elif defined WRITES_PAST_THE_ROOM
 INSTEAD(ntns_status, ntns_query_name, ntns *ns, uint32_t process, uint32_t handle, char *buffer, size_t capacity, size_t *length)
 {

@@ -323,6 +323,38 @@ ntns_status ntns_exit_process(ntns *ns, uint32_t process);
  */
 ntns_status ntns_query_object(ntns *ns, uint32_t process, uint32_t handle, uint32_t *type, uint64_t *user_data, uint64_t *id);
 
+/* A handle of a process. */
+struct ntns_handle {
+	uint32_t value;
+	uint32_t type;
+	uint64_t user_data; /* of its object, as of ntns_query_object */
+	uint64_t id;        /* likewise */
+	bool inherit;       /* children of the process inherit it */
+	bool permanent;     /* its object is permanent */
+	bool exclusive;     /* its object is exclusive */
+	uint32_t handles;   /* to its object, of all processes */
+};
+
+/*
+ * NtQueryObject with ObjectBasicInformation: a handle, its object and the object's attributes. It takes no memory.
+ * INVALID_PARAMETER (closed), INVALID_HANDLE (also of a process that is gone); then each field is 0.
+ */
+ntns_status ntns_query_handle(ntns *ns, uint32_t process, uint32_t value, struct ntns_handle *handle);
+
+/*
+ * NtQuerySystemInformation with SystemHandleInformation, of one process: the first handle that was opened after `context`, 0 at first,
+ * which becomes that of the handle. So handles are listed in the order in which they were opened, each that stays open once, whatever is opened and
+ * closed between the calls. It takes no memory.
+ * INVALID_PARAMETER (closed), NO_MORE_ENTRIES (none is left, or the process is gone); then each field is 0, and `context` stays.
+ */
+ntns_status ntns_next_handle(ntns *ns, uint32_t process, uint64_t *context, struct ntns_handle *handle);
+
+/*
+ * Likewise of the live processes: the one of the least number above `process`, 0 at first, which becomes that number. It takes no memory.
+ * INVALID_PARAMETER (closed), NO_MORE_ENTRIES (none is left); then `process` stays.
+ */
+ntns_status ntns_next_process(ntns *ns, uint32_t *process);
+
 /* An object of the caller's that was deleted. */
 struct ntns_deletion {
 	uint32_t type;

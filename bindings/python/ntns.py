@@ -119,6 +119,12 @@ class _Row(ctypes.Structure):
     _fields_ = [("context", c_uint64), ("type", c_uint32), ("name", c_uint32), ("length", c_uint32)]
 
 
+class _Handle(ctypes.Structure):
+    """A handle of a process."""
+
+    _fields_ = [("value", c_uint32), ("type", c_uint32), ("user_data", c_uint64), ("id", c_uint64), ("inherit", c_bool), ("permanent", c_bool), ("exclusive", c_bool), ("handles", c_uint32)]
+
+
 class _Deletion(ctypes.Structure):
     """An object of the caller's that was deleted."""
 
@@ -150,6 +156,9 @@ _CALLS = {
     "ntns_new_process": (c_uint32, [POINTER(_Ntns), c_uint32, c_bool, POINTER(c_uint32)]),
     "ntns_exit_process": (c_uint32, [POINTER(_Ntns), c_uint32]),
     "ntns_query_object": (c_uint32, [POINTER(_Ntns), c_uint32, c_uint32, POINTER(c_uint32), POINTER(c_uint64), POINTER(c_uint64)]),
+    "ntns_query_handle": (c_uint32, [POINTER(_Ntns), c_uint32, c_uint32, POINTER(_Handle)]),
+    "ntns_next_handle": (c_uint32, [POINTER(_Ntns), c_uint32, POINTER(c_uint64), POINTER(_Handle)]),
+    "ntns_next_process": (c_uint32, [POINTER(_Ntns), POINTER(c_uint32)]),
     "ntns_next_deletion": (c_uint32, [POINTER(_Ntns), POINTER(_Deletion)]),
     "ntns_status_text": (c_char_p, [c_uint32]),
     "ntns_type_name": (c_char_p, [c_uint32]),
@@ -191,6 +200,19 @@ class Row(NamedTuple):
     context: int
 
 
+class Opened(NamedTuple):
+    """A handle as a listing or a query reports it: its value, its object, and the object's attributes. `handles` are those to the object, of all processes."""
+
+    value: int
+    type: Type
+    user_data: int
+    id: int
+    inherit: bool
+    permanent: bool
+    exclusive: bool
+    handles: int
+
+
 class Deletion(NamedTuple):
     """A deleted object. The id is that of `Handle.query`, or 0 where no handle to it was ever given; `parsed` says that an open through a device or a key made it."""
 
@@ -220,6 +242,12 @@ def _fitting(value, kind):
     return value
 
 
+def _opened(handle):
+    """A handle, of what a call fills."""
+    flags = (handle.inherit, handle.permanent, handle.exclusive)
+    return Opened(handle.value, Type(handle.type), handle.user_data, handle.id, *flags, handle.handles)
+
+
 class Namespace:
     """A namespace with process 1, open until it is closed. A context manager."""
 
@@ -243,6 +271,12 @@ class Namespace:
     def process(self, number: int = 1) -> "Process":
         """The process with this number."""
         return Process(self, number)
+
+    def processes(self) -> Iterator["Process"]:
+        """The live processes, by rising numbers. Each that stays live throughout comes once."""
+        number = c_uint32()
+        while self._status("next_process", byref(number)) is not Status.NO_MORE_ENTRIES:
+            yield Process(self, number.value)
 
     def deletions(self) -> Iterator[Deletion]:
         """The deleted objects of the caller, each once, in order of deletion."""
@@ -330,6 +364,12 @@ class Process:
         """Ends the process: its handles are closed in the order in which they were opened."""
         self.namespace._call("exit_process", self.number)
 
+    def handles(self) -> Iterator[Opened]:
+        """NtQuerySystemInformation: the handles, in the order in which they were opened. Each that stays open throughout comes once."""
+        context, handle = c_uint64(), _Handle()
+        while self.namespace._status("next_handle", self.number, byref(context), byref(handle)) is not Status.NO_MORE_ENTRIES:
+            yield _opened(handle)
+
     def handle(self, value: int) -> "Handle":
         """The handle of this value, as one that a child inherited."""
         return Handle(self, value)
@@ -401,6 +441,12 @@ class Handle:
         kind, user_data, number = c_uint32(), c_uint64(), c_uint64()
         self._do("query_object", byref(kind), byref(user_data), byref(number))
         return Object(Type(kind.value), user_data.value, number.value)
+
+    def attributes(self) -> Opened:
+        """NtQueryObject with ObjectBasicInformation: the handle, its object and the object's attributes."""
+        handle = _Handle()
+        self._do("query_handle", byref(handle))
+        return _opened(handle)
 
     def __iter__(self) -> Iterator[Entry]:
         """NtQueryDirectoryObject: the entries of the directory, in the order in which they were made. Each that stays throughout comes once."""

@@ -4,7 +4,7 @@ import doctest
 import unittest
 
 import ntns
-from ntns import Attribute, Deletion, Entry, Namespace, NtError, Row, Status, Type
+from ntns import Attribute, Deletion, Entry, Namespace, NtError, Opened, Row, Status, Type
 
 
 class Bound(unittest.TestCase):
@@ -107,6 +107,28 @@ class Processes(Bound):
         child = self.system.new_process()
         copy = self.system.create_object(Type.EVENT, user_data=5).duplicate(to=child)
         self.assertEqual((copy.process.number, copy.query().user_data), (child.number, 5))
+
+    def test_handles_are_listed_in_order_of_opening(self):
+        directory = self.system.create_directory(r"\D", Attribute.PERMANENT | Attribute.INHERIT)
+        event = self.system.create_object(Type.EVENT, user_data=5, attributes=Attribute.EXCLUSIVE)
+        second = directory.duplicate()
+        opened = list(self.system.handles())
+        self.assertEqual([it.value for it in opened], [directory.value, event.value, second.value])
+        self.assertEqual(opened[0], Opened(directory.value, Type.DIRECTORY, 0, directory.query().id, True, True, False, 2))
+        self.assertEqual(opened[1], event.attributes())
+        self.assertEqual(event.attributes(), Opened(event.value, Type.EVENT, 5, event.query().id, False, False, True, 1))
+        listing = self.system.handles()
+        self.assertEqual(next(listing).value, directory.value)
+        directory.close()
+        self.assertEqual([it.value for it in listing], [event.value, second.value])
+        self.refused(Status.INVALID_HANDLE, directory.attributes)
+
+    def test_processes_are_listed_by_their_numbers(self):
+        child = self.system.new_process()
+        grandchild = child.new_process()
+        child.exit()
+        self.assertEqual([it.number for it in self.namespace.processes()], [1, grandchild.number])
+        self.assertEqual(list(child.handles()), [])
 
     def test_a_device_map_comes_first(self):
         local = self.system.create_directory(r"\Sessions\1")

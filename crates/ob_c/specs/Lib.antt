@@ -8,3 +8,4 @@ pub mod Texts
 pub mod Pages
 pub mod Deletions
 pub mod Rows
+pub mod Handles

@@ -14,6 +14,7 @@ mod commands;
 mod deletions;
 mod handles;
 mod lifecycle;
+mod listing;
 mod machine;
 mod naming;
 mod objects;
@@ -28,4 +29,5 @@ mod texts;
 
 pub use caller::Ntns;
 pub use deletions::Deletion;
+pub use listing::HandleRow;
 pub use rows::Row;

@@ -91,6 +91,13 @@ impl HostCore {
         self.core.referent(Proc(process), Handle(handle))
     }
 
+    /// The core, to be read.
+    pub(crate) fn read(&self) -> &Core<HostSet, SlabTable>
+        ensures { result.now ≡ self.now }
+    {
+        &self.core
+    }
+
     /// Takes the first deletion that wasn't taken yet; `None` if none is left, and then nothing changes. Takes no
     /// memory. (this profile)
     pub(crate) fn take_next(&mut self) -> Option<HostDeletion>

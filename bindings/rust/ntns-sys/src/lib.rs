@@ -24,6 +24,20 @@ pub struct ntns_row {
     pub length: u32,
 }
 
+/// A handle of a process.
+#[repr(C)]
+#[derive(Debug, Clone, Copy, Default, PartialEq, Eq)]
+pub struct ntns_handle {
+    pub value: u32,
+    pub kind: u32,
+    pub user_data: u64,
+    pub id: u64,
+    pub inherit: bool,
+    pub permanent: bool,
+    pub exclusive: bool,
+    pub handles: u32,
+}
+
 /// An object of the caller's that was deleted.
 #[repr(C)]
 #[derive(Debug, Clone, Copy, Default, PartialEq, Eq)]
@@ -125,6 +139,9 @@ unsafe extern "C" {
     pub fn ntns_new_process(ns: *mut ntns, process: u32, inherit: bool, child: *mut u32) -> ntns_status;
     pub fn ntns_exit_process(ns: *mut ntns, process: u32) -> ntns_status;
     pub fn ntns_query_object(ns: *mut ntns, process: u32, handle: u32, kind: *mut u32, user_data: *mut u64, id: *mut u64) -> ntns_status;
+    pub fn ntns_query_handle(ns: *mut ntns, process: u32, value: u32, handle: *mut ntns_handle) -> ntns_status;
+    pub fn ntns_next_handle(ns: *mut ntns, process: u32, context: *mut u64, handle: *mut ntns_handle) -> ntns_status;
+    pub fn ntns_next_process(ns: *mut ntns, process: *mut u32) -> ntns_status;
     pub fn ntns_next_deletion(ns: *mut ntns, deletion: *mut ntns_deletion) -> ntns_status;
     pub fn ntns_status_text(status: ntns_status) -> *const c_char;
     pub fn ntns_type_name(kind: u32) -> *const c_char;

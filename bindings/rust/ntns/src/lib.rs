@@ -86,6 +86,17 @@ pub struct Row {
     pub context: u64,
 }
 
+/// A handle as a listing or a query reports it: its value, its object, and the object's attributes. `handles` are those to the object, of all processes.
+#[derive(Debug, Clone, Copy, PartialEq, Eq)]
+pub struct Opened {
+    pub value: u32,
+    pub object: Object,
+    pub inherit: bool,
+    pub permanent: bool,
+    pub exclusive: bool,
+    pub handles: u32,
+}
+
 /// A deleted object. The id is that of [`Handle::query`], or 0 where no handle to it was ever given; `parsed` says that an open through a device or a key made it.
 #[derive(Debug, Clone, Copy, PartialEq, Eq)]
 pub struct Deletion {
@@ -124,6 +135,15 @@ impl Namespace {
     /// The process with this number; 1 is there from the start.
     pub fn process(&self, number: u32) -> Process<'_> {
         Process { namespace: self, number }
+    }
+
+    /// The live processes, by rising numbers. Each that stays live throughout comes once.
+    pub fn processes(&self) -> impl Iterator<Item = Process<'_>> + '_ {
+        let mut number = 0;
+        std::iter::from_fn(move || {
+            self.call(|space| unsafe { raw::ntns_next_process(space, &mut number) }).ok()?;
+            Some(self.process(number))
+        })
     }
 
     /// Takes the deleted objects of the caller, each once, in order of deletion.
@@ -225,6 +245,16 @@ impl<'a> Process<'a> {
         Ok(())
     }
 
+    /// NtQuerySystemInformation: the handles, in the order in which they were opened. Each that stays open throughout comes once.
+    pub fn handles(self) -> impl Iterator<Item = Opened> + 'a {
+        let mut context = 0;
+        std::iter::from_fn(move || {
+            let mut handle = raw::ntns_handle::default();
+            self.namespace.call(|space| unsafe { raw::ntns_next_handle(space, self.number, &mut context, &mut handle) }).ok()?;
+            Some(Opened::from(handle))
+        })
+    }
+
     /// The handle of this value, as one that a child inherited. It is closed when it is dropped.
     pub fn adopt(self, value: u32) -> Handle<'a> {
         Handle { process: self, value }
@@ -306,6 +336,13 @@ impl<'a> Handle<'a> {
         Ok(Object { kind: Type(kind), user_data, id })
     }
 
+    /// NtQueryObject with ObjectBasicInformation: the handle, its object and the object's attributes.
+    pub fn attributes(&self) -> Result<Opened, Status> {
+        let mut handle = raw::ntns_handle::default();
+        self.call(|space, process, value| unsafe { raw::ntns_query_handle(space, process, value, &mut handle) })?;
+        Ok(Opened::from(handle))
+    }
+
     /// NtQueryDirectoryObject: the entries of the directory, in the order in which they were made. Each that stays throughout comes once. A refusal is the last item.
     pub fn entries(&self) -> impl Iterator<Item = Result<Entry, Status>> + '_ {
         let (mut context, mut is_over) = (0, false);
@@ -382,6 +419,14 @@ impl Drop for Handle<'_> {
     fn drop(&mut self) {
         // It may be closed already, as by the exit of its process.
         let _ = self.make(raw::ntns_close_handle);
+    }
+}
+
+impl From<raw::ntns_handle> for Opened {
+    fn from(handle: raw::ntns_handle) -> Self {
+        let raw::ntns_handle { value, kind, user_data, id, inherit, permanent, exclusive, handles } = handle;
+        let object = Object { kind: Type(kind), user_data, id };
+        Self { value, object, inherit, permanent, exclusive, handles }
     }
 }
 

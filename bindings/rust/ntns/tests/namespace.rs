@@ -1,6 +1,6 @@
 //! Calls of a namespace, each against what the library answers.
 
-use ntns::{Attribute, Deletion, Entry, Namespace, Row, Status, Type};
+use ntns::{Attribute, Deletion, Entry, Namespace, Object, Opened, Row, Status, Type};
 
 #[test]
 fn a_file_on_a_device_is_opened_by_a_drive_and_deleted_with_its_process() -> Result<(), Status> {
@@ -104,6 +104,36 @@ fn a_child_inherits_and_a_device_map_comes_first() -> Result<(), Status> {
     child.link(r"\Device").create(r"\??\C:")?.make_permanent()?;
     assert_eq!(child.open(Type::DIRECTORY, r"\??\C:")?.path()?, r"\Device");
     assert_eq!(system.open(Type::DIRECTORY, r"\??\C:").unwrap_err(), Status::OBJECT_NAME_NOT_FOUND);
+    Ok(())
+}
+
+#[test]
+fn handles_are_listed_in_order_of_opening() -> Result<(), Status> {
+    let namespace = Namespace::open()?;
+    let system = namespace.process(1);
+    let directory = system.directory().attributes(Attribute::PERMANENT | Attribute::INHERIT).create(r"\D")?;
+    let event = system.object(Type::EVENT, 5).attributes(Attribute::EXCLUSIVE).create_unnamed()?;
+    let second = directory.duplicate(system, false)?;
+    let object = Object { kind: Type::DIRECTORY, user_data: 0, id: directory.query()?.id };
+    let first = Opened { value: directory.value(), object, inherit: true, permanent: true, exclusive: false, handles: 2 };
+    assert_eq!(system.handles().collect::<Vec<_>>(), [first, event.attributes()?, second.attributes()?]);
+    assert!(event.attributes()?.exclusive);
+    let mut listing = system.handles();
+    assert_eq!(listing.next(), Some(first));
+    directory.close()?;
+    assert_eq!(listing.map(|opened| opened.value).collect::<Vec<_>>(), [event.value(), second.value()]);
+    Ok(())
+}
+
+#[test]
+fn processes_are_listed_by_their_numbers() -> Result<(), Status> {
+    let namespace = Namespace::open()?;
+    let child = namespace.process(1).new_process(false)?;
+    let grandchild = child.new_process(false)?;
+    child.exit()?;
+    let numbers: Vec<_> = namespace.processes().map(|process| process.number()).collect();
+    assert_eq!(numbers, [1, grandchild.number()]);
+    assert_eq!(child.handles().count(), 0);
     Ok(())
 }
 

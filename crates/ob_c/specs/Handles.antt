@@ -1,0 +1,74 @@
+-- What is reported of handles, and of live processes, one after another.
+--
+-- Sources: NtQueryObject (ObjectBasicInformation: attributes and the count of handles) and NtQuerySystemInformation (Windows); user
+-- data, ids and contexts are this profile.
+use Rattle.std.specs.Prelude.{◌≡◌, ℕ, ◌%◌, ◌^◌, Bool, if◌then◌else◌, Option, None, Some, MatchOption}
+use Rattle.std.specs.Option.{option_and_then}
+use Rattle.ob_base.specs.Handle.{key_of}
+use Rattle.ob_base.specs.Status.{code_of}
+use Rattle.ob_base.specs.declared.status.Status.{Status}
+use Rattle.ob_base.specs.declared.status.Status.TheVariants.{Success, InvalidHandle, InvalidParameter, NoMoreEntries}
+use Rattle.ob_core.specs.Listed.{handle_after, process_after}
+use Rattle.ob_host.specs.Kept.{Kept}
+use Rattle.ob_host.specs.declared.object.HostObject.{HostObject}
+use Rattle.ob_model.specs.Grants.{is_exclusive}
+use Rattle.ob_model.specs.Settle.{is_permanent}
+use Rattle.ob_model.specs.State.{body_of, handle_count, held_of}
+use Rattle.ob_model.specs.declared.state.Body.{Body}
+use Rattle.ob_model.specs.declared.state.Held.{Held}
+use Rattle.ob_c.specs.Machine.{Space}
+use Rattle.ob_c.specs.Referents.{id_of_body, type_of_body, user_data_of_body}
+use Rattle.ob_c.specs.declared.listing.HandleRow.{HandleRow}
+
+-- a flag as a caller in C reads it
+abbrev pub flag_told : Bool → ℕ
+flag_told b = if b then 1 else 0
+
+-- a handle to an object of this body; the handles to it are those of all processes, of which there are fewer than 2^32
+abbrev pub handle_told : Space → Held → Body HostObject Kept → HandleRow
+handle_told s h body = record {
+  value = h.value;
+  number = type_of_body body;
+  user_data = user_data_of_body body;
+  id = id_of_body h.object body;
+  inherit = flag_told h.inherit;
+  permanent = flag_told (is_permanent s h.object);
+  exclusive = flag_told (is_exclusive s h.object);
+  handles = handle_count s h.object % 2 ^ 32;
+}
+
+-- the fields where there is none
+abbrev pub no_handle : HandleRow
+no_handle = record { value = 0; number = 0; user_data = 0; id = 0; inherit = 0; permanent = 0; exclusive = 0; handles = 0 }
+
+-- a handle is reported with what its object is; or none, by this refusal
+abbrev pub TellsHeld : Space → Option Held → (refusal : Status) → (status : ℕ) → HandleRow → Type 0
+TellsHeld s None refusal status told = (status ≡ code_of refusal) × (told ≡ no_handle)
+TellsHeld s (Some h) refusal status told =
+    (status ≡ code_of Success) × ((body : Body HostObject Kept) × (body_of s h.object ≡ Some body) × (told ≡ handle_told s h body))
+
+-- the handle of a value of a process, whose low two bits are ignored, in a namespace that may be closed
+abbrev pub TellsHandleOf : Option Space → (process value : ℕ) → (status : ℕ) → HandleRow → Type 0
+TellsHandleOf None p value status told = (status ≡ code_of InvalidParameter) × (told ≡ no_handle)
+TellsHandleOf (Some s) p value status told = TellsHeld s (option_and_then (held_of s p) (key_of value)) InvalidHandle status told
+
+-- the context after a handle: its order of opening; it stays where there is none
+abbrev pub context_after : ℕ → Option Held → ℕ
+context_after context None = context
+context_after context (Some h) = h.order
+
+-- the first handle of a process that was opened after a context, in a namespace that may be closed
+abbrev pub TellsNextHandle : Option Space → (process old new : ℕ) → (status : ℕ) → HandleRow → Type 0
+TellsNextHandle None p old new status told = (status ≡ code_of InvalidParameter) × (told ≡ no_handle) × (new ≡ old)
+TellsNextHandle (Some s) p old new status told =
+    TellsHeld s (handle_after s p old) NoMoreEntries status told × (new ≡ context_after old (handle_after s p old))
+
+-- the live process of the least number above another; that stays where there is none
+abbrev pub TellsNextIn : Space → (old new : ℕ) → (status : ℕ) → Type 0
+TellsNextIn s old new status =
+    MatchOption (process_after s old) ((status ≡ code_of NoMoreEntries) × (new ≡ old)) (λ p. (status ≡ code_of Success) × (new ≡ p))
+
+-- the same in a namespace that may be closed
+abbrev pub TellsNextProcess : Option Space → (old new : ℕ) → (status : ℕ) → Type 0
+TellsNextProcess None old new status = (status ≡ code_of InvalidParameter) × (new ≡ old)
+TellsNextProcess (Some s) old new status = TellsNextIn s old new status

@@ -1,0 +1,203 @@
+//! Exports that report handles and processes, one after another.
+
+ghost use Rattle.std.specs.Prelude.{◌≡◌, IsSome, Some};
+ghost use Rattle.std.specs.Option.{option_and_then};
+ghost use Rattle.ob_base.specs.Handle.{key_of};
+ghost use Rattle.ob_base.specs.declared.status.Status.TheVariants.{InvalidHandle, NoMoreEntries};
+ghost use Rattle.ob_core.specs.Listed.{handle_after};
+ghost use Rattle.ob_host.specs.Kept.{Kept};
+ghost use Rattle.ob_host.specs.declared.object.HostObject.{HostObject};
+ghost use Rattle.ob_model.specs.State.{body_of, held_of};
+ghost use Rattle.ob_model.specs.declared.state.Body.{Body};
+ghost use Rattle.ob_c.specs.Handles.{TellsHandleOf, TellsHeld, TellsNextHandle, TellsNextIn, TellsNextProcess, context_after, flag_told, handle_told, no_handle};
+
+use crate::Ntns;
+use crate::machine::HostCore;
+use crate::referents::{id_of, type_of, user_data_of};
+use ob_base::{Handle, Proc, Status};
+use ob_model::Held;
+use std::alloc::Global;
+
+/// A handle of a process, as a caller in C reads it. (this profile)
+#[repr(C)]
+#[derive(Clone, Copy)]
+pub struct HandleRow {
+    /// The handle's value.
+    pub value: u32,
+    /// The number of its object's type.
+    pub number: u32,
+    /// The object's user data: 0 of a directory and of a symbolic link.
+    pub user_data: u64,
+    /// The object's id, as a query of the object gives it.
+    pub id: u64,
+    /// 1 if children of the process inherit the handle, else 0.
+    pub inherit: u8,
+    /// 1 if the object is permanent, else 0.
+    pub permanent: u8,
+    /// 1 if the object is exclusive, else 0.
+    pub exclusive: u8,
+    /// How many handles there are to the object, of all processes.
+    pub handles: u32,
+}
+
+/// Reports the live process of the least number above `process`, which becomes that number: a caller that begins with 0
+/// lists the live processes, each that stays live once, whichever begin and end between the calls. It takes no memory, and
+/// changes nothing else.
+///
+/// `NoMoreEntries` if there is none, and `InvalidParameter` if the namespace is closed: `process` stays then. Source:
+/// NtQuerySystemInformation (Windows); the numbers are this profile.
+#[unsafe(no_mangle)]
+pub extern "C" fn ntns_next_process(ns: &mut Ntns, alloc: Global, process: &mut u32) -> u32
+    ensures told { TellsNextProcess ns.old.core process.old process.new result }
+    ensures same { ns.new.core ≡ ns.old.core }
+{
+    let Some(core) = ns.take(alloc) else {
+        return Status::InvalidParameter.code();
+    };
+    let status = tell_next_process(&core, process);
+    ns.put(core);
+    status
+}
+
+// Reports the live process of the least number above another.
+fn tell_next_process(core: &HostCore, process: &mut u32) -> u32
+    ensures { TellsNextIn core.now process.old process.new result }
+{
+    let Some(next) = core.read().process_after(Proc(*process)) else {
+        return Status::NoMoreEntries.code();
+    };
+    *process = next.0;
+    Status::Success.code()
+}
+
+/// Reports the first handle of a process that was opened after a context, which is 0 at first, and becomes that of the
+/// handle: so the handles are listed in the order in which they were opened, each that stays open once, whatever is opened
+/// and closed between the calls. It takes no memory, and changes nothing else.
+///
+/// `NoMoreEntries` if there is none, or the process is gone, and `InvalidParameter` if the namespace is closed: each field
+/// is 0 then, and the context stays. Source: NtQuerySystemInformation (Windows); the contexts are this profile.
+#[unsafe(no_mangle)]
+pub extern "C" fn ntns_next_handle(
+    ns: &mut Ntns,
+    alloc: Global,
+    process: u32,
+    context: &mut u64,
+    handle: &mut HandleRow,
+) -> u32
+    ensures told { TellsNextHandle ns.old.core process context.old context.new result handle.new }
+    ensures same { ns.new.core ≡ ns.old.core }
+{
+    *handle = no_handle();
+    let Some(core) = ns.take(alloc) else {
+        return Status::InvalidParameter.code();
+    };
+    let status = tell_next_handle(&core, process, context, handle);
+    ns.put(core);
+    status
+}
+
+// Reports the first handle of a process that was opened after a context.
+fn tell_next_handle(
+    core: &HostCore,
+    process: u32,
+    context: &mut u64,
+    handle: &mut HandleRow,
+) -> u32
+    ensures told { TellsHeld core.now (handle_after core.now process context.old) NoMoreEntries result
+        handle.new }
+    ensures context { context.new
+        ≡ context_after context.old (handle_after core.now process context.old) }
+{
+    core.read().state_is_sound();
+    let Some(held) = core.read().handle_after(Proc(process), *context) else {
+        *handle = no_handle();
+        return Status::NoMoreEntries.code();
+    };
+    *context = held.order;
+    *handle = handle_told(core, held);
+    Status::Success.code()
+}
+
+/// Reports a handle of a process. The low two bits of its value are ignored. It takes no memory, and changes nothing.
+///
+/// `InvalidHandle` if the process, which may be gone, has no such handle, and `InvalidParameter` if the namespace is
+/// closed: each field is 0 then. Source: NtQueryObject with ObjectBasicInformation (Windows); user data and ids are this
+/// profile.
+#[unsafe(no_mangle)]
+pub extern "C" fn ntns_query_handle(
+    ns: &mut Ntns,
+    alloc: Global,
+    process: u32,
+    value: u32,
+    handle: &mut HandleRow,
+) -> u32
+    ensures told { TellsHandleOf ns.old.core process value result handle.new }
+    ensures same { ns.new.core ≡ ns.old.core }
+{
+    *handle = no_handle();
+    let Some(core) = ns.take(alloc) else {
+        return Status::InvalidParameter.code();
+    };
+    let status = tell_handle_of(&core, process, value, handle);
+    ns.put(core);
+    status
+}
+
+// Reports the handle of a value.
+fn tell_handle_of(core: &HostCore, process: u32, value: u32, handle: &mut HandleRow) -> u32
+    ensures { TellsHeld core.now (option_and_then (held_of core.now process) (key_of value))
+        InvalidHandle result handle.new }
+{
+    core.read().state_is_sound();
+    let Some(held) = core.read().handle(Proc(process), Handle(value)) else {
+        *handle = no_handle();
+        return Status::InvalidHandle.code();
+    };
+    *handle = handle_told(core, held);
+    Status::Success.code()
+}
+
+// A handle as a caller in C reads it. Its object is there.
+fn handle_told(core: &HostCore, held: Held) -> HandleRow
+    requires { IsSome (body_of core.now held.object) }
+    ensures { (body : Body HostObject Kept) × (body_of core.now held.object ≡ Some body)
+        × (result ≡ handle_told core.now held body) }
+{
+    let object = held.object;
+    let Some(referent) = core.read().object(object) else {
+        unreachable!();
+    };
+    HandleRow {
+        value: held.value.0,
+        number: type_of(&referent),
+        user_data: user_data_of(&referent),
+        id: id_of(object, &referent),
+        inherit: flag_told(held.inherit),
+        permanent: flag_told(core.read().is_permanent(object)),
+        exclusive: flag_told(core.read().is_exclusive(object)),
+        handles: core.read().count_of(object) as u32,
+    }
+}
+
+// A flag as a caller in C reads it.
+fn flag_told(flag: bool) -> u8
+    ensures { result ≡ flag_told flag }
+{
+    if flag { 1 } else { 0 }
+}
+
+// The fields where there is no handle: zeros.
+fn no_handle() -> HandleRow
+    ensures { result ≡ no_handle }
+{
+    HandleRow {
+        value: 0,
+        number: 0,
+        user_data: 0,
+        id: 0,
+        inherit: 0,
+        permanent: 0,
+        exclusive: 0,
+        handles: 0,
+    }
+}
