@@ -54,7 +54,7 @@ module _ {F I : Type 0} where
   })
 
   -- the root alone
-  pub first_space : (old new : Entries F I) (x : StoredObject F I) → old ≡ [] → new ≡ with_entry old 1 x → x.body ≡ Directory [] → IsSpace new 2
+  pub first_space : (old new : Entries F I) (x : StoredObject F I) → old ≡ [] → new ≡ with_entry old 1 x → x.body ≡ Directory [] None → IsSpace new 2
   first_space old new x empty put is =
       subst (λ (s : Entries F I). IsSpace s 2) (sym (put ∙ ap (λ (es : Entries F I). with_entry es 1 x) empty)) (record {
         closed = record {

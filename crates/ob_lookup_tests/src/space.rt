@@ -52,7 +52,7 @@ impl<T: TypeSet> Space<T> {
     /// A namespace of a root directory alone.
     pub(crate) fn new(alloc: Global, files: T::Kind) -> Option<Space<T>> {
         let mut store = Store::new(alloc);
-        let root = temporary(StoredBody::Directory(Dir::new(alloc)));
+        let root = temporary(StoredBody::directory(alloc, None));
         store.insert(ObjId(1), root).ok()?;
         Some(Space {
             store,
@@ -91,7 +91,7 @@ impl<T: TypeSet> Space<T> {
         ensures { IfSome result (λ body. entries_in body ≡ []) }
     {
         match kind {
-            Kind::Directory => Some(StoredBody::Directory(Dir::new(self.alloc))),
+            Kind::Directory => Some(StoredBody::directory(self.alloc, None)),
             Kind::Link(target) => Some(StoredBody::Link(name_of(self.alloc, target)?)),
             Kind::File => self.file(),
         }
@@ -163,7 +163,7 @@ fn dir_of<T: TypeSet>(store: &Store<T>, id: ObjId) -> Option<&Dir>
     match store.get(id) {
         Some(
             StoredObject {
-                body: StoredBody::Directory(dir),
+                body: StoredBody::Directory(dir, _),
                 ..
             },
         ) => Some(dir),
