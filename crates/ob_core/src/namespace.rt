@@ -6,7 +6,7 @@ ghost use Rattle.ob_base.specs.declared.status.Status.TheVariants.{Success};
 ghost use Rattle.ob_model.specs.declared.reply.Event.TheVariants.{Start, Resume, Abandon};
 ghost use Rattle.std.specs.Option.{is_some, option_and_then, option_map};
 ghost use Rattle.ob_base.specs.Handle.{key_of};
-ghost use Rattle.ob_model.specs.State.{handle_count, held_of, table_size};
+ghost use Rattle.ob_model.specs.State.{body_of, handle_count, held_of, table_size};
 ghost use Rattle.ob_model.specs.Grants.{IsFreeValue, is_exclusive};
 ghost use Rattle.ob_model.specs.Settle.{is_permanent};
 ghost use Rattle.ob_choices.specs.Choice.{revalued};
@@ -348,6 +348,15 @@ impl<T: TypeSet, H: HandleTable> Core<T, H> {
         let held = held_of(&self.space, process, handle)?;
         let referent = referent_of(&self.space, held.object)?;
         Some((held.object, referent))
+    }
+
+    /// What an object is, by its id; None exactly where it isn't there. Takes no memory.
+    ///
+    /// Source: ObReferenceObjectByPointer (Windows Driver Kit).
+    pub fn object(&self, object: ObjId) -> Option<Referent<'_, T::Face, T::Inner>>
+        ensures { option_map body_lent result ≡ body_of self.now object }
+    {
+        referent_of(&self.space, object)
     }
 
     /// The number that the next process gets, whichever makes it: above those of all that ever were. None
