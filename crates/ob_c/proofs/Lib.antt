@@ -4,3 +4,4 @@ pub mod ToldLemmas
 pub mod OneStep
 pub mod PagesLemmas
 pub mod RowsLemmas
+pub mod Held

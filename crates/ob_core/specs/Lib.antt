@@ -1,3 +1,4 @@
 pub mod AtOnce
 pub mod Reached
 pub mod Referent
+pub mod Listed

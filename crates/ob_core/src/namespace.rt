@@ -4,11 +4,14 @@ ghost use Rattle.std.specs.Prelude.{◌≡◌, ◌↔◌, length, not, true, fal
 ghost use Rattle.ob_base.specs.declared.Fault.TheVariants.{Memory};
 ghost use Rattle.ob_base.specs.declared.status.Status.TheVariants.{Success};
 ghost use Rattle.ob_model.specs.declared.reply.Event.TheVariants.{Start, Resume, Abandon};
-ghost use Rattle.std.specs.Option.{is_some, option_map};
-ghost use Rattle.ob_model.specs.State.{held_of, table_size};
-ghost use Rattle.ob_model.specs.Grants.{IsFreeValue};
+ghost use Rattle.std.specs.Option.{is_some, option_and_then, option_map};
+ghost use Rattle.ob_base.specs.Handle.{key_of};
+ghost use Rattle.ob_model.specs.State.{body_of, handle_count, held_of, table_size};
+ghost use Rattle.ob_model.specs.Grants.{IsFreeValue, is_exclusive};
+ghost use Rattle.ob_model.specs.Settle.{is_permanent};
 ghost use Rattle.ob_choices.specs.Choice.{revalued};
 ghost use Rattle.ob_drains.specs.Unnoticed.{with_change};
+ghost use Rattle.ob_core.specs.Listed.{handle_after, process_after};
 ghost use Rattle.ob_core.specs.Reached.{IsJustGiven, IsReached};
 ghost use Rattle.ob_core.specs.Referent.{body_lent, referent_at};
 ghost use Rattle.ob_model.specs.Opening.{opening};
@@ -204,6 +207,16 @@ impl<T: TypeSet, H: HandleTable> Core<T, H> {
             .map(|pending| pending.process)
     }
 
+    /// The object at which an open is pending, which it pins: there as long as the open is pending, whatever closes. None where
+    /// no open is pending under this ticket. Takes no memory.
+    ///
+    /// Source: Windows Internals, Object Manager (object retention: what is referred to stays).
+    pub fn pinned(&self, ticket: u64) -> Option<ObjId>
+        ensures { result ≡ option_map (λ pending. pending.object) (pending_of self.now ticket) }
+    {
+        self.space.pending.get(ticket).map(|pending| pending.object)
+    }
+
     /// The namespace in which the handle that the last step gave to this process, under the value `from`, has the value
     /// `to` instead; nothing else differs. The process must not use that value: it may be any multiple of four from 4 to
     /// 262,140 under which it has no handle.
@@ -260,6 +273,65 @@ impl<T: TypeSet, H: HandleTable> Core<T, H> {
         self.space.processes.get(process, handle).is_some()
     }
 
+    /// A handle of a process, whose low two bits are ignored: its value, its object, whether a child inherits it, and the order
+    /// in which it was opened. None exactly where the process has no such handle. Takes no memory.
+    ///
+    /// Source: Windows Internals, Object Manager: handles and the process handle table.
+    pub fn handle(&self, process: Proc, handle: Handle) -> Option<Held>
+        ensures { result ≡ option_and_then (held_of self.now process) (key_of handle) }
+    {
+        held_of(&self.space, process, handle)
+    }
+
+    /// The first handle of a process that was opened after an order of opening; None exactly where there is none. A caller
+    /// that begins with 0, and then passes the order of the handle that it got last, lists the handles in the order of
+    /// opening, each that remains once, whatever is opened and closed between the calls. Takes no memory.
+    ///
+    /// Source: the orders of opening are this profile.
+    pub fn handle_after(&self, process: Proc, order: u64) -> Option<Held>
+        ensures { result ≡ handle_after self.now process order }
+    {
+        self.space.processes.opened_after(process, order)
+    }
+
+    /// The live process of the least number above this one; None exactly where there is none. A caller that begins with 0,
+    /// and then passes the process that it got last, lists the live processes, each that remains once, whichever begin and
+    /// end between the calls. Takes no memory.
+    ///
+    /// Source: the numbers of processes are this profile.
+    pub fn process_after(&self, process: Proc) -> Option<Proc>
+        ensures { result ≡ process_after self.now process }
+    {
+        self.space.processes.live_after(process)
+    }
+
+    /// How many handles lead to an object, of all processes: 0 where it isn't there. Takes no memory.
+    ///
+    /// Source: NtQueryObject (Windows Driver Kit): the count of handles.
+    pub fn count_of(&self, object: ObjId) -> usize
+        ensures { result ≡ handle_count self.now object }
+    {
+        self.space.processes.count_of(object)
+    }
+
+    /// Whether an object is there and is permanent: its name stays when its last handle is closed. Takes no memory.
+    ///
+    /// Source: Windows Internals, Object Manager (object retention).
+    pub fn is_permanent(&self, object: ObjId) -> bool
+        ensures { result ≡ is_permanent self.now object }
+    {
+        self.space.store.is_permanent(object)
+    }
+
+    /// Whether an object is there and is exclusive: one process alone may hold handles to it. Takes no memory.
+    ///
+    /// Source: `OBJ_EXCLUSIVE` (Windows Driver Kit, OBJECT_ATTRIBUTES).
+    pub fn is_exclusive(&self, object: ObjId) -> bool
+        ensures { result ≡ is_exclusive self.now object }
+    {
+        self.space.store.is_exclusive(object)
+    }
+
     /// What a handle of a process leads to, whose low two bits are ignored: the object's id, and what it is. None exactly
     /// where the process has no such handle. Takes no memory.
     ///
@@ -276,6 +348,15 @@ impl<T: TypeSet, H: HandleTable> Core<T, H> {
         let held = held_of(&self.space, process, handle)?;
         let referent = referent_of(&self.space, held.object)?;
         Some((held.object, referent))
+    }
+
+    /// What an object is, by its id; None exactly where it isn't there. Takes no memory.
+    ///
+    /// Source: ObReferenceObjectByPointer (Windows Driver Kit).
+    pub fn object(&self, object: ObjId) -> Option<Referent<'_, T::Face, T::Inner>>
+        ensures { option_map body_lent result ≡ body_of self.now object }
+    {
+        referent_of(&self.space, object)
     }
 
     /// The number that the next process gets, whichever makes it: above those of all that ever were. None
