@@ -2,7 +2,7 @@
 --
 -- Sources: NtQueryObject (ObjectBasicInformation: attributes and the count of handles) and NtQuerySystemInformation (Windows); user
 -- data, ids and contexts are this profile.
-use Rattle.std.specs.Prelude.{◌≡◌, ℕ, ◌%◌, ◌^◌, Bool, if◌then◌else◌, Option, None, Some, MatchOption}
+use Rattle.std.specs.Prelude.{◌≡◌, ℕ, nat_lt, Bool, if◌then◌else◌, Option, None, Some, MatchOption}
 use Rattle.std.specs.Option.{option_and_then}
 use Rattle.ob_base.specs.Handle.{key_of}
 use Rattle.ob_base.specs.Status.{code_of}
@@ -24,7 +24,11 @@ use Rattle.ob_c.specs.declared.listing.HandleRow.{HandleRow}
 abbrev pub flag_told : Bool → ℕ
 flag_told b = if b then 1 else 0
 
--- a handle to an object of this body; the handles to it are those of all processes, of which there are fewer than 2^32
+-- a count as a caller in C reads it: at most the greatest number of 32 bits
+abbrev pub count_told : ℕ → ℕ
+count_told n = if nat_lt 4294967295 n then 4294967295 else n
+
+-- a handle to an object of this body; the handles to it are those of all processes
 abbrev pub handle_told : Space → Held → Body HostObject Kept → HandleRow
 handle_told s h body = record {
   value = h.value;
@@ -34,7 +38,7 @@ handle_told s h body = record {
   inherit = flag_told h.inherit;
   permanent = flag_told (is_permanent s h.object);
   exclusive = flag_told (is_exclusive s h.object);
-  handles = handle_count s h.object % 2 ^ 32;
+  handles = count_told (handle_count s h.object);
 }
 
 -- the fields where there is none

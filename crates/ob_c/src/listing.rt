@@ -9,7 +9,7 @@ ghost use Rattle.ob_host.specs.Kept.{Kept};
 ghost use Rattle.ob_host.specs.declared.object.HostObject.{HostObject};
 ghost use Rattle.ob_model.specs.State.{body_of, held_of};
 ghost use Rattle.ob_model.specs.declared.state.Body.{Body};
-ghost use Rattle.ob_c.specs.Handles.{TellsHandleOf, TellsHeld, TellsNextHandle, TellsNextIn, TellsNextProcess, context_after, flag_told, handle_told, no_handle};
+ghost use Rattle.ob_c.specs.Handles.{TellsHandleOf, TellsHeld, TellsNextHandle, TellsNextIn, TellsNextProcess, context_after, count_told, flag_told, handle_told, no_handle};
 
 use crate::Ntns;
 use crate::machine::HostCore;
@@ -97,12 +97,7 @@ pub extern "C" fn ntns_next_handle(
 }
 
 // Reports the first handle of a process that was opened after a context.
-fn tell_next_handle(
-    core: &HostCore,
-    process: u32,
-    context: &mut u64,
-    handle: &mut HandleRow,
-) -> u32
+fn tell_next_handle(core: &HostCore, process: u32, context: &mut u64, handle: &mut HandleRow) -> u32
     ensures told { TellsHeld core.now (handle_after core.now process context.old) NoMoreEntries result
         handle.new }
     ensures context { context.new
@@ -175,8 +170,18 @@ fn handle_told(core: &HostCore, held: Held) -> HandleRow
         inherit: flag_told(held.inherit),
         permanent: flag_told(core.read().is_permanent(object)),
         exclusive: flag_told(core.read().is_exclusive(object)),
-        handles: core.read().count_of(object) as u32,
+        handles: count_told(core.read().count_of(object)),
     }
+}
+
+// A count as a caller in C reads it: at most the greatest u32.
+fn count_told(count: usize) -> u32
+    ensures { result ≡ count_told count }
+{
+    if count > 4_294_967_295 {
+        return 4_294_967_295;
+    }
+    count as u32
 }
 
 // A flag as a caller in C reads it.
