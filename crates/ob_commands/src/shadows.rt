@@ -20,7 +20,7 @@ pub(crate) fn shadow_object<T: TypeSet, H: HandleTable>(
 ) -> Result<Option<ObjId>, Status>
     ensures { MatchResult result
         (λ object. (root_of space.now process shadow ≡ Some object)
-            × (shadow_refusal space.now process shadow ≡ None))
+        × (shadow_refusal space.now process shadow ≡ None))
         (λ status. shadow_refusal space.now process shadow ≡ Some status) }
 {
     let Some(object) = root_object(space, process, shadow)? else {

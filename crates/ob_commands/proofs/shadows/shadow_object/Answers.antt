@@ -18,8 +18,9 @@ returns-then-is_some g c =
     (shadow_shown c.space.view_is c.in-Some.object true (sym c.if-is_some.true ∙ c.is_some.ensures ∙ ap is_some c.shadow_of.ensures))
 
 pub returns : goal.returns
-returns g c =
-    (c.in_ok-object.ensures ∙ ap Some c.in-Some.is,
-    shadow_fits c.args.space.now c.args.process c.args.shadow c.in-Some.object (c.in_ok-object.ensures ∙ ap Some c.in-Some.is)
-    (directory_shown c.space.view_is c.in-Some.object true (sym c.if-not-is_directory.false ∙ c.is_directory.ensures))
-    (shadow_shown c.space.view_is c.in-Some.object false (sym c.if-is_some.false ∙ c.is_some.ensures ∙ ap is_some c.shadow_of.ensures)))
+returns g c = (
+  c.in_ok-object.ensures ∙ ap Some c.in-Some.is,
+  shadow_fits c.args.space.now c.args.process c.args.shadow c.in-Some.object (c.in_ok-object.ensures ∙ ap Some c.in-Some.is)
+      (directory_shown c.space.view_is c.in-Some.object true (sym c.if-not-is_directory.false ∙ c.is_directory.ensures))
+      (shadow_shown c.space.view_is c.in-Some.object false (sym c.if-is_some.false ∙ c.is_some.ensures ∙ ap is_some c.shadow_of.ensures)),
+)
