@@ -172,9 +172,9 @@ ntns_status ntns_create_directory(ntns *ns, uint32_t process, uint32_t root, con
 				  uint32_t *handle);
 
 /*
- * NtCreateDirectoryObjectEx with a shadow directory: where the new directory has no entry of a name, a lookup finds that of the shadow,
- * a directory to which `shadow` is a handle of the process. The last component of a create is looked up in the new directory alone, and
- * a listing has its own entries alone. The shadow remains as long as the directory. One that OPENIF opens keeps the shadow that it has.
+ * NtCreateDirectoryObjectEx with a shadow directory: a name that the new directory has no entry of is looked up in its shadow, the
+ * directory of the handle `shadow`. The last component of a create is looked up in the new directory alone, and a listing has its own
+ * entries alone. The shadow remains as long as the directory. A directory that OPENIF opens keeps the shadow that it has, or none.
  */
 ntns_status ntns_create_shadowed(ntns *ns, uint32_t process, uint32_t root, const char *name, size_t name_len, uint32_t attributes,
 				 uint32_t shadow, uint32_t *handle);
