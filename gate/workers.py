@@ -12,6 +12,7 @@ SCRIPTS = 1_000
 # forms of lines: process, name, flags and variable are drawn
 LINES = (
     'p{p} dir "{n}" {f} ={v}',
+    'p{p} shadow {v} "{n}" {f} ={v}',
     'p{p} link "{n}" {f} "{n}" ={v}',
     'p{p} make Event "{n}" {f} "" ={v}',
     'p{p} make Device "\\Device{n}" {f} "x" ={v}',
