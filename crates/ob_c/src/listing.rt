@@ -15,6 +15,8 @@ use crate::Ntns;
 use crate::machine::HostCore;
 use crate::referents::{id_of, type_of, user_data_of};
 use ob_base::{Handle, Proc, Status};
+use ob_core::{Core, SlabTable};
+use ob_host::HostSet;
 use ob_model::Held;
 use std::alloc::Global;
 
@@ -103,13 +105,14 @@ fn tell_next_handle(core: &HostCore, process: u32, context: &mut u64, handle: &m
     ensures context { context.new
         ≡ context_after context.old (handle_after core.now process context.old) }
 {
-    core.read().state_is_sound();
-    let Some(held) = core.read().handle_after(Proc(process), *context) else {
+    let space = core.read();
+    space.state_is_sound();
+    let Some(held) = space.handle_after(Proc(process), *context) else {
         *handle = no_handle();
         return Status::NoMoreEntries.code();
     };
     *context = held.order;
-    *handle = handle_told(core, held);
+    *handle = handle_told(space, held);
     Status::Success.code()
 }
 
@@ -143,23 +146,24 @@ fn tell_handle_of(core: &HostCore, process: u32, value: u32, handle: &mut Handle
     ensures { TellsHeld core.now (option_and_then (held_of core.now process) (key_of value))
         InvalidHandle result handle.new }
 {
-    core.read().state_is_sound();
-    let Some(held) = core.read().handle(Proc(process), Handle(value)) else {
+    let space = core.read();
+    space.state_is_sound();
+    let Some(held) = space.handle(Proc(process), Handle(value)) else {
         *handle = no_handle();
         return Status::InvalidHandle.code();
     };
-    *handle = handle_told(core, held);
+    *handle = handle_told(space, held);
     Status::Success.code()
 }
 
 // A handle as a caller in C reads it. Its object is there.
-fn handle_told(core: &HostCore, held: Held) -> HandleRow
+fn handle_told(core: &Core<HostSet, SlabTable>, held: Held) -> HandleRow
     requires { IsSome (body_of core.now held.object) }
     ensures { (body : Body HostObject Kept) × (body_of core.now held.object ≡ Some body)
         × (result ≡ handle_told core.now held body) }
 {
     let object = held.object;
-    let Some(referent) = core.read().object(object) else {
+    let Some(referent) = core.object(object) else {
         unreachable!();
     };
     HandleRow {
@@ -168,9 +172,9 @@ fn handle_told(core: &HostCore, held: Held) -> HandleRow
         user_data: user_data_of(&referent),
         id: id_of(object, &referent),
         inherit: flag_told(held.inherit),
-        permanent: flag_told(core.read().is_permanent(object)),
-        exclusive: flag_told(core.read().is_exclusive(object)),
-        handles: count_told(core.read().count_of(object)),
+        permanent: flag_told(core.is_permanent(object)),
+        exclusive: flag_told(core.is_exclusive(object)),
+        handles: count_told(core.count_of(object)),
     }
 }
 

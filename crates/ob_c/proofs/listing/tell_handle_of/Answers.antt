@@ -4,5 +4,5 @@ use Rattle.ob_c.proofs.Held.{handle_has_body}
 use Rattle.ob_c.proofs.listing.tell_handle_of.Goals as goal
 
 pub handle_told-requires : goal.handle_told-requires
-handle_told-requires g c κs within =
-    handle_has_body c.args.core.now c.state_is_sound.ensures c.args.process (key_of c.args.value) c.in-Some.held c.in-Some.ensures
+handle_told-requires c =
+    handle_has_body c.read-space.result.now c.state_is_sound.ensures c.args.process (key_of c.args.value) c.in-Some.held c.in-Some.ensures
