@@ -17,6 +17,10 @@ TIMES = 500
 # three directories, one in another, with the handles a, b and c
 DEEP = 'p1 dir "\\A" - =a\np1 dir "\\A\\B" - =b\np1 dir "\\A\\B\\C" - =c\n'
 
+# a directory with a shadow that has an event, and 32 links, each to the next one and the last to an event
+SHADOWED = 'p1 dir "\\S" - =s\np1 make Event "\\S\\X" - "" =x\np1 dir "\\A" - =a\np1 shadow s "\\A\\B" - =b\n'
+LINKS = 'p1 make Event "\\L32" - "" =e\n' + "".join(f'p1 link "\\L{it:02}" - "\\L{it + 1:02}" =l{it}\n' for it in range(32))
+
 
 def entries(number):
     """A directory with so many permanent events, without handles."""
@@ -60,6 +64,10 @@ LINES = (
     ("a child of ten handles, and its exit", inherited(10), "p1 new inherit =q\nq exit\n"),
     ("a page of 100 entries", entries(100), "p1 list m 65535 first\n"),
     ("a comment", DEEP, "# a comment\n"),
+    ("open and close what a shadow has", SHADOWED, 'p1 open any "\\A\\B\\X" - =d\np1 close d\n'),
+    ("a miss in a directory with a shadow", SHADOWED, 'p1 open any "\\A\\B\\Y" - =d\n'),
+    ("a directory with a shadow made and closed", SHADOWED, 'p1 shadow s "\\A\\D" - =d\np1 close d\n'),
+    ("open and close through 32 links", LINKS, 'p1 open any "\\L00" - =d\np1 close d\n'),
     ("open and close two events sixteen names deep", deep(LETTERS), opened(*both(LETTERS))),
     ("the same of names of eight letters", deep(WORDS), opened(*both(WORDS))),
 )
