@@ -50,7 +50,7 @@ CASES = ROOT / "cases"
 
 # so many permanent directories in one, without handles, take at most so many bytes each, the program itself included and its script not; and more than an
 # entry, or the run wasn't seen
-MANY, LEAST_EACH, MOST_EACH = 500_000, 48, 250
+MANY, LEAST_EACH, MOST_EACH = 500_000, 48, 280
 
 # an open and a close of a name of sixteen components takes at most so many times the instructions of one as long of two; without the cache, 1.5 and 1.6 times
 MOST_TIMES = 1.3
