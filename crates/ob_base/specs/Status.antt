@@ -1,4 +1,4 @@
--- Statuses: the number and the word of each, and the laws that these tell statuses apart.
+-- Statuses: the number and the word of each, and the laws that these differ from status to status.
 -- Source: the Windows Driver Kit's "NTSTATUS values", and from ReparseLimit on this profile.
 use Rattle.std.specs.Prelude.{◌≡◌, ◌+◌, ℕ, List, codes}
 use Rattle.ob_base.specs.declared.status.Status.{Status}

@@ -15,7 +15,7 @@ pub enum Fault {
     Refused(Status),
 }
 
-/// Want of memory is the fault `Memory`, so that `?` passes it on.
+/// Out of memory is the fault `Memory`, so that `?` passes it on.
 impl From<AllocError> for Fault {
     ghost from_gives = { λ _ fault. fault ≡ Memory };
 

@@ -121,13 +121,13 @@ impl Status {
     }
 }
 
-/// The law that a number tells its status: two statuses with one number are one status. The call
+/// The law that a number determines its status: two statuses with one number are one status. The call
 /// does nothing; a caller makes it to have the fact.
 pub fn codes_tell_statuses()
     ensures { CodesTellStatuses }
 {}
 
-/// The law that a word tells its status: two statuses with one word are one status, or both are
+/// The law that a word determines its status: two statuses with one word are one status, or both are
 /// `TypeRefused`. The call does nothing; a caller makes it to have the fact.
 pub fn texts_tell_statuses()
     ensures { TextsTellStatuses }

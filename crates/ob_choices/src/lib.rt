@@ -18,7 +18,7 @@ pub fn any_unused_value_will_do<K, T, F, I>()
 {}
 
 /// The handle that a step gives is the one that was opened last, of the process that gets it and under the value that
-/// is told; all others are as they were.
+/// is the answer; all others are as they were.
 pub fn a_new_handle_is_last<K, T, F, I>()
     ensures { NewHandleIsLast K T F I }
 {}

@@ -9,7 +9,7 @@ use Rattle.ob_host.specs.declared.kind.Kind.TheVariants.{Event, Mutant, Semaphor
 abbrev pub kind_count : ℕ
 kind_count = 36
 
--- how many kinds stand before this one
+-- how many kinds come before this one
 abbrev pub index_of : Kind → ℕ
 index_of Event = 0
 index_of Mutant = 1

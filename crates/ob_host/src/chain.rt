@@ -40,7 +40,7 @@ impl Chain {
         Some((deletion, place))
     }
 
-    // The first deletion, and the place that those after it stand in.
+    // The first deletion, and the place that those after it are in.
     fn parted(self) -> Option<(HostDeletion, Box<Chain>)>
         ensures found { IfSome result (λ first. items self ≡ first.0 ∷ items first.1.value) }
         ensures none { IfNone result (items self ≡ []) }

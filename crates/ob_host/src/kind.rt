@@ -8,7 +8,7 @@ ghost use Rattle.ob_host.specs.KindLaws.{kinds_equiv};
 /// The kinds of a caller's objects: the types of objects of Windows but directories, symbolic links and
 /// types themselves, which are no caller's (Windows Internals, Object Manager: object types).
 ///
-/// They stand in a fixed order, in which each has its index, from 0. (this profile)
+/// They have a fixed order, in which each has its index, from 0. (this profile)
 #[derive(Clone, Copy, Debug)]
 pub enum Kind {
     /// An event.
@@ -134,7 +134,7 @@ impl Kind {
         KINDS.get(index).copied()
     }
 
-    /// The kind's index: how many kinds stand before it.
+    /// The kind's index: how many kinds come before it.
     pub fn index(self) -> usize
         ensures { result ≡ index_of self }
     {

@@ -1,4 +1,4 @@
--- That the calls told of a run are those that the machine makes: one after another they make of the set's first value,
+-- That the calls of a run are those that the machine makes: one after another they make of the set's first value,
 -- and of the inner values with which objects come to be, the set's value and the inner values that the run leaves.
 use Rattle.std.specs.Prelude.{◌≡◌, ℕ, ◌==◌, true, if◌then◌else◌, List, [], ◌∷◌, filter, map, Option, None, Some}
 use Rattle.std.specs.Option.{is_some, option_map_or, option_and_then, option_or}
@@ -108,7 +108,7 @@ module _ {K T F I : Type 0} (g : Procedures K T F I) where
 -- ---- the law
 
 module _ (K T F I : Type 0) where
-  -- The log holds, of each object, the calls told of the run. No call is on an object that has no inner value then, and no
+  -- The log holds, of each object, the calls of the run. No call is on an object that has no inner value then, and no
   -- open is one that the set refuses then. The calls make of the first value, and of the inner values with which objects
   -- come to be, what the run leaves.
   pub record AreMade (g : Procedures K T F I) (first : T) (steps : List (Passed K T F I)) (log : List Made) : Type 0 where
@@ -117,7 +117,7 @@ module _ (K T F I : Type 0) where
     pub set : (after_calls g (begins_with g first steps) log).set ≡ (left_by (opening first) steps).set
     pub inner : (o : ℕ) → (after_calls g (begins_with g first steps) log).inner o ≡ inner_in (left_by (opening first) steps) o
 
-  -- The calls told of each run are made, in an order in which each object's are as they are told. It holds of each front
+  -- The calls of each run are made, in an order in which each object's are as in its steps. It holds of each front
   -- of a run, which is a run too, and so after each step.
   abbrev pub CallsAreMade : Type 0
   CallsAreMade =

@@ -34,7 +34,7 @@ opened_by opened (m ∷ log) = opened_by (opened_behind opened m) log
 abbrev pub serial_in : List Made → ℕ → ℕ
 serial_in log o = min (number_in (opened_by [] log) o) (2 ^ 64 - 1)
 
--- what is called, as a recorder tells it
+-- what is called, as a recorder gives it
 abbrev pub told : Call → CallKind
 told (Opened reason) = kinds.Opened reason
 told (Closed process_left system_left) = kinds.Closed process_left system_left

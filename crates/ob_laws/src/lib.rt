@@ -14,7 +14,7 @@ ghost use Rattle.ob_laws.specs.WholeRuns.{Lifetimes, ScansAreWhole};
 
 /// In each run, of each object: a close is given as handles left in the system the accepted opens before it less the
 /// closes up to and with it, and as handles left in its process those that its step leaves there and closes after
-/// it; a delete stands at most once and last, after a close with none left or where no open was accepted at all, and
+/// it; a delete comes at most once and last, after a close with none left or where no open was accepted at all, and
 /// no pending open pins the object then. All handles of an exclusive object are in one process.
 ///
 /// Source: Windows Internals, Object Manager (object methods, object retention).
@@ -22,8 +22,8 @@ pub fn lifetime_law<K, T, F, I>()
     ensures { Lifetimes K T F I }
 {}
 
-/// In each run, for every set of types, the calls that are told of its objects are those that the machine makes: in an
-/// order in which each object's are as they are told, each is on an object that has an inner value then, each open is one
+/// In each run, for every set of types, the calls on its objects are those that the machine makes: in an
+/// order in which each object's are as in its steps, each is on an object that has an inner value then, each open is one
 /// that the set accepts then, and one after another they make of the set's first value, and of the inner values with
 /// which objects come to be, the set's value and the inner values that the run leaves.
 ///
@@ -40,8 +40,8 @@ pub fn a_recorder_has_the_calls_of_its_run<K, T, F, I>()
     ensures { RecordersHaveTheirCalls K T F I }
 {}
 
-/// A scan of a directory, page after page from the beginning, shows no row twice, and each that it shows stands in the
-/// directory at that step, whatever steps come between. Once a page told that no entry is left, each row that stood
+/// A scan of a directory, page after page from the beginning, shows no row twice, and each that it shows is in the
+/// directory at that step, whatever steps come between. Once a page says that no entry is left, each row that was
 /// throughout was shown exactly once.
 ///
 /// Source: ZwQueryDirectoryObject (Windows Driver Kit).

@@ -40,7 +40,7 @@ unvalued_answer (Ticket number) = Ticket number
 abbrev pub AreAlikeAnswers : Answer → Answer → Type 0
 AreAlikeAnswers a b = unvalued_answer a ≡ unvalued_answer b
 
--- the handle that an answer gives, where it gives one, and the process that it tells of
+-- the handle that an answer gives, where it gives one, and the process that it names
 abbrev pub handle_in : Given → Option ℕ
 handle_in Nothing = None
 handle_in (Handle value) = Some value
@@ -63,7 +63,7 @@ abbrev pub process_given : Answer → Option ℕ
 process_given (Done reply) = process_in reply.given
 process_given (Ticket number) = None
 
--- the values of handles that are told with a process
+-- the values of handles that an answer gives with a process
 abbrev pub values_in_given : Given → List ℕ
 values_in_given Nothing = []
 values_in_given (Handle value) = []
@@ -99,7 +99,7 @@ module _ {K T F I : Type 0} where
   abbrev pub AreAlike : State K T F I → State K T F I → Type 0
   AreAlike s t = unvalued s ≡ unvalued t
 
-  -- what a process names by one value in one state and by another in the other stands at the same place
+  -- what a process names by one value in one state and by another in the other is at the same place
   -- of the list of handles, or is in neither
   abbrev pub LeadAlike : State K T F I → State K T F I → ℕ → ℕ → ℕ → Type 0
   LeadAlike s t p value other = map (is_named p value) s.handles ≡ map (is_named p other) t.handles
@@ -110,7 +110,7 @@ module _ {K T F I : Type 0} where
 
   -- What a step leaves of the handles that processes name, from the state s to u, for a command that gives a handle
   -- to the process r: what isn't closed is held on; the value of a handle that is given was free, and is held; and
-  -- the values that are told with a process are those of its handles.
+  -- the values that an answer gives with a process are those of its handles.
   pub record HoldOn (s : State K T F I) (IsClosed : ℕ → ℕ → Type 0) (r : ℕ) (a : Answer) (u : State K T F I) : Type 0 where
     pub stays : (p value : ℕ) → IsHeld s p value → (IsClosed p value → ⊥) → IsHeld u p value
     pub given : (value : ℕ) → handle_given a ≡ Some value → IsFreeValue s r value × IsHeld u r value

@@ -1,5 +1,5 @@
 -- The calls of the set's procedures on one object of the set: the accepted opens, the closes with the
--- handles that are left after each, and the delete, in this order. They are told of a step by its event,
+-- handles that are left after each, and the delete, in this order. A step's calls follow from its event,
 -- its answer and the states before and after it, and of a run by its steps one after another.
 -- Directories and links have no procedures.
 --
@@ -85,7 +85,7 @@ is_made (Some (EndsMade face inner)) = true
 is_made (Some (EndsReparse text)) = false
 is_made (Some (EndsRefused k)) = false
 
--- the closes of the handles that go, in the order in which they were opened, where `stays` tells
+-- the closes of the handles that go, in the order in which they were opened, where `stays` says
 -- the others: of all handles to one object, those that were passed already and stay, and the rest
 abbrev pub closes : (Held → Bool) → List Held → List Held → List Call
 closes stays passed [] = []

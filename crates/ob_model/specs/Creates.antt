@@ -52,11 +52,11 @@ is_fit (MakesObject kind args) = true
 abbrev pub create_mode : ℕ → Mode
 create_mode attrs = record { create = true; fold = has_flag case_insensitive_flag attrs; follow = false }
 
--- where what a create makes is to stand: at a name in a directory, or nowhere
+-- where what a create makes is to be: at a name in a directory, or nowhere
 abbrev pub Spot : Type 0
 Spot = Option (ℕ × List ℕ)
 
--- the row of a new object: none where it stands nowhere
+-- the row of a new object: none where it is nowhere
 abbrev pub new_rows : Spot → ℕ → ℕ → List Row
 new_rows None stamp o = []
 new_rows (Some spot) stamp o = record { stamp = stamp; directory = spot.0; name = spot.1; object = o } ∷ []

@@ -64,7 +64,7 @@ largest_room = 1048576
 abbrev pub context_used : (restart : Bool) → ℕ → ℕ
 context_used restart context = if restart then 0 else context
 
--- an entry as an answer tells it: its stamp is left out
+-- an entry as an answer gives it: its stamp is left out
 abbrev pub listed : Shown → Listed
 listed e = record { name = e.name; type_name = e.type_name }
 

@@ -61,7 +61,7 @@ SubstitutedLength =
     (target rest : List ℕ)
     → length (substituted target rest) + (if ends_in_separator target && begins_with_separator rest then 1 else 0) ≡ length target + length rest
 
--- where two separators meet, the target stands whole and the rest lacks its first byte
+-- where two separators meet, the target is whole and the rest lacks its first byte
 abbrev pub SubstitutedDropsOne : Type 0
 SubstitutedDropsOne =
     (front rest : List ℕ) → substituted (front ++ separator ∷ []) (separator ∷ rest) ≡ front ++ separator ∷ rest
@@ -72,7 +72,7 @@ pub record IsFoundRow {K T F I : Type 0} (s : State K T F I) (d : ℕ) (c : List
   pub matches : is_match d c fold r ≡ true
   pub least : All (λ q. is_match d c fold q ≡ true → r.stamp ≤ q.stamp) s.rows
 
--- An object more stands in order of numbers. Where all numbers are below its own it is the last; where no
+-- An object more is put in order of numbers. Where all numbers are below its own it is the last; where no
 -- object has its number, numbers that rise still do, and its number leads to it.
 module _ (F I : Type 0) where
   abbrev pub NewestIsLast : Type 0
@@ -142,7 +142,7 @@ module _ (K T F I : Type 0) where
       (g : Procedures K T F I) (s : State K T F I) (p : ℕ) (mode : Mode) (n : ℕ) (root : Option ℕ) (name : List ℕ) (a b : Look)
       → LooksUp g s p mode n root name a → LooksUp g s p mode n root name b → a ≡ b
 
-  -- in a sound state every name has an end, where the object of its root handle stands
+  -- in a sound state every name has an end, where the object of its root handle is there
   abbrev pub NameLookIsTotal : Type 0
   NameLookIsTotal =
       (g : Procedures K T F I) (s : State K T F I) (p : ℕ) (mode : Mode) (n : ℕ) (root : Option ℕ) (name : List ℕ)
@@ -212,7 +212,7 @@ module _ (K T F I : Type 0) where
       (g : Procedures K T F I) (s : State K T F I) (n : ℕ) (entries : List (Entry K)) (t u : State K T F I)
       → RunFrom g s n entries t → RunFrom g s n entries u → t ≡ u
 
-  -- a run is made of steps that were passed one after another, of which its calls are told
+  -- a run is made of steps that were passed one after another, from which its calls follow
   abbrev pub RunIsPassed : Type 0
   RunIsPassed =
       (g : Procedures K T F I) (s : State K T F I) (n : ℕ) (entries : List (Entry K)) (t : State K T F I) → RunFrom g s n entries t

@@ -1,4 +1,4 @@
--- Lifetimes: what holds of the calls on one object, in every run. The calls themselves are told in `Calls`.
+-- Lifetimes: what holds of the calls on one object, in every run. The calls themselves are defined in `Calls`.
 --
 -- Source: Windows Internals, Object Manager (open, close and delete methods; object retention: handle and
 -- reference counts).

@@ -1,4 +1,4 @@
--- What is told of an object: its path, which is the names on the way from it up to the root, and the
+-- What a query answers of an object: its path, which is the names on the way from it up to the root, and the
 -- target of a link.
 --
 -- Sources: ObQueryNameString, ZwQuerySymbolicLinkObject (Windows Driver Kit); Windows Internals, Object
@@ -38,11 +38,11 @@ abbrev pub path_text : List (List ℕ) → List ℕ
 path_text [] = separator ∷ []
 path_text (c ∷ cs) = names_joined (c ∷ cs)
 
--- the answer that tells a path
+-- the answer that gives a path
 abbrev pub path_answer : List ℕ → Answer
 path_answer text = if nat_lt longest_name (length text) then answers NameTooLong else gives Success (Text text)
 
--- the path of an object is told, or the empty text where it or a directory above it has no name
+-- the path of an object is the answer, or the empty text where it or a directory above it has no name
 abbrev pub TellsName : {K T F I : Type 0} → State K T F I → ℕ → Answer → Type 0
 TellsName s o answer =
     ((cs : List (List ℕ)) × IsWayUp s o cs × (answer ≡ path_answer (path_text cs)))
@@ -54,7 +54,7 @@ target_of (Directory shadow) = None
 target_of (Link target) = Some target
 target_of (Other face inner) = None
 
--- the target of a link is told, as it was stored; any other object is of another type
+-- the target of a link is the answer, as it was stored; any other object is of another type
 abbrev pub TellsTarget : {K T F I : Type 0} → State K T F I → ℕ → Answer → Type 0
 TellsTarget s o answer =
     MatchOption (option_and_then target_of (body_of s o)) (answer ≡ answers ObjectTypeMismatch) (λ target. answer ≡ gives Success (Text target))

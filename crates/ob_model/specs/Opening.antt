@@ -13,7 +13,7 @@ use Rattle.ob_model.specs.State.{State, root_id}
 abbrev pub standing : {F I : Type 0} → ℕ → Body F I → Object F I
 standing o body = record { id = o; body = body; permanent = true; exclusive = false }
 
--- a row of the opening state: it stands in the root directory
+-- a row of the opening state: it is in the root directory
 abbrev pub root_row : ℕ → List ℕ → ℕ → Row
 root_row stamp name o = record { stamp = stamp; directory = root_id; name = name; object = o }
 

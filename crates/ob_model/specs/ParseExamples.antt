@@ -87,7 +87,7 @@ ItselfIsOpened =
     Passes parsing s 0 run × (object_of t 7 ≡ Some (record { id = 7; body = Other 1 1; permanent = false; exclusive = false })) × (t.pending ≡ [])
     × (t.set ≡ (1, Opened ForOpen) ∷ [])
 
--- a refusal of the parse is told
+-- a refusal of the parse is the answer
 abbrev pub ParseIsRefused : Type 0
 ParseIsRefused =
     let s = with_open_at (codes "a!") 32 Anything in
@@ -110,7 +110,7 @@ OpenIsGivenUp =
     × Passes parsing s 0 (one_step (Abandon 8 Ran) made (answers Success) (given_none s made)) × ((given_none s made).set ≡ (98, Deleted) ∷ (1, Deleted) ∷ [])
 
 -- a text to look up takes one of the reparses that are left, and a link in it another one; where none is left
--- that is told
+-- that is the answer
 abbrev pub ReparsesAreCounted : Type 0
 ReparsesAreCounted =
     let text = Some (EndsReparse (codes "\\DosDevices")) in

@@ -58,7 +58,7 @@ module _ {K T F I : Type 0} (g : Procedures K T F I) where
   LooksAgain s p mode (suc n) text look = Again s p mode text (λ place rest. Looks g s p mode n place rest look) (λ status. look ≡ Refused status)
 
   -- what a parse leads to: no memory was found; the pinned object is opened, or the new one; the text is looked
-  -- up and what it leads to is opened; or the refusal is told
+  -- up and what it leads to is opened; or the refusal is the answer
   abbrev pub EndsOpen : State K T F I → Pending K → Option (ParseOutcome F I) → Answer → State K T F I → Type 0
   EndsOpen s x None answer t = IsRefused s NoMemory answer t
   EndsOpen s x (Some EndsItself) answer t = OpensAt g s x.process x.attrs x.wanted Success x.object answer t

@@ -23,7 +23,7 @@ abbrev pub earliest : List Row → Option Row
 earliest [] = None
 earliest (r ∷ rs) = Some (earlier r (earliest rs))
 
--- the row stands in the directory, and its name is equal to the component
+-- the row is in the directory, and its name is equal to the component
 abbrev pub is_match : ℕ → List ℕ → Bool → Row → Bool
 is_match d c fold r = (r.directory == d) && same_name fold r.name c
 

@@ -32,7 +32,7 @@ pub record Procedures (K T F I : Type 0) : Type 0 where
   pub same_kind : K → K → Bool
   -- objects of the kind have a parse procedure
   pub parses : K → Bool
-  -- two faces stand for one object
+  -- two faces are those of one object
   pub same_face : F → F → Bool
   -- making refuses these arguments; else what is made, its face and its inner value
   pub refuses_to_make : K → List ℕ → Option ℕ
@@ -103,7 +103,7 @@ module _ {K T F I : Type 0} (g : Procedures K T F I) where
   abbrev pub SameFacesAnswerAlike : Type 0
   SameFacesAnswerAlike = (a b : F) (rest : List ℕ) → g.same_face a b ≡ true → g.parsed a rest ≡ g.parsed b rest
 
-  -- The laws of parse procedures, where Idle is the fact that an inner value stands for no open
+  -- The laws of parse procedures, where Idle is the fact that an inner value has no open
   -- handle.
   pub record IsLawfulParse (Idle : I → Type 0) : Type 0 where
     pub front : FrontIsUsed

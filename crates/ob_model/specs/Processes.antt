@@ -94,7 +94,7 @@ module _ {K T F I : Type 0} (g : Procedures K T F I) where
       (MatchOption (option_and_then (held_of s p) (key_of handle)) (IsRefused s InvalidHandle answer t)
       (λ h. GivesHandle g s to h.object (record { inherit = inherit; exclusive = false }) Duplicated Success answer t))
 
-  -- a process makes a child, and is told its number and the values that it inherited
+  -- a process makes a child, and the answer is its number and the values that it inherited
   abbrev pub MakesChild : State K T F I → ℕ → Bool → Answer → State K T F I → Type 0
   MakesChild s p inherit answer t =
       Unless ((not (is_live s p), ProcessGone) ∷ (is_crowded s p inherit, InsufficientResources) ∷ []) s answer t

@@ -1,5 +1,5 @@
 -- Scans: pages of one directory that are asked for one after another, the first from the beginning and each other
--- one after the context that the page before it gave. Other steps may stand between them, and the pages may be
+-- one after the context that the page before it gave. Other steps may come between them, and the pages may be
 -- asked for by any processes, with any room.
 --
 -- Source: ZwQueryDirectoryObject (Windows Driver Kit).
@@ -49,7 +49,7 @@ module _ {K T F I : Type 0} (g : Procedures K T F I) where
   abbrev pub Scans : State K T F I → ℕ → List (Passed K T F I) → List (Option Page) → Type 0
   Scans s d xs pages = ScansOn s d 0 xs pages
 
-  -- each entry of these pages is that of a row which stands in the directory at its step
+  -- each entry of these pages is that of a row which is in the directory at its step
   abbrev pub StandsAt : State K T F I → ℕ → Shown → Type 0
   StandsAt s d e = (r : Row) × Contains s.rows r × (r.directory ≡ d) × (e ≡ shown_row g s r)
 
@@ -60,6 +60,6 @@ module _ {K T F I : Type 0} (g : Procedures K T F I) where
   StandAtTheirSteps s d (x ∷ xs) (Some page ∷ pages) = All (StandsAt s d) page.entries × StandAtTheirSteps x.after d xs pages
 
 module _ {K T F I : Type 0} where
-  -- a row stands in the state s and after each of these steps
+  -- a row is in the state s and after each of these steps
   abbrev pub StandsThroughout : Row → State K T F I → List (Passed K T F I) → Type 0
   StandsThroughout r s xs = Contains s.rows r × All (λ x. Contains x.after.rows r) xs

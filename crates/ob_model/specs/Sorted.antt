@@ -9,7 +9,7 @@ module _ {X : Type 0} (key : X → ℕ) where
   insert_by x [] = x ∷ []
   insert_by x (y ∷ ys) = if nat_le (key x) (key y) then x ∷ y ∷ ys else y ∷ insert_by x ys
 
-  -- these elements by rising numbers; those of one number stay as they stand
+  -- these elements by rising numbers; those of one number keep their order
   abbrev pub sorted_by : List X → List X
   sorted_by [] = []
   sorted_by (x ∷ xs) = insert_by x (sorted_by xs)

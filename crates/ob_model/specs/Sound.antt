@@ -54,7 +54,7 @@ module _ {F I : Type 0} where
     pub numbered : All (λ x. x.number < next_process) processes
 
   -- Each row names an object that is there, and its directory was made before the object, so that each way up
-  -- ends. Rows rise by stamps that were drawn; each stands in a directory, its name is a component, no row has
+  -- ends. Rows rise by stamps that were drawn; each is in a directory, its name is a component, no row has
   -- the name, with case, of an earlier one of its directory, and none of the root is called `??`.
   pub record AreSoundRows (objects : List (Object F I)) (rows : List Row) (next_stamp : ℕ) : Type 0 where
     pub standing : All (λ r. StandsAmong objects r.object) rows

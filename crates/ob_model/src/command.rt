@@ -29,7 +29,7 @@ pub enum Place {
 pub enum Command<K> {
     /// Makes a directory at a place and opens a handle to it. Uses every flag but OPENLINK.
     CreateDirectory {
-        /// Where the directory is to stand.
+        /// Where the directory is to be.
         place: Place,
         /// The attribute flags, as raw bits.
         attrs: u32,
@@ -38,7 +38,7 @@ pub enum Command<K> {
     /// the shadow where the directory has none of that name. Uses every flag but OPENLINK. Where OPENIF opens
     /// a directory that is there, that directory keeps the shadow that it has.
     CreateShadowed {
-        /// Where the directory is to stand.
+        /// Where the directory is to be.
         place: Place,
         /// The attribute flags, as raw bits.
         attrs: u32,
@@ -48,7 +48,7 @@ pub enum Command<K> {
     },
     /// Makes a symbolic link at a place and opens a handle to it. Uses every flag but OPENLINK.
     CreateLink {
-        /// Where the link is to stand.
+        /// Where the link is to be.
         place: Place,
         /// The attribute flags, as raw bits.
         attrs: u32,
@@ -59,7 +59,7 @@ pub enum Command<K> {
     /// Makes an object of a kind of the set at a place and opens a handle to it. Uses every flag
     /// but OPENLINK.
     CreateObject {
-        /// Where the object is to stand.
+        /// Where the object is to be.
         place: Place,
         /// The attribute flags, as raw bits.
         attrs: u32,

@@ -5,7 +5,7 @@ ghost use Rattle.std.specs.Prelude.{◌≡◌};
 use crate::Bytes;
 use std::marker::Model;
 
-/// The name of a type, as the set of types tells it: it is shared with the program, so that telling it
+/// The name of a type, as the set of types gives it: it is shared with the program, so that giving it
 /// takes no memory. Contracts see a `TypeName` as the list of its bytes.
 #[derive(Debug, Drop)]
 pub struct TypeName {

@@ -178,10 +178,10 @@ pub fn paths_are_told()
 ///   it.
 /// - `made_of_another_type_goes`: What the parse made is of another type than was asked for: it goes unopened, before the object that parsed.
 /// - `itself_is_opened`: Where no rest is left the object that parsed is opened, though it has no name, and stays.
-/// - `parse_is_refused`: A refusal of the parse is told by the resume.
+/// - `parse_is_refused`: The resume answers with a refusal of the parse.
 /// - `asker_is_gone`: Where the process that asked is gone a resume says so, and what the parse made goes.
 /// - `open_is_given_up`: An open is given up before its parse was run, or after it: then what the parse made goes.
-/// - `reparses_are_counted`: A text to look up takes one of the reparses that are left; where none is left that is told.
+/// - `reparses_are_counted`: A text to look up takes one of the reparses that are left; where none is left the resume is refused.
 pub fn parses_end()
     ensures parse_runs_end { ParseRunsEnd }
     ensures made_is_opened { MadeIsOpened }
@@ -196,7 +196,7 @@ pub fn parses_end()
 /// The calls of procedures in a step.
 ///
 /// - `calls_of_made_and_closed`: An object is opened at its create, closed and deleted; one whose open is refused at its create is
-///   deleted and never opened. The calls that are told of the run are those that the set got.
+///   deleted and never opened. The calls of the run are those that the set got.
 /// - `calls_of_two_closes`: Of two closes each is given the handles that are left after it, and the last one is followed by the
 ///   delete.
 /// - `closes_of_an_end`: A process that ends closes its handles in the order in which they were opened, and each close is given

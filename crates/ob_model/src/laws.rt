@@ -137,7 +137,7 @@ pub fn paths_name_their_objects<K, T, F, I>()
     ensures answers { AnswersNameTheirObjects K T F I }
 {}
 
-/// An object more stands in order of numbers: it is the last where its number is the greatest; and where its
+/// An object more is put in order of numbers: it is the last where its number is the greatest; and where its
 /// number is free, numbers that rise still do, and it is found under its own. Any other number leads to what
 /// it led to.
 pub fn objects_stand_in_order<F, I>()
@@ -188,7 +188,7 @@ pub fn parse_has_one_end<K, T, F, I>()
 {}
 
 /// A step with its answer leads to one state alone, from each state, sound or not: the value of a new
-/// handle is the machine's one choice, and the answer tells it.
+/// handle is the machine's one choice, and the answer has it.
 pub fn step_has_one_end<K, T, F, I>()
     ensures { StepHasOneEnd K T F I }
 {}
@@ -204,7 +204,7 @@ pub fn run_is_total<K, T, F, I>()
     ensures { RunIsTotal K T F I }
 {}
 
-/// A run is made of steps that were passed one after another, so that the calls of each run are told.
+/// A run is made of steps that were passed one after another, so that each run has its calls.
 pub fn run_is_passed<K, T, F, I>()
     ensures { RunIsPassed K T F I }
 {}
@@ -331,7 +331,7 @@ pub fn resumes_stay_alike<K, T, F, I>()
 {}
 
 /// A step leaves each handle that it doesn't close under the value that names it; the value of a handle that it
-/// gives was free; and the values that are told with a new process are those of its handles.
+/// gives was free; and the values in the answer to a new process are those of its handles.
 pub fn handles_hold_on<K, T, F, I>()
     ensures { HandlesHoldOn K T F I }
 {}

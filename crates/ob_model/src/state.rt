@@ -10,7 +10,7 @@ use ob_base::{Handle, ObjId, Proc};
 #[derive(Debug, Drop)]
 pub enum Body<F, I> {
     /// An object directory, with its shadow, where it has one: a directory in which a name is looked up
-    /// where this one has no entry of it. Its entries are the rows that stand in it.
+    /// where this one has no entry of it. Its entries are the rows in it.
     Directory(Option<ObjId>),
     /// A symbolic link, with its target: 1 to 32,767 bytes.
     Link(Bytes),
@@ -37,7 +37,7 @@ pub struct Object<F, I> {
 pub struct Row {
     /// When it was inserted: rising, and never used again.
     pub stamp: u64,
-    /// The directory that it stands in.
+    /// The directory that it is in.
     pub directory: ObjId,
     /// The component, in the spelling that it was inserted with.
     pub name: Bytes,

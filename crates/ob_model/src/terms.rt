@@ -45,7 +45,7 @@ impl GrantOptions {
     }
 }
 
-/// Why a handle is opened, as an open procedure is told it.
+/// Why a handle is opened, as an open procedure receives it.
 ///
 /// Source: Windows Internals, Object Manager (object types and their methods).
 #[derive(Clone, Copy, PartialEq, Eq, Debug)]

@@ -1,4 +1,4 @@
-//! Components: what stands between the separators of a text.
+//! Components: the texts between the separators of a text.
 
 ghost use Rattle.std.specs.Prelude.{◌≡◌, ◌↔◌, [], ◌∷◌, ◌++◌, IsTrue};
 ghost use Rattle.ob_model.specs.Names.{separator, next_component, after_component};
@@ -49,7 +49,7 @@ pub fn first(text: &[u8]) -> Component<'_>
     Component::One { name, rest }
 }
 
-// How many bytes stand before the first separator, or in all where there is none.
+// How many bytes come before the first separator, or in all where there is none.
 fn component_len(text: &[u8]) -> usize
     ensures { IsFirstSeparator text.now result }
 {
@@ -60,7 +60,7 @@ fn component_len(text: &[u8]) -> usize
 
 /// Splitting joins back. Where a text is some components and a rest, each after a separator, and
 /// the rest has a next component, the text is those components, this one, and what follows
-/// it; and no other components stand before the same rest. So the components that `first` gives,
+/// it; and no other components come before the same rest. So the components that `first` gives,
 /// one after another, are the ones that the text is made of. Takes nothing and does nothing.
 pub fn splitting_joins_back()
     ensures goes_on { SplitsGoOn }

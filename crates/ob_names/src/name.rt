@@ -47,7 +47,7 @@ impl<'a> Name<'a> {
         ensures ok { IsOk result ↔ IsTrue (is_name bytes.now) }
         ensures value { IfOk result (λ name. name ≡ bytes.now) }
 
-        // Where a byte is bad and there are too many, the byte is told. No other error comes.
+        // Where a byte is bad and there are too many, the byte is reported. No other error comes.
         ensures invalid { (result ≡ Err Status.ObjectNameInvalid)
             ↔ (is_profile_text bytes.now ≡ false) }
         ensures too_long { (result ≡ Err Status.NameTooLong)

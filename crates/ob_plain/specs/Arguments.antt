@@ -18,7 +18,7 @@ is_readable args = nat_le (length args) longest_arguments && is_profile_text arg
 abbrev pub semicolon : ℕ
 semicolon = 59
 
--- the pieces of arguments: what stands between the semicolons; empty arguments have none
+-- the pieces of arguments: what is between the semicolons; empty arguments have none
 abbrev pub pieces : List ℕ → List (List ℕ)
 pieces [] = []
 pieces (b ∷ bs) = slice_split (λ byte. byte == semicolon) (b ∷ bs)
@@ -31,7 +31,7 @@ same_path a b = pointwise nat_eq a b
 abbrev pub has_byte : ℕ → List ℕ → Bool
 has_byte byte text = list_any (λ b. b == byte) text
 
--- the text's first byte of that value stands at the place, or the place is its length where it has none
+-- the text's first byte of that value is at the place, or the place is its length where it has none
 pub record IsFirst (byte : ℕ) (text : List ℕ) (place : ℕ) : Type 0 where
   pub inside : place ≤ length text
   pub before : (k : ℕ) → k < place → slice_index text k ≢ byte

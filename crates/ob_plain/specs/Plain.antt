@@ -24,7 +24,7 @@ same_plain_kind Section b = elim b [ Event ↦ false | Mutant ↦ false | Sectio
 abbrev pub refuses_handle : PlainInner → Option ℕ
 refuses_handle inner = elim inner.limit [ None ↦ None | Some limit ↦ cond (leb limit inner.handles) (Some 2) None ]
 
--- what stays as it was where a refusal is told, and else changes
+-- what stays as it was where it refuses, and else changes
 abbrev pub unless_told : {A : Type 0} → Option ℕ → A → A → A
 unless_told None kept changed = changed
 unless_told (Some _) kept changed = kept

@@ -14,11 +14,11 @@ use std::marker::Model;
 pub struct Call {
     /// The serial of the object that it was made for; 0 where no open of it was accepted before.
     pub serial: u64,
-    /// The procedure, and what it was told.
+    /// The procedure, and its arguments.
     pub what: CallKind,
 }
 
-/// A procedure that was called, and what it was told. (this profile)
+/// A procedure that was called, and its arguments. (this profile)
 #[derive(Clone, Copy, PartialEq, Eq, Debug)]
 pub enum CallKind {
     /// An open that was accepted, for this reason.

@@ -20,7 +20,7 @@ pub fn is_readable(args: &[u8]) -> bool
     args.len() <= LONGEST_ARGUMENTS && is_profile_text(args)
 }
 
-/// What stands before the first byte of a value in a text, and what follows it where there is one.
+/// The part before the first byte of a value in a text, and what follows it where there is one.
 pub fn cut(text: &[u8], byte: u8) -> (&[u8], Option<&[u8]>)
     ensures before { result.0.now ≡ before_first (λ b. b == byte) text.now }
     ensures behind { IfSome result.1 (λ rest. rest.now ≡ after_first (λ b. b == byte) text.now) }
@@ -40,7 +40,7 @@ pub fn cut(text: &[u8], byte: u8) -> (&[u8], Option<&[u8]>)
     }
 }
 
-// Where the first byte of a value stands, or the text's length where there is none.
+// Where the first byte of a value is, or the text's length where there is none.
 fn first_place(text: &[u8], byte: u8) -> usize
     ensures { IsFirst byte text.now result }
 {
@@ -49,7 +49,7 @@ fn first_place(text: &[u8], byte: u8) -> usize
         .unwrap_or(text.len())
 }
 
-/// The pieces of arguments: what stands between the semicolons, in order; empty arguments have none. A
+/// The pieces of arguments: what is between the semicolons, in order; empty arguments have none. A
 /// piece may be empty. The only error is out of memory. (this profile)
 pub fn split(alloc: Global, args: &[u8]) -> Result<Vec<&[u8]>, AllocError>
     ensures pieces { IfOk result (λ pieces. map (λ piece. piece.now) pieces.items

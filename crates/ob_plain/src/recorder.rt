@@ -39,7 +39,7 @@ pub struct Recorded<I> {
 }
 
 impl<T: Drop> Recorder<T> {
-    /// A recorder with no call yet, and room for so many. Want of memory for the room is the only
+    /// A recorder with no call yet, and room for so many. Out of memory for the room is the only
     /// error; the set is then dropped. No room needs no memory.
     pub fn new(alloc: Global, part: T, room: usize) -> Result<Recorder<T>, Fault>
         ensures part { IfOk result (λ recorder. part_of recorder ≡ part) }

@@ -16,7 +16,7 @@ pub fn made_idle<T: TypeSet>()
     ensures { model.MadeIsIdle T.procedures T.idle }
 {}
 
-/// A close that leaves no handle in the system leaves an inner value that stands for no open
+/// A close that leaves no handle in the system leaves an inner value that has no open
 /// handle. (this profile)
 pub fn closed_idle<T: TypeSet>()
     ensures { model.LastClosedIsIdle T.procedures T.idle }

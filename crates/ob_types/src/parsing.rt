@@ -44,7 +44,7 @@ impl<T: TypeSet> Parsing<T> {
     }
 
     /// Runs the parse procedures, one after the other, until one of them ends the parse or memory runs out. It
-    /// takes neither the namespace nor a lock. What it ended with is told by every `Parsed`.
+    /// takes neither the namespace nor a lock. Every `Parsed` has what it ended with.
     pub fn run(self, alloc: Global) -> Parsed<T>
         ensures ticket { result.ticket ≡ self.ticket }
         ensures face { result.face ≡ self.face }

@@ -14,7 +14,7 @@ pub enum Refusal {
     Memory,
 }
 
-/// Want of memory is the refusal `Memory`, so that `?` passes it on.
+/// Out of memory is the refusal `Memory`, so that `?` passes it on.
 impl From<AllocError> for Refusal {
     ghost from_gives = { λ _ refusal. refusal ≡ Memory };
 

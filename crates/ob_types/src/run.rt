@@ -17,7 +17,7 @@ use std::sync::Arc;
 pub enum Outcome<F, I> {
     /// The object itself is what was named.
     Itself,
-    /// A new instance was made and is what was named: its face, and its inner value, which stands for no
+    /// A new instance was made and is what was named: its face, and its inner value, which has no
     /// open handle.
     Made(Arc<F, Global>, I),
     /// The name is to be looked up again, as this absolute name.
@@ -43,7 +43,7 @@ enum Step<'a, F, I> {
 /// - A front that uses the rest up ends it with its instance.
 /// - After another front the run goes on with its instance, which parses what is left. The instance is
 ///   dropped then: it was never opened, so there is no call for it.
-/// - Want of memory, in a parse procedure or for what was made, ends it with `NoMemory`.
+/// - Memory refused, in a parse procedure or for what was made, ends it with `NoMemory`.
 ///
 /// The run calls as many parse procedures as the rest has bytes, at most, or one where it has none. (Windows
 /// Internals, Object Manager: parse methods; the steps: this profile)

@@ -12,7 +12,7 @@ use std::alloc::{AllocError, Global};
 /// (Windows Internals, Object Manager: object types and their methods).
 ///
 /// An object has a face, which never changes, and an inner value, which its open, close and delete
-/// procedures change. Want of memory in `make` and `parse` aside, what a procedure gives depends on nothing but
+/// procedures change. Memory refused in `make` and `parse` aside, what a procedure gives depends on nothing but
 /// what it is given: on the arguments, and where it has one on the set's own value. (this profile)
 pub trait TypeSet: Sized + Drop + Send {
     /// The kinds of objects, one for each type.
@@ -42,7 +42,7 @@ pub trait TypeSet: Sized + Drop + Send {
     fn parses(kind: Self::Kind) -> bool
         ensures { result ≡ procedures.parses kind };
 
-    /// Whether two faces stand for one object: then they answer every rest alike.
+    /// Whether two faces are those of one object: then they answer every rest alike.
     fn same(a: &Self::Face, b: &Self::Face) -> bool
         ensures { result ≡ procedures.same_face a.now b.now };
 
