@@ -2,3 +2,4 @@ pub mod Verbs
 pub mod Formed
 pub mod Lined
 pub mod Scripted
+pub mod Misfitted
