@@ -122,7 +122,6 @@ each_reads verb.Exit bytes = tt
 verb_reads : (v : Verb) (bytes : List ℕ) (sorts : Sorts) → sorts_of v ≡ Some sorts → Reads v bytes sorts
 verb_reads v bytes sorts e = let found : IfSome (Some sorts) (Reads v bytes) = subst (λ o. IfSome o (Reads v bytes)) e (each_reads v bytes) in found
 
-
 -- A line with parts of all sorts that its word has is a script line.
 pub has_form : (line process bytes word operands : List ℕ) (sorts : Sorts) → length line ≤ longest_line → BeginsWithProcess line process bytes
     → bytes ≡ word ++ (0x20 ∷ operands) → HasSorts word sorts → AreParts sorts.0 sorts.1 operands → (form : Form (List ℕ)) × IsLine line form

@@ -2,7 +2,7 @@
 --
 -- A line is read part by part. It stops at the first part that is missing, with the space after it where the form has one.
 -- Source: this profile.
-use Rattle.std.specs.Prelude.{◌≡◌, ◌⊎◌, ℕ, ◌+◌, ◌≤◌, ◌<◌, List, [], ◌∷◌, ◌++◌, length, Option, Some, None, codes}
+use Rattle.std.specs.Prelude.{◌≡◌, ◌⊎◌, ℕ, ◌+◌, ◌≤◌, ◌<◌, List, [], ◌∷◌, ◌++◌, length, Option, Some, None, ⊤, codes}
 use Rattle.ob_parts.specs.declared.sort.PartForm.{PartForm}
 use Rattle.ob_parts.specs.declared.sort.PartForm.TheVariants as part
 use Rattle.ob_parts.specs.declared.sort.LastForm.{LastForm}
@@ -80,6 +80,17 @@ pub record IsMisfit (line : List ℕ) (misfit : Misfit) : Type 0 where
   pub no_form : (form : Form (List ℕ)) → ¬ IsLine line form
   pub stops : ((longest_line < length line) × (misfit.expected ≡ expected.End) × (misfit.column ≡ longest_line + 1))
       ⊎ ((length line ≤ longest_line) × ((rest : List ℕ) × StopsLine line misfit.expected rest × IsColumn line rest misfit.column))
+
+-- no form has more parts
+abbrev pub most_parts : ℕ
+most_parts = 5
+
+-- what is expected is no more parts than a form has
+abbrev pub IsFew : Expected → Type 0
+IsFew expected.Line = ⊤
+IsFew expected.Verb = ⊤
+IsFew (expected.Parts parts last) = length parts.now + 1 ≤ most_parts
+IsFew expected.End = ⊤
 
 -- parts of these sorts as docs/script.md writes them
 abbrev pub sorts_text : List PartForm → LastForm → List ℕ

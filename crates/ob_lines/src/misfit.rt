@@ -3,7 +3,7 @@
 ghost use Rattle.std.specs.Prelude.{◌≡◌, ◌≤◌, ℕ, List, length, option_map, IfSome, IfNone};
 ghost use Rattle.ob_lines.specs.declared.form.Form.{Form};
 ghost use Rattle.ob_lines.specs.Grammar.{IsLine};
-ghost use Rattle.ob_lines.specs.Misfits.{HasSorts, IsMisfit, Sorts, StopsLine, sorts_of};
+ghost use Rattle.ob_lines.specs.Misfits.{HasSorts, IsFew, IsMisfit, Sorts, StopsLine, sorts_of};
 
 use crate::form::{LONGEST_LINE, form_of};
 use crate::verb::{Verb, verb_of};
@@ -39,6 +39,7 @@ pub struct Misfit {
 /// The misfit of a line without its LF; none where it is a script line. (this profile)
 pub fn misfit_of(line: &[u8]) -> Option<Misfit>
     ensures found { IfSome result (λ misfit. IsMisfit line.now misfit) }
+    ensures few { IfSome result (λ misfit. IsFew misfit.expected) }
     ensures none { IfNone result ((form : Form (List ℕ)) × IsLine line.now form) }
 {
     if form_of(line).is_some() {
@@ -62,6 +63,7 @@ fn stop_in(line: &[u8]) -> (Expected, &[u8])
     requires short { length line.now ≤ 262144 }
     requires no_form { (form : Form (List ℕ)) → ¬ IsLine line.now form }
     ensures stop { StopsLine line.now result.0 result.1.now }
+    ensures few { IsFew result.0 }
     ensures shorter { length result.1.now ≤ length line.now }
 {
     let Some((_process, request)) = take_process(line) else {
@@ -85,6 +87,7 @@ fn stop_in(line: &[u8]) -> (Expected, &[u8])
 // The sorts of what follows a word and a space.
 fn sorts_after(word: &[u8]) -> Option<(&'static [PartForm], LastForm)>
     ensures found { IfSome result (λ sorts. HasSorts word.now (sorts.0.now, sorts.1)) }
+    ensures few { IfSome result (λ sorts. length sorts.0.now ≤ 4) }
     ensures none { IfNone result ((sorts : Sorts) → ¬ HasSorts word.now sorts) }
 {
     match word {
@@ -99,7 +102,8 @@ fn sorts_after(word: &[u8]) -> Option<(&'static [PartForm], LastForm)>
 
 // The sorts of a request's operands, by its verb.
 fn sorts_of(verb: Verb) -> Option<(&'static [PartForm], LastForm)>
-    ensures { option_map (λ sorts. (sorts.0.now, sorts.1)) result ≡ sorts_of verb }
+    ensures sorts { option_map (λ sorts. (sorts.0.now, sorts.1)) result ≡ sorts_of verb }
+    ensures few { IfSome result (λ sorts. length sorts.0.now ≤ 4) }
 {
     let sorts: (&'static [PartForm], LastForm) = match verb {
         Verb::Dir => (&[PartForm::Place, PartForm::Flags], LastForm::SetsVariable),

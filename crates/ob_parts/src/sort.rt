@@ -96,6 +96,7 @@ pub fn stop_of<'a, 'b>(
     ensures found { IfSome result (λ stop.
         StopsAt parts.now last bytes.now stop.0.now stop.1.now) }
     ensures shorter { IfSome result (λ stop. length stop.1.now ≤ length bytes.now) }
+    ensures fewer { IfSome result (λ stop. length stop.0.now ≤ length parts.now) }
     ensures none { IfNone result (AreParts parts.now last bytes.now) }
 {
     let Some((part, others)) = parts.split_first() else {
