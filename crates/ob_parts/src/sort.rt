@@ -36,9 +36,10 @@ pub enum PartForm {
 }
 
 impl PartForm {
-    /// The name of the sort in docs/script.md.
+    /// The name of the sort in docs/script.md, of at most 16 bytes.
     pub fn text(self) -> &'static [u8]
-        ensures { result.now ≡ part_text self }
+        ensures text { result.now ≡ part_text self }
+        ensures short { length result.now ≤ 16 }
     {
         match self {
             PartForm::Process => b"Q",
@@ -71,9 +72,10 @@ pub enum LastForm {
 }
 
 impl LastForm {
-    /// The name of the sort in docs/script.md.
+    /// The name of the sort in docs/script.md, of at most 4 bytes.
     pub fn text(self) -> &'static [u8]
-        ensures { result.now ≡ last_text self }
+        ensures text { result.now ≡ last_text self }
+        ensures short { length result.now ≤ 4 }
     {
         match self {
             LastForm::Handle => b"H",

@@ -1,6 +1,6 @@
 //! Where in a script with workers a line is, and whether it is right there.
 
-ghost use Rattle.std.specs.Prelude.{◌≡◌, IfErr, IfNone, IfOk, IfSome};
+ghost use Rattle.std.specs.Prelude.{◌≡◌, ◌≤◌, length, IfErr, IfNone, IfOk, IfSome};
 ghost use Rattle.ob_lines.specs.Misfits.{IsFew};
 ghost use Rattle.ob_worker_lines.specs.declared.section.Section.{Section};
 ghost use Rattle.ob_worker_lines.specs.Cuts.{join_line, thread_line};
@@ -23,7 +23,8 @@ pub enum Section {
 impl Section {
     /// With what a line of the section may begin, in the words of docs/script.md: at most 32 bytes.
     pub fn start_text(self) -> &'static [u8]
-        ensures { result.now ≡ start_text self }
+        ensures text { result.now ≡ start_text self }
+        ensures short { length result.now ≤ 32 }
     {
         match self {
             Section::Before => b"P, stat, seal or thread",
