@@ -3,3 +3,4 @@ pub mod Formed
 pub mod Lined
 pub mod Scripted
 pub mod Misfitted
+pub mod Singled

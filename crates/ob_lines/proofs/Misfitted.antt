@@ -26,7 +26,7 @@ use Rattle.ob_lines.proofs.Formed.{request_joined}
 use Rattle.ob_lines.proofs.Verbs.{verb_lacks}
 
 -- words that have sorts have no space
-sorts_lack : (word : List ℕ) (sorts : Sorts) → HasSorts word sorts → Lacks 0x20 word
+pub sorts_lack : (word : List ℕ) (sorts : Sorts) → HasSorts word sorts → Lacks 0x20 word
 sorts_lack word sorts (inl (v, e, s)) = moved (Lacks 0x20) word (verb_text v) e (verb_lacks v)
 sorts_lack word sorts (inr (inl (e, s))) = moved (Lacks 0x20) word (codes "begin") e (lacks_from_test 0x20 (codes "begin") refl)
 sorts_lack word sorts (inr (inr (inl e, s))) = moved (Lacks 0x20) word (codes "end") e (lacks_from_test 0x20 (codes "end") refl)

@@ -103,3 +103,8 @@ expected_text expected.Line = codes "P or stat"
 expected_text expected.Verb = codes "a verb and its parts"
 expected_text (expected.Parts parts last) = sorts_text parts.now last
 expected_text expected.End = codes "the end of the line"
+
+-- two misfits of a line are in the same column, and the same is expected there
+abbrev pub LinesHaveOneMisfit : Type 0
+LinesHaveOneMisfit =
+    (line : List ℕ) (a b : Misfit) → IsMisfit line a → IsMisfit line b → (a.column ≡ b.column) × (expected_text a.expected ≡ expected_text b.expected)

@@ -16,7 +16,7 @@ mod verb;
 
 pub use change::{Change, change_of};
 pub use form::{Form, LONGEST_LINE, form_of, is_idle, lines_have_one_form};
-pub use misfit::{Expected, Misfit, misfit_of};
+pub use misfit::{Expected, Misfit, lines_have_one_misfit, misfit_of};
 pub use ob_parts::{
     HandleForm, KindForm, LastForm, NameForm, Offset, PageMode, PartForm, PlaceForm, decode,
     offset_value, texts_spell_one_thing,

@@ -3,7 +3,7 @@
 ghost use Rattle.std.specs.Prelude.{◌≡◌, ◌≤◌, ℕ, List, length, option_map, IfSome, IfNone};
 ghost use Rattle.ob_lines.specs.declared.form.Form.{Form};
 ghost use Rattle.ob_lines.specs.Grammar.{IsLine};
-ghost use Rattle.ob_lines.specs.Misfits.{HasSorts, IsFew, IsMisfit, Sorts, StopsLine, sorts_of};
+ghost use Rattle.ob_lines.specs.Misfits.{HasSorts, IsFew, IsMisfit, LinesHaveOneMisfit, Sorts, StopsLine, sorts_of};
 
 use crate::form::{LONGEST_LINE, form_of};
 use crate::verb::{Verb, verb_of};
@@ -144,3 +144,9 @@ fn sorts_of(verb: Verb) -> Option<(&'static [PartForm], LastForm)>
     };
     Some(sorts)
 }
+
+/// The law that a line has at most one misfit: two are in the same column, and say that the same was expected. The call does nothing; a caller
+/// makes it to have the fact.
+pub fn lines_have_one_misfit()
+    ensures { LinesHaveOneMisfit }
+{}

@@ -1,4 +1,4 @@
 pub mod Cuts
 pub mod Forms
 pub mod Parts
-pub mod Sections
+pub mod Phases

@@ -11,11 +11,11 @@ mod form;
 mod line;
 mod part;
 mod script;
-mod section;
+mod phase;
 
 pub use form::{SeatForm, read_seat_line, seat_lines_have_one_form};
 pub use part::Part;
 pub use script::{
     CutFault, MOST_WORKERS, WorkerScript, cut, lines_of_parts_are_read, scripts_have_one_cut,
 };
-pub use section::{Section, judge_line};
+pub use phase::{Phase, judge_line};
