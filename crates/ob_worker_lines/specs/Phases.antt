@@ -1,14 +1,14 @@
 -- Phases: where in a script with workers a line is, and which lines are right there.
 --
 -- Source: this profile.
-use Rattle.std.specs.Prelude.{◌≡◌, ◌⊎◌, ℕ, ◌+◌, ◌≤◌, ◌<◌, ◌==◌, if◌then◌else◌, List, [], ◌∷◌, ⊤, codes}
+use Rattle.std.specs.Prelude.{◌≡◌, ◌⊎◌, ◌↔◌, ℕ, ◌+◌, ◌≤◌, ◌<◌, ◌==◌, if◌then◌else◌, List, [], ◌∷◌, ⊤, codes}
 use Rattle.ob_lines.specs.declared.misfit.Expected.{Expected}
 use Rattle.ob_lines.specs.declared.misfit.Expected.TheVariants as expected
 use Rattle.ob_lines.specs.declared.misfit.Misfit.{Misfit}
 use Rattle.ob_lines.specs.Misfits.{IsMisfit, expected_text}
 use Rattle.ob_worker_lines.specs.declared.phase.Phase.{Phase}
 use Rattle.ob_worker_lines.specs.declared.phase.Phase.TheVariants.{Before, Worker, After}
-use Rattle.ob_worker_lines.specs.Cuts.{IsSeatLine, Lines, join_line, most_workers, thread_line}
+use Rattle.ob_worker_lines.specs.Cuts.{CanBeCut, IsSeatLine, Lines, join_line, most_workers, thread_line}
 
 -- there are no more workers than there may be
 abbrev pub HasFewWorkers : Phase → Type 0
@@ -42,6 +42,10 @@ IsWrong phase line misfit = ((next : Phase) → ¬ IsRight phase line next) × I
 abbrev pub AreRight : Phase → Lines → Type 0
 AreRight phase [] = ⊤
 AreRight phase (line ∷ lines) = (next : Phase) × IsRight phase line next × AreRight next lines
+
+-- all lines of a script are right where it can be cut into the lines of its seats, and only there
+abbrev pub RightScriptsAreCut : Type 0
+RightScriptsAreCut = (lines : Lines) → AreRight Before lines ↔ CanBeCut lines
 
 -- with what a line of a phase may begin, in the words of docs/script.md
 abbrev pub start_text : Phase → List ℕ

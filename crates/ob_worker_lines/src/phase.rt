@@ -4,7 +4,7 @@ ghost use Rattle.std.specs.Prelude.{◌≡◌, ◌≤◌, length, IfErr, IfNone,
 ghost use Rattle.ob_lines.specs.Misfits.{IsFew};
 ghost use Rattle.ob_worker_lines.specs.declared.phase.Phase.{Phase};
 ghost use Rattle.ob_worker_lines.specs.Cuts.{join_line, thread_line};
-ghost use Rattle.ob_worker_lines.specs.Phases.{BeginsWorker, EndsWorkers, HasFewWorkers, IsRight, IsWrong, start_text};
+ghost use Rattle.ob_worker_lines.specs.Phases.{BeginsWorker, EndsWorkers, HasFewWorkers, IsRight, IsWrong, RightScriptsAreCut, start_text};
 
 use crate::script::MOST_WORKERS;
 use ob_lines::{Misfit, misfit_of};
@@ -73,3 +73,9 @@ fn phase_after(line: &[u8], phase: Phase) -> Option<Phase>
         _ => None,
     }
 }
+
+/// The law that a script can be cut into the lines of its seats where all its lines are right, and only there. The call does nothing; a caller
+/// makes it to have the fact.
+pub fn right_scripts_are_cut()
+    ensures { RightScriptsAreCut }
+{}
