@@ -1,7 +1,8 @@
-//! Lines of the output of a script: their texts, made without memory.
+//! Lines of the output of a script: their texts, made without memory, and the block in which they are gathered until it is written.
 #![tactic(auto)]
 
 mod counts;
+mod gathering;
 mod lines;
 mod misfits;
 mod short_line;
@@ -9,6 +10,7 @@ mod status_lines;
 mod texts;
 
 pub use counts::Totals;
+pub use gathering::{gather, make_room};
 pub use lines::{LINE_ROOM, push_counts_line, push_number, push_text, push_text_line};
 pub use misfits::{EXPECTED_ROOM, push_expected, push_misfit_line};
 pub use short_line::{Line, text_line};
