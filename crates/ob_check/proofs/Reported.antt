@@ -118,9 +118,9 @@ so_far_last old new has script rest number phase checked s e =
 -- what was gathered is written
 pub report_written : (old mid new : Option (List ℕ)) (script has : List ℕ) (checked : Checked) → (output : List ℕ) × ReportsScript script checked output × Gathers old mid [] output has
     → Appends mid new has → WritesReport old new script checked
-report_written old mid new script has checked (output, (reports, g)) a = (output, reports, gathers_out old mid new output has g a)
+report_written old mid new script has checked (output, reports, g) a = (output, reports, gathers_out old mid new output has g a)
 
 pub report_part : (old mid new : Option (List ℕ)) (script has : List ℕ) (checked : Checked) → (output : List ℕ) × ReportsScript script checked output × Gathers old mid [] output has
     → AppendsFront mid new has → WritesReportPart old new script
-report_part old mid new script has checked (output, ((next, reported, is), g)) f =
+report_part old mid new script has checked (output, (next, reported, is), g) f =
     (lines_of script, [], output, next, sym (append-nil (lines_of script)), reported, gathers_out_front old mid new output has g f)

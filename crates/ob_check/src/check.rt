@@ -1,6 +1,6 @@
 //! The check of a script that a reader has.
 
-ghost use Rattle.std.specs.Prelude.{◌≡◌, ◌≢◌, ◌⊎◌, ◌+◌, ◌<◌, ◌≤◌, false, [], ◌++◌, List, ℕ, length, vec_capacity, vec_len, IfErr, IfOk, IfSome, IsErr, IsErrOf, OnErr, OnOk};
+ghost use Rattle.std.specs.Prelude.{◌≡◌, ◌≢◌, ◌⊎◌, ◌+◌, ◌<◌, ◌≤◌, false, true, [], ◌++◌, List, ℕ, length, vec_capacity, vec_len, IfErr, IfOk, IfSome, IsErr, IsErrOf, OnErr, OnOk};
 ghost use Rattle.ob_check.specs.Report.{ReportsScript, WritesReport, WritesReportPart, fault_line};
 ghost use Rattle.ob_lines.specs.Misfits.{IsFew};
 ghost use Rattle.ob_output.specs.Gathering.{Gathers};
@@ -58,6 +58,15 @@ pub fn run_check<R: Read, W: Write>(
         SCRIPT_LIMIT < length script → IsErr result) }
     ensures long { IfSome (R.remaining reader.old) (λ script. SCRIPT_LIMIT < length script →
         IfErr result StopsLong × (W.contents writer.new ≡ W.contents writer.old)) }
+
+    // Out of memory is said only of as many bytes as a script may have, so one that was read past that is too long.
+    ensures stopped { IfSome (R.remaining reader.old) (λ script. SCRIPT_LIMIT < length script →
+        IfErr result (λ fault. StopsReading fault
+        (R.remaining reader.old) (R.remaining reader.new))) }
+
+    // However it ends, no more than one byte past the limit is read.
+    ensures taken { TakesAtMost (R.remaining reader.old) (R.remaining reader.new)
+        (SCRIPT_LIMIT + 1) }
 {
     match read_script(alloc, reader) {
         Ok(script) => check_script(alloc, script.as_slice(), writer),
