@@ -24,7 +24,7 @@ use ob_types::TypeSet;
 /// Settles after an object has lost a handle, or is a process's map directory no longer: an object that
 /// is neither permanent nor has a handle loses its name, and goes if it holds no names that stay, no open
 /// is pending at it and it is no map directory; and then the directory of that name goes, if nothing holds it now. The
-/// shadows of those that went go then, if nothing holds them. The set is told of each
+/// shadows of those that went go then, if nothing holds them. The set's delete is called for each
 /// object of its own that goes, the object first. The root and `\GLOBAL??` stay always.
 ///
 /// It asks that the state is orderly and its shadows are fit, and that with one handle more to the object it is settled, so that
@@ -51,7 +51,7 @@ pub fn settle_after_loss<T: TypeSet, H: HandleTable>(space: &mut Space<T, H>, ob
     settle_closed(space, object, &standing);
 }
 
-/// Settles one object that has no handle, by what the store told of it, and then the directory of its name, and the shadows
+/// Settles one object that has no handle, by its standing, and then the directory of its name, and the shadows
 /// of both where they went.
 fn settle_closed<T: TypeSet, H: HandleTable>(
     space: &mut Space<T, H>,
@@ -63,7 +63,7 @@ fn settle_closed<T: TypeSet, H: HandleTable>(
     requires told { standing.now ≡ standing_among space.old.objects space.old.rows object }
     ensures { AreSettled T.procedures space.old (λ o. o == object) object space.new }
 {
-    // The length tells what holds of every store.
+    // The length says what holds of every store.
     let _ = space.store.len();
     let place = standing.place;
     let own = settle_unheld(space, object, standing);
@@ -109,7 +109,7 @@ fn settle_other<T: TypeSet, H: HandleTable>(
 /// Settles after a process has ended: of the objects that its handles led to, each that is neither
 /// permanent nor has a handle now loses its name, and goes if it holds no names that stay, no open is
 /// pending at it and it is no map directory; and then the directory of that name goes, if nothing holds it now. The directory of the
-/// process's device map goes in the same way. The set is told of each object of its own that goes, from
+/// process's device map goes in the same way. The set's delete is called for each object of its own that goes, from
 /// the highest number down. The root and `\GLOBAL??` stay always.
 ///
 /// It asks that the state is orderly and sound, and that nothing else can go but a directory by the
@@ -156,7 +156,7 @@ fn settle_in_turn<T: TypeSet, H: HandleTable>(space: &mut Space<T, H>, touched: 
     }
 }
 
-/// Settles one object that has no handle, by what the store told of it, and then the directory of its name, unless that has
+/// Settles one object that has no handle, by its standing, and then the directory of its name, unless that has
 /// its own turn.
 fn settle_named<T: TypeSet, H: HandleTable>(
     space: &mut Space<T, H>,
@@ -169,7 +169,7 @@ fn settle_named<T: TypeSet, H: HandleTable>(
     requires told { standing.now ≡ standing_among space.old.objects space.old.rows id }
     ensures { AreSettled T.procedures space.old (is_listed touched.now) id space.new }
 {
-    // The length tells what holds of every store.
+    // The length says what holds of every store.
     let _ = space.store.len();
     let place = standing.place;
     let own = settle_unheld(space, id, standing);
@@ -228,7 +228,7 @@ fn settle_one<T: TypeSet, H: HandleTable>(space: &mut Space<T, H>, id: ObjId) ->
     settle_unheld(space, id, &standing)
 }
 
-/// Settles one object that has no handle, by what the store told of it. It gives the shadow of the object, where that went
+/// Settles one object that has no handle, by its standing. It gives the shadow of the object, where that went
 /// and is a directory that has one.
 fn settle_unheld<T: TypeSet, H: HandleTable>(
     space: &mut Space<T, H>,
@@ -241,7 +241,7 @@ fn settle_unheld<T: TypeSet, H: HandleTable>(
     ensures settled { space.new ≡ settled_one T.procedures space.old id }
     ensures shadow { result ≡ shadow_left space.old id }
 {
-    // The length tells what holds of every store.
+    // The length says what holds of every store.
     let _ = space.store.len();
     forget_unkept(&mut space.store, standing);
     if is_held_up(&space.store, &space.processes, &space.pending, id, standing) {
@@ -276,7 +276,7 @@ fn delete_object<T: TypeSet, H: HandleTable>(space: &mut Space<T, H>, id: ObjId)
     }
 }
 
-/// Whether an object that has no handle stays, by what the store told of it.
+/// Whether an object that has no handle stays, by its standing.
 fn is_held_up<T: TypeSet, H: HandleTable>(
     store: &CachedStore<T>,
     processes: &Processes<H>,
