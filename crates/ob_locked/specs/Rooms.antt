@@ -1,4 +1,4 @@
--- What the copy of a reply takes memory for.
+-- The parts of a reply whose copy takes memory.
 --
 -- Source: this profile.
 use Rattle.std.specs.Prelude.{ℕ, Bool, true, false, List, []}

@@ -11,7 +11,7 @@
 //! that still wait. A parse that is kept stays the one that its open waits for, whatever other steps are made:
 //! [`parses_stay_awaited`].
 //!
-//! Who makes the steps of a history again, as a journal tells them, calls [`repeat_step`].
+//! Who makes the steps of a history again, as a journal has them, calls [`repeat_step`].
 #![tactic(auto)]
 
 mod again;

@@ -106,7 +106,7 @@ impl<T: TypeSet> Waits<T> {
         left.destroy_empty();
     }
 
-    /// Lets go of what keeps no parse.
+    /// Drops the collection, which keeps no parse.
     pub(crate) fn destroy_empty(self)
         requires { self ≡ [] }
     {
