@@ -1,6 +1,6 @@
 //! The namespace itself: commands in, replies out, one step of the abstract machine each.
 //!
-//! A [`Core`] is generic in its set of types, of which it knows nothing but that it is lawful, and in the
+//! A [`Core`] is generic in its set of types, of which it knows only that it is lawful, and in the
 //! handle table of its processes. Its state lies in the parts of `ob_space`. The steps of commands are in
 //! `ob_commands`, those of opens by name, and of opens that wait for a parse, in `ob_opens`; here each command is given
 //! its step, and what holds between the steps is kept.

@@ -401,8 +401,8 @@ impl<T: TypeSet, H: HandleTable> Core<T, H> {
 
 impl<T: Drains, H: HandleTable> Core<T, H> {
     /// Takes the next item of the set, as the object that was deleted first; `None` where nothing is left. It is no step,
-    /// and none knows of it: nothing differs but what the set still has, and every later reply may be the one that it
-    /// would have been. No memory is taken. Source: this profile.
+    /// and none knows of it: nothing differs except what the set still has, and every later reply may be the one that
+    /// it would have been. No memory is taken. Source: this profile.
     pub fn take_next(&mut self) -> Option<T::Item>
         ensures told { result ≡ T.next self.old.set }
         ensures taken { IfSome result (λ _. self.new ≡ with_change T.behind self.old) }

@@ -28,7 +28,7 @@ abbrev pub values_wanted : {K : Type 0} → ℕ → Command K → ℕ
 values_wanted held (NewProcess inherit) = held
 values_wanted held command = 0
 
--- a copy wants nothing but its own place: nothing is given, or a handle
+-- a copy needs only its own place: nothing is given, or a handle
 abbrev pub is_plain : Given → Bool
 is_plain Nothing = true
 is_plain (Handle handle) = true
