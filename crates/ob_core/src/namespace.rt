@@ -78,8 +78,8 @@ impl<T: TypeSet, H: HandleTable> Core<T, H> {
         Core::with_cache(alloc, types, cache)
     }
 
-    /// The opening state, as [`Core::new`] has it, whose names are looked up by this cache, which is emptied first. What
-    /// it has room for changes no reply. The only fault is out of memory, and then the set and the cache are dropped.
+    /// The opening state, as [`Core::new`] has it, whose names are looked up by this cache, which is emptied first. Its
+    /// room changes no reply. The only fault is out of memory, and then the set and the cache are dropped.
     ///
     /// Source: as for [`Core::new`]; the cache is this profile.
     pub fn with_cache(alloc: Global, types: T, cache: Cache) -> Result<Core<T, H>, Fault>
@@ -108,7 +108,7 @@ impl<T: TypeSet, H: HandleTable> Core<T, H> {
     /// Starts a command of a process: makes one step of the machine, and answers what it answers.
     ///
     /// Every refusal is a reply; docs/namespace.md has their order. The only fault is out of memory,
-    /// which is told only where a growth was refused, and then nothing has changed. A close, the end of a
+    /// which is reported only where a growth was refused, and then nothing has changed. A close, the end of a
     /// process, and making an object permanent or temporary take no memory, nor does a command that is
     /// refused before its lookup, so these never fail: where the process is gone, the flags, the other
     /// parameters or the bytes or the length of the name are refused, the process lacks the handle that it
@@ -164,7 +164,7 @@ impl<T: TypeSet, H: HandleTable> Core<T, H> {
         resume(&mut self.space, parsed)
     }
 
-    /// Gives up an open that waits for this parse, whether it was run or not, and tells whether one does: that open
+    /// Gives up an open that waits for this parse, whether it was run or not, and says whether one does: that open
     /// is pending no longer, an instance that the parse made is deleted, and the object that the open pinned goes
     /// where nothing else holds it. No memory is taken.
     ///
@@ -232,7 +232,7 @@ impl<T: TypeSet, H: HandleTable> Core<T, H> {
         requires free { IsFreeValue self process to }
         ensures { IfOk result (λ core. core ≡ revalued to self) }
     {
-        // The next order tells that it is at most 2^64 - 1, and the length that the orders of all handles rise.
+        // The next order's contract gives that it is at most 2^64 - 1, and the length's that all handles' orders rise.
         let _ = self.next_order();
         let mut space = self.space;
         let _ = space.processes.len();
@@ -335,8 +335,8 @@ impl<T: TypeSet, H: HandleTable> Core<T, H> {
         self.space.store.is_exclusive(object)
     }
 
-    /// What a handle of a process leads to, whose low two bits are ignored: the object's id, and what it is. None exactly
-    /// where the process has no such handle. Takes no memory.
+    /// The object that a handle of a process leads to, whose low two bits are ignored: its id, and what it is. None
+    /// exactly where the process has no such handle. Takes no memory.
     ///
     /// Source: ObReferenceObjectByHandle (Windows Driver Kit).
     pub fn referent(
@@ -353,7 +353,7 @@ impl<T: TypeSet, H: HandleTable> Core<T, H> {
         Some((held.object, referent))
     }
 
-    /// What an object is, by its id; None exactly where it isn't there. Takes no memory.
+    /// The object of an id; None exactly where it isn't there. Takes no memory.
     ///
     /// Source: ObReferenceObjectByPointer (Windows Driver Kit).
     pub fn object(&self, object: ObjId) -> Option<Referent<'_, T::Face, T::Inner>>
@@ -453,8 +453,8 @@ impl<T: TypeSet, H: HandleTable> Core<T, H> {
 
 impl<T: Drains, H: HandleTable> Core<T, H> {
     /// Takes the next item of the set, as the object that was deleted first; `None` where nothing is left. It is no step,
-    /// and none knows of it: nothing differs but what the set still has, and every later reply may be the one that it
-    /// would have been. No memory is taken. Source: this profile.
+    /// and none knows of it: nothing differs except what the set still has, and every later reply may be the one that
+    /// it would have been. No memory is taken. Source: this profile.
     pub fn take_next(&mut self) -> Option<T::Item>
         ensures told { result ≡ T.next self.old.set }
         ensures taken { IfSome result (λ _. self.new ≡ with_change T.behind self.old) }

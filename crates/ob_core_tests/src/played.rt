@@ -42,7 +42,7 @@ fn make<T: Listing, H: HandleTable>(stage: &mut Stage<T, H>, other: &mut Stage<T
     }
 }
 
-/// Whether the last step was told what a line says.
+/// Whether the last step was answered as a line says.
 fn is_told<T: Listing, H: HandleTable>(stage: &Stage<T, H>, told: &str) -> bool {
     match (stage.end(), word_of(told, 0)) {
         (End::Done(reply), _) => is_reply(reply, told),

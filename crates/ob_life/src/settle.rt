@@ -63,7 +63,7 @@ fn settle_closed<T: TypeSet, H: HandleTable>(
     requires told { standing.now ≡ standing_among space.old.objects space.old.rows object }
     ensures { AreSettled T.procedures space.old (λ o. o == object) object space.new }
 {
-    // The length says what holds of every store.
+    // The contract of the length gives the invariant of every store.
     let _ = space.store.len();
     let place = standing.place;
     let own = settle_unheld(space, object, standing);
@@ -169,7 +169,7 @@ fn settle_named<T: TypeSet, H: HandleTable>(
     requires told { standing.now ≡ standing_among space.old.objects space.old.rows id }
     ensures { AreSettled T.procedures space.old (is_listed touched.now) id space.new }
 {
-    // The length says what holds of every store.
+    // The contract of the length gives the invariant of every store.
     let _ = space.store.len();
     let place = standing.place;
     let own = settle_unheld(space, id, standing);
@@ -241,7 +241,7 @@ fn settle_unheld<T: TypeSet, H: HandleTable>(
     ensures settled { space.new ≡ settled_one T.procedures space.old id }
     ensures shadow { result ≡ shadow_left space.old id }
 {
-    // The length says what holds of every store.
+    // The contract of the length gives the invariant of every store.
     let _ = space.store.len();
     forget_unkept(&mut space.store, standing);
     if is_held_up(&space.store, &space.processes, &space.pending, id, standing) {

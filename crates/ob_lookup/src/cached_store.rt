@@ -36,11 +36,11 @@ use std::alloc::{AllocError, Global};
 use std::marker::Model;
 
 /// A store, with a cache of prefixes by which names are looked up in it: each leads to its directory in the store as it is.
-/// A contract sees it as the store alone, so that nothing that it answers shows whether the cache was of use.
+/// A contract sees it as the store alone, so that no answer shows whether the cache was of use.
 ///
 /// These empty the cache: a directory is removed, or loses its name; a name comes into a directory that has a shadow, since it may
-/// stand before one of the shadow; and a name comes while a prefix of a view is there whose local directory is another than
-/// `\GLOBAL??`, since it may stand before one of `\GLOBAL??`. All else keeps it: a
+/// come before one of the shadow; and a name comes while a prefix of a view is there whose local directory is another
+/// than `\GLOBAL??`, since it may come before one of `\GLOBAL??`. All else keeps it: a
 /// lookup, an object that comes, with a name or without, one that goes and is no directory, with its name, an object that is
 /// opened, closed, or made permanent or temporary. Each method does what that of [`Store`] of the same name does, under its
 /// clauses.
@@ -144,7 +144,7 @@ impl<T: TypeSet> CachedStore<T> {
     pub fn len(&self) -> usize
         ensures count { result ≡ length self.now }
 
-        // What holds of every store.
+        // The invariant of every store.
         ensures store { IsStore self.now }
     {
         self.store.len()
@@ -157,11 +157,11 @@ impl<T: TypeSet> CachedStore<T> {
         self.store.is_empty()
     }
 
-    /// What is stored under an id, and `None` exactly where nothing is. Takes no memory.
+    /// The value that is stored under an id, and `None` exactly where nothing is. Takes no memory.
     pub fn get(&self, id: ObjId) -> Option<&StoredObject<T::Face, T::Inner>>
         ensures stored { option_copied result ≡ stored_at self.now id }
 
-        // What holds of every store.
+        // The invariant of every store.
         ensures store { IsStore self.now }
     {
         self.store.get(id)
@@ -224,7 +224,7 @@ impl<T: TypeSet> CachedStore<T> {
         self.store.has_name(id)
     }
 
-    /// Where the name of an object is; `None` exactly where no name is for it. Takes no memory.
+    /// The place of an object's name; `None` exactly where no name is for it. Takes no memory.
     ///
     /// Source: Windows Internals, Object Manager: object names; the stamps are this profile.
     pub fn place_of(&self, id: ObjId) -> Option<EntryPlace>
@@ -243,13 +243,13 @@ impl<T: TypeSet> CachedStore<T> {
         self.store.name_of(id)
     }
 
-    /// What decides whether an object stays, found at once. Takes no memory.
+    /// The facts that decide whether an object stays, found at once. Takes no memory.
     ///
     /// Source: Windows Internals, Object Manager (object retention); the stamps are this profile.
     pub fn standing_of(&self, id: ObjId) -> Standing
         ensures standing { result ≡ standing_at self.now id }
 
-        // What holds of every store.
+        // The invariant of every store.
         ensures store { IsStore self.now }
     {
         self.store.standing_of(id)
@@ -321,7 +321,7 @@ impl<T: TypeSet> CachedStore<T> {
         ensures there { result ≡ stored_at self.old id }
         ensures others { self.new ≡ without_object self.old id }
     {
-        // The length says what holds of every store.
+        // The contract of the length gives the invariant of every store.
         let _ = self.store.len();
         let stored = self.store.remove(id);
         self.names -= names_in(&stored);
@@ -353,7 +353,7 @@ impl<T: TypeSet> CachedStore<T> {
         ensures unchanged { OnErr result (self.new ≡ self.old) }
     {
         let names = self.names.checked_add(1).ok_or(AllocError)?;
-        // The length says what holds of every store.
+        // The contract of the length gives the invariant of every store.
         let _ = self.store.len();
         self.store.insert_name(directory, stamp, name, object)?;
         self.names = names;
@@ -373,7 +373,7 @@ impl<T: TypeSet> CachedStore<T> {
             ≡ list_any (λ entry. entry.stamp == stamp) (entries_at self.old directory) }
         ensures others { self.new ≡ without_name self.old directory stamp }
     {
-        // The length says what holds of every store.
+        // The contract of the length gives the invariant of every store.
         let _ = self.store.len();
         let Some(object) = self.store.take_name(directory, stamp) else {
             let _ = self.store.len();

@@ -83,7 +83,7 @@ impl<T: TypeSet> Store<T> {
     pub fn len(&self) -> usize
         ensures count { result ≡ length self.now }
 
-        // What holds of every store.
+        // The invariant of every store.
         ensures store { IsStore self.now }
     {
         self.types.len()
@@ -100,7 +100,7 @@ impl<T: TypeSet> Store<T> {
     pub fn get(&self, id: ObjId) -> Option<&StoredObject<T::Face, T::Inner>>
         ensures stored { option_copied result ≡ stored_at self.now id }
 
-        // What holds of every store.
+        // The invariant of every store.
         ensures store { IsStore self.now }
     {
         self.slots.object(id)
@@ -209,7 +209,7 @@ impl<T: TypeSet> Store<T> {
     pub fn standing_of(&self, id: ObjId) -> Standing
         ensures standing { result ≡ standing_at self.now id }
 
-        // What holds of every store.
+        // The invariant of every store.
         ensures store { IsStore self.now }
     {
         let (object, place) = self.slots.both(id);

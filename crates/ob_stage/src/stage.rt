@@ -23,7 +23,7 @@ impl<T: TypeSet> Listing for Refusing<Recorder<T>> {
     }
 }
 
-/// What a step came to.
+/// The outcome of a step.
 #[derive(Drop)]
 pub enum End {
     /// It was replied to.
@@ -45,7 +45,7 @@ struct Space<T: Listing, H: HandleTable> {
     core: Core<T, H>,
     /// The first and the other kind of lines.
     kinds: (T::Kind, T::Kind),
-    /// What the last step came to.
+    /// The outcome of the last step.
     end: End,
     /// The handle that each line's step was given at last, or 0.
     given: Vec<Handle>,
@@ -82,7 +82,7 @@ impl<T: Listing, H: HandleTable> Stage<T, H> {
         Ok(Stage { space, parse: None })
     }
 
-    /// Gives the parse at hand up, and lets the namespace go.
+    /// Gives the parse at hand up, and drops the namespace.
     pub fn close(self) {
         let Stage { mut space, parse } = self;
         give_up(&mut space.core, parse);
@@ -176,7 +176,7 @@ impl<T: Listing, H: HandleTable> Stage<T, H> {
         let _ = self.space.given.push(handle);
     }
 
-    /// What the last step came to.
+    /// The outcome of the last step.
     pub fn end(&self) -> &End {
         &self.space.end
     }
@@ -226,7 +226,7 @@ impl<T: Listing, H: HandleTable> Stage<T, H> {
         self.space.core.holds(process, Handle(number_of(value)))
     }
 
-    /// What the handle that was given to a line leads to, a word and an id.
+    /// The object that the handle given to a line leads to: a word and an id.
     pub fn led_to(&self, process: Proc, line: &str) -> (&'static str, u64) {
         match self.space.core.referent(process, self.given_to(line)) {
             Some((id, Referent::Directory(_))) => ("directory", id.0),
