@@ -247,9 +247,7 @@ fn settle_unheld<T: TypeSet, H: HandleTable>(
     if is_held_up(&space.store, &space.processes, &space.pending, id, standing) {
         return None;
     }
-    let shadow = space.store.shadow_of(id);
-    delete_object(space, id);
-    shadow
+    delete_object(space, id)
 }
 
 /// Takes away the name of an object that has no handle, unless it is permanent.
@@ -266,14 +264,19 @@ fn forget_unkept<T: TypeSet>(store: &mut CachedStore<T>, standing: &Standing)
     }
 }
 
-/// Takes away and deletes an object, where it is there, with what lies in it.
-fn delete_object<T: TypeSet, H: HandleTable>(space: &mut Space<T, H>, id: ObjId)
+/// Takes away and deletes an object, where it is there, with what lies in it. It gives its shadow, where it is a directory
+/// that has one.
+fn delete_object<T: TypeSet, H: HandleTable>(space: &mut Space<T, H>, id: ObjId) -> Option<ObjId>
     requires { MatchOption (body_of space.old id) (Unit {0}) (IsIdleBody T.idle) }
-    ensures { space.new ≡ without_object T.procedures space.old id }
+    ensures gone { space.new ≡ without_object T.procedures space.old id }
+    ensures shadow { result ≡ shadow_of space.old id }
 {
-    if let Some(stored) = space.store.remove(id) {
-        delete_body(&mut space.set, stored.body);
-    }
+    let Some(stored) = space.store.remove(id) else {
+        return None;
+    };
+    let shadow = stored.body.shadow();
+    delete_body(&mut space.set, stored.body);
+    shadow
 }
 
 /// Whether an object that has no handle stays, by its standing.

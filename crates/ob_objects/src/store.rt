@@ -125,7 +125,7 @@ impl<T: TypeSet> Store<T> {
             (find (λ object. object.id == id) (objects_of self.now)) }
     {
         match self.get(id) {
-            Some(stored) => changes::shadow_of(&stored.body),
+            Some(stored) => stored.body.shadow(),
             None => None,
         }
     }
