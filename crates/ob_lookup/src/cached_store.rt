@@ -1,6 +1,6 @@
 //! A store with a cache of the prefixes that lead in it.
 
-ghost use Rattle.std.specs.Prelude.{◌≡◌, ◌≢◌, ◌<◌, ◌==◌, [], length, None, Some};
+ghost use Rattle.std.specs.Prelude.{◌≡◌, ◌≢◌, ◌<◌, ◌+◌, ◌==◌, [], length, None, Some};
 ghost use Rattle.std.specs.Prelude.{All, IsOk, IsSome, IfOk, IfErr, OnErr, false};
 ghost use Rattle.std.specs.List.{find, list_any};
 ghost use Rattle.std.specs.Option.{is_some, option_and_then, option_copied, option_map, option_map_or};
@@ -352,7 +352,7 @@ impl<T: TypeSet> CachedStore<T> {
             (record { stamp = stamp; name = name; object = object })) }
         ensures unchanged { OnErr result (self.new ≡ self.old) }
     {
-        let names = self.names.checked_add(1).ok_or(AllocError)?;
+        let names = one_more(self.names)?;
         // The contract of the length gives the invariant of every store.
         let _ = self.store.len();
         self.store.insert_name(directory, stamp, name, object)?;
@@ -428,6 +428,13 @@ impl<T: TypeSet> CachedStore<T> {
     {
         self.store.close(id, set, process_left, system_left);
     }
+}
+
+/// A count of names with one more. The only fault is that it has no place for it, as of memory.
+fn one_more(names: usize) -> Result<usize, AllocError>
+    ensures { IfOk result (λ more. more ≡ names + 1) }
+{
+    names.checked_add(1).ok_or(AllocError)
 }
 
 /// How many names lie in an object that was taken out: none where there was none.

@@ -1,8 +1,7 @@
 -- How many rows a store has after each change.
-use Rattle.std.proofs.Common.{◌≡◌, ◌≢◌, ◌∙◌, ℕ, ◌+◌, ◌==◌, Bool, true, false, cond, not, List, [], ◌∷◌, ◌++◌, length, filter, find, map, Option, None, Some, inl, inr, All, IsSome, refl, ap, sym, arith}
-use Rattle.std.proofs.lemmas.Bool.{false≢true}
+use Rattle.std.proofs.Common.{◌≡◌, ◌∙◌, ℕ, ◌+◌, ◌==◌, Bool, true, false, cond, not, List, [], ◌∷◌, length, filter, find, Some, inl, inr, All, IsSome, refl, ap, sym, arith}
 use Rattle.std.proofs.lemmas.List.{length-append, length-map}
-use Rattle.std.proofs.lemmas.List.Elements.{All-nil, All-cons, All-head, All-tail, All-weaker}
+use Rattle.std.proofs.lemmas.List.Elements.{All-nil, All-cons, All-head, All-tail}
 use Rattle.std.specs.List.{AllPairs}
 use Rattle.ob_model.specs.declared.state.Row.{Row}
 use Rattle.ob_model.specs.declared.terms.Reason.{Reason}
@@ -101,5 +100,5 @@ module _ {F I : Type 0} (store : Entries F I) where
   pub count_without_object : IsStore store → (id : ℕ) → count (without_object store id) + length (entries_at store id) ≡ count store
   count_without_object is id =
       let parts = two_parts (λ r. r.directory == id) (rows_of store) in
-      let inside = ap length (rows_are_entries store is id) ∙ length-map (row_of id) (entries_at store id) in
+      let inside = ap length (rows_are_entries store is id) ∙ length-map (entries_at store id) (row_of id) in
       omega (arith, ap length (rows_go_with_directory store id), parts, inside)
