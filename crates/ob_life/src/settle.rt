@@ -1,11 +1,12 @@
 //! What stays at the end of a step.
 
 ghost use Rattle.std.specs.Prelude.{◌==◌, ◌≡◌, if◌then◌else◌, false, MatchOption};
-ghost use Rattle.std.specs.Option.{option_map_or};
+ghost use Rattle.std.specs.List.{find};
+ghost use Rattle.std.specs.Option.{option_and_then, option_map_or};
 ghost use Rattle.ob_model.specs.Settle.{settle, IsSettled, has_handle, is_mapped};
 ghost use Rattle.ob_objects.specs.Changes.{without_name};
 ghost use Rattle.ob_objects.specs.Standing.{standing_among};
-ghost use Rattle.ob_model.specs.State.{body_of, shadow_of};
+ghost use Rattle.ob_model.specs.State.{body_of, shadow_in};
 ghost use Rattle.ob_objects.specs.Store.{objects_of};
 ghost use Rattle.ob_space.specs.Namespace.{running_alone, handles_alone};
 ghost use Rattle.ob_space.specs.Orderly.{IsOrderly, IsIdleBody};
@@ -269,7 +270,8 @@ fn forget_unkept<T: TypeSet>(store: &mut CachedStore<T>, standing: &Standing)
 fn delete_object<T: TypeSet, H: HandleTable>(space: &mut Space<T, H>, id: ObjId) -> Option<ObjId>
     requires { MatchOption (body_of space.old id) (Unit {0}) (IsIdleBody T.idle) }
     ensures gone { space.new ≡ without_object T.procedures space.old id }
-    ensures shadow { result ≡ shadow_of space.old id }
+    ensures shadow { result ≡ option_and_then (λ object. shadow_in object.body)
+        (find (λ object. object.id == id) space.old.objects) }
 {
     let Some(stored) = space.store.remove(id) else {
         return None;

@@ -33,4 +33,4 @@ returns-clause-gone g c =
 
 pub returns-clause-shadow : goal.returns-clause-shadow
 returns-clause-shadow g c =
-    rw (← c.space.view_is) (c.shadow.ensures ∙ shadow_of_object c.space.inside.store c.args.id (Some c.in-Some.stored) (sym c.in-Some.is ∙ c.remove.ensures.there))
+    rw (← c.space.view_is) (c.shadow-shadow.ensures ∙ shadow_of_object c.space.inside.store c.args.id (Some c.in-Some.stored) (sym c.in-Some.is ∙ c.remove.ensures.there))
