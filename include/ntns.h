@@ -286,7 +286,7 @@ struct ntns_row {
 
 /*
  * NtQueryDirectoryObject, for a host that fills the native structure: the entries after `context`, which is 0 for the first of all and
- * is then left at the last row. `count` is how many rows there is place for, and is given how many were filled; their names stand in
+ * is then left at the last row. `count` is how many rows there is place for, and is given how many were filled; their names are in
  * `buffer`, one after another. It stops where no entry is left, at the last place for a row, and at a name that doesn't fit into the
  * buffer, of which the first 4,294,967,295 bytes are used. A host whose own buffer ends before the last row goes on from the
  * context of the last row that it took. The call is as many queries of one entry, with no other call between them.

@@ -1,11 +1,11 @@
-//! What callers ask for.
+//! The requests of callers.
 
 use ob_base::{Handle, Proc};
 use ob_core::{Bytes, Command, Place};
 use ob_device::DeviceKind;
 use std::alloc::{AllocError, Global};
 
-/// What is created or opened.
+/// The kind that is created or opened.
 #[derive(Clone, Copy)]
 pub(crate) enum What {
     /// A directory.
@@ -16,7 +16,7 @@ pub(crate) enum What {
     Device,
 }
 
-/// A command: of a name that is told beside it, of a handle, or of a process.
+/// A command: of a name that is given beside it, of a handle, or of a process.
 #[derive(Clone, Copy)]
 pub(crate) enum Asked {
     Create(What),
@@ -45,7 +45,7 @@ fn place_of(alloc: Global, name: &[u8]) -> Result<Place, AllocError> {
     })
 }
 
-/// The command that creates what an absolute name is to stand for.
+/// The command that creates an object under an absolute name.
 fn create(alloc: Global, what: What, name: &[u8]) -> Result<Command<DeviceKind>, AllocError> {
     match what {
         What::Directory => Ok(Command::CreateDirectory {

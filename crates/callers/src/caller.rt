@@ -32,7 +32,7 @@ pub(crate) struct Caller<L: Ledger> {
 /// The status of a reply, and the handle that it gives, or 0; none where a step had a fault.
 pub(crate) type Answer = Option<(Status, Handle)>;
 
-/// What a seal gave: the number of the segment, that of its first entry, and how many it has.
+/// The result of a seal: the number of the segment, that of its first entry, and how many it has.
 pub(crate) type Sealed = Result<(u64, u64, usize), Fault>;
 
 /// Seals the journal.

@@ -5,8 +5,8 @@
 //!
 //! `callers refused` makes steps under the lock of four seats, each in a namespace of its own, a line each with the journal after it, and `callers refused N` the
 //! Nth alone. A library that refuses its requests for memory in turn is to be preloaded. Where a step is refused memory, namespace, journal and pass have to be
-//! as before; then the step is made again. The last line, and the status, tell whether each was so. The requests of a step are those between the first write of
-//! its line and the second.
+//! as before; then the step is made again. The last line, and the status, say whether each was so. The requests of a
+//! step are those between the first write of its line and the second.
 //!
 //! `callers mix` writes the journal of four callers who make 20,000 steps at once, and nothing else. `callers write` writes that of four, of whom one seals it
 //! 200 times, and writes each segment that it has sealed while the others go on.
@@ -34,10 +34,10 @@ use std::thread::Threads;
 use std::time::Clock;
 use std::{env, io};
 
-/// What is to be done.
+/// The task of the program.
 #[derive(Clone, Copy)]
 enum Task {
-    /// What callers do together is told, and what comes of steps.
+    /// Reports what callers do together, and what comes of steps.
     Tell,
     /// Steps are made, or the one at this place.
     Refused(Option<usize>),
@@ -50,7 +50,7 @@ fn number_of(word: Option<&String>) -> Option<u32> {
     word?.as_str().parse::<u32>().ok()
 }
 
-/// What the words ask for.
+/// The task that the arguments ask for.
 fn task_of(words: &[String]) -> Option<Task> {
     let Some(what) = words.get(1) else {
         return Some(Task::Tell);

@@ -33,7 +33,8 @@ const ONE: Proc = Proc(1);
 
 const TWO: Proc = Proc(2);
 
-/// What is made before each of the steps, by the handles 4 to 20: three directories, a device with the file `x`, and a link; and process 2.
+/// The objects that are made before each of the steps, by the handles 4 to 20: three directories, a device with the
+/// file `x`, and a link; and process 2.
 pub(crate) const BEFORE: [Row; 6] = [
     ("", 0, ONE, How::Ask, DIRECTORY, b"\\A"),
     ("", 1, ONE, How::Ask, DIRECTORY, b"\\B"),

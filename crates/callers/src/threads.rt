@@ -14,18 +14,18 @@ use std::thread;
 use std::thread::Threads;
 use std::time::{Clock, Duration};
 
-/// What each of many callers does so many times over.
+/// The rounds that each of many callers makes so many times over.
 #[derive(Clone, Copy)]
 pub(crate) struct Rounds {
     /// Whether it makes rounds on a name of its own.
     pub(crate) on_its_own: bool,
-    /// Whether it makes rounds on a name that all callers share. What is answered there depends on the others.
+    /// Whether it makes rounds on a name that all callers share. The answers there depend on the others.
     pub(crate) on_one: bool,
     /// How many times over.
     pub(crate) count: u32,
 }
 
-/// What callers do.
+/// The deed of callers.
 #[derive(Clone, Copy)]
 pub(crate) enum Deed {
     /// Seat 0 opens a file of a device, and waits in its gate until seat 1 was answered.
@@ -40,7 +40,7 @@ pub(crate) enum Deed {
     Write(Rounds, u32),
 }
 
-/// What callers do, and how far two of them have come.
+/// The deed of callers, and how far two of them have come.
 #[derive(Drop)]
 pub(crate) struct Play {
     deed: Deed,

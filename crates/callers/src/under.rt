@@ -21,7 +21,7 @@ use std::sync::ledger::{Blank, Ledger};
 /// How many seats there are.
 const SEATS: u32 = 4;
 
-/// What lies under the lock.
+/// The state under the lock.
 type Locked<L> = LockedOf<DeviceSet, SlabTable, L>;
 
 /// How a step came.
@@ -37,7 +37,7 @@ enum Came {
     Refused,
 }
 
-/// What is seen of the namespace and a pass.
+/// The names of what is seen of the namespace and a pass.
 const NAMES: [&'static str; 7] = [
     "entries",
     "reserved places",
@@ -51,7 +51,8 @@ const NAMES: [&'static str; 7] = [
 /// The numbers of these.
 type Numbers = [u64; 7];
 
-/// What a row's step came to at last, what was seen then, and whether nothing had changed where it was refused before.
+/// The outcome of a row's step at last, what was seen then, and whether nothing had changed where it was refused
+/// before.
 #[derive(Clone, Copy)]
 struct Trial {
     came: Came,

@@ -1,4 +1,4 @@
-//! What is written: marks, numbers, and the lines of journals.
+//! The output: marks, numbers, and the lines of journals.
 
 use ob_device::{DeviceKind, DeviceSet};
 use ob_journal::{Segment, write_header, write_line};

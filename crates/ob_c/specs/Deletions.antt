@@ -1,4 +1,4 @@
--- What is reported of the objects that were deleted, one after another.
+-- The reports of the objects that were deleted, one after another.
 --
 -- Source: this profile.
 use Rattle.std.specs.Prelude.{◌≡◌, ℕ, if◌then◌else◌, Option, None, Some}

@@ -1,4 +1,4 @@
--- What is reported of handles, and of live processes, one after another.
+-- The reports of handles, and of live processes, one after another.
 --
 -- Sources: NtQueryObject (ObjectBasicInformation: attributes and the count of handles) and NtQuerySystemInformation (Windows); user
 -- data, ids and contexts are this profile.

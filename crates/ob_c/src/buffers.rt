@@ -1,4 +1,4 @@
-//! What calls write to a caller's buffers.
+//! The writes of calls to a caller's buffers.
 
 ghost use Rattle.std.specs.Prelude.{◌≡◌, if◌then◌else◌, length, nat_le};
 ghost use Rattle.ob_c.specs.Told.{Fills, TellsText, TellsEntry, TellsFirst};

@@ -96,7 +96,7 @@ impl Ntns {
         }
     }
 
-    /// Puts a core into the struct, which is open then. What it owned is forgotten, so it is to be closed.
+    /// Puts a core into the struct, which is open then. It forgets what it owned, so it is to be closed.
     pub(crate) fn put(&mut self, core: Box<HostCore>)
         requires { self.old.core ≡ None }
         ensures { self.new.core ≡ Some core.value }

@@ -1,4 +1,4 @@
-//! The machine behind a caller's struct.
+//! The machine of a caller's struct.
 
 ghost use Rattle.std.specs.Prelude.{◌≡◌, IfOk, IfSome, IfNone};
 ghost use Rattle.std.specs.Option.{option_map};

@@ -1,4 +1,4 @@
-//! Exports that create what a name stands for.
+//! Exports that create the object of a name.
 
 ghost use Rattle.ob_model.specs.declared.command.Command.TheVariants.{CreateDirectory, CreateShadowed, CreateLink, CreateObject};
 ghost use Rattle.ob_c.specs.Calls.{Does, DoesOfType, arguments_of, place_of};

@@ -12,7 +12,7 @@ use std::marker::Model;
 pub struct Parts<T, A: Allocator> {
     /// Where the block begins.
     pub(crate) ptr: *mut T,
-    /// What the block is freed by.
+    /// The allocator that frees the block.
     pub(crate) alloc: A,
     /// The block's value.
     pub ghost value: { T },
@@ -23,7 +23,7 @@ impl<T, A: Allocator> Model for Parts<T, A> {
 }
 
 impl<T, A: Allocator> Parts<T, A> {
-    /// Takes a box apart. What it holds stays where it is, and no memory is taken or freed.
+    /// Takes a box apart. Its value stays where it is, and no memory is taken or freed.
     pub fn of(b: Box<T, A>) -> Parts<T, A>
     where
         T: Drop,

@@ -1,4 +1,4 @@
-//! Exports that ask, and change nothing but a buffer.
+//! Exports that ask, and change nothing except a buffer.
 
 ghost use Rattle.std.specs.Prelude.{true, false};
 ghost use Rattle.ob_model.specs.Enumeration.{largest_room};

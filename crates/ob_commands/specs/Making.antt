@@ -1,4 +1,4 @@
--- What a create makes, in the words of the machine.
+-- The object that a create is to make, in the words of the machine.
 use Rattle.std.specs.Prelude.{ℕ, Option}
 use Rattle.ob_model.specs.Creates as machine
 use Rattle.ob_commands.specs.declared.making.Making.{Making}

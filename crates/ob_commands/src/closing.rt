@@ -12,7 +12,7 @@ use ob_model::Reply;
 use ob_space::{Space, held_of, is_live, status_alone};
 use ob_types::TypeSet;
 
-/// Closes a handle of the caller: the set's close is called for its object, and told how many handles to it are left
+/// Closes a handle of the caller: the set's close is called for its object, with how many handles to it are left
 /// in the process and in all. The object goes where nothing else holds it, and what it alone held goes with it. No
 /// memory is taken.
 ///

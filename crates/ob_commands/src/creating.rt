@@ -167,7 +167,7 @@ fn create_mode(attrs: Attrs) -> Mode
     }
 }
 
-/// What a create does at an object that is there already: with OPENIF it opens it.
+/// Ends a create at an object that is there already: with OPENIF it opens it.
 fn open_there<T: TypeSet, H: HandleTable>(
     space: &mut Space<T, H>,
     process: Proc,

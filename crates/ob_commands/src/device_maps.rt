@@ -14,8 +14,8 @@ use ob_space::{Space, held_of, is_live, status_alone};
 use ob_types::TypeSet;
 use std::alloc::AllocError;
 
-/// Makes the directory of a handle of the caller its device map, in place of the one that it had: what
-/// `\??` stands for is then that directory, and after it `\GLOBAL??`. The directory of the old map goes
+/// Makes the directory of a handle of the caller its device map, in place of the one that it had:
+/// `\??` then means that directory, and after it `\GLOBAL??`. The directory of the old map goes
 /// where nothing else holds it.
 ///
 /// Refusals, in their order, which change nothing: `ProcessGone` for a process that isn't live,

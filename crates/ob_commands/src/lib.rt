@@ -1,14 +1,14 @@
-//! What each command of a process does but opens by name: one step of the abstract machine, a file a command.
+//! Each command of a process, except opens by name: one step of the abstract machine, a file a command.
 //!
 //! A command is a short text over the parts of a namespace, `ob_space`: its refusals in their order, then the change, and
 //! the reply. [`create`] makes an object, [`Making`], or opens the one that is there; [`duplicate`] gives a handle on, and [`close`] takes one away. [`turn`] makes an object permanent
 //! or temporary, and [`set_device_map`] sets the caller's device map. [`query_name`], [`query_link`] and [`query_directory`],
-//! a page of what is [`PageRequest`], tell something and change nothing. [`new_process`] and [`exit_process`] begin and end a
-//! process, over `ob_life`.
+//! a page of what is [`PageRequest`], report something and change nothing. [`new_process`] and [`exit_process`] begin
+//! and end a process, over `ob_life`.
 //!
-//! Each is told by the state of the abstract machine that the namespace stands for, asks that it is orderly, most also that
-//! it is settled or sound, and leaves it orderly. That it is settled and sound again, a law of the machine says to who
-//! calls them.
+//! Each is specified over the state of the abstract machine that the namespace represents, asks that it is orderly,
+//! most also that it is settled or sound, and leaves it orderly. That it is settled and sound again, a law of the
+//! machine says to who calls them.
 #![tactic(auto)]
 
 mod closing;

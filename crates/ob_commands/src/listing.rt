@@ -32,7 +32,7 @@ pub struct PageRequest {
     pub restart: bool,
 }
 
-/// Tells a page of the directory of a handle of the caller: of its entries after the context, or from the
+/// Gives a page of the directory of a handle of the caller: of its entries after the context, or from the
 /// first on where it restarts, as many as fit into the room, or one alone. Nothing is changed.
 ///
 /// Refusals, in their order: `ProcessGone` for a process that isn't live, `InvalidParameter` for a room

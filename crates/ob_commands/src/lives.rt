@@ -16,7 +16,7 @@ use ob_types::TypeSet;
 use std::alloc::AllocError;
 
 /// Makes a child of the caller, which inherits handles or none, and gives its number and the values
-/// that it inherited. What is there stays: what a child gets lets nothing go.
+/// that it inherited. All that is there stays: what a child gets releases nothing.
 ///
 /// Refusals, in their order, which change nothing: `ProcessGone` where the caller isn't live, and
 /// `InsufficientResources` where 1,024 processes live, or no number or too few orders of opening are left. The

@@ -28,7 +28,7 @@ use ob_types::{Refusal, TypeSet, laws};
 use std::alloc::{AllocError, Global};
 use std::sync::Arc;
 
-/// What a create makes.
+/// The object that a create is to make.
 ///
 /// Source: ZwCreateDirectoryObject, ZwCreateSymbolicLinkObject and ZwCreateEvent (Windows Driver Kit).
 #[derive(Clone, Copy)]
@@ -142,7 +142,7 @@ pub(crate) fn make_unnamed<T: TypeSet, H: HandleTable>(
 
 /// Makes an object for which there is room, at a spot, where one is given, and opens a handle to it.
 /// All growths come before the first procedure of the set that changes it, and are judged before the set's refusal of
-/// the arguments. What is there stays: an object more, with its handle, lets nothing go.
+/// the arguments. All that is there stays: an object more, with its handle, releases nothing.
 fn make_in_room<T: TypeSet, H: HandleTable>(
     space: &mut Space<T, H>,
     process: Proc,
@@ -213,7 +213,7 @@ fn make_body<T: TypeSet>(
     }
 }
 
-/// A new object that stands at a name or nowhere: it is permanent only where it has a name.
+/// A new object that is at a name or nowhere: it is permanent only where it has a name.
 fn object_made<F, I>(body: StoredBody<F, I>, attrs: Attrs, named: bool) -> StoredObject<F, I>
     ensures { result ≡ record {
       permanent = named && has_flag permanent_flag attrs;

@@ -1,4 +1,4 @@
-//! What is told of an object: its path, and the target of a link.
+//! Queries of an object: its path, and the target of a link.
 
 ghost use Rattle.std.specs.Prelude.{◌≡◌, ℕ, List, ◌<◌, not, true, map, All, IsOk, IfOk, MatchOption};
 ghost use Rattle.std.specs.Option.{option_map};
@@ -24,7 +24,7 @@ use ob_space::{ROOT, Space, held_of, is_live, status_alone};
 use ob_types::TypeSet;
 use std::alloc::{AllocError, Global};
 
-/// Tells the path of the object of a handle of the caller: the names on the way from the root to it,
+/// Gives the path of the object of a handle of the caller: the names on the way from the root to it,
 /// each after a `\`, or `\` alone for the root. An object has the empty text where it, or a directory
 /// above it, has no name. Nothing is changed.
 ///
@@ -101,7 +101,7 @@ fn path_text(alloc: Global, way: &[&[u8]]) -> Result<Vec<u8>, AllocError>
     Ok(text)
 }
 
-/// Tells the target of the symbolic link of a handle of the caller, as it was stored. Nothing is
+/// Gives the target of the symbolic link of a handle of the caller, as it was stored. Nothing is
 /// changed.
 ///
 /// Refusals, in their order: `ProcessGone` for a process that isn't live, `InvalidHandle` where the

@@ -1,4 +1,4 @@
--- What a handle leads to.
+-- The object that a handle leads to.
 --
 -- Source: ObReferenceObjectByHandle (Windows Driver Kit).
 use Rattle.std.specs.Prelude.{ℕ, Option}

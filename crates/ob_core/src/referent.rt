@@ -1,4 +1,4 @@
-//! What a handle leads to.
+//! The object that a handle leads to.
 
 ghost use Rattle.std.specs.Prelude.{◌≡◌};
 ghost use Rattle.std.specs.Option.{option_map};
@@ -12,7 +12,7 @@ use ob_objects::{StoredBody, stored_is_the_object};
 use ob_space::Space;
 use ob_types::TypeSet;
 
-/// What an object is that a handle leads to, lent by the namespace. `F` is the face and `I` the inner value of an object
+/// An object that a handle leads to, lent by the namespace. `F` is the face and `I` the inner value of an object
 /// of the set of types.
 ///
 /// Source: ObReferenceObjectByHandle (Windows Driver Kit).
@@ -24,14 +24,14 @@ pub enum Referent<'a, F, I> {
     Link(&'a [u8]),
     /// An object of the set.
     Other {
-        /// What never changes of it.
+        /// The part of it that never changes.
         face: &'a F,
-        /// What its procedures change.
+        /// The part that its procedures change.
         inner: &'a I,
     },
 }
 
-/// What an object is; none where it isn't there.
+/// The object of an id; none where it isn't there.
 pub(crate) fn referent_of<T: TypeSet, H: HandleTable>(
     space: &Space<T, H>,
     object: ObjId,
@@ -43,7 +43,7 @@ pub(crate) fn referent_of<T: TypeSet, H: HandleTable>(
     Some(lent(&stored.body))
 }
 
-/// What a stored body is.
+/// The object of a stored body.
 fn lent<F, I>(body: &StoredBody<F, I>) -> Referent<'_, F, I>
     ensures { body_lent result ≡ body_of_stored body.now }
 {

@@ -23,7 +23,7 @@ use ob_space::Space;
 use ob_types::TypeSet;
 use std::alloc::AllocError;
 
-/// Makes the step of a command, and tells how it ends.
+/// Makes the step of a command, and says how it ends.
 pub(crate) fn step_for<T: TypeSet, H: HandleTable>(
     space: &mut Space<T, H>,
     process: Proc,

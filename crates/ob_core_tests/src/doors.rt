@@ -9,7 +9,7 @@ ghost use Rattle.ob_core_tests.specs.declared.doors.Door.TheVariants.{Free, Thro
 use ob_types::{ParseAnswer, Reason, Refusal, TypeSet};
 use std::alloc::{AllocError, Global};
 
-/// What changes of a door: whether somebody is through, and whether it is locked.
+/// The part of a door that changes: whether somebody is through, and whether it is locked.
 #[derive(Clone, Copy)]
 pub(crate) enum Door {
     Free,

@@ -1,4 +1,4 @@
-//! What steps are told, beside what lines say.
+//! The answers of steps, beside what lines say.
 
 use ob_base::Status;
 use ob_core::{Entries, Given, Reply};
@@ -55,7 +55,7 @@ pub(crate) fn counts_of(calls: &[Call]) -> (u32, u32, u32) {
     (opens, closes, deletes)
 }
 
-/// The call that a line tells of an object.
+/// The call that a line says of an object.
 fn call_of(serial: u32, told: &str) -> Call {
     let what = match word_of(told, 0) {
         "created" => CallKind::Opened(Reason::Created),
@@ -70,7 +70,7 @@ fn call_of(serial: u32, told: &str) -> Call {
     Call { serial, what }
 }
 
-/// Whether a line tells so many of these calls, from a place on, of objects whose serials rise or fall.
+/// Whether a line says so many of these calls, from a place on, of objects whose serials rise or fall.
 pub(crate) fn are_calls(calls: &[Call], (from, count): (u32, u32), told: &str) -> bool {
     let first = number_of(word_of(told, 1));
     let rises = word_of(told, 2) == "up";

@@ -34,7 +34,7 @@ abbrev pub does_parse : DeviceKind → Bool
 does_parse Device = true
 does_parse File = false
 
--- two faces stand for one object: devices with one table, or files with one path
+-- two faces are of one object: devices with one table, or files with one path
 abbrev pub same_device_face : DeviceFace → DeviceFace → Bool
 same_device_face (faces.Device table) b = elim b [ faces.Device other ↦ same_tables table other | faces.File _ ↦ false ]
 same_device_face (faces.File path) b = elim b [ faces.Device _ ↦ false | faces.File other ↦ same_path path other ]

@@ -21,7 +21,7 @@ pub enum DeviceKind {
     File,
 }
 
-/// What never changes of a device or a file. (this profile)
+/// The part of a device or a file that never changes. (this profile)
 #[derive(Debug, Drop)]
 pub enum DeviceFace {
     /// A device's table: the paths of its files.
@@ -30,7 +30,7 @@ pub enum DeviceFace {
     File(Path),
 }
 
-/// What the procedures change of a device or a file. (this profile)
+/// The part of a device or a file that the procedures change. (this profile)
 #[derive(Debug, Drop)]
 pub struct DeviceInner {
     /// The handles that are open to it; at the greatest u32, that many or more.

@@ -10,8 +10,8 @@ use ob_plain::{Path, split};
 use std::alloc::{AllocError, Global};
 use std::marker::Model;
 
-/// The paths of a device's files, in the order of the arguments that they were read from. A path that stands there
-/// twice is found as one that stands there once. A contract sees a table as the list of its paths.
+/// The paths of a device's files, in the order of the arguments that they were read from. A path that is there
+/// twice is found as one that is there once. A contract sees a table as the list of its paths.
 ///
 /// A path is found in a time that grows with the number of the paths. (this profile)
 #[derive(Debug, Drop)]
@@ -28,7 +28,7 @@ impl Model for PathTable {
 }
 
 impl PathTable {
-    /// The paths that stand between the semicolons of arguments; empty arguments have none. A path may be
+    /// The paths between the semicolons of arguments; empty arguments have none. A path may be
     /// empty. The only error is out of memory. (this profile)
     pub(crate) fn read(alloc: Global, args: &[u8]) -> Result<PathTable, AllocError>
         ensures { IfOk result (λ table. table ≡ pieces args.now) }

@@ -25,7 +25,7 @@ MapChanges process map old new = (other : ℕ) → map_in new other ≡ (if othe
 abbrev pub IsMapped : Directories → ℕ → Type 0
 IsMapped directories directory = (process : ℕ) × (map_in directories process ≡ Some directory)
 
--- What holds of the directories, and of how many maps each is the one of: the numbers of processes rise
+-- The invariant of the directories, and of how many maps each is the one of: the numbers of processes rise
 -- within 32 bits, and the counts are right.
 pub record AreMaps (directories : Directories) (numbers : Numbers) : Type 0 where
   pub rising : IsStrictlySortedBy nat_cmp (keys_of directories)

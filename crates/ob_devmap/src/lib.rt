@@ -1,4 +1,4 @@
-//! Device maps: the directories of DOS device names that `\??` stands for, process by process.
+//! Device maps: the directories of DOS device names that `\??` means, process by process.
 #![tactic(auto)]
 
 mod maps;

@@ -75,7 +75,7 @@ impl Maps {
         }
     }
 
-    /// The directories that `\??` stands for to a process: that of its map, where it has one, and
+    /// The directories that `\??` means to a process: that of its map, where it has one, and
     /// `\GLOBAL??`. Takes no memory.
     pub fn view(&self, process: Proc) -> View
         ensures local { result.local ≡ map_in self.now process }

@@ -1,8 +1,8 @@
-//! What a process sees of the DOS device names.
+//! A process's view of the DOS device names.
 
 use ob_base::ObjId;
 
-/// The directories that `\??` stands for: the first component after it is searched for in the local
+/// The directories that `\??` means: the first component after it is searched for in the local
 /// one, and where it isn't found there, in the global one.
 ///
 /// Source: Windows Internals, Object Manager (session namespace: DOS device names, device maps).

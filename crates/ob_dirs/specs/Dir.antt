@@ -13,11 +13,11 @@ use Rattle.ob_model.specs.State.{State}
 use Rattle.ob_model.specs.Paths.{found}
 use Rattle.ob_dirs.specs.declared.entry.DirEntry.{DirEntry}
 
--- the entry may stand before the other: its stamp is less, and it is spelled otherwise
+-- the entry may come before the other: its stamp is less, and it is spelled otherwise
 abbrev pub ComesBefore : DirEntry → DirEntry → Type 0
 ComesBefore a b = (a.stamp < b.stamp) × (a.name ≢ b.name)
 
--- the entries of a directory: each may stand before all that follow it, so the stamps rise strictly
+-- the entries of a directory: each may come before all that follow it, so the stamps rise strictly
 -- and no spelling is there twice
 abbrev pub IsDir : List DirEntry → Type 0
 IsDir entries = AllPairs ComesBefore entries
@@ -43,11 +43,11 @@ entry_found entries component fold = earliest_entry (filter (is_named component 
 abbrev pub row_of : ℕ → DirEntry → Row
 row_of directory e = record { stamp = e.stamp; directory = directory; name = e.name; object = e.object }
 
--- of these rows, those that stand in the directory are these entries, in their order
+-- of these rows, those that are in the directory are these entries, in their order
 abbrev pub AreEntries : List Row → ℕ → List DirEntry → Type 0
 AreEntries rows directory entries = filter (λ r. r.directory == directory) rows ≡ map (row_of directory) entries
 
--- where the rows of a state that stand in a directory are these entries, the state finds the row of
+-- where the rows of a state that are in a directory are these entries, the state finds the row of
 -- the entry that is found
 abbrev pub DirFindsWhatTheStateFinds : (K T F I : Type 0) → Type 0
 DirFindsWhatTheStateFinds K T F I =

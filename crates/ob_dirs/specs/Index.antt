@@ -41,7 +41,7 @@ IsIndexOf index entries = (hash : ℕ) → stamps_under index hash ≡ stamps_ha
 abbrev pub entry_at : List DirEntry → ℕ → Option DirEntry
 entry_at entries stamp = find (λ e. e.stamp == stamp) entries
 
--- what a directory holds: entries that may stand in one, and the index of them
+-- what a directory holds: entries that may be in one, and the index of them
 pub record IsHeld (entries : List DirEntry) (names : NameIndex) : Type 0 where
   pub dir : IsDir entries
   pub index : IsIndexOf names entries

@@ -1,4 +1,4 @@
--- Pages of a directory: what is told of its entries after a context, and what a page gives of it.
+-- Pages of a directory: the model's page of its entries after a context, and what a `DirPage` gives of it.
 --
 -- Sources: ZwQueryDirectoryObject (Windows Driver Kit) for the statuses and the context; that a context is a
 -- stamp, and the size of an entry, are this profile.
@@ -11,7 +11,7 @@ use Rattle.ob_dirs.specs.declared.entry.DirEntry.{DirEntry}
 use Rattle.ob_dirs.specs.declared.page.DirPage.{DirPage}
 use Rattle.ob_dirs.specs.declared.page.Fit.{Fit}
 
--- what is told of objects, one after another from here on, are the lengths of these names of their types
+-- what is answered for objects, one after another from here on, are the lengths of these names of their types
 abbrev pub TellsLengths : {F : Type 0} → (F → ℕ → ℕ → F → Type 0) → F → (ℕ → List ℕ) → Type 0
 TellsLengths {F} Tells teller type_name =
     (told : List (ℕ × ℕ)) (last : F) → FoldsTo (λ f x g. Tells f x.0 x.1 g) teller told last → All (λ x. x.1 ≡ length (type_name x.0)) told
@@ -24,11 +24,11 @@ entries_behind entries context = filter (λ e. nat_lt context e.stamp) entries
 abbrev pub shown_entry : (ℕ → List ℕ) → DirEntry → Shown
 shown_entry type_name e = record { stamp = e.stamp; name = e.name; type_name = type_name e.object }
 
--- the page that is told of a directory, where the objects' types have these names
+-- the page of a directory, where the objects' types have these names
 abbrev pub page_told : (ℕ → List ℕ) → List DirEntry → ℕ → ℕ → Bool → Page
 page_told type_name entries context room single = page_of (map (shown_entry type_name) (entries_behind entries context)) context room single
 
--- a page gives what is told: its status, its context, and of the entries that are left as many as are shown,
+-- a page agrees with the model's: its status, its context, and of the entries that are left as many as are shown,
 -- from the first one on
 pub record IsPage (told : Page) (left : List DirEntry) (page : DirPage) : Type 0 where
   pub status : page.status ≡ told.status

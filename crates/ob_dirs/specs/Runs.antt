@@ -52,7 +52,7 @@ before runs run at = joined (take run runs) ++ take at (run_at runs run)
 abbrev pub from_on : List (Vec DirEntry Global) → ℕ → ℕ → List DirEntry
 from_on runs run at = drop at (run_at runs run) ++ joined (drop (run + 1) runs)
 
--- a place in these runs where an entry stands
+-- a place in these runs where an entry is
 pub record IsInRuns (runs : List (Vec DirEntry Global)) (run at : ℕ) : Type 0 where
   pub run_in : run < length runs
   pub at_in : at < length (run_at runs run)

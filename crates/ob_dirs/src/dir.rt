@@ -24,7 +24,7 @@ use std::marker::Model;
 
 /// One object directory. A contract sees a `Dir` as the list of its entries, whose stamps rise
 /// strictly and whose spellings differ from one another; two names that only the case of letters
-/// tells apart may stand side by side.
+/// distinguishes may be side by side.
 ///
 /// Most directories of a namespace have no name in them: what holds the entries lies after a pointer, which
 /// is made with the first one.
@@ -58,7 +58,7 @@ impl Dir {
     pub fn len(&self) -> usize
         ensures count { result ≡ length self.now }
 
-        // What holds of every directory's entries.
+        // The invariant of every directory's entries.
         ensures entries { IsDir self.now }
     {
         match &self.held {
@@ -81,7 +81,7 @@ impl Dir {
     pub fn iter(&self) -> DirEntries<'_>
         ensures all { result ≡ self.now }
 
-        // What holds of every directory's entries.
+        // The invariant of every directory's entries.
         ensures entries { IsDir self.now }
     {
         match &self.held {
@@ -101,7 +101,7 @@ impl Dir {
         }
     }
 
-    /// What stands under a component, of any length and with any bytes: of the entries whose names
+    /// Finds the entry under a component, of any length and with any bytes: of the entries whose names
     /// are equal to it, with `fold` for equality without regard to case, the one of least stamp; its
     /// stamp and its object. `None` exactly where no name is equal.
     ///
@@ -171,7 +171,7 @@ impl Dir {
     }
 }
 
-/// The law that a directory finds what the state finds. Where the rows of a state that stand in a
+/// The law that a directory finds what the state finds. Where the rows of a state that are in a
 /// directory are these entries, in their order, what the state finds there under a component, with
 /// or without `fold`, is the row of the entry that is found. Takes nothing and does nothing.
 pub fn dir_finds_what_the_state_finds<K, T, F, I>()
@@ -184,7 +184,7 @@ pub fn not_found_is_free()
     ensures { NotFoundIsFree }
 {}
 
-/// The laws by which a directory stays that of a state. The rows that stand in it are its entries, in
+/// The laws by which a directory stays that of a state. The rows that are in it are its entries, in
 /// their order: where there is no row and no entry, when a row comes after all others as an entry
 /// is inserted, when a row of another directory comes, and when the row of a stamp goes as its entry
 /// is removed. Takes nothing and does nothing.

@@ -1,4 +1,4 @@
-//! What a directory holds once it has had a name.
+//! The entries and the index of a directory that has had a name.
 
 ghost use Rattle.std.specs.Prelude.{◌≡◌, ◌≢◌, ◌<◌, ◌^◌, ◌==◌, [], ◌∷◌, ◌++◌, length, filter, not};
 ghost use Rattle.std.specs.Prelude.{All, IfOk, IfErr, OnErr};
@@ -51,7 +51,7 @@ impl NamedEntries {
     pub(crate) fn len(&self) -> usize
         ensures count { result ≡ length self.now }
 
-        // What holds of the entries of every directory.
+        // The invariant of the entries of every directory.
         ensures entries { IsDir self.now }
     {
         self.entries.len()
@@ -68,7 +68,7 @@ impl NamedEntries {
     pub(crate) fn iter(&self) -> DirEntries<'_>
         ensures all { result ≡ self.now }
 
-        // What holds of the entries of every directory.
+        // The invariant of the entries of every directory.
         ensures entries { IsDir self.now }
     {
         DirEntries::new(self.entries.iter(), self.entries.len())
@@ -82,7 +82,7 @@ impl NamedEntries {
         self.entries.behind(context)
     }
 
-    /// What stands under a component, as [`Dir::find`](crate::Dir::find) has it.
+    /// Finds the entry under a component, as [`Dir::find`](crate::Dir::find) does.
     pub(crate) fn find(&self, component: &[u8], fold: bool) -> Option<(u64, ObjId)>
         ensures { result
             ≡ option_map (λ entry. (entry.stamp, entry.object))

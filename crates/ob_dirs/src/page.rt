@@ -36,7 +36,7 @@ impl Dir {
     /// A page of the directory after a context, which may be any number: of the entries of a greater stamp,
     /// by rising stamps, as many as fit into the room, or the first alone for a single one. An entry takes
     /// 4 bytes of the room, and the lengths of its name and of the name of its object's type, which `len_of`
-    /// tells of one entry after another. Where the page begins is sought as in a sorted list; then only what
+    /// gives for one entry after another. Where the page begins is sought as in a sorted list; then only what
     /// is shown is looked at, and the first entry that isn't.
     ///
     /// The only fault is `Memory`. A page lends its entries and takes no memory, so it is always `Ok`.

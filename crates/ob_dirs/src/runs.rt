@@ -64,7 +64,7 @@ impl EntryRuns {
     pub(crate) fn len(&self) -> usize
         ensures count { result ≡ length self.now }
 
-        // What holds of all entries.
+        // The invariant of all entries.
         ensures rises { Rises self.now }
     {
         self.count
@@ -203,7 +203,7 @@ impl<'a> Iterator for EntriesBehind<'a> {
     }
 }
 
-// Where an entry stands: in which run, and where in it.
+// Where an entry is: in which run, and where in it.
 #[derive(Drop)]
 struct Place {
     run: usize,

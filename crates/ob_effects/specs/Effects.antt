@@ -1,4 +1,4 @@
--- What a line of a script does: the steps that it makes of the machine, the reply, and the words after it.
+-- The effects of a line of a script: the steps that it makes of the machine, the reply, and the words after it.
 --
 -- Source: this profile.
 use Rattle.std.specs.Prelude.{◌≡◌, ◌⊎◌, ℕ, List, [], Option, Some, None, codes}
@@ -45,7 +45,7 @@ IsAnswered request process words s reply words' s' = IsAsked request process wor
 abbrev pub IsUnanswered : Request (List ℕ) → ℕ → Words → Space → Space → Type 0
 IsUnanswered request process words s t = (steps : Steps) × WantsMemory request process words steps s t
 
--- what is told in place of a step
+-- the notice in place of a step
 abbrev pub notice_text : Notice → List ℕ
 notice_text notice.Busy = codes "BUSY"
 notice_text notice.NoPending = codes "NO PENDING"
@@ -60,7 +60,7 @@ IsCarried pending process words s a words' s' =
 abbrev pub IsStopped : PendingForm (List ℕ) → ℕ → Words → Space → Words → Space → Type 0
 IsStopped pending process words s words' s' = (steps : Steps) × FindsNone pending words process steps s s' words'
 
--- nothing is told in place of a step of such a line
+-- there is no notice in place of a step of such a line
 abbrev pub MakesStep : PendingForm (List ℕ) → ℕ → Words → Type 0
 MakesStep pending process words = told_instead pending (is_waiting words process (word_of pending)) ≡ None
 
@@ -74,7 +74,7 @@ IsRequestDone request process words s (outcome.Told notice) words' s' = ⊥
 IsRequestDone request process words s outcome.NoLine words' s' = ⊥
 IsRequestDone request process words s outcome.NoMemory words' s' = IsUnanswered request process words s s' × (words' ≡ words)
 
--- what became of a line of an open that waits: its reply, or that it waits, or what was told in place of a step, or that
+-- what became of a line of an open that waits: its reply, or that it waits, or the notice in place of a step, or that
 -- it found no memory
 abbrev pub IsWaitDone : PendingForm (List ℕ) → ℕ → Words → Space → LineOutcome → Words → Space → Type 0
 IsWaitDone pending process words s outcome.Idle words' s' = ⊥

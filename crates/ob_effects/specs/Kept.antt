@@ -1,4 +1,4 @@
--- What a session keeps of the opens that wait under the words of its script.
+-- The opens that wait under the words of a script, as a session keeps them.
 --
 -- Source: this profile.
 use Rattle.std.specs.Prelude.{◌≡◌, ℕ, true, List, ◌⊎◌, Some, Result, Ok, Err}
@@ -42,8 +42,8 @@ words_of session = words_in session.words
 abbrev pub space_of : Session → Space
 space_of session = session.core
 
--- What holds of every session: its words name the opens that wait, and each parse that it keeps is the one that an open
--- waits for.
+-- The invariant of every session: its words name the opens that wait, and each parse that it keeps is the one that an
+-- open waits for.
 pub record IsSession (session : Session) : Type 0 where
   pub waiting : AreWaiting (space_of session) (words_of session) (tickets_of session.waits)
   pub awaited : AreAwaited (space_of session) session.waits
@@ -52,7 +52,7 @@ pub record IsSession (session : Session) : Type 0 where
 abbrev pub IsFirst : Session → Type 0
 IsFirst session = (words_of session ≡ first_words) × ((first : Standard) × IsFresh first × (space_of session ≡ opening first))
 
--- what became of a line, told of what became of its open; an error: it found no memory
+-- what became of a line, by what became of its open; an error: it found no memory
 abbrev pub outcome_of : {E : Type 0} → Result Begun E → LineOutcome
 outcome_of (Ok (begun.Replied reply)) = outcome.Replied reply
 outcome_of (Ok (begun.Waits n)) = outcome.Pending

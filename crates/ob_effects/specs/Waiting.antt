@@ -36,7 +36,7 @@ word_of (Drop word) = word
 abbrev pub is_waiting : Words → ℕ → List ℕ → Bool
 is_waiting words process word = not (words.tickets process word == 0)
 
--- what is told in place of a step: no open is begun under a word under which one waits, and where none waits none is
+-- the notice in place of a step: no open is begun under a word under which one waits, and where none waits none is
 -- ended or dropped
 abbrev pub told_instead : PendingForm (List ℕ) → Bool → Option (List ℕ)
 told_instead (Begin want name attrs word) waits = if waits then Some (codes "BUSY") else None

@@ -1,4 +1,4 @@
-//! What is told in place of a step.
+//! The notice in place of a step.
 
 ghost use Rattle.std.specs.Prelude.{◌≡◌, ◌≤◌, length};
 ghost use Rattle.ob_effects.specs.Effects.{notice_text};

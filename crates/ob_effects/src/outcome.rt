@@ -1,15 +1,15 @@
-//! What became of a line.
+//! The outcome of a line.
 
 use crate::notice::Notice;
 use ob_model::Reply;
 use ob_output::Totals;
 
-/// What became of a line of a script. (this profile)
+/// The outcome of a line of a script. (this profile)
 #[derive(Debug, Drop)]
 pub enum LineOutcome {
     /// It does nothing.
     Idle,
-    /// It told what the namespace counts.
+    /// It reported what the namespace counts.
     Counted(Totals),
     /// Its command was answered, or the open that waited.
     Replied(Reply),

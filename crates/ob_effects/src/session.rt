@@ -29,7 +29,7 @@ pub struct Session {
 }
 
 impl Session {
-    /// A session in which nothing was done: the opening state, and `p1` is process 1. The only fault is want of
+    /// A session in which nothing was done: the opening state, and `p1` is process 1. The only fault is out of
     /// memory. (this profile)
     pub fn new(alloc: Global) -> Result<Session, AllocError>
         ensures first { IfOk result IsFirst }
@@ -41,9 +41,9 @@ impl Session {
         Ok(Session { core, words, waits })
     }
 
-    /// Does what a line of this form says; none: a line that is no script line, which does nothing. What needs memory
+    /// Does what a line of this form says; none: a line that is no script line, which does nothing. Every growth
     /// comes before the first step, or its open is given up: so no reply is lost. A close, the end of a process, and a line
-    /// that makes an object permanent or temporary want none. (this profile)
+    /// that makes an object permanent or temporary take no memory. (this profile)
     pub fn perform(&mut self, form: Option<Form<&[u8]>>) -> LineOutcome
         requires kept { IsSession self.old }
         requires texts { IfSome form (λ form. FormHasTexts (form_seen form)) }
@@ -81,7 +81,7 @@ impl Session {
         waits.give_all_up(&mut core);
     }
 
-    // What became of the request of a process.
+    // Answers the request of a process.
     fn answer(&mut self, process: Proc, request: &Request<&[u8]>) -> LineOutcome
         requires kept { IsSession self.old }
         requires texts { HasTexts (request_seen request.now) }

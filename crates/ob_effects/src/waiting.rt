@@ -24,7 +24,7 @@ use ob_standard_core::{Begun, StandardCore, StandardWaits};
 use std::alloc::AllocError;
 
 impl Session {
-    // What became of a line of a process for an open that waits.
+    // Carries out a line of a process for an open that waits.
     pub(crate) fn carry_on(&mut self, process: Proc, pending: PendingForm<&[u8]>) -> LineOutcome
         requires kept { IsSession self.old }
         requires texts { PendingHasTexts (pending_seen pending) }
@@ -112,10 +112,10 @@ impl Session {
     }
 }
 
-// What an open asks for: the kind that is wanted, the name and the flags.
+// The request of an open: the kind that is wanted, the name and the flags.
 type OpenForm<'a> = (Option<KindForm>, NameForm<&'a [u8]>, u32);
 
-// What became of a line, told of what became of its open.
+// The outcome of a line, by what became of its open.
 fn outcome_of(begun: Result<Begun, AllocError>) -> LineOutcome
     ensures { result ≡ outcome_of begun }
 {

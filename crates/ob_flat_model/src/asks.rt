@@ -1,4 +1,4 @@
-//! What processes ask for.
+//! The requests of processes.
 
 use crate::names::{Name, Path};
 
@@ -57,7 +57,7 @@ pub struct Part {
     pub restart: bool,
 }
 
-/// What a process does with a handle.
+/// The use of a handle by a process.
 #[derive(Clone, Copy)]
 pub enum Deed {
     /// It is closed.
@@ -84,7 +84,7 @@ pub enum Deed {
     },
 }
 
-/// What a process asks for; values are those of handles.
+/// The request of a process; values are those of handles.
 #[derive(Clone, Copy)]
 pub enum Ask {
     /// An object is made.
@@ -113,7 +113,7 @@ pub enum Ask {
     Use {
         /// Its value, whose low two bits don't count.
         value: u32,
-        /// What is done.
+        /// The use that is made of it.
         deed: Deed,
     },
     /// A child of the process begins.

@@ -24,7 +24,7 @@ const VIEW_PATH: Path = Path {
     last: None,
 };
 
-// Where a name stands: a directory, by its number, and the letter there.
+// Where a name is: a directory, by its number, and the letter there.
 #[derive(Clone, Copy)]
 struct Spot {
     directory: u32,
@@ -75,7 +75,7 @@ struct Live {
     context: u64,
 }
 
-// What a command is answered: a refusal, an object that is made, one that is found, with the status that tells it, what
+// The answer to a command: a refusal, an object that is made, one that is found, with the status that says so, what
 // needs no object, or a wait for a parse, and whether the device has its file.
 #[derive(Clone, Copy)]
 enum Answer {
@@ -182,7 +182,7 @@ impl Model {
         None
     }
 
-    /// What a handle of a process leads to. The low two bits of its value don't count.
+    /// The object that a handle of a process leads to. The low two bits of its value don't count.
     pub fn behind(&self, process: u32, value: u32) -> Option<Object> {
         for open in &self.handles {
             if open.process == process && open.value == value & !3 {
@@ -192,7 +192,7 @@ impl Model {
         None
     }
 
-    // Whether an object has a handle, but those of one process. There is no process 0.
+    // Whether an object has a handle, except those of one process. There is no process 0.
     fn is_held(&self, object: u32, but: u32) -> bool {
         for open in &self.handles {
             if open.object == object && open.process != but {
@@ -311,7 +311,7 @@ impl Model {
         Ok(is_given)
     }
 
-    // What an answer leaves, where a command is given this.
+    // Makes the changes of an answer, where a command is given this.
     fn change(
         &mut self,
         process: u32,

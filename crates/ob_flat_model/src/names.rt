@@ -1,8 +1,8 @@
-//! Names. A component is told by one letter; those of the opening state and of devices are longer.
+//! Names. A component is known by one letter; those of the opening state and of devices are longer.
 
 use std::alloc::{AllocError, Global};
 
-/// A path. A letter that tells no component by itself is `??`.
+/// A path. A letter that means no component by itself is `??`.
 #[derive(Clone, Copy)]
 pub struct Path {
     /// The letters of the components before the last.
@@ -65,7 +65,7 @@ pub(crate) fn joined(alloc: Global, letters: &[u8]) -> Result<Vec<u8>, AllocErro
     Ok(text)
 }
 
-/// The text of a name: no backslash stands before a relative one. The only error is out of memory.
+/// The text of a name: no backslash is before a relative one. The only error is out of memory.
 pub fn text(alloc: Global, name: Name) -> Result<Vec<u8>, AllocError> {
     let letters = letters(alloc, name.path)?;
     let text = joined(alloc, letters.as_slice())?;

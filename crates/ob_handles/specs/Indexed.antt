@@ -14,7 +14,7 @@ use Rattle.ob_model.specs.Grants.{IsHandleValue}
 abbrev pub at : {X : Type 0} → List (ℕ × X) → ℕ → Option X
 at entries key = lookup (is_at (nat_cmp key)) entries
 
--- The maps say the same: a handle stands under its own order, its value leads to that order, and each
+-- The maps say the same: a handle is under its own order, its value leads to that order, and each
 -- value leads to a handle that has it.
 pub record IsIndexed (by_order : List (ℕ × Held)) (by_value : List (ℕ × ℕ)) : Type 0 where
   pub orders_rise : IsStrictlySortedBy nat_cmp (keys_of by_order)

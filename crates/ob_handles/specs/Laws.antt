@@ -1,4 +1,4 @@
--- What shows that the handles of a table are a finite map from values, with an order.
+-- The laws that the handles of a table are a finite map from values, with an order.
 --
 -- Source: this profile.
 use Rattle.std.specs.Prelude.{◌≡◌, ◌≢◌, ℕ, ◌<◌, ◌==◌, List, [], ◌∷◌, ◌++◌, None, Some, All}

@@ -1,5 +1,5 @@
 -- A handle table, as the list of its handles in the order in which they were opened: what holds of every
--- one, which values are unused, and what is left when a handle goes.
+-- one, which values are unused, and what is left when a handle is taken.
 --
 -- Sources: Windows Internals, Object Manager (handles and the process handle table); values are multiples
 -- of four (Windows Driver Kit), their range is this profile.
@@ -8,7 +8,7 @@ use Rattle.std.specs.List.{AllPairs, find}
 use Rattle.ob_model.specs.declared.state.Held.{Held}
 use Rattle.ob_model.specs.Grants.{IsHandleValue}
 
--- What holds of every table: the orders of opening rise, no value stands twice, and each is a handle value.
+-- Every table's invariant: the orders of opening rise, no value is there twice, and each is a handle value.
 pub record IsTable (handles : List Held) : Type 0 where
   pub rising : AllPairs (λ a b. a.order < b.order) handles
   pub apart : AllPairs (λ a b. a.value ≢ b.value) handles

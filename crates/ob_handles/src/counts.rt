@@ -19,7 +19,7 @@ use std::marker::Model;
 #[derive(Drop)]
 pub struct Counts {
     numbers: IndexMap<u64, usize>,
-    // Where the objects stand that were counted last.
+    // The places of the objects that were counted last.
     recent: Recent,
     // How many went down to 0 since those at 0 were taken out, less those that went up again.
     zeros: usize,

@@ -34,7 +34,7 @@ fn least_unused(values: &BTreeMap<u32, u64>) -> u32
     requires room { length values.now.entries < most_handles }
     ensures least { result ≡ gap 4 (keys values.now) }
 
-    // What holds of every map.
+    // The invariant of every map.
     ensures ordered { IsOrdered nat_cmp values.now }
 {
     let mut least = 4;

@@ -1,4 +1,4 @@
-//! What the lists of handles of tables are: finite maps from values, with an order.
+//! The laws that the lists of handles of tables are finite maps from values, with an order.
 //!
 //! Each function has an empty body: its contract is a law about the definitions alone, stated in
 //! `specs/Laws.antt`. They do nothing when they run.

@@ -1,4 +1,4 @@
-//! Where the counts of objects stand in a map, and its objects in order.
+//! The places of the counts of objects in a map, and its objects in order.
 
 ghost use Rattle.std.specs.Prelude.{Some, IsTrue, vec_capacity};
 ghost use Rattle.ob_handles.specs.Counts.{IsPlaceOf, HasRoomFor, AreListed};
@@ -6,7 +6,7 @@ ghost use Rattle.ob_handles.specs.Counts.{IsPlaceOf, HasRoomFor, AreListed};
 use indexmap::IndexMap;
 use ob_base::ObjId;
 
-/// The places at which the two objects stand that were counted last: any two places give the same counts, and these give
+/// The places of the two objects that were counted last: any two places give the same counts, and these give
 /// them soonest.
 #[derive(Clone, Copy)]
 pub(crate) struct Recent {
@@ -32,7 +32,7 @@ impl Recent {
     }
 }
 
-/// The place at which an object's count is kept, looked for first where the two stand that were counted last, and after
+/// The place at which an object's count is kept, looked for first at those of the two that were counted last, and after
 /// the last of them, since what was counted in turn once is counted so again; `None` exactly where none is kept. Takes no
 /// memory, and a time that doesn't grow with the objects.
 #[inline(always)]

@@ -1,4 +1,4 @@
-//! What every handle table promises.
+//! The promises of every handle table.
 
 ghost use Rattle.std.specs.Prelude.{◌≡◌, ◌<◌, ◌≤◌, ◌==◌, List, [], ◌∷◌, ◌++◌, Err};
 ghost use Rattle.std.specs.Prelude.{◌⊎◌, length, filter, nat_lt, All, IfOk, IfErr, OnOk, OnErr};
@@ -18,7 +18,7 @@ pub const MOST_HANDLES: usize = 65_535;
 
 /// The handles of one process (Windows Internals, Object Manager: handles and the process handle
 /// table). A contract sees a table as the list of its handles, in the order in which they were opened;
-/// no value stands in it twice.
+/// no value is in it twice.
 ///
 /// Values are multiples of four from 4 to 262,140. Which unused one a new handle gets is the table's
 /// choice. (Windows Driver Kit; the range is this profile)
@@ -87,7 +87,7 @@ pub trait HandleTable: Sized + Drop + Send {
     fn len(&self) -> usize
         ensures count { result ≡ length (handles self.now) }
 
-        // What holds of every table.
+        // The invariant of every table.
         ensures table { IsTable (handles self.now) };
 
     /// The handle that was opened before all others, and `None` exactly where there is none. Takes no

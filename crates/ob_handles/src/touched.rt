@@ -16,7 +16,7 @@ pub struct Touched {
     pub(crate) numbers: IndexMap<u64, usize>,
     // The objects that are listed, in order.
     pub(crate) ids: Vec<u64>,
-    // Where the objects stand that were counted last.
+    // The places of the objects that were counted last.
     pub(crate) recent: Recent,
 }
 

@@ -1,5 +1,5 @@
 //! Handle tables: which value a new handle gets, tables that are full, thinned and long in use, and handles listed one after
-//! another. All but the tests is over any type of table.
+//! another. All except the tests is over any type of table.
 
 ghost use Rattle.std.specs.Prelude.{◌<◌, All};
 
@@ -166,7 +166,7 @@ fn last_in_turn<H: HandleTable>(all: &mut Played<H>) -> Option<u32> {
 // The lives of a table.
 const LIVES: [&'static str; 6] = ["come and go", "full", "thinned", "put", "room", "turned"];
 
-// What a table does in its own way.
+// The choices of a table that are its own.
 #[derive(Clone, Copy)]
 struct Own {
     // The value of a first handle after one that was put under the greatest value.

@@ -24,7 +24,7 @@ use Rattle.ob_journal.specs.Segments.{Segment}
 
 -- ---- texts
 
--- a byte that stands for itself in a text: 0x20 to 0x7E, except for `"` (0x22) and `%` (0x25)
+-- a byte that is itself in a text: 0x20 to 0x7E, except for `"` (0x22) and `%` (0x25)
 abbrev pub is_itself : ℕ → Bool
 is_itself byte = nat_le 0x20 byte && nat_le byte 0x7E && not (byte == 0x22) && not (byte == 0x25)
 

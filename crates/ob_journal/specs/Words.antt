@@ -35,7 +35,7 @@ abbrev pub operations : List Operation
 operations =
     Directory ∷ Shadow ∷ Link ∷ Make ∷ OpenDirectory ∷ OpenLink ∷ Open ∷ Close ∷ Temporary ∷ Permanent ∷ Target ∷ Name ∷ DeviceMap ∷ Duplicate ∷ Page ∷ NewProcess ∷ Exit ∷ Resume ∷ Abandon ∷ []
 
--- the operation that a word stands for
+-- the operation that a word means
 abbrev pub operation_for : List ℕ → Option Operation
 operation_for word = find (λ operation. bytes_eq word (operation_word operation)) operations
 

@@ -13,7 +13,7 @@ pub struct Entry<K> {
     pub number: u64,
     /// The seat of the caller that asked: 0 to 1,023.
     pub seat: u32,
-    /// What was asked for.
+    /// The event that was asked for.
     pub step: Event<K>,
     /// How it ended: with a reply, or with an open that waits for its parse.
     pub reply: Answer,

@@ -28,7 +28,7 @@ fn push_escaped(text: &mut String, byte: u8) -> Result<(), AllocError>
     }
 }
 
-// Whether a byte stands for itself.
+// Whether a byte is itself in a text.
 fn stands_for_itself(byte: u8) -> bool
     ensures value { result ≡ is_itself byte }
     ensures ascii { IsTrue result → byte < 128 }

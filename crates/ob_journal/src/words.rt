@@ -6,7 +6,7 @@ ghost use Rattle.ob_journal.specs.Words.{operation_word, operation_for, parse_fo
 
 use ob_model::ParseRun;
 
-/// What a step of a journal asks for. (this profile)
+/// The operation that a step of a journal asks for. (this profile)
 #[derive(Clone, Copy, PartialEq, Eq, Debug)]
 pub enum Operation {
     /// Makes a directory.
@@ -50,7 +50,7 @@ pub enum Operation {
 }
 
 impl Operation {
-    /// The word that stands for the operation under the key `op`. (this profile)
+    /// The word for the operation under the key `op`. (this profile)
     pub fn word(self) -> &'static str
         ensures { result.now ≡ operation_word self }
     {
@@ -77,7 +77,7 @@ impl Operation {
         }
     }
 
-    /// The operation that a word stands for under the key `op`: none where it is the word of none. Takes no memory. (this
+    /// The operation that a word means under the key `op`: none where it is the word of none. Takes no memory. (this
     /// profile)
     pub fn from_word(word: &str) -> Option<Operation>
         ensures { result ≡ operation_for word.now }
@@ -107,7 +107,7 @@ impl Operation {
     }
 }
 
-/// The word that stands for what became of a parse under the key `parse`. (this profile)
+/// The word for what became of a parse under the key `parse`. (this profile)
 pub fn word_of_parse(parse: ParseRun) -> &'static str
     ensures { result.now ≡ parse_word parse }
 {
@@ -118,8 +118,8 @@ pub fn word_of_parse(parse: ParseRun) -> &'static str
     }
 }
 
-/// What a word says of what became of a parse, under the key `parse`: nothing where it is none of the three words. Takes no
-/// memory. (this profile)
+/// The outcome of a parse that a word means, under the key `parse`: nothing where it is none of the three words. Takes
+/// no memory. (this profile)
 pub fn parse_of_word(word: &str) -> Option<ParseRun>
     ensures { result ≡ parse_for word.now }
 {

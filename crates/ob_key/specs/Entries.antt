@@ -1,4 +1,4 @@
--- The entries of keys: what arguments say, when entries may stand in one table, which keys are there, and
+-- The entries of keys: what arguments say, when entries may be in one table, which keys are there, and
 -- where links lead.
 --
 -- Source: this profile.
@@ -10,7 +10,7 @@ use Rattle.ob_model.specs.Names.{separator, begins_with_separator}
 use Rattle.ob_plain.specs.Arguments.{has_byte, pieces, same_path}
 use Rattle.ob_key.specs.declared.entry.KeyEntry.{KeyEntry}
 
--- the byte that stands before a target, `>`
+-- the byte before a target, `>`
 abbrev pub greater : ℕ
 greater = 62
 
@@ -39,7 +39,7 @@ abbrev pub is_empty_target : Option (List ℕ) → Bool
 is_empty_target None = false
 is_empty_target (Some target) = length target == 0
 
--- the entry may stand in a table: its path is one, and its target isn't empty
+-- the entry may be in a table: its path is one, and its target isn't empty
 abbrev pub is_fit : KeyEntry → Bool
 is_fit e = is_path e.path && not (is_empty_target e.target)
 
@@ -51,7 +51,7 @@ goes_on path front = starts_with nat_eq path front && begins_with_separator (dro
 abbrev pub is_below_link : KeyEntry → KeyEntry → Bool
 is_below_link e other = is_link other && goes_on e.path other.path
 
--- two entries may stand in one table: their paths differ, and neither continues after a link of the other
+-- two entries may be in one table: their paths differ, and neither continues after a link of the other
 abbrev pub are_apart : KeyEntry → KeyEntry → Bool
 are_apart e other = (not (same_path e.path other.path) && not (is_below_link e other)) && not (is_below_link other e)
 
@@ -60,7 +60,7 @@ abbrev pub all_apart : List KeyEntry → Bool
 all_apart [] = true
 all_apart (e ∷ es) = list_all (are_apart e) es && all_apart es
 
--- entries may stand in one table: each is fit, and each two are apart
+-- entries may be in one table: each is fit, and each two are apart
 abbrev pub is_table : List KeyEntry → Bool
 is_table entries = list_all is_fit entries && all_apart entries
 

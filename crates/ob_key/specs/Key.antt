@@ -21,11 +21,11 @@ name_of Key = codes "Key"
 abbrev pub same_key_kind : KeyKind → KeyKind → Bool
 same_key_kind Key b = elim b [ Key ↦ true ]
 
--- two faces stand for one key: their tables have the same entries, and their paths are the same
+-- two faces are of one key: their tables have the same entries, and their paths are the same
 abbrev pub same_key_face : KeyPlace → KeyPlace → Bool
 same_key_face a b = same_path a.path b.path && same_tables a.entries b.entries
 
--- making refuses arguments that can't be read, and entries that may not stand in one table
+-- making refuses arguments that can't be read, and entries that may not be in one table
 abbrev pub refuses_arguments : List ℕ → Option ℕ
 refuses_arguments args = if is_readable args && is_table (entries_of args) then None else Some 1
 
@@ -58,7 +58,7 @@ answer_at entries (Some target) path used behind = link_answer target behind
 answer_at entries None path used behind =
     if is_there entries path then Front used (record { entries = entries; path = path }) unopened else Refused 3
 
--- what a key answers to a rest that begins with this component, which no byte may stand in, and goes on so
+-- what a key answers to a rest that begins with this component, which may be empty, and goes on so
 abbrev pub answer_to : KeyPlace → ℕ → List ℕ → List ℕ → ParseAnswer KeyPlace KeyInner
 answer_to face length_of_rest [] behind = Refused 3
 answer_to face length_of_rest (b ∷ bs) behind =

@@ -98,7 +98,7 @@ impl KeyEntry {
         self.target.is_some()
     }
 
-    /// Whether the entry may stand in a table: its path is components joined by single backslashes, none of them
+    /// Whether the entry may be in a table: its path is components joined by single backslashes, none of them
     /// empty, and a target has at least one byte. (this profile)
     pub(crate) fn is_fit(&self) -> bool
         ensures { result ≡ entries.is_fit self.now }
@@ -106,7 +106,7 @@ impl KeyEntry {
         is_path(self.path.as_slice()) && !has_empty_target(&self.target)
     }
 
-    /// Whether two entries may stand in one table: their paths differ, and neither continues after the path of
+    /// Whether two entries may be in one table: their paths differ, and neither continues after the path of
     /// the other and a backslash where the other is a link. (this profile)
     pub(crate) fn is_apart(&self, other: &KeyEntry) -> bool
         ensures { result ≡ entries.are_apart self.now other.now }

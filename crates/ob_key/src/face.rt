@@ -1,4 +1,4 @@
-//! What never changes of a key.
+//! The part of a key that never changes.
 
 ghost use Rattle.std.specs.Prelude.{◌≡◌, IfOk, [], List};
 ghost use Rattle.ob_key.specs.Entries as entries;

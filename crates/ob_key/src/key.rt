@@ -22,7 +22,7 @@ pub enum KeyKind {
     Key,
 }
 
-/// What the procedures change of a key. (this profile)
+/// The part of a key that the procedures change. (this profile)
 #[derive(Debug, Drop)]
 pub struct KeyInner {
     /// The handles that are open to it; at the greatest u32, that many or more.
@@ -147,7 +147,7 @@ impl TypeSet for KeySet {
     ghost equal_kinds = { elim [ Key ↦ elim [ Key ↦ refl ] ] };
 }
 
-// What a link answers to the rest after it: the name that its target and the rest make together.
+// A link's answer to the rest after it: the name that its target and the rest make together.
 fn through_link(
     alloc: Global,
     target: &KeyTarget,

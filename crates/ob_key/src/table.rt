@@ -32,8 +32,8 @@ impl Model for KeyTable {
 }
 
 impl KeyTable {
-    /// The entries that stand between the semicolons of arguments; empty arguments have none. They need
-    /// not be fit to stand in one table. The only error is out of memory. (this profile)
+    /// The entries between the semicolons of arguments; empty arguments have none. They need
+    /// not be fit for one table. The only error is out of memory. (this profile)
     pub(crate) fn read(alloc: Global, args: &[u8]) -> Result<KeyTable, AllocError>
         requires { IsTrue (is_profile_text args.now) }
         ensures { IfOk result (λ table. table ≡ entries.entries_of args.now) }
@@ -45,7 +45,7 @@ impl KeyTable {
         Ok(KeyTable { entries })
     }
 
-    /// Whether the entries may stand in one table: each is fit, and each two are apart. The time grows with
+    /// Whether the entries may be in one table: each is fit, and each two are apart. The time grows with
     /// the square of the number of the entries. (this profile)
     pub(crate) fn is_fit(&self) -> bool
         ensures { result ≡ entries.is_table self.now }

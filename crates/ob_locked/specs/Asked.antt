@@ -1,4 +1,4 @@
--- What is asked for under the lock, as an event; and why no step is made for it.
+-- A request under the lock, as an event; and why no step is made for it.
 --
 -- Source: this profile.
 use Rattle.std.specs.Prelude.{◌≡◌, length, Option, None, Some}
@@ -33,8 +33,8 @@ module _ {K T F I : Type 0} where
   handed_back (Resume parsed) = Some parsed
   handed_back (Abandon pending) = None
 
-  -- What is asked may be made into a step: the pass is no stranger's, of which an abandon makes no test; a start finds its places;
-  -- and an open waits for the parse that is brought.
+  -- The request may be made into a step: the pass is no stranger's, of which an abandon makes no test; a start finds
+  -- its places; and an open waits for the parse that is brought.
   abbrev pub IsAdmitted : Procedures K T F I → History K T F I → Passed K → Asked T K F I → Type 0
   IsAdmitted g h p (Start process command) = IsKnown (whole h.journal) p.receipts × (IsFull (length h.journal.unsealed) (places_for h.state.pending) → ⊥)
   IsAdmitted g h p (Resume parsed) = IsKnown (whole h.journal) p.receipts × IsAwaited g h.state (asked_of parsed)

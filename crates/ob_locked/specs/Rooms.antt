@@ -1,4 +1,4 @@
--- What the copy of a reply takes memory for.
+-- The parts of a reply whose copy takes memory.
 --
 -- Source: this profile.
 use Rattle.std.specs.Prelude.{ℕ, Bool, true, false, List, []}
@@ -28,7 +28,7 @@ abbrev pub values_wanted : {K : Type 0} → ℕ → Command K → ℕ
 values_wanted held (NewProcess inherit) = held
 values_wanted held command = 0
 
--- a copy wants nothing but its own place: nothing is given, or a handle
+-- a copy needs only its own place: nothing is given, or a handle
 abbrev pub is_plain : Given → Bool
 is_plain Nothing = true
 is_plain (Handle handle) = true

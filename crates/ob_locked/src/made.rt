@@ -292,7 +292,7 @@ pub(crate) fn resume_core<T: TypeSet, H: HandleTable>(
     }
 }
 
-/// What became of a parse that was run.
+/// The outcome of a parse that was run.
 fn run_of<T: TypeSet>(parsed: &Parsed<T>) -> ParseRun
     ensures { result ≡ run_of_end parsed.now.outcome }
 {

@@ -54,7 +54,7 @@ pub enum Started<T: TypeSet> {
     Parsing(Parsing<T>),
 }
 
-/// What is brought when an open that waits is given up: its parse, run or not. It can't be dropped.
+/// The parse, run or not, that is brought when an open that waits is given up. It can't be dropped.
 pub enum Pending<T: TypeSet> {
     /// It was not run.
     Unrun(Parsing<T>),
@@ -70,7 +70,7 @@ impl<T: TypeSet> Parsing<T> {
         Parsing { parsing, place }
     }
 
-    /// Runs the parse. It takes neither the namespace nor a lock. What it ended with is told by every `Parsed`.
+    /// Runs the parse. It takes neither the namespace nor a lock. Every `Parsed` says how it ended.
     pub fn run(self, alloc: Global) -> Parsed<T>
         ensures ticket { result.ticket ≡ self.ticket }
         ensures face { result.face ≡ self.face }

@@ -1,4 +1,4 @@
--- Closed stores: what a lookup rests on, which is what of a sound state its objects and its rows tell.
+-- Closed stores: what a lookup rests on, which is what the objects and the rows of a sound state give.
 --
 -- Source: this profile.
 use Rattle.std.specs.Prelude.{◌≡◌, ℕ, ◌<◌, [], All, IsSome, Option, None, MatchOption}

@@ -35,7 +35,7 @@ reached_at (InDirectory id) (Some behind) last = if length behind == last then S
 reached_at (InDirectory id) None last = None
 reached_at InView behind last = None
 
--- what stands before the last separator of what follows the first one, and after that last one
+-- what is before the last separator of what follows the first one, and after that last one
 abbrev pub IsCutAt : Option (List ℕ) → List ℕ → List ℕ → Type 0
 IsCutAt behind front last = (behind ≡ Some (front ++ separator ∷ last)) × All (λ b. b ≢ separator) last
 

@@ -1,4 +1,4 @@
--- What a lookup leaves of a name: its bytes, lent or its own.
+-- The rest of a name that a lookup leaves: its bytes, lent or its own.
 --
 -- Source: this profile.
 use Rattle.std.specs.Prelude.{ℕ, List}

@@ -76,7 +76,7 @@ impl Cache {
     }
 
     /// Whether a prefix may be there of a view whose local directory is another than `\GLOBAL??`: there a name that comes may
-    /// stand before one of `\GLOBAL??`. Where it is false, none is.
+    /// come before one of `\GLOBAL??`. Where it is false, none is.
     pub(crate) fn may_be_local(&self) -> bool
         ensures { result ≡ false → NoneIsLocal self.now.entries }
     {

@@ -26,14 +26,14 @@ use ob_types::TypeSet;
 use std::alloc::{AllocError, Global};
 
 /// Looks a name up as `look` does, with the same end, by a cache of prefixes: what it needs to be there, the refusals, and
-/// when memory may be wanted are those of `look`.
+/// when it may run out of memory are those of `look`.
 ///
-/// The cache is asked for the prefix of each text that is walked, which is all its components but the last: that of the
-/// name, and those of the texts that links make. Where it is there, the walk goes on at the directory to which it led, with
-/// the last component alone. Where it isn't, and the walk comes through directories alone to the last component, the prefix
-/// is put there; where a link or an object of the set stands before the last component, nothing is put. A prefix of more
-/// than 64 bytes takes memory, and so does one that is put: where there is none, the cache stays as it was, and the end is
-/// the same.
+/// The cache is asked for the prefix of each text that is walked, which is all its components except the last: that of
+/// the name, and those of the texts that links make. Where it is there, the walk goes on at the directory to which it
+/// led, with the last component alone. Where it isn't, and the walk comes through directories alone to the last
+/// component, the prefix is put there; where a link or an object of the set comes before the last component, nothing is
+/// put. A prefix of more than 64 bytes takes memory, and so does one that is put: where there is none, the cache stays
+/// as it was, and the end is the same.
 ///
 /// Each prefix of the cache must lead to its directory in the states that show the store, and does so afterwards.
 ///
@@ -145,7 +145,7 @@ fn walk_cached<'a, 's, T: TypeSet>(
     walk(store, view, from, create, fold)
 }
 
-/// Looks up a text that a reparse made, by the cache. What is left of it then has bytes of its own.
+/// Looks up a text that a reparse made, by the cache. The rest of it then has bytes of its own.
 fn look_again_cached<'a, T: TypeSet>(
     alloc: Global,
     cache: &mut Cache,

@@ -1,6 +1,6 @@
 //! A store with a cache of the prefixes that lead in it.
 
-ghost use Rattle.std.specs.Prelude.{◌≡◌, ◌≢◌, ◌<◌, ◌==◌, [], length, None, Some};
+ghost use Rattle.std.specs.Prelude.{◌≡◌, ◌≢◌, ◌<◌, ◌+◌, ◌==◌, [], length, None, Some};
 ghost use Rattle.std.specs.Prelude.{All, IsOk, IsSome, IfOk, IfErr, OnErr, false};
 ghost use Rattle.std.specs.List.{find, list_any};
 ghost use Rattle.std.specs.Option.{is_some, option_and_then, option_copied, option_map, option_map_or};
@@ -9,7 +9,7 @@ ghost use Rattle.ob_model.specs.Settle.{has_shadow};
 ghost use Rattle.ob_model.specs.State.{State, is_directory_body, shadow_in};
 ghost use Rattle.ob_objects.specs.Store.{IsStore, Shows, stored_at, directory_of, directory_at, entries_in, entries_at, place_at, objects_of, rows_of};
 ghost use Rattle.ob_objects.specs.Listing.{page_given};
-ghost use Rattle.ob_objects.specs.Named.{row_of_named};
+ghost use Rattle.ob_objects.specs.Named.{row_of_named, IsFirstFrom};
 ghost use Rattle.ob_objects.specs.Standing.{standing_at};
 ghost use Rattle.ob_objects.specs.Changes.{with_entry, without_object, with_name, without_name, with_permanence};
 ghost use Rattle.ob_objects.specs.Changes.{
@@ -24,6 +24,7 @@ ghost use Rattle.ob_lookup.specs.Look.{look_of, LooksUpIn, NameMayWantMemory};
 
 use crate::cache::Cache;
 use crate::cached::look_cached;
+use crate::removals::{Removals, RemovedName};
 use crate::terms::Look;
 use ob_base::ObjId;
 use ob_devmap::View;
@@ -35,11 +36,11 @@ use std::alloc::{AllocError, Global};
 use std::marker::Model;
 
 /// A store, with a cache of prefixes by which names are looked up in it: each leads to its directory in the store as it is.
-/// A contract sees it as the store alone, so that nothing that it answers tells whether the cache was of use.
+/// A contract sees it as the store alone, so that no answer shows whether the cache was of use.
 ///
 /// These empty the cache: a directory is removed, or loses its name; a name comes into a directory that has a shadow, since it may
-/// stand before one of the shadow; and a name comes while a prefix of a view is there whose local directory is another than
-/// `\GLOBAL??`, since it may stand before one of `\GLOBAL??`. All else keeps it: a
+/// come before one of the shadow; and a name comes while a prefix of a view is there whose local directory is another
+/// than `\GLOBAL??`, since it may come before one of `\GLOBAL??`. All else keeps it: a
 /// lookup, an object that comes, with a name or without, one that goes and is no directory, with its name, an object that is
 /// opened, closed, or made permanent or temporary. Each method does what that of [`Store`] of the same name does, under its
 /// clauses.
@@ -49,27 +50,69 @@ use std::marker::Model;
 pub struct CachedStore<T: TypeSet> {
     store: Store<T>,
     cache: Cache,
+    // How many names there are.
+    names: usize,
+    removed: Removals,
 }
 
 impl<T: TypeSet> Model for CachedStore<T> {
     ghost use Rattle.ob_objects.specs.Store.{Entries};
+    ghost use Rattle.std.specs.Prelude.{◌≡◌, length};
+    ghost use Rattle.ob_objects.specs.Store.{rows_of};
     ghost use Rattle.ob_lookup.specs.Cache.{ArePaths};
 
     ghost Value = { Entries T.Face T.Inner };
 
     ghost view = { λ a. a.store };
 
-    ghost invariant = { λ a. ArePaths T.Kind T T.Face T.Inner a.store a.cache };
+    ghost invariant = { λ a. ArePaths T.Kind T T.Face T.Inner a.store a.cache × (a.names ≡ length (rows_of a.store)) };
 }
 
 impl<T: TypeSet> CachedStore<T> {
-    /// A store with a cache, which is emptied first: what it kept may lead elsewhere here. Takes no memory. (this profile)
-    pub fn new(store: Store<T>, cache: Cache) -> CachedStore<T>
-        ensures { result ≡ store }
+    /// A store with no object, and a cache, which is emptied first: what it kept may lead elsewhere here. Takes no
+    /// memory. (this profile)
+    pub fn new(alloc: Global, cache: Cache) -> CachedStore<T>
+        ensures { result ≡ [] }
     {
         let mut cache = cache;
         cache.clear();
-        CachedStore { store, cache }
+        CachedStore {
+            store: Store::new(alloc),
+            cache,
+            names: 0,
+            removed: Removals::unlisted(),
+        }
+    }
+
+    /// How many names there are, of all objects. Takes no memory, and a time that doesn't grow with them.
+    ///
+    /// Source: Windows Internals, Object Manager: object names.
+    pub fn names(&self) -> usize
+        ensures { result ≡ length (rows_of self.now) }
+    {
+        self.names
+    }
+
+    /// Lists from now on the names that are removed, with none to begin with. It takes no memory itself; where there is
+    /// none for a name that is removed, that one isn't listed. (this profile)
+    pub fn list_removed(&mut self, alloc: Global)
+        ensures { self.new ≡ self.old }
+    {
+        self.removed = Removals::listed(alloc);
+    }
+
+    /// The names that were removed since listing began or the list was cleared last: a hint for who keeps a copy of the
+    /// names, who can see by [`CachedStore::names`] whether one is missing. No name is listed that is still there, but
+    /// for one that was put back. (this profile)
+    pub fn removed(&self) -> &[RemovedName] {
+        self.removed.names()
+    }
+
+    /// Clears the list of removed names; where none is kept, nothing changes. Takes no memory. (this profile)
+    pub fn clear_removed(&mut self)
+        ensures { self.new ≡ self.old }
+    {
+        self.removed.clear();
     }
 
     /// Looks a name up in the store as `look` does, by the cache: see [`look_cached`]. The store stays as it is.
@@ -101,7 +144,7 @@ impl<T: TypeSet> CachedStore<T> {
     pub fn len(&self) -> usize
         ensures count { result ≡ length self.now }
 
-        // What holds of every store.
+        // The invariant of every store.
         ensures store { IsStore self.now }
     {
         self.store.len()
@@ -114,11 +157,11 @@ impl<T: TypeSet> CachedStore<T> {
         self.store.is_empty()
     }
 
-    /// What is stored under an id, and `None` exactly where nothing is. Takes no memory.
+    /// The value that is stored under an id, and `None` exactly where nothing is. Takes no memory.
     pub fn get(&self, id: ObjId) -> Option<&StoredObject<T::Face, T::Inner>>
         ensures stored { option_copied result ≡ stored_at self.now id }
 
-        // What holds of every store.
+        // The invariant of every store.
         ensures store { IsStore self.now }
     {
         self.store.get(id)
@@ -181,7 +224,7 @@ impl<T: TypeSet> CachedStore<T> {
         self.store.has_name(id)
     }
 
-    /// Where the name of an object stands; `None` exactly where no name is for it. Takes no memory.
+    /// The place of an object's name; `None` exactly where no name is for it. Takes no memory.
     ///
     /// Source: Windows Internals, Object Manager: object names; the stamps are this profile.
     pub fn place_of(&self, id: ObjId) -> Option<EntryPlace>
@@ -200,16 +243,24 @@ impl<T: TypeSet> CachedStore<T> {
         self.store.name_of(id)
     }
 
-    /// What tells whether an object stays, found at once. Takes no memory.
+    /// The facts that decide whether an object stays, found at once. Takes no memory.
     ///
     /// Source: Windows Internals, Object Manager (object retention); the stamps are this profile.
     pub fn standing_of(&self, id: ObjId) -> Standing
         ensures standing { result ≡ standing_at self.now id }
 
-        // What holds of every store.
+        // The invariant of every store.
         ensures store { IsStore self.now }
     {
         self.store.standing_of(id)
+    }
+
+    /// The least id of an object from this one on; `None` exactly where all objects have lesser ids. Takes no memory.
+    /// Source: the ids are this profile.
+    pub fn first_from(&self, id: ObjId) -> Option<ObjId>
+        ensures { IsFirstFrom id (objects_of self.now) result }
+    {
+        self.store.first_from(id)
     }
 
     /// A page of a directory, as [`Store::page`] gives it. The only fault is out of memory, which a page that shows
@@ -270,9 +321,10 @@ impl<T: TypeSet> CachedStore<T> {
         ensures there { result ≡ stored_at self.old id }
         ensures others { self.new ≡ without_object self.old id }
     {
-        // The length tells what holds of every store.
+        // The contract of the length gives the invariant of every store.
         let _ = self.store.len();
         let stored = self.store.remove(id);
+        self.names -= names_in(&stored);
         if is_directory(&stored) {
             self.cache.clear();
         }
@@ -300,9 +352,11 @@ impl<T: TypeSet> CachedStore<T> {
             (record { stamp = stamp; name = name; object = object })) }
         ensures unchanged { OnErr result (self.new ≡ self.old) }
     {
-        // The length tells what holds of every store.
+        let names = one_more(self.names)?;
+        // The contract of the length gives the invariant of every store.
         let _ = self.store.len();
         self.store.insert_name(directory, stamp, name, object)?;
+        self.names = names;
         let _ = self.store.len();
         if self.cache.may_be_local() || self.store.shadow_of(directory).is_some() {
             self.cache.clear();
@@ -319,12 +373,14 @@ impl<T: TypeSet> CachedStore<T> {
             ≡ list_any (λ entry. entry.stamp == stamp) (entries_at self.old directory) }
         ensures others { self.new ≡ without_name self.old directory stamp }
     {
-        // The length tells what holds of every store.
+        // The contract of the length gives the invariant of every store.
         let _ = self.store.len();
         let Some(object) = self.store.take_name(directory, stamp) else {
             let _ = self.store.len();
             return false;
         };
+        self.names -= 1;
+        self.removed.list(object, stamp);
         let _ = self.store.len();
         if self.store.is_directory(object) {
             self.cache.clear();
@@ -371,6 +427,28 @@ impl<T: TypeSet> CachedStore<T> {
             ≡ set_after_close T.procedures self.old set.old id process_left system_left }
     {
         self.store.close(id, set, process_left, system_left);
+    }
+}
+
+/// A count of names with one more. The only fault is that it has no place for it, as of memory.
+fn one_more(names: usize) -> Result<usize, AllocError>
+    ensures { IfOk result (λ more. more ≡ names + 1) }
+{
+    names.checked_add(1).ok_or(AllocError)
+}
+
+/// How many names lie in an object that was taken out: none where there was none.
+fn names_in<F, I>(taken: &Option<StoredObject<F, I>>) -> usize
+    ensures { result ≡ option_map_or (λ stored. length (entries_in stored.body)) taken.now 0 }
+{
+    match taken {
+        Some(
+            StoredObject {
+                body: StoredBody::Directory(entries, _),
+                ..
+            },
+        ) => entries.len(),
+        _ => 0,
     }
 }
 

@@ -39,20 +39,20 @@ use std::alloc::{AllocError, Global};
 /// The refusals:
 ///
 /// - `ObjectPathSyntaxBad`: an absolute name, or a target that is followed, doesn't begin with a
-///   separator, or a relative name does; for a relative name this is told before all else.
+///   separator, or a relative name does; for a relative name this comes before all else.
 /// - `ObjectTypeMismatch`: the object `root` is no directory, or something follows an object that is
 ///   neither a directory nor a link.
 /// - `ObjectNameInvalid`: a component is empty, or a create would put `??` into the root directory.
 /// - `ObjectPathNotFound`: a component names nothing, and something follows it.
 /// - `ObjectNameNotFound`: the last component names nothing, and nothing is to be created.
-/// - `ReparseLimit`: a reparse more than `budget` is wanted, however long what it makes.
+/// - `ReparseLimit`: a reparse more than `budget` is needed, however long what it makes.
 /// - `NameTooLong`: a target and what follows the link make more than 32,767 bytes.
 ///
 /// An open that reaches an object whose kind parses ends there: what follows the object in the name, which may
 /// be nothing, is for its parse procedure, and so is the whole of a name relative to it. A create never asks it:
 /// to a create it is as any other object.
 ///
-/// What it leaves of the name, a vacant component or what is to be parsed, is lent from it, or is its own where a
+/// The rest of the name, a vacant component or what is to be parsed, is lent from it, or is its own where a
 /// link was followed. The only fault is `Memory`, for a text that a link makes, and for what is left of one. So there
 /// is none where no link is followed: where the name, looked up with no reparse left, ends otherwise than by
 /// `ReparseLimit`.
@@ -128,7 +128,7 @@ fn look_from<'a, T: TypeSet>(
     )
 }
 
-/// Looks up a text that a reparse made. What is left of it then has bytes of its own.
+/// Looks up a text that a reparse made. The rest of it then has bytes of its own.
 fn look_again<'a, T: TypeSet>(
     alloc: Global,
     store: &Store<T>,

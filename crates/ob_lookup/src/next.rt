@@ -1,4 +1,4 @@
-//! What is done where a walk stops.
+//! The next step where a walk stops.
 
 ghost use Rattle.std.specs.Prelude.{◌≡◌, IfOk, IfErr, OnErr};
 ghost use Rattle.ob_model.specs.Looks as machine;
@@ -12,7 +12,7 @@ use ob_model::Mode;
 use ob_names::{Name, NameBuf, substitute};
 use std::alloc::{AllocError, Global};
 
-/// What comes of a stop.
+/// The outcome of a stop.
 #[derive(Drop)]
 pub(crate) enum Next<'a> {
     /// The lookup is over.
@@ -21,7 +21,7 @@ pub(crate) enum Next<'a> {
     Again(NameBuf),
 }
 
-/// What is done at a stop, with so many reparses left.
+/// Goes on from a stop, with so many reparses left.
 pub(crate) fn at_stop<'a>(
     alloc: Global,
     stop: Stop<'a, '_>,
@@ -47,7 +47,7 @@ pub(crate) fn at_stop<'a>(
     }
 }
 
-/// What a lookup ends with where a component is missed.
+/// The end of a lookup where a component is missed.
 fn at_miss(mode: Mode, directory: ObjId, component: Name<'_>, last: bool) -> Look<'_>
     ensures { machine.at_miss mode directory component.entry last
         ≡ machine.Over (look_of result) }
@@ -69,7 +69,7 @@ fn at_miss(mode: Mode, directory: ObjId, component: Name<'_>, last: bool) -> Loo
     }
 }
 
-/// What is done at a link: it is what was named, or it is followed.
+/// Goes on from a link: it is what was named, or it is followed.
 fn at_link<'a>(
     alloc: Global,
     mode: Mode,
@@ -90,7 +90,7 @@ fn at_link<'a>(
     follow(alloc, left, target, rest)
 }
 
-/// What comes of a link that is followed.
+/// The outcome of a link that is followed.
 fn follow<'a>(
     alloc: Global,
     left: u32,
@@ -110,7 +110,7 @@ fn follow<'a>(
     }
 }
 
-/// What a lookup ends with at an object of the set, which is asked to parse the rest or not.
+/// The end of a lookup at an object of the set, which is asked to parse the rest or not.
 fn at_other(left: u32, id: ObjId, rest: Name<'_>, asked: bool) -> Look<'_>
     ensures { look_of result ≡ other_at asked id rest.entry left }
 {

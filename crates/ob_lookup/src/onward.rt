@@ -63,7 +63,7 @@ pub(crate) fn onward<'a, T: TypeSet>(
     reached
 }
 
-/// What stands before the last separator of a text that is walked, and its last component, which may be empty. None where
+/// The part before the last separator of a text that is walked, and its last component, which may be empty. None where
 /// the text is one component, and so has no prefix.
 fn split_start<'a>(start: &Start<'a>) -> Option<(Name<'a>, Name<'a>)>
     ensures parts { IfSome result (λ parts.
@@ -76,7 +76,7 @@ fn split_start<'a>(start: &Start<'a>) -> Option<(Name<'a>, Name<'a>)>
     split_last(behind)
 }
 
-/// What stands before the last separator of a name, and what follows it; none where it has no separator.
+/// The part before the last separator of a name, and what follows it; none where it has no separator.
 fn split_last<'a>(name: &Name<'a>) -> Option<(Name<'a>, Name<'a>)>
     ensures parts { IfSome result (λ parts. name.now ≡ parts.0 ++ separator ∷ parts.1) }
     ensures last { IfSome result (λ parts. All (λ b. b ≢ separator) parts.1) }

@@ -17,9 +17,9 @@ use std::hash::{Hash, Hasher};
 /// The id of `\GLOBAL??`. (this profile)
 const GLOBAL: ObjId = ObjId(2);
 
-/// The components of a text that stand before its last one, with the place from which they are walked, and whether the
-/// case of their letters counts there. The view of the DOS device names is told by its local directory: its global one is
-/// the same for every process. Up to 64 bytes lie in the value itself. (this profile)
+/// The components of a text before its last one, with the place from which they are walked, and whether the
+/// case of their letters counts there. The view of the DOS device names is known by its local directory: its global one
+/// is the same for every process. Up to 64 bytes lie in the value itself. (this profile)
 #[derive(Drop)]
 pub struct Prefix {
     /// The directory from which they are walked, or the local directory of the view.
@@ -28,7 +28,7 @@ pub struct Prefix {
     in_view: bool,
     /// Whether `a` to `z` are equal to `A` to `Z`.
     fold: bool,
-    /// What follows the first separator: with `fold`, with `a` to `z` taken to `A` to `Z`.
+    /// The text after the first separator: with `fold`, with `a` to `z` taken to `A` to `Z`.
     bytes: SmallVec<u8, 64>,
 }
 

@@ -35,7 +35,7 @@ pub(crate) enum Standpoint {
 pub(crate) struct Start<'a> {
     /// The place.
     pub(crate) place: Standpoint,
-    /// What follows the separator that the text begins with.
+    /// The part of the text after the separator that it begins with.
     pub(crate) behind: Option<Name<'a>>,
 }
 

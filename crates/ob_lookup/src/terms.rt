@@ -1,4 +1,4 @@
-//! What a lookup ends with.
+//! How a lookup ends.
 
 ghost use Rattle.std.specs.Prelude.{◌≡◌, ◌≤◌, length, IsOk, IfOk};
 ghost use Rattle.ob_lookup.specs.Look.{look_of};
@@ -8,14 +8,14 @@ use ob_names::{Name, NameBuf};
 use std::alloc::{AllocError, Global};
 use std::marker::Model;
 
-/// What a lookup ends with. (this profile)
+/// How a lookup ends. (this profile)
 #[derive(Debug, Drop)]
 pub enum Look<'a> {
     /// An object.
     At(ObjId),
     /// A vacant place, for a create.
     Vacant {
-        /// The directory that the new entry is to stand in.
+        /// The directory that the new entry is to be in.
         directory: ObjId,
         /// The component, which is to be the entry's name.
         component: Remainder<'a>,
@@ -24,7 +24,7 @@ pub enum Look<'a> {
     Parse {
         /// The object.
         object: ObjId,
-        /// What follows it in the name, which may be nothing.
+        /// The rest of the name after it, which may be nothing.
         rest: Remainder<'a>,
         /// The reparses that are left.
         left: u32,
@@ -57,9 +57,9 @@ impl<'a> Look<'a> {
     }
 }
 
-/// What a lookup leaves of a name: at most 32,767 bytes, each from 0x20 to 0x7E. It is lent from the name that was
-/// looked up, or, where it is left of a text that a reparse made, its bytes are its own. A contract sees a `Remainder`
-/// as the list of its bytes. (this profile)
+/// The rest of a name that a lookup leaves: at most 32,767 bytes, each from 0x20 to 0x7E. It is lent from the name that
+/// was looked up, or, where it is left of a text that a reparse made, its bytes are its own. A contract sees a
+/// `Remainder` as the list of its bytes. (this profile)
 #[derive(Debug, Drop)]
 pub struct Remainder<'a> {
     part: Part<'a>,

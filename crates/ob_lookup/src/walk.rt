@@ -37,14 +37,14 @@ pub(crate) enum Stop<'a, 's> {
         id: ObjId,
         /// Its target.
         target: Name<'s>,
-        /// What follows it in the text.
+        /// The rest of the text after it.
         rest: Name<'a>,
     },
     /// At an object of the set.
     Other {
         /// The object.
         id: ObjId,
-        /// What follows it in the text.
+        /// The rest of the text after it.
         rest: Name<'a>,
         /// Whether its kind parses.
         parses: bool,
@@ -198,7 +198,7 @@ pub(crate) fn directory<T: TypeSet>(store: &Store<T>, id: ObjId) -> (&Dir, Optio
     (dir, *shadow)
 }
 
-/// What an object is that is there.
+/// The body of an object that is there.
 pub(crate) fn body<T: TypeSet>(store: &Store<T>, id: ObjId) -> &StoredBody<T::Face, T::Inner>
     requires { IsSome (stored_at store.now id) }
     ensures body { option_map (λ x. x.body) (stored_at store.now id) ≡ Some result.now }
@@ -210,7 +210,7 @@ pub(crate) fn body<T: TypeSet>(store: &Store<T>, id: ObjId) -> &StoredBody<T::Fa
     &object.body
 }
 
-/// What follows the separator that a rest begins with; none where it is empty.
+/// The text after the separator that a rest begins with; none where the rest is empty.
 pub(crate) fn behind_separator<'a>(rest: Name<'a>) -> Option<Name<'a>>
     requires { IsRest rest }
     ensures { rest_of result ≡ rest.entry }

@@ -1,4 +1,4 @@
-//! Two names looked up by one cache, and how often it was of use. All but the test is over any set of types.
+//! Two names looked up by one cache, and how often it was of use. All except the test is over any set of types.
 
 ghost use Rattle.std.specs.Prelude.{◌≡◌};
 ghost use Rattle.ob_lookup.specs.Cache.{ArePaths};

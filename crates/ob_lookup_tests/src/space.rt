@@ -16,7 +16,7 @@ use std::alloc::Global;
 use std::marker::Model;
 use std::sync::Arc;
 
-/// What an object is.
+/// The kind of an object.
 #[derive(Clone, Copy)]
 pub(crate) enum Kind<'a> {
     /// A directory.
@@ -69,8 +69,8 @@ impl<T: TypeSet> Space<T> {
         &self.store
     }
 
-    /// Adds an object of a kind under a name in a directory; not where the directory has no place for it, or memory is
-    /// wanted.
+    /// Adds an object of a kind under a name in a directory; not where the directory has no place for it, or memory
+    /// runs out.
     pub(crate) fn add(&mut self, directory: ObjId, name: &[u8], kind: Kind<'_>) -> bool {
         let Some(name) = name_of(self.alloc, name) else {
             return false;

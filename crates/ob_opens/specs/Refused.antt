@@ -1,4 +1,4 @@
--- What a parse ends with that leads to nothing to open.
+-- The ends of a parse that lead to nothing to open.
 --
 -- Source: this profile.
 use Rattle.std.specs.Prelude.{ℕ, Bool, true, false, Option, None, Some}
@@ -11,7 +11,7 @@ abbrev pub refusal_of : {F I : Type 0} → Option ℕ → Option (ParseOutcome F
 refusal_of None = None
 refusal_of (Some k) = Some (EndsRefused k)
 
--- what is told of it to a process, live or not
+-- the status for it to a process, live or not
 abbrev pub status_of : Bool → Option ℕ → Status
 status_of false code = ProcessGone
 status_of true None = NoMemory

@@ -1,4 +1,4 @@
--- What an open is refused for when its parse is brought, before anything grows: so the refusal takes no memory.
+-- The refusals of an open when its parse is brought, before anything grows: so they take no memory.
 --
 -- Source: this profile.
 use Rattle.std.specs.Prelude.{◌≡◌, ◌⊎◌, ℕ, Bool, true, false, ◌||◌, not, Option, None, Some, MatchOption}

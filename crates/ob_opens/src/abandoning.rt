@@ -18,7 +18,7 @@ use ob_handles::HandleTable;
 use ob_space::Space;
 use ob_types::{Brought, Outcome, TypeSet};
 
-/// Gives up the open that waits for a parse, and tells whether one does: what the parse made is deleted, and what
+/// Gives up the open that waits for a parse, and says whether one does: what the parse made is deleted, and what
 /// the open alone held goes. A stranger's parse is dropped, and nothing changes. No memory is taken.
 ///
 /// It asks that the state is orderly, sound and settled, and leaves it orderly.

@@ -65,7 +65,7 @@ pub(crate) fn begin<T: TypeSet, H: HandleTable>(
     }
 }
 
-/// What is taken for a parse that is waited for: the face of the object, and what follows the object in the name, once
+/// The parts for a parse that is waited for: the face of the object, and what follows the object in the name, once
 /// for the parse and once for the open that waits.
 pub(crate) fn parts_of_parse<T: TypeSet, H: HandleTable>(
     space: &Space<T, H>,

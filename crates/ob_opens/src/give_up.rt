@@ -1,4 +1,4 @@
-//! What a parse made, where it isn't opened.
+//! The instance that a parse made, where it isn't opened.
 
 ghost use Rattle.std.specs.Prelude.{◌≡◌, Some, IsSome, MatchOption};
 ghost use Rattle.ob_model.specs.declared.reply.Answer.TheVariants.{Done};

@@ -3,8 +3,8 @@
 //! [`open_name`] opens the object that a name leads to. Where the name reaches an object whose kind parses, the open is
 //! pending: it is handed out as a [`Started`] with the parse, which the caller runs between two steps. The caller then brings its end,
 //! [`resume`], or gives the open up: [`abandon`]. Only the parse that the open waits for is taken: one under its ticket,
-//! of the face of the object that it pins, over its rest. Each is a step of the abstract machine, told of the state that the
-//! namespace stands for.
+//! of the face of the object that it pins, over its rest. Each is a step of the abstract machine, from the state that
+//! the namespace represents.
 //!
 //! Inside, a pending open pins its object and draws the number of the object that its parse may make (`pin`). One whose parse
 //! ended with that object itself opens it (`pinned`). One whose parse made an instance opens that, which is an object from then

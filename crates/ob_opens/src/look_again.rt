@@ -25,8 +25,8 @@ use ob_types::{Parsing, TypeSet};
 use std::alloc::AllocError;
 
 /// Looks up the text that the parse of a pending open ended with, in the state as it is now, and does what that leads
-/// to: the object that it names is opened, the refusal is told, or another parse is waited for. What is refused before the
-/// set is asked takes no memory where the lookup follows no link.
+/// to: the object that it names is opened, the refusal is answered, or another parse is waited for. A refusal before
+/// the set is asked takes no memory where the lookup follows no link.
 pub(crate) fn look_again<T: TypeSet, H: HandleTable>(
     space: &mut Space<T, H>,
     ticket: u64,

@@ -45,7 +45,7 @@ pub(crate) struct NotOpened<F, I> {
     pub inner: I,
 }
 
-/// What a store held under a ticket: an instance that a parse made.
+/// An instance that a parse made, which a store held under a ticket.
 #[derive(Drop)]
 struct Instance<F, I> {
     face: Arc<F, Global>,
@@ -59,7 +59,7 @@ struct Refused<I> {
     inner: I,
 }
 
-/// What an open is answered whose parse made an instance: a handle to that instance, which is an object from now on,
+/// Answers an open whose parse made an instance: with a handle to that instance, which is an object from now on,
 /// under the ticket as its number, without a name, temporary and not exclusive. The open is pending no longer, and what
 /// it alone held goes. Where no handle is given, the instance is deleted first.
 ///

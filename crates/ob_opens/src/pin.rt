@@ -13,7 +13,7 @@ use ob_space::Space;
 use ob_types::TypeSet;
 use std::alloc::AllocError;
 
-/// What an open asks for, and who asks. `K` is the kind of an object of the set.
+/// The request of an open, and who makes it. `K` is the kind of an object of the set.
 #[derive(Clone, Copy, PartialEq, Eq, Debug)]
 pub(crate) struct OpenRequest<K> {
     /// The process that asks.

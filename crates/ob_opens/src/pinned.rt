@@ -20,7 +20,7 @@ use ob_space::{Space, grant, is_live, is_wanted_at, status_alone, with_handle};
 use ob_types::{Reason, TypeSet};
 use std::alloc::AllocError;
 
-/// What an open is answered whose parse ended with the object that it reached: a handle to that object. The
+/// Answers an open whose parse ended with the object that it reached: with a handle to that object. The
 /// open is pending no longer, and where no handle is given what it alone held goes.
 ///
 /// It asks that an open is pending under this ticket, and that the state is orderly, sound and settled, and leaves it
@@ -46,7 +46,7 @@ pub(crate) fn open_pinned<T: TypeSet, H: HandleTable>(
     ensures early { IsBroughtRefused T.procedures space.old ticket (Some EndsItself) → IsOk result }
     ensures err { OnErr result (space.new ≡ space.old) }
 {
-    // The length tells what holds of all pending opens.
+    // The contract of the length gives the invariant of all pending opens.
     let _ = space.pending.len();
     let Some(pending) = space.pending.get(ticket) else {
         unreachable!();
@@ -68,7 +68,7 @@ pub(crate) fn open_pinned<T: TypeSet, H: HandleTable>(
     }
 }
 
-/// What the flags of a pending open ask of its handle.
+/// The options that the flags of a pending open ask of its handle.
 pub(crate) fn options_by(attrs: u32) -> GrantOptions
     ensures { result ≡ options_by attrs }
 {

@@ -65,7 +65,7 @@ pub(crate) fn refuse_open<T: TypeSet, H: HandleTable>(
     refuse(space, ticket, status)
 }
 
-/// What an open is answered whose parse ended with a name that leads to an object: a handle to that object. The
+/// Answers an open whose parse ended with a name that leads to an object: with a handle to that object. The
 /// open is pending no longer, and what it alone held goes, which may be the object that it pinned.
 ///
 /// It asks that an open is pending under this ticket, that the process that asked is live, and that the state is
@@ -115,7 +115,7 @@ pub(crate) fn open_found<T: TypeSet, H: HandleTable>(
 
 /// An open whose parse ended with a name that leads to an object which is to parse waits again, with what follows
 /// that object in the name and so many reparses left: under a new ticket, which is the next number, and is handed
-/// back. The open of the old ticket is pending no longer, and what it alone held goes. What it held and the new
+/// back. The open of the old ticket is pending no longer, and what it alone held goes. All that it held and the new
 /// one pins stays as it is.
 ///
 /// It asks that an open is pending under this ticket, that one more fits beside the objects and the other pending opens

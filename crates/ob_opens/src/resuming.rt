@@ -29,7 +29,7 @@ use ob_types::{Brought, Outcome, Parsed, TypeSet};
 
 /// Brings a parse to the open that waits for it, in the state as it is now. That open is pending no longer:
 ///
-/// - `ProcessGone` is told where the process that asked is live no longer, whatever the parse ended with;
+/// - `ProcessGone` is the reply where the process that asked is live no longer, whatever the parse ended with;
 /// - `NoMemory` where the parse found no memory, and `TypeRefused` with the type's number where it was refused;
 /// - the pinned object is opened, or the instance that the parse made, under the ticket as its number: with a handle,
 ///   or refused with `ObjectTypeMismatch` or as a grant is;
@@ -122,7 +122,7 @@ fn conclude<T: TypeSet, H: HandleTable>(
     }
 }
 
-/// Ends the open of a ticket whose parse was refused with this number, or found no memory, and tells that.
+/// Ends the open of a ticket whose parse was refused with this number, or found no memory, and answers so.
 fn refused<T: TypeSet, H: HandleTable>(
     space: &mut Space<T, H>,
     ticket: u64,

@@ -4,7 +4,7 @@ use ob_model::Reply;
 use ob_types::{Parsing, TypeSet};
 
 /// How the start of a command ends, and how a pending open that is resumed does. A parse that is to be run can't be
-/// let go.
+/// dropped.
 pub enum Started<T: TypeSet> {
     /// The command is done, and this is its reply.
     Done(Reply),

@@ -37,7 +37,7 @@ pub(crate) fn end_parse<T: TypeSet, H: HandleTable>(
     ensures there { result ≡ pending_of space.old ticket }
     ensures ended { space.new ≡ settle T.procedures (without_pending space.old ticket) }
 {
-    // The length tells what holds of all pending opens.
+    // The contract of the length gives the invariant of all pending opens.
     let _ = space.pending.len();
     let pending = space.pending.take(ticket)?;
     settle_after_loss(space, pending.object);
@@ -75,7 +75,7 @@ pub(crate) fn refuse_parse<T: TypeSet, H: HandleTable>(
     })
 }
 
-/// What is told to a process, live or not, whose parse ended so.
+/// The status for a process, live or not, whose parse ended so.
 fn refusal(live: bool, code: Option<u16>) -> Status
     ensures { result ≡ status_of live code }
 {

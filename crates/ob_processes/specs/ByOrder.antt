@@ -10,7 +10,7 @@ use Rattle.ob_model.specs.Sorted.{sorted_by}
 abbrev pub order_of : Held → ℕ
 order_of h = h.order
 
--- these handles by rising orders; handles of one order stay as they stand
+-- these handles by rising orders; handles of one order keep their order
 abbrev pub by_order : List Held → List Held
 by_order handles = sorted_by order_of handles
 

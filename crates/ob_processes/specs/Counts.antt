@@ -12,12 +12,12 @@ use Rattle.ob_processes.specs.Running.{Entries, handles_of, IsRunning, OnlyLiveH
 abbrev pub Counts : Numbers → List Held → Type 0
 Counts numbers handles = (object : ℕ) → count_of numbers object ≡ count_by (λ h. h.object == object) handles
 
--- What holds of the handles of one process, and of their counts.
+-- The invariant of the handles of one process, and of their counts.
 pub record IsCounted (handles : List Held) (numbers : Numbers) : Type 0 where
   pub table : IsTable handles
   pub counts : Counts numbers handles
 
--- What holds of the entries, of the device maps beside them, of how many handles there are, and of the
+-- The invariant of the entries, of the device maps beside them, of how many handles there are, and of the
 -- counts of all.
 pub record AreKept (maps : Directories) (entries : Entries) (kept : ℕ) (numbers : Numbers) : Type 0 where
   pub running : IsRunning entries kept

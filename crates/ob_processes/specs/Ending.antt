@@ -1,4 +1,4 @@
--- What is left of a process that is live no longer.
+-- The remains of a process that is live no longer.
 --
 -- Source: this profile.
 use Rattle.std.specs.Prelude.{List}

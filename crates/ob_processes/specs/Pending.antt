@@ -21,7 +21,7 @@ Entries K = List (ℕ × Pending K)
 abbrev pub pins_of : {K : Type 0} → Opens K → ℕ → ℕ
 pins_of opens object = count_by (λ x. x.object == object) opens
 
--- What holds of the opens in their map, and of the counts of what they pin: each open stands under its own
+-- The invariant of the opens in their map, and of the counts of what they pin: each open is under its own
 -- ticket, the tickets rise, and the counts are right.
 pub record AreKept {K : Type 0} (entries : Entries K) (pins : Numbers) : Type 0 where
   pub rising : IsStrictlySortedBy nat_cmp (keys_of entries)

@@ -12,7 +12,7 @@ use Rattle.ob_model.specs.declared.state.Process.{Process}
 use Rattle.ob_devmap.specs.Maps.{Directories, map_in}
 use Rattle.ob_processes.specs.ByOrder.{by_order, OrdersRise}
 
--- What is seen of the live processes: the two parts of the abstract state that they are.
+-- The view of the live processes: the two parts of the abstract state that they are.
 pub record Running : Type 0 where
   -- the live processes, by rising numbers
   pub processes : List Process
@@ -56,7 +56,7 @@ pub record IsTableOf (number : ℕ) (handles : List Held) : Type 0 where
   pub own : All (λ h. (h.process == number) ≡ true) handles
   pub rising : OrdersRise handles
 
--- What holds of the entries: their numbers rise, each has the handles of its process, no two handles of all
+-- The invariant of the entries: their numbers rise, each has the handles of its process, no two handles of all
 -- have one order, and there are so many handles.
 pub record IsRunning (entries : Entries) (kept : ℕ) : Type 0 where
   pub numbers : IsStrictlySortedBy nat_cmp (keys_of entries)

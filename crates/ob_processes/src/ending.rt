@@ -1,4 +1,4 @@
-//! What is left of a process that is live no longer.
+//! The remains of a process that is live no longer.
 
 ghost use Rattle.std.specs.Prelude.{◌≡◌, ℕ, ◌-◌, ◌==◌, [], ◌∷◌, count_by, MatchOption};
 ghost use Rattle.ob_handles.specs.Counts.{count_of, ListsTheSame};

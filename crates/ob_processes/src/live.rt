@@ -18,7 +18,7 @@ use ob_model::Held;
 use std::alloc::{AllocError, Global};
 use std::marker::Model;
 
-/// What one live process has, beside its device map. A contract sees its handles, in the order in which
+/// The state of one live process, beside its device map. A contract sees its handles, in the order in which
 /// they were opened.
 #[derive(Drop)]
 pub(crate) struct Live<H: HandleTable> {
@@ -165,7 +165,7 @@ impl<H: HandleTable> Live<H> {
         self.counts.lower(taken.object);
         Some(taken)
     }
-    /// What is left of it, where its process is live no longer. Takes no memory.
+    /// Gives the remains, where its process is live no longer. Takes no memory.
     pub(crate) fn into_ending(self) -> Ending<H>
         ensures handles { result.handles ≡ self }
         ensures touched { All (λ h. is_listed result.touched h.object ≡ true) result.handles }

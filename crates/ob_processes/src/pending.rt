@@ -53,7 +53,7 @@ impl<K: Drop> PendingOpens<K> {
     pub fn len(&self) -> usize
         ensures count { result ≡ length self.now }
 
-        // What holds of all pending opens.
+        // An invariant of all pending opens.
         ensures rising { AllPairs (λ a b. a.ticket < b.ticket) self.now }
     {
         self.opens.len()

@@ -29,7 +29,7 @@ use std::ops::Bound;
 /// rising numbers, and the handles of all of them in the order in which they were opened, as the
 /// abstract state has both.
 ///
-/// What is asked of handles is kept and not counted, so that no call walks over them but `inheritable`:
+/// Answers about handles are kept and not counted, so that no call walks over them except `inheritable`:
 /// each takes a time that grows with the logarithm of the processes and of the handles, beside what the
 /// call of one table takes.
 ///
@@ -157,7 +157,7 @@ impl<H: HandleTable> Processes<H> {
         self.live.len()
     }
 
-    /// The directories that `\??` stands for to a process: that of its device map, where it is live and
+    /// The directories that `\??` means to a process: that of its device map, where it is live and
     /// has one, and `\GLOBAL??`. Takes no memory.
     ///
     /// Source: Windows Internals, Object Manager (session namespace, device maps).
@@ -166,7 +166,7 @@ impl<H: HandleTable> Processes<H> {
             ≡ option_and_then (λ x. x.map) (find (λ x. x.number == process) self.now.processes) }
         ensures global { result.global ≡ global_id }
 
-        // What holds of the live processes.
+        // An invariant of the live processes.
         ensures rising { AllPairs (λ a b. a.number < b.number) self.now.processes }
     {
         self.maps.view(process)
@@ -202,7 +202,7 @@ impl<H: HandleTable> Processes<H> {
     pub fn len(&self) -> usize
         ensures count { result ≡ length self.now.handles }
 
-        // What holds of the handles of all processes.
+        // An invariant of the handles of all processes.
         ensures rising { OrdersRise self.now.handles }
     {
         self.total

@@ -11,8 +11,8 @@ use std::test::Fail;
 // The flags of opens, one of which is unlawful.
 const FLAGS: [u32; 8] = [0, 0, 0, INHERIT, INHERIT, INHERIT, EXCLUSIVE, 0x22];
 
-// What an open names: the device itself, which leads to a file without a path; a file that it has; one that it hasn't;
-// and nothing that there is, so that the open doesn't wait.
+// The names that an open may have: the device itself, which leads to a file without a path; a file that it has; one
+// that it hasn't; and nothing that there is, so that the open doesn't wait.
 const NAMES: [(&[u8], u8); 6] = [
     (b"D", b's'),
     (b"Ds", b'p'),
@@ -39,8 +39,9 @@ fn any_open(dice: &mut Dice) -> Ask {
     Ask::Open { want, name, attrs }
 }
 
-/// What comes next, where so many turns are done. A game begins with a permanent device of one file. Then an open that waits ends or is given up, or a process, mostly
-/// one that lives, asks for something, mostly of a handle that there is.
+/// The next turn, where so many turns are done. A game begins with a permanent device of one file. Then an open that
+/// waits ends or is given up, or a process, mostly one that lives, asks for something, mostly of a handle that there
+/// is.
 pub(crate) fn turn(dice: &mut Dice, model: &Model, done: u32) -> Turn {
     if done == 0 {
         let (of, name, attrs) = (Kind::Device, named(NAMES[0]), PERMANENT);

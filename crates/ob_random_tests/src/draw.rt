@@ -1,4 +1,4 @@
-//! What comes next, at random.
+//! The next turn, at random.
 
 use crate::dice::Dice;
 use ob_flat_model::{
@@ -223,7 +223,7 @@ fn any_turn(dice: &mut Dice, model: &Model, process: u32) -> Ask {
     }
 }
 
-// What is asked of a handle, and of what type its object mostly is. A page is one of few entries, or now and then one of
+// A query of a handle, and of what type its object mostly is. A page is one of few entries, or now and then one of
 // too much room.
 fn any_query(dice: &mut Dice) -> (Option<Kind>, Deed) {
     let part = Part {
@@ -243,7 +243,7 @@ fn any_query(dice: &mut Dice) -> (Option<Kind>, Deed) {
     }
 }
 
-/// What a process asks for next.
+/// The next request of a process.
 pub(crate) fn next(dice: &mut Dice, model: &Model, process: u32) -> Ask {
     let inherit = dice.below(4) != 0;
     let many = model.processes();

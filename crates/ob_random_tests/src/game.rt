@@ -44,7 +44,7 @@ impl Played for Standard {
     }
 }
 
-/// What is played.
+/// The game that is played.
 #[derive(Clone, Copy)]
 pub(crate) enum Game {
     /// Commands of a dozen processes, some of which have device maps.
@@ -54,7 +54,7 @@ pub(crate) enum Game {
 }
 
 impl Game {
-    // What comes next, where so many turns are done.
+    // The next turn, where so many turns are done.
     fn turn(self, dice: &mut Dice, model: &Model, done: u32) -> Turn {
         match self {
             Game::Commands => random::turn(dice, model, done),

@@ -11,8 +11,8 @@ use std::test::Fail;
 // How many commands are played from one state of the dice, after the first three.
 const GAME: u32 = 2_500;
 
-/// What comes next, where so many turns are done. A game begins with what the first process makes: the directories `\2` and `\3`, and the link `\3\3` to the directory
-/// in which it stands.
+/// The next turn, where so many turns are done. A game begins with what the first process makes: the directories `\2`
+/// and `\3`, and the link `\3\3` to the directory in which it is.
 pub(crate) fn turn(dice: &mut Dice, model: &Model, done: u32) -> Turn {
     let (of, way, letter): (Kind, &'static [u8], u8) = match done {
         0 => (Kind::Directory, b"", b'2'),

@@ -1,8 +1,8 @@
-//! What comes next in a game.
+//! The turns of a game.
 
 use ob_flat_model::Ask;
 
-/// What comes next: a process asks for something, or an open that waits, at a place among those that do, is ended or given
+/// A turn: a process asks for something, or an open that waits, at a place among those that do, is ended or given
 /// up.
 #[derive(Clone, Copy)]
 pub(crate) enum Turn {

@@ -1,5 +1,5 @@
--- What the lines of a journal say, as far as their form goes: a header how many seats there are and, in version 2, which segment begins,
--- and any other line the number, the seat, the step and the reply of an entry.
+-- The content of a journal's lines, by their form alone: a header says how many seats there are and, in version 2,
+-- which segment begins, and any other line the number, the seat, the step and the reply of an entry.
 --
 -- Sources: RFC 8259 for JSON, as `serde_json` reads it; the keys, and the form of texts, are this profile.
 use Rattle.std.specs.Prelude.{ℕ, ◌+◌, ◌*◌, ◌^◌, Bool, true, false, not, ◌&&◌, ◌||◌, ◌==◌, nat_lt, nat_le, if◌then◌else◌, List, [], ◌∷◌, map, find, Option, None, Some, is_some, is_none, option_map, option_and_then, codes, bytes_eq}
@@ -60,7 +60,7 @@ only_if test value = if test then value else None
 abbrev pub digit_for : ℕ → Option ℕ
 digit_for byte = only_if (nat_lt (digit_value byte) 16) (Some (digit_value byte))
 
--- the byte that two hexadecimal digits after `%` stand for; none that stands for itself is written so
+-- the byte that two hexadecimal digits after `%` mean; none that is itself in a text is written so
 abbrev pub byte_for : ℕ → ℕ → Option ℕ
 byte_for high low = do
   h ← digit_for high
@@ -71,7 +71,8 @@ byte_for high low = do
 abbrev pub with_byte : ℕ → Option (List ℕ) → Option (List ℕ)
 with_byte byte bytes = option_map (λ others. byte ∷ others) bytes
 
--- the bytes that a text stands for: `%` (0x25) and two digits are one, any other byte is itself, or the text has no such form
+-- the bytes that a text means: `%` (0x25) and two digits are one, any other byte is itself, or the text has no such
+-- form
 unfoldable pub unescaped : List ℕ → Option (List ℕ)
 unescaped [] = Some []
 unescaped (a ∷ b ∷ c ∷ text) = if a == 0x25 then byte_for b c >>= (λ byte. with_byte byte (unescaped text)) else only_if (is_itself a) (with_byte a (unescaped (b ∷ c ∷ text)))
@@ -86,7 +87,7 @@ u64_in d = as_number d >>= as_u64
 abbrev pub u32_in : Data → Option ℕ
 u32_in d = u64_in d >>= (λ n. only_if (nat_lt n (2 ^ 32)) (Some n))
 
--- the bytes that a string stands for
+-- the bytes that a string means
 abbrev pub bytes_in : Data → Option (List ℕ)
 bytes_in d = as_str d >>= unescaped
 
@@ -104,7 +105,7 @@ has_items count d = option_map_or (λ items. items_len items == count) (as_array
 abbrev pub has_key : List ℕ → Data → Bool
 has_key key d = is_some (get key d)
 
--- what stands under a key
+-- what is under a key
 abbrev pub u64_at : List ℕ → Data → Option ℕ
 u64_at key d = get key d >>= u64_in
 
@@ -334,7 +335,7 @@ listed_in d = only_if (has_items 2 d) (do
   type_name ← at 1 d >>= as_str >>= type_name_for
   Some (record { name = name; type_name = type_name }))
 
--- the statuses that a page stands beside
+-- the statuses that a page comes with
 abbrev pub is_page_status : ℕ → Bool
 is_page_status status = status == code_of Success || status == code_of MoreEntries || status == code_of NoMoreEntries || status == code_of BufferTooSmall
 

@@ -1,4 +1,4 @@
-//! What a line says of an answer.
+//! The comparison of what a line says with an answer.
 
 ghost use Rattle.std.specs.Prelude.{◌≡◌, ◌↔◌, IsTrue};
 ghost use Rattle.ob_reader.specs.Reading.{gift_of, said_of};

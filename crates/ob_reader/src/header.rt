@@ -1,6 +1,6 @@
-//! What a header says.
+//! The content of a header.
 
-/// What a header of a journal says. Nothing but its form is judged. (this profile)
+/// The content of a header of a journal. Only its form is judged. (this profile)
 #[derive(Clone, Copy, PartialEq, Eq, Debug)]
 pub enum Header {
     /// Of a journal of version 1, which has no other header.

@@ -2,8 +2,8 @@
 //!
 //! [`read_header`] reads a [`Header`] of either version, and [`read_line`] an entry: a [`Line`]. [`read_segment_line`] reads a line of
 //! a journal of version 2, which is one or the other: a [`SegmentLine`]. They judge the form alone: whether the line is JSON, has the
-//! keys that it should and no others, and numbers, texts and words of the form. What a line says of an answer is a [`Said`], which
-//! [`is_said`] compares with an answer.
+//! keys that it should and no others, and numbers, texts and words of the form. The answer that a line says is a
+//! [`Said`], which [`is_said`] compares with an answer.
 #![tactic(auto)]
 
 mod compare;

@@ -1,4 +1,4 @@
-//! What stands in the values of a line.
+//! The values of a line, by their keys.
 
 ghost use Rattle.std.specs.Prelude.{◌≡◌, option_map};
 ghost use Rattle.serde_json.specs.View.{view, items_view};
@@ -69,7 +69,7 @@ pub(crate) fn u32_at(value: &Value, key: &str) -> Option<u32>
     u32_in(value.get(key)?)
 }
 
-/// What is true or false under a key. (this profile)
+/// The truth value under a key. (this profile)
 pub(crate) fn bool_at(value: &Value, key: &str) -> Option<bool>
     ensures { result ≡ bool_at key.now (view value.now) }
 {

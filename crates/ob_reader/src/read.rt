@@ -26,10 +26,10 @@ pub fn read_header(alloc: Global, line: &[u8]) -> Result<Option<Header>, AllocEr
     Ok(header_in(&header))
 }
 
-/// What a line of a journal of version 1 says of an entry, without its LF: none where the line isn't of the form of an entry, and
-/// where it is the create of a directory with a shadow, which version 1 doesn't have. Whether the number is the
-/// next, the seat is one of the journal's and the step gives the reply isn't judged here. The only error is out of memory.
-/// (RFC 8259; the keys: this profile)
+/// Reads an entry from a line of a journal of version 1, without its LF: none where the line isn't of the form of an
+/// entry, and where it is the create of a directory with a shadow, which version 1 doesn't have. Whether the number is
+/// the next, the seat is one of the journal's and the step gives the reply isn't judged here. The only error is out of
+/// memory. (RFC 8259; the keys: this profile)
 #[tactic(auto, unfolding(crate::specs::Reading::line_for))]
 pub fn read_line(alloc: Global, line: &[u8]) -> Result<Option<Line>, AllocError>
     ensures { IfOk result (λ found. found ≡ line_for line.now) }
@@ -47,8 +47,9 @@ pub fn read_line(alloc: Global, line: &[u8]) -> Result<Option<Line>, AllocError>
     }
 }
 
-/// What a line of a journal of version 2 says, other than its first, without its LF: an object with the key `journal` is a header, or of no
-/// form; any other line is an entry, or of no form. The only error is out of memory. (RFC 8259; the keys: this profile)
+/// Reads a line of a journal of version 2, other than its first, without its LF: an object with the key `journal` is a
+/// header, or of no form; any other line is an entry, or of no form. The only error is out of memory. (RFC 8259; the
+/// keys: this profile)
 #[tactic(auto, unfolding(crate::specs::Reading::segment_line_for, crate::specs::Reading::is_header, crate::specs::Reading::header_for, crate::specs::Reading::entry_for))]
 pub fn read_segment_line(alloc: Global, line: &[u8]) -> Result<SegmentLine, AllocError>
     ensures { IfOk result (λ found. found ≡ segment_line_for line.now) }
@@ -155,7 +156,7 @@ fn is_in_version_1(event: &Event<StandardKind>) -> bool
     )
 }
 
-// What an entry says.
+// Reads an entry.
 #[tactic(auto, unfolding(crate::specs::Reading::line_in))]
 fn read_entry(alloc: Global, entry: &Value) -> Result<Option<Line>, AllocError>
     ensures { IfOk result (λ found. found ≡ line_in (view entry.now)) }

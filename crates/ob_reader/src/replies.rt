@@ -45,7 +45,7 @@ fn read_done(alloc: Global, reply: &Value) -> Result<Option<Said>, AllocError>
     Ok(Some(Said::Done { status, gift }))
 }
 
-// What is given beside a status.
+// Reads the gift beside a status.
 #[tactic(auto, unfolding(crate::specs::Reading::gift_in))]
 fn read_gift(alloc: Global, status: u64, reply: &Value) -> Result<Option<Gift>, AllocError>
     ensures { IfOk result (λ gift. gift ≡ gift_in status (view reply.now)) }
@@ -132,7 +132,7 @@ fn read_page(alloc: Global, status: u64, reply: &Value) -> Result<Option<Gift>, 
     Ok(Some(Gift::Page { entries, context }))
 }
 
-// Whether a page stands beside a status.
+// Whether a page comes with a status.
 fn is_page_status(status: u64) -> bool
     ensures { result ≡ is_page_status status }
 {

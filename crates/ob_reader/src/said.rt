@@ -1,4 +1,4 @@
-//! What a reply says.
+//! The content of a reply.
 
 ghost use Rattle.std.specs.Prelude.{◌≡◌};
 
@@ -14,12 +14,12 @@ pub enum Said {
     Done {
         /// The number of its status, below 2^64: one that no status has is said as it is.
         status: u64,
-        /// What it gives.
+        /// Its gift.
         gift: Gift,
     },
 }
 
-/// What a reply gives beside its status, as a line of a journal says. (this profile)
+/// The gift of a reply beside its status, as a line of a journal says. (this profile)
 #[derive(Debug, Drop)]
 pub enum Gift {
     /// Nothing.

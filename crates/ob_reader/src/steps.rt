@@ -352,7 +352,7 @@ fn query_name_in(step: &Value) -> Asked
     Some(Command::QueryName { handle })
 }
 
-// What makes an object temporary.
+// The step that makes an object temporary.
 fn make_temporary_in(step: &Value) -> Asked
     ensures { result ≡ of_handle_in (λ handle. Command.MakeTemporary handle) (view step.now) }
 {
@@ -360,7 +360,7 @@ fn make_temporary_in(step: &Value) -> Asked
     Some(Command::MakeTemporary { handle })
 }
 
-// What makes an object permanent.
+// The step that makes an object permanent.
 fn make_permanent_in(step: &Value) -> Asked
     ensures { result ≡ of_handle_in (λ handle. Command.MakePermanent handle) (view step.now) }
 {
@@ -368,7 +368,7 @@ fn make_permanent_in(step: &Value) -> Asked
     Some(Command::MakePermanent { handle })
 }
 
-// What sets the device map of a process.
+// The step that sets the device map of a process.
 fn set_device_map_in(step: &Value) -> Asked
     ensures { result ≡ of_handle_in (λ handle. Command.SetDeviceMap handle) (view step.now) }
 {
@@ -426,7 +426,7 @@ fn child_in(step: &Value) -> Asked
     Some(Command::NewProcess { inherit })
 }
 
-// What became of the parse of a pending open.
+// The outcome of the parse of a pending open.
 fn parse_at(step: &Value) -> Option<ParseRun>
     ensures { result ≡ parse_at (view step.now) }
 {

@@ -10,7 +10,7 @@ use ob_model::Bytes;
 use serde_json::Value;
 use std::alloc::{AllocError, Global};
 
-/// The bytes that a string stands for: none where the value isn't one in the form of texts. The only error is want of
+/// The bytes that a string means: none where the value isn't one in the form of texts. The only error is out of
 /// memory. (this profile)
 pub(crate) fn read_bytes(alloc: Global, value: &Value) -> Result<Option<Bytes>, AllocError>
     ensures { IfOk result (λ bytes. bytes ≡ bytes_in (view value.now)) }
@@ -21,7 +21,7 @@ pub(crate) fn read_bytes(alloc: Global, value: &Value) -> Result<Option<Bytes>, 
     }
 }
 
-/// The bytes that the string under a key stands for: none where there isn't one in the form of texts. The only error is want
+/// The bytes that the string under a key means: none where there isn't one in the form of texts. The only error is out
 /// of memory. (this profile)
 pub(crate) fn read_bytes_at(
     alloc: Global,
@@ -36,7 +36,7 @@ pub(crate) fn read_bytes_at(
     }
 }
 
-// The bytes that a text stands for, where it is of the form.
+// The bytes that a text means, where it is of the form.
 fn unescape(alloc: Global, text: &[u8]) -> Result<Option<Bytes>, AllocError>
     ensures { IfOk result (λ bytes. bytes ≡ unescaped text.now) }
 {
@@ -53,7 +53,7 @@ fn unescape(alloc: Global, text: &[u8]) -> Result<Option<Bytes>, AllocError>
     }
 }
 
-// The first byte that a text stands for, and the rest of the text.
+// The first byte that a text means, and the rest of the text.
 fn next_byte(text: &[u8]) -> Option<(u8, &[u8])>
     ensures found { IfSome result (λ found. unescaped text.now
         ≡ with_byte found.0 (unescaped found.1.now)) }
@@ -71,7 +71,7 @@ fn next_byte(text: &[u8]) -> Option<(u8, &[u8])>
     }
 }
 
-// The byte that the two digits after `%` stand for, and the rest of the text.
+// The byte that the two digits after `%` mean, and the rest of the text.
 fn escaped_byte(text: &[u8]) -> Option<(u8, &[u8])>
     ensures found { IfSome result (λ found. unescaped (37 ∷ text.now)
         ≡ with_byte found.0 (unescaped found.1.now)) }
@@ -84,7 +84,7 @@ fn escaped_byte(text: &[u8]) -> Option<(u8, &[u8])>
     Some((byte, rest))
 }
 
-// The byte that two digits stand for, where it may be written so.
+// The byte that two digits mean, where it may be written so.
 fn byte_of(high: u8, low: u8) -> Option<u8>
     ensures { result ≡ byte_for high low }
 {
@@ -111,7 +111,7 @@ fn digit_of(digit: u8) -> Option<u8>
     }
 }
 
-// Whether a byte stands for itself.
+// Whether a byte is itself in a text.
 fn stands_for_itself(byte: u8) -> bool
     ensures { result ≡ is_itself byte }
 {

@@ -1,4 +1,4 @@
--- Journals that are those of runs, in both versions: what their lines tell, and where one stops being so.
+-- Journals that are those of runs, in both versions: what their lines say, and where one stops being so.
 --
 -- Source: this profile; which value the text of a line is, `serde_json` defines, and what it says, `ob_reader`.
 use Rattle.std.specs.Prelude.{◌≡◌, ◌⊎◌, ℕ, ◌+◌, ◌<◌, ◌≤◌, ◌==◌, nat_lt, Bool, true, false, not, ◌&&◌, ◌||◌, List, [], ◌∷◌, ◌++◌, length, Option, None, Some, MatchOption, if◌then◌else◌}
@@ -69,7 +69,7 @@ after_entry p = record { header = p.header; count = p.count + 1 }
 
 -- ---- lines
 
--- what a line says after such a header: in version 1 no line but the first is a header
+-- what a line says after such a header: in version 1 no line except the first is a header
 abbrev pub said_after : Header → List ℕ → SegmentLine
 said_after (Whole seats) line = says.Entry (line_for line)
 said_after (Segment seats segment first) line = segment_line_for line
@@ -79,13 +79,13 @@ pub record BeginsSegment (p : Position) (line : List ℕ) : Type 0 where
   pub said : said_after p.header line ≡ says.Header (Some (next_header p))
   pub before : first_of p.header ≤ p.count
 
--- a line tells an entry: the seat is there, and the segment has fewer than 1,048,576 entries before it
+-- a line says an entry: the seat is there, and the segment has fewer than 1,048,576 entries before it
 pub record TellsEntry (p : Position) (line : List ℕ) (e : Entry StandardKind) : Type 0 where
   pub said : said_after p.header line ≡ says.Entry (Some (line_about e))
   pub seat : e.seat < seats_of p.header
   pub room : p.count + 1 < first_of p.header + most_entries
 
--- from one position to another lines tell entries: each line begins the next segment, or tells the next of the entries
+-- from one position to another lines say entries: each line begins the next segment, or says the next of the entries
 abbrev pub Tell : Position → List (List ℕ) → Entries → Position → Type 0
 Tell p [] [] q = q ≡ p
 Tell p [] (e ∷ es) q = ⊥
@@ -104,11 +104,11 @@ pub record AreOfRun (header : Header) (lines : List (List ℕ)) (state : Space) 
 abbrev pub IsHeaded : List ℕ → Header → List (List ℕ) → Type 0
 IsHeaded text header lines = (line : List ℕ) × (lines_of text ≡ line ∷ lines) × (first_header_for line ≡ Some header)
 
--- what is told of a journal: its entries, and the objects and handles at its end
+-- the report of a journal: its entries, and the objects and handles at its end
 abbrev pub report_of : Position → Space → Report
 report_of end s = record { entries = end.count; objects = length s.objects; handles = length s.handles }
 
--- a journal is that of a run, and this is told of it
+-- a journal is that of a run, and this is its report
 pub record IsAccepted (text : List ℕ) (report : Report) : Type 0 where
   pub header : Header
   pub lines : List (List ℕ)
@@ -143,7 +143,7 @@ early_causes s p line =
     ∷ (not (nat_lt line.seat (seats_of p.header)), cause.Seat)
     ∷ (lacks_ticket s line.step, cause.Ticket) ∷ []
 
--- the step that a line tells of has no such reply
+-- the step that a line says has no such reply
 abbrev pub IsNoReply : Space → Line → Type 0
 IsNoReply s line = (answer : Answer) (t : Space) → Step standard s line.step answer t → said_of answer ≡ line.reply → ⊥
 
@@ -187,9 +187,9 @@ WhatStopsIsNoRun = (text : List ℕ) (number : ℕ) (why : Cause) → StopsAt te
 abbrev pub WhatStopsIsRefused : Type 0
 WhatStopsIsRefused = (text : List ℕ) (number : ℕ) (why : Cause) (report : Report) → StopsAt text number why → IsAccepted text report → ⊥
 
--- ---- how lines tell entries
+-- ---- how lines say entries
 
--- the position after lines counts the entries that they tell; in version 1 each line tells one, of 1,048,576 at most
+-- the position after lines counts the entries that they say; in version 1 each line says one, of 1,048,576 at most
 abbrev pub WhatIsToldIsCounted : Type 0
 WhatIsToldIsCounted =
     (header : Header) (lines : List (List ℕ)) (entries : Entries) (end : Position) → Tell (after_first header) lines entries end → end.count ≡ length entries
@@ -209,7 +209,7 @@ pub record AreInSegments (entries : Entries) (end : Position) : Type 0 where
   pub segment : segment_of end.header ≡ length sealed + 1
   pub first : first_of end.header ≡ length (joined sealed) + 1
 
--- in version 2 the entries that lines tell are cut so
+-- in version 2 the entries that lines say are cut so
 abbrev pub WhatIsToldIsInSegments : Type 0
 WhatIsToldIsInSegments =
     (seats : ℕ) (lines : List (List ℕ)) (entries : Entries) (end : Position) → Tell (after_first (Segment seats 1 1)) lines entries end → AreInSegments entries end

@@ -53,7 +53,7 @@ pub record PlaysEntry (p : Played) (line : Line) (q : Played) : Type 0 where
   pub step : Step standard p.state entry.event entry.answer q.state
   pub position : q.position ≡ after_entry p.position
 
--- a line is played: it begins the next segment, or tells the next entry
+-- a line is played: it begins the next segment, or says the next entry
 abbrev pub PlaysLine : Played → List ℕ → Played → Type 0
 PlaysLine p text q =
     (BeginsSegment p.position text × (q ≡ record { state = p.state; position = after_header p.position }))
@@ -87,7 +87,8 @@ pub record MayChoose (s : Space) (line : Line) (choice : Choice) : Type 0 where
   pub receiver : receiver_of s line.step ≡ Some choice.process
   pub free : IsFreeValue s choice.process choice.value
 
--- this value may be chosen for the handle that an answer gives, and the line tells the answer with it in place of its own
+-- this value may be chosen for the handle that an answer gives, and the line says the answer with it in place of its
+-- own
 pub record IsTaken (line : Line) (choice : Option Choice) (a : Answer) (one : Choice) (chosen : ℕ) : Type 0 where
   pub one_is : choice ≡ Some one
   pub given : handle_given a ≡ Some chosen

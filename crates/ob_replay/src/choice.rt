@@ -1,4 +1,4 @@
-//! The value of a new handle, as a line tells it.
+//! The value of a new handle, as a line says it.
 
 ghost use Rattle.std.specs.Prelude.{◌≡◌, ℕ, IfNone, IfSome};
 ghost use Rattle.std.specs.Option.{option_map};
@@ -93,7 +93,7 @@ fn receiver_in(process: Proc, command: &Command<StandardKind>) -> Proc
     }
 }
 
-/// The value that may be chosen and the one that an answer gave, where the line tells the answer with the other value in
+/// The value that may be chosen and the one that an answer gave, where the line says the answer with the other value in
 /// place of that one. Takes no memory.
 pub(crate) fn taken(line: &Line, choice: Option<Choice>, answer: Answer) -> Option<(Choice, Handle)>
     ensures taken { IfSome result (λ taken. IsTaken line.now choice answer (taken.0) (taken.1)) }
@@ -131,7 +131,7 @@ fn under(answer: Answer, value: Handle) -> Answer
     }
 }
 
-// What is given, with this value in place of that of a handle.
+// Puts this value in place of that of a handle that is given.
 fn given_under(given: Given, value: Handle) -> Given
     ensures { result ≡ given_of value given }
 {

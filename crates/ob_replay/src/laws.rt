@@ -1,4 +1,4 @@
-//! What a refusal of a journal means, and how lines tell entries.
+//! The meaning of a refusal of a journal, and how lines say entries.
 //!
 //! Each function's contract is a law about the definitions alone, stated in `specs/Journal.antt`. They do nothing when they
 //! run.
@@ -22,15 +22,15 @@ pub fn what_stops_is_refused()
     codes_tell_statuses();
 }
 
-/// The position after the lines of a journal counts the entries that they tell, in all segments; in version 1 each line after the first tells
-/// one, and there are at most 1,048,576. (this profile)
+/// The position after the lines of a journal counts the entries that they say, in all segments; in version 1 each line
+/// after the first says one, and there are at most 1,048,576. (this profile)
 pub fn what_is_told_is_counted()
     ensures counted { WhatIsToldIsCounted }
     ensures whole { WhatIsToldWholeIsFew }
 {}
 
-/// The entries that a journal of version 2 tells are cut into segments at its headers: each segment except the last has an entry, and none
-/// has more than 1,048,576. (this profile)
+/// The entries that a journal of version 2 says are cut into segments at its headers: each segment except the last has
+/// an entry, and none has more than 1,048,576. (this profile)
 pub fn what_is_told_is_in_segments()
     ensures { WhatIsToldIsInSegments }
 {}

@@ -1,4 +1,4 @@
-//! Where a line stands in a journal.
+//! The position of a line in a journal.
 
 ghost use Rattle.std.specs.Prelude.{◌≡◌, ◌↔◌, ◌+◌, ◌≤◌, ◌==◌, IfNone, IfSome, IsTrue, Some};
 ghost use Rattle.ob_replay.specs.Journal.{after_first, after_header as position_after, begins_journal, first_of, has_room, next_header, seats_of, segment_of};
@@ -8,13 +8,13 @@ use ob_reader::Header;
 /// The most entries of a segment, and of a journal of version 1. (this profile)
 const MOST_ENTRIES: u64 = 1_048_576;
 
-/// Where a line stands in a journal: the header of its segment, and how many entries stand before it in all segments. A
-/// journal of version 1 is a single segment. (this profile)
+/// The position of a line in a journal: the header of its segment, and how many entries are before it in all segments.
+/// A journal of version 1 is a single segment. (this profile)
 #[derive(Clone, Copy, PartialEq, Eq, Debug)]
 pub(crate) struct Position {
     /// The header that the segment begins with.
     pub(crate) header: Header,
-    /// How many entries stand before the line.
+    /// How many entries are before the line.
     pub(crate) count: u64,
 }
 

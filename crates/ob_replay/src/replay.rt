@@ -61,8 +61,8 @@ impl Replay {
         })
     }
 
-    /// Plays a line: it begins the next segment, or its step is made and leads to the reply that it tells. Where that isn't so the
-    /// line is refused, and the journal is finished.
+    /// Plays a line: it begins the next segment, or its step is made and leads to the reply that it says. Where that
+    /// isn't so the line is refused, and the journal is finished.
     pub(crate) fn play(self, alloc: Global, text: &[u8]) -> Result<Replay, Stop>
         ensures played { IfOk result (λ next. PlaysLine self text.now next) }
         ensures refused { IfErr result (λ stop.
@@ -102,7 +102,7 @@ impl Replay {
         })
     }
 
-    // Plays an entry: it is the next one, and its step leads to the reply that the line tells.
+    // Plays an entry: it is the next one, and its step leads to the reply that the line says.
     fn play_entry(self, alloc: Global, line: &Line) -> Result<Replay, Stop>
         ensures played { IfOk result (λ next. PlaysEntry self line.now next) }
         ensures refused { IfErr result (λ stop.
@@ -204,7 +204,7 @@ impl Replay {
     }
 }
 
-// What a line says after such a header: in version 1 no line but the first is a header.
+// Reads a line after such a header: in version 1 no line except the first is a header.
 fn read_after(alloc: Global, header: Header, text: &[u8]) -> Result<SegmentLine, AllocError>
     ensures { IfOk result (λ found. found ≡ said_after header text.now) }
 {
@@ -228,7 +228,7 @@ fn is_unrun(step: &Event<StandardKind>) -> bool
     }
 }
 
-// Makes the step of a line, and gives the core after it, with the value of a new handle that the line tells.
+// Makes the step of a line, and gives the core after it, with the value of a new handle that the line says.
 fn make_step(
     core: StandardCore,
     waits: StandardWaits,

@@ -1,6 +1,6 @@
-//! What a check of a journal tells.
+//! The report of a check of a journal.
 
-/// What is told of a journal that is that of a run. (this profile)
+/// The report of a journal that is that of a run. (this profile)
 #[derive(Clone, Copy, PartialEq, Eq, Debug, Drop)]
 pub struct Report {
     /// How many entries it has, in all segments: at most 1,048,576 in each, and in a journal of version 1.

@@ -1,4 +1,4 @@
--- Opens that were begun and wait for a parse: how one stands, under which tickets they wait, and how all are given up.
+-- Opens that were begun and wait for a parse: their state, under which tickets they wait, and how all are given up.
 --
 -- Source: Windows Internals, Object Manager (parse methods); that a parse is run between two steps, and the tickets, are
 -- this profile.
@@ -19,7 +19,7 @@ use Rattle.ob_opens.specs.Waiting.{IsParseOf}
 use Rattle.ob_runner.specs.declared.begun.Begun.{Begun}
 use Rattle.ob_runner.specs.declared.begun.Begun.TheVariants.{Replied, Waits}
 
--- how an open stands, as the machine's answer
+-- the state of an open, as the machine's answer
 abbrev pub answer_in : Begun → Answer
 answer_in (Replied reply) = Done reply
 answer_in (Waits n) = Ticket n

@@ -63,7 +63,7 @@ module _ {K T F I : Type 0} (g : Procedures K T F I) where
   MayFalter s (Resume n parse) = Unit {0}
   MayFalter s (Abandon n parse) = ⊥
 
-  -- Memory was wanted while an event was run to its reply: at once, and then no step was made, or after a ticket,
+  -- Memory ran out while an event was run to its reply: at once, and then no step was made, or after a ticket,
   -- and then the open that waits is given up.
   abbrev pub Falters : Event K → List (Made K) → State K T F I → State K T F I → Type 0
   Falters event [] s t = (t ≡ s) × MayFalter s event

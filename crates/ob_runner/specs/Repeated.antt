@@ -1,4 +1,4 @@
--- Steps that are made again, as a history tells them.
+-- Steps that are made again, as a history has them.
 --
 -- Source: this profile.
 use Rattle.std.specs.Prelude.{◌≡◌, true, List, map}

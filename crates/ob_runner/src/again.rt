@@ -1,4 +1,4 @@
-//! Steps that are made again, as a history tells them.
+//! Steps that are made again, as a history has them.
 
 ghost use Rattle.std.specs.Prelude.{◌≡◌, IfOk, OnOk};
 ghost use Rattle.ob_model.specs.Step.{Step};
@@ -15,12 +15,13 @@ use ob_model::{Answer, Event, Given, Reply};
 use ob_types::TypeSet;
 use std::alloc::{AllocError, Global};
 
-/// Makes a step again that a history tells: a command is started, and an open that is pending is resumed or given up as is
-/// told of its parse. An open that waits then is kept. It answers what the step does; only the value of a new handle may be
-/// another one than the history has.
+/// Makes a step of a history again: a command is started, and an open that is pending is resumed or given up as the
+/// history says of its parse. An open that waits then is kept. It answers what the step does; only the value of a new
+/// handle may be another one than the history has.
 ///
-/// The parses of all pending opens must be kept, and the open of a resume or an abandon be pending. The only fault is want of
-/// memory, and then other steps may have been made that give up an open; the parses that are kept are still awaited.
+/// The parses of all pending opens must be kept, and the open of a resume or an abandon be pending. The only fault is
+/// out of memory, and then other steps may have been made that give up an open; the parses that are kept are still
+/// awaited.
 ///
 /// Source: Windows Internals, Object Manager (parse methods); that a parse is run between two steps is this profile.
 pub fn repeat_step<T: TypeSet, H: HandleTable>(
@@ -54,7 +55,7 @@ pub fn repeat_step<T: TypeSet, H: HandleTable>(
     }
 }
 
-/// How an open stands, as an answer.
+/// The state of an open, as an answer.
 fn answer_of(begun: Begun) -> Answer
     ensures { result ≡ answer_in begun }
 {

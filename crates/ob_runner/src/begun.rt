@@ -1,8 +1,8 @@
-//! How a begun open stands.
+//! The state of a begun open.
 
 use ob_model::Reply;
 
-/// How an open that was begun, or whose parse was run, stands then.
+/// The state of an open after it was begun, or after its parse was run.
 #[derive(Drop)]
 pub enum Begun {
     /// The open was answered, and this is its reply. So is every command that isn't an open.

@@ -1,4 +1,4 @@
-//! What holds of parses that are kept.
+//! The laws of parses that are kept.
 
 ghost use Rattle.ob_runner.specs.Begun.{StayAwaited};
 

@@ -152,7 +152,7 @@ pub(crate) fn resume_open<T: TypeSet, H: HandleTable>(
     }
 }
 
-/// Keeps the parse of an open that begins to wait, and tells its ticket. Out of memory, the open is given up.
+/// Keeps the parse of an open that begins to wait, and gives its ticket. Out of memory, the open is given up.
 fn keep_parse<T: TypeSet, H: HandleTable>(
     core: &mut Core<T, H>,
     waits: &mut Waits<T>,

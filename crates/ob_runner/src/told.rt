@@ -1,4 +1,4 @@
-//! Opens that are ended and given up as is told of their parses.
+//! Opens that are ended and given up by what became of their parses.
 
 ghost use Rattle.std.specs.Prelude.{◌≡◌, ◌≢◌, ◌==◌, true, false, List, IfOk, IfErr, OnErr, OnOk};
 ghost use Rattle.std.specs.List.{list_any};
@@ -19,15 +19,15 @@ use ob_model::ParseRun;
 use ob_types::{Brought, Parsed, Parsing, TypeSet};
 use std::alloc::{AllocError, Global};
 
-/// Ends an open that waits, as is told of its parse: where that `Ran`, it is run, and where it found `NoMemory`, it isn't
-/// run, and ends as one that found none. Then it goes on with the open, which is answered, or waits for another parse,
-/// under another ticket.
+/// Ends an open that waits, by what became of its parse: where that `Ran`, it is run, and where it found `NoMemory`, it
+/// isn't run, and ends as one that found none. Then it goes on with the open, which is answered, or waits for another
+/// parse, under another ticket.
 ///
-/// The only fault is out of memory, and then the open is given up; a parse that is told to have run, and finds no memory
-/// here, is such a fault too. The other parses stay.
+/// The only fault is out of memory, and then the open is given up; a parse that is said to have run, and finds no
+/// memory here, is such a fault too. The other parses stay.
 ///
 /// Source: Windows Internals, Object Manager (parse methods); that a parse is run between two steps, and that what became
-/// of it is told, is this profile.
+/// of it is given, is this profile.
 pub(crate) fn end_open_as<T: TypeSet, H: HandleTable>(
     core: &mut Core<T, H>,
     waits: &mut Waits<T>,
@@ -60,14 +60,14 @@ pub(crate) fn end_open_as<T: TypeSet, H: HandleTable>(
     }
 }
 
-/// Gives up an open that waits, as is told of its parse: where that `Ran`, it is run, and where it is `Unrun` or found
-/// `NoMemory`, it isn't. The other parses stay.
+/// Gives up an open that waits, by what became of its parse: where that `Ran`, it is run, and where it is `Unrun` or
+/// found `NoMemory`, it isn't. The other parses stay.
 ///
-/// The only fault is out of memory, of a parse that is told to have run: then the open is given up too, as one whose parse
-/// found none.
+/// The only fault is out of memory, of a parse that is said to have run: then the open is given up too, as one whose
+/// parse found none.
 ///
 /// Source: Windows Internals, Object Manager (parse methods); that an open is given up by its ticket, and that what became
-/// of its parse is told, is this profile.
+/// of its parse is given, is this profile.
 pub(crate) fn drop_open_as<T: TypeSet, H: HandleTable>(
     core: &mut Core<T, H>,
     waits: &mut Waits<T>,
@@ -99,8 +99,8 @@ pub(crate) fn drop_open_as<T: TypeSet, H: HandleTable>(
     }
 }
 
-/// Makes of a parse what is told to have become of it: it stays unrun, is run, or ends as one that found no memory. Where
-/// it is run and finds no memory, it is handed back as one that found none.
+/// Brings a parse to what is said to have become of it: it stays unrun, is run, or ends as one that found no memory.
+/// Where it is run and finds no memory, it is handed back as one that found none.
 fn bring_as<T: TypeSet>(
     parsing: Parsing<T>,
     alloc: Global,

@@ -96,8 +96,8 @@ impl<T: TypeSet> Waits<T> {
         Some(parsing)
     }
 
-    /// Lets all parses go that are kept, and what they hold: for who has no namespace any more whose opens they could end.
-    /// Takes no memory. Source: this profile.
+    /// Drops all parses that are kept, and what they hold: for who has no namespace any more whose opens they could
+    /// end. Takes no memory. Source: this profile.
     pub fn let_go(self) {
         let mut left = self;
         while let Some(parsing) = left.take_first() {
@@ -106,7 +106,7 @@ impl<T: TypeSet> Waits<T> {
         left.destroy_empty();
     }
 
-    /// Lets go of what keeps no parse.
+    /// Drops the collection, which keeps no parse.
     pub(crate) fn destroy_empty(self)
         requires { self ≡ [] }
     {

@@ -1,4 +1,4 @@
--- What a seat keeps between its lines.
+-- The state of a seat between its lines.
 --
 -- Source: this profile.
 use Rattle.std.specs.Prelude.{◌≡◌, ◌≢◌, ◌<◌, ℕ, ◌==◌, not, List, filter, All}

@@ -1,4 +1,5 @@
--- What the lines of a seat play: the steps that they make, told by the receipts of its pass alone, and the words after them.
+-- The effects of a seat's lines: the steps that they make, known by the receipts of its pass alone, and the words after
+-- them.
 --
 -- Source: this profile.
 use Rattle.std.specs.Prelude.{◌≡◌, ◌⊎◌, ℕ, List, [], ◌∷◌, ◌++◌, map, Some}
@@ -42,7 +43,7 @@ IsRequestPlayed request process words entries words' =
 abbrev pub IsStepPlayed : PendingForm (List ℕ) → ℕ → Words → Entry StandardKind → Words → Type 0
 IsStepPlayed pending process words e words' = IsEvent pending words process e.event × (words' ≡ words_answered words process (word_of pending) e.answer)
 
--- so it is played: nothing is done, where something is told in place of a step; or it makes a step
+-- so it is played: nothing is done, where there is a notice in place of a step; or it makes a step
 abbrev pub IsWaitPlayed : PendingForm (List ℕ) → ℕ → Words → Entries → Words → Type 0
 IsWaitPlayed pending process words entries words' =
     ((text : List ℕ) × (told_instead pending (is_waiting words process (word_of pending)) ≡ Some text) × (entries ≡ []) × (words' ≡ words))

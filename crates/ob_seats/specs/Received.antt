@@ -1,4 +1,4 @@
--- What a pass receives of the steps that its seat asks for.
+-- The receipts of the steps that a seat asks for, in its pass.
 --
 -- Source: this profile.
 use Rattle.std.specs.Prelude.{◌≡◌, ℕ, List, [], ◌∷◌, ◌++◌}

@@ -22,8 +22,9 @@ pub enum Begun<P> {
     Waits(P),
 }
 
-/// What a seat asks of a shared namespace over the standard set of types. Each call takes the seat's pass and hands it back, with a receipt of the
-/// step where one was made: then the step is one of the namespace's journal. Other seats may make steps at the same time. (this profile)
+/// The calls of a seat to a shared namespace over the standard set of types. Each call takes the seat's pass and hands
+/// it back, with a receipt of the step where one was made: then the step is one of the namespace's journal. Other seats
+/// may make steps at the same time. (this profile)
 pub trait Callers {
     /// A seat's pass.
     type Pass: Drop + Send;
@@ -40,7 +41,7 @@ pub trait Callers {
     /// The ticket of a parse.
     ghost ticket_of: { Self.Parsing → ℕ };
 
-    /// What is known of the fault that a call answers, by the pass that it hands back.
+    /// The facts about the fault that a call answers, by the pass that it hands back.
     ghost gives_fault: { Self.Pass → Fault → Type 0 };
 
     /// The ticket of the open that waits for a parse.

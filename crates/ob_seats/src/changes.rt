@@ -1,4 +1,4 @@
-//! What a reply changes of the words.
+//! The changes of the words by a reply.
 
 ghost use Rattle.std.specs.Prelude.{◌≡◌, true, Bool, OnErr, OnOk, IfOk, List, ℕ};
 ghost use Rattle.std.specs.BTreeSet.{contains};
@@ -104,7 +104,7 @@ fn values_of(alloc: Global, handles: &[Handle]) -> Result<BTreeSet<u32>, AllocEr
     Ok(values)
 }
 
-/// Keeps the words whose values are in a set; each other word stands for 0.
+/// Keeps the words whose values are in a set; each other word means 0.
 fn keep_among(own: &mut Table<Row>, values: &BTreeSet<u32>)
     ensures kept { (handles : List ℕ) → ((value : ℕ) → contains nat_cmp values.now value
         ≡ is_among handles value)

@@ -1,8 +1,9 @@
-//! What a seat of a script with workers does: its lines are run one after another, by a pass, beside those of other seats.
+//! A seat of a script with workers: its lines are run one after another, by a pass, beside those of other seats.
 //!
 //! A [`Seat`] keeps the words of its script, and the opens that wait under them. Its steps go through [`Callers`], the little of a shared
-//! namespace that it asks for: a start, a resume and an abandon, each of which hands the pass back with its receipt, and a seal, which makes no step. What its lines do is
-//! told by these receipts alone, whatever other seats do meanwhile, and nothing here knows what follows [`Callers`].
+//! namespace that it asks for: a start, a resume and an abandon, each of which hands the pass back with its receipt,
+//! and a seal, which makes no step. The effects of its lines are specified by these receipts alone, whatever other
+//! seats do meanwhile, and nothing here knows what follows [`Callers`].
 #![tactic(auto)]
 
 mod asking;

@@ -30,9 +30,9 @@ use ob_worker_lines::{Part, SeatForm, read_seat_line};
 use std::alloc::{AllocError, Global};
 use std::sync::Wait;
 
-/// What a seat keeps between its lines: the words of its script, and the opens that wait under them. It can't be dropped: what waits is given up at
-/// its [end](Seat::end). Contracts see the words by `words_in`, and ask as `AreHeld` that the opens that wait are those
-/// under them. (this profile)
+/// The state of a seat between its lines: the words of its script, and the opens that wait under them. It can't be
+/// dropped: what waits is given up at its [end](Seat::end). Contracts see the words by `words_in`, and ask as `AreHeld`
+/// that the opens that wait are those under them. (this profile)
 pub struct Seat<C: Callers> {
     pub(crate) words: Words,
     pub(crate) waits: SeatWaits<C>,
@@ -219,8 +219,8 @@ impl<C: Callers> Seat<C> {
 
 /// Runs the lines of a part, and ends the seat: a whole run of a worker, or of what is left of a seat's lines. Ok is the run of all its lines.
 ///
-/// The fault is that of [`Seat::run_part`]; where all lines were run and an open that waited is a stranger's, it names the line after the last. What
-/// waited is given up at either end. (this profile)
+/// The fault is that of [`Seat::run_part`]; where all lines were run and an open that waited is a stranger's, it names
+/// the line after the last. Opens that waited are given up at either end. (this profile)
 pub fn run_seat<R: Wait, C: Callers>(
     rt: &R,
     callers: &C,

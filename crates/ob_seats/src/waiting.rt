@@ -27,7 +27,7 @@ use ob_requests::{Asker, Words, command_of, given_handle};
 use ob_standard::StandardKind;
 use std::alloc::AllocError;
 
-/// What an open asks for: the kind that is wanted, the name and the flags.
+/// The request of an open: the kind that is wanted, the name and the flags.
 type OpenForm<'a> = (Option<KindForm>, NameForm<&'a [u8]>, u32);
 
 /// Does what a line of a process says of an open that waits.

@@ -99,7 +99,7 @@ impl<C: Callers> SeatWaits<C> {
         Some(parsing)
     }
 
-    /// Lets go of what keeps no parse.
+    /// Drops the collection, which keeps no parse.
     pub(crate) fn destroy_empty(self)
         requires { self ≡ [] }
     {

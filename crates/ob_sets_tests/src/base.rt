@@ -1,4 +1,4 @@
-//! Flags told by their bits, and bytes that are kept and given back, which no crate above asks for.
+//! Flags known by their bits, and bytes that are kept and given back, which no crate above asks for.
 
 use ob_base::Attrs;
 use ob_model::Bytes;

@@ -60,7 +60,7 @@ fn kinds_stand_in_the_order_of_their_names(rt: HostRuntime) {
     assert!(rt; Kind::from_index(36).is_none() && Kind::from_index(usize::MAX).is_none());
 }
 
-// Makes an event with a word, opens it, and lets it go.
+// Makes an event with a word, opens it, and deletes it.
 fn delete(alloc: Global, set: &mut HostSet, word: u64) -> bool {
     let Ok((_, mut inner)) = HostSet::make(alloc, Kind::Event, &arguments(word)) else {
         return false;

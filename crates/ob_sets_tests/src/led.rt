@@ -1,10 +1,10 @@
-//! What names lead to through a caller's own devices and keys, outside of a namespace.
+//! The objects that names lead to through a caller's own devices and keys, outside of a namespace.
 
 use ob_host::{HostInner, HostObject, HostSet, Kind};
 use ob_types::{Outcome, TypeSet, run_parse};
 use std::alloc::Global;
 
-// What a name leads to: the object itself, or one of a kind with a text.
+// The end that a name leads to: the object itself, or one of a kind with a text.
 #[derive(Clone, Copy)]
 enum Led {
     Itself,

@@ -1,5 +1,5 @@
 //! Tests of sets of types: sets that count, record and refuse, sums of sets, and a caller's own objects, by their public
-//! functions; and of what else no crate above calls. What the objects of the standard set do is tried by runs of the program.
+//! functions; and of what else no crate above calls. Runs of the program try what the objects of the standard set do.
 //! The crate holds tests alone, since a crate with tests is proved twice.
 #![tactic(auto)]
 

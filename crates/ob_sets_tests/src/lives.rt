@@ -1,5 +1,5 @@
-//! Lives of objects in sets that count, record and refuse, and in a sum of two sets. All but the tests and what makes a set
-//! is over any set of types.
+//! Lives of objects in sets that count, record and refuse, and in a sum of two sets. All except the tests and what
+//! makes a set is over any set of types.
 
 use crate::laws::hand_over_all;
 use either::Either;

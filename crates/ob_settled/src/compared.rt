@@ -164,7 +164,7 @@ fn first_of<K>(journal: &Journal<K>, seat: u32) -> u64
     0
 }
 
-/// What a mismatch reports of a seat.
+/// The report of a mismatch about a seat.
 pub(crate) fn told_of<T: TypeSet, L: Ledger>(
     journal: &Journal<T::Kind>,
     passes: &[Pass<T::Kind, L>],

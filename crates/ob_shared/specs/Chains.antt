@@ -16,7 +16,8 @@ use Rattle.ob_locked.specs.Passed.{Passed}
 use Rattle.ob_types.specs.Parse.{HasRun}
 use Rattle.ob_shared.specs.Told.{IsCutOff, IsNotStarted, IsTold}
 
--- entries that lead from an event to an answer: each but the last is answered by a ticket, and the next one resumes its open
+-- entries that lead from an event to an answer: each except the last is answered by a ticket, and the next one resumes
+-- its open
 abbrev pub IsChain : {K : Type 0} → List (Entry K) → Event K → Answer → Type 0
 IsChain [] event answer = ⊥
 IsChain (e ∷ []) event answer = (e.event ≡ event) × (e.answer ≡ answer)

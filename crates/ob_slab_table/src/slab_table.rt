@@ -17,7 +17,7 @@ use std::marker::Model;
 
 /// A handle table whose handles lie in the rows of a slab, beside a queue of their openings, and a hash table
 /// from the values of those handles whose value isn't that of their row to the rows' keys. A handle that is
-/// taken leaves its opening behind, stale, until no other stands before it, or behind it, or there are more
+/// taken leaves a stale opening, until no other is before it, or no other is after it, or there are more
 /// than two openings for each handle.
 ///
 /// A new handle gets the value of its row, four times the key and one; or, where another handle has that

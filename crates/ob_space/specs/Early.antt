@@ -83,7 +83,7 @@ module _ {K T F I : Type 0} where
   abbrev pub is_child_refused : State K T F I → ℕ → Bool
   is_child_refused s p = not (is_live s p) || (nat_le most_processes (length s.processes) || nat_lt greatest_process s.next_process)
 
-  -- a command is refused before anything is looked up, made or told
+  -- a command is refused before anything is looked up, made or reported
   abbrev pub is_refused_early : State K T F I → ℕ → Command K → Bool
   is_refused_early s p (CreateDirectory where_to attrs) = is_create_refused s p where_to attrs (MakesDirectory None)
   is_refused_early s p (CreateShadowed where_to attrs shadow) = is_create_refused s p where_to attrs (MakesDirectory None) || is_shadow_refused s p shadow

@@ -1,5 +1,5 @@
--- What is refused at what was found, before anything grows: an open and a create where their name is looked up to,
--- and a command at the object of its handle.
+-- The refusals at what was found, before anything grows, of an open and a create where their name is looked up to,
+-- and of a command at the object of its handle.
 use Rattle.std.specs.Prelude.{◌≡◌, ℕ, Bool, true, false, ◌&&◌, ◌||◌, not, nat_lt, List, [], ◌∷◌, Option, None, Some}
 use Rattle.std.specs.Option.{is_some, option_and_then, option_map_or}
 use Rattle.ob_base.specs.Attrs.{has_flag, open_if_flag}

@@ -1,4 +1,4 @@
--- What a lookup of the core rests on, and what its end is good for.
+-- Lookups of the core: what they rest on, and what their ends are good for.
 use Rattle.std.specs.Prelude.{◌≡◌, ℕ, true, false, List, Option, MatchOption}
 use Rattle.ob_model.specs.declared.state.Pending.{Pending}
 use Rattle.ob_model.specs.State.{State}
@@ -23,7 +23,7 @@ module _ {K T F I : Type 0} (g : Procedures K T F I) where
   abbrev pub IsParsing : State K T F I → ℕ → Type 0
   IsParsing s o = MatchOption (face_of s o) ⊥ (λ face. g.parses (g.kind_of face) ≡ true)
 
-  -- a vacant place is told to a create, and a name may be put there; an object that parses is told to an open
+  -- a vacant place is given to a create, and a name may be put there; an object that parses is given to an open
   abbrev pub IsUsable : State K T F I → Mode → Look → Type 0
   IsUsable s mode (At o) = Unit {0}
   IsUsable s mode (Vacant d c) = (mode.create ≡ true) × IsVacant s d c

@@ -1,4 +1,4 @@
--- What every change of a namespace keeps true of its state.
+-- The invariant that every change of a namespace keeps of its state.
 use Rattle.std.specs.Prelude.{◌≡◌, ℕ, ◌<◌, ◌≤◌, ◌==◌, Bool, true, false, List, All, length}
 use Rattle.std.specs.List.{AllPairs, list_any}
 use Rattle.ob_model.specs.declared.state.Body.{Body}
@@ -41,7 +41,7 @@ pub record IsOrderly {K T F I : Type 0} (idle : I → Type 0) (s : State K T F I
   pub few_handles : (p : ℕ) → table_size s p ≤ most_handles
   pub few_processes : length s.processes ≤ most_processes
 
--- What holds of a namespace between two steps: its state is orderly, sound and settled.
+-- The invariant of a namespace between two steps: its state is orderly, sound and settled.
 pub record IsBetweenSteps {K T F I : Type 0} (idle : I → Type 0) (s : State K T F I) : Type 0 where
   pub orderly : IsOrderly idle s
   pub sound : IsSound s

@@ -1,4 +1,4 @@
--- Where a new object is to stand, and what is there when it does, in the words of the machine.
+-- Where a new object is to be, and what is there when it is, in the words of the machine.
 use Rattle.std.specs.Prelude.{◌≡◌, ◌≢◌, ℕ, ◌<◌, Bool, true, List, ◌++◌, Option, None, Some, All, IsSome, MatchOption}
 use Rattle.ob_model.specs.State.{State, insert_object, is_directory}
 use Rattle.ob_model.specs.Paths.{found}
@@ -12,7 +12,7 @@ use Rattle.ob_objects.specs.Store.{Entries, directory_at, entries_at, body_of_st
 use Rattle.ob_objects.specs.Changes.{with_entry, with_name, without_name}
 use Rattle.ob_space.specs.declared.placing.Spot.{Spot}
 
--- where a new object is to stand
+-- where a new object is to be
 abbrev pub spot_of : Option Spot → machine.Spot
 spot_of None = None
 spot_of (Some spot) = Some (spot.directory, spot.name)
@@ -45,7 +45,7 @@ abbrev pub without_name_in : {F I : Type 0} → Entries F I → Option ℕ → �
 without_name_in store None stamp = store
 without_name_in store (Some directory) stamp = without_name store directory stamp
 
--- What a store and the set's value are after an object was put in under an id, at a spot or nowhere, and
+-- A store and the set's value after an object was put in under an id, at a spot or nowhere, and
 -- the set opened it: the object is as the open left it, and its row is the last.
 pub record IsOpened {K T F I : Type 0} (g : Procedures K T F I) (first : T) (old : Entries F I) (id stamp : ℕ) (spot : Option Spot) (x : StoredObject F I) (after : T) (left : Entries F I) : Type 0 where
   pub accepted : open_refusal_of g first (body_of_stored x.body) Created ≡ None
@@ -54,7 +54,7 @@ pub record IsOpened {K T F I : Type 0} (g : Procedures K T F I) (first : T) (old
   pub rows : rows_of left ≡ rows_of old ++ machine.new_rows (spot_of spot) stamp id
   pub set : after ≡ opened_set g first (body_of_stored x.body) Created
 
--- What they are where the set refused to open it, with this number: the store is as it was, and the object
+-- The same where the set refused to open it, with this number: the store is as it was, and the object
 -- is deleted.
 pub record IsTakenBack {K T F I : Type 0} (g : Procedures K T F I) (first : T) (old : Entries F I) (x : StoredObject F I) (code : ℕ) (after : T) (left : Entries F I) : Type 0 where
   pub refused : open_refusal_of g first (body_of_stored x.body) Created ≡ Some code

@@ -20,7 +20,7 @@ use ob_types::{Reason, TypeSet};
 use std::alloc::AllocError;
 
 /// Opens an object that was found, where it is of the type that is asked for. The handle is given
-/// with this status. What is there stays: a handle more lets nothing go. What is refused before the set
+/// with this status. All that is there stays: a handle more releases nothing. A refusal before the set
 /// is asked takes no memory.
 pub fn open_at<T: TypeSet, H: HandleTable>(
     space: &mut Space<T, H>,
@@ -57,7 +57,7 @@ pub fn open_at<T: TypeSet, H: HandleTable>(
 }
 
 /// Grants a live process a handle to an object that is there, and gives it with this status, or
-/// replies why it is refused. What is there stays: a handle more lets nothing go. What is refused before
+/// replies why it is refused. All that is there stays: a handle more releases nothing. A refusal before
 /// the set is asked takes no memory.
 pub fn give_handle<T: TypeSet, H: HandleTable>(
     space: &mut Space<T, H>,

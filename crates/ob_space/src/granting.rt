@@ -15,14 +15,14 @@ use std::alloc::AllocError;
 
 /// Grants a live process a handle to an object that is there: under a free value, with the next order
 /// of opening, once the set has opened the object for this reason. Nothing settles yet: a handle more
-/// lets nothing go. That the object is there is the caller's to see.
+/// releases nothing. That the object is there is the caller's to see.
 ///
 /// Refusals, in their order: `InvalidParameter` where an exclusive object is asked for and it isn't
 /// one, or where children are to inherit the handle and it is; `AccessDenied` where another process
 /// has a handle to an exclusive object; `InsufficientResources` where the table has 65,535 handles or
 /// no order of opening is left; and `TypeRefused` with the set's number where the set refuses. A
 /// refusal leaves all as it was, and so does out of memory, the only fault: the handle is in its
-/// table before the set is called, and is taken back where the set refuses. What is refused before that
+/// table before the set is called, and is taken back where the set refuses. A refusal before that
 /// takes no memory.
 ///
 /// Source: OBJECT_ATTRIBUTES structure (OBJ_INHERIT, OBJ_EXCLUSIVE) and ZwDuplicateObject (Windows

@@ -3,12 +3,12 @@
 //! A [`Space`] is plain data: the set of types, the store of objects and names, the live processes
 //! with their handles, the pending opens, and the numbers that come next. The functions here are what commands are put
 //! together from: what is read off the parts, a name looked up, a handle granted, an object placed, a
-//! handle closed, and what a close lets go. Each is told by the state of the abstract machine that the
-//! parts stand for, `state_of`.
+//! handle closed, and what a close releases. Each is specified over the state of the abstract machine that the
+//! parts represent, `state_of`.
 //!
 //! Which refusals a command makes, in which order, and what it replies is the commands' own, a crate
-//! above. A change asks that the state is orderly, `IsOrderly`, and leaves it so. Where memory is
-//! wanted and isn't there, the state is as it was.
+//! above. A change asks that the state is orderly, `IsOrderly`, and leaves it so. Where it runs
+//! out of memory, the state is as it was.
 #![tactic(auto)]
 
 mod first_store;

@@ -28,7 +28,7 @@ const MOST_REPARSES: u32 = 32;
 /// `\??` is what the process sees of the DOS device names.
 ///
 /// It asks that the state is sound, so that every name in it leads somewhere, and that the root object
-/// is there. A vacant place is told only to a create, and then a name may be put there; an object that is to parse
+/// is there. A vacant place is given only to a create, and then a name may be put there; an object that is to parse
 /// only to an open, and then its kind does. The state stays as it is, and so does what it leads to, whatever the cache
 /// of prefixes keeps of the lookup. The only fault is out of memory: none where no link is
 /// followed, so that the name, looked up with no reparse left, ends otherwise than by `ReparseLimit`, however long it is.
@@ -60,7 +60,7 @@ pub fn look_up<'a, T: TypeSet, H: HandleTable>(
 /// one of them. It is looked up as [`look_up`] does, in the state as it is now, whatever opens are pending in it,
 /// and so also as when the open that waited for the parse is pending no longer.
 ///
-/// It asks that the state is sound. What it ends with is what a lookup ends with: `Refused` with `ReparseLimit`
+/// It asks that the state is sound. It ends as a lookup does: `Refused` with `ReparseLimit`
 /// where no reparse is left, and with `ObjectPathSyntaxBad` where the name doesn't begin with a separator; no
 /// name is too long. Nothing is changed. The only fault is out of memory, as of [`look_up`], and none where no
 /// reparse is left.

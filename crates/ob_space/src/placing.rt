@@ -22,7 +22,7 @@ use ob_objects::{StoredBody, StoredObject};
 use ob_types::{Reason, TypeSet};
 use std::alloc::AllocError;
 
-/// Where a new object is to stand: at a name in a directory.
+/// Where a new object is to be: at a name in a directory.
 #[derive(Drop)]
 pub struct Spot {
     /// The directory's id.
@@ -73,7 +73,7 @@ pub fn place_new<T: TypeSet, H: HandleTable>(
 {
     let (id, stamp, order) = (ObjId(space.next_id), space.next_stamp, space.next_order);
     let named = spot.is_some();
-    // The length tells what holds of every store.
+    // The contract of the length gives the invariant of every store.
     let _ = space.store.len();
     // There is room, so that memory alone can lack.
     let Ok(value) = space.processes.grant(process, id, inherit, order) else {

@@ -25,7 +25,7 @@ use std::alloc::{AllocError, Global};
 /// It asks for the same as `place_new`: that the process is live and has room, that an id and, where a spot is given, a
 /// stamp are left, and that the spot is vacant.
 ///
-/// Source: that out of memory is told before the set's refusal is this profile.
+/// Source: that out of memory comes before the set's refusal is this profile.
 pub fn try_room<T: TypeSet, H: HandleTable>(
     space: &mut Space<T, H>,
     process: Proc,
@@ -39,7 +39,7 @@ pub fn try_room<T: TypeSet, H: HandleTable>(
     ensures { space.new ≡ space.old }
 {
     let (id, stamp, order) = (ObjId(space.next_id), space.next_stamp, space.next_order);
-    // The length tells what holds of every store.
+    // The contract of the length gives the invariant of every store.
     let _ = space.store.len();
     // There is room, so that memory alone can lack.
     let Ok(value) = space.processes.grant(process, id, false, order) else {

@@ -34,7 +34,7 @@ const GREATEST_NUMBER: u64 = u64::MAX - 1;
 /// their handles, its pending opens, and the numbers that the next ones get. `T` is the set, and `H` the handle table
 /// that each process has.
 ///
-/// Contracts see the state of the abstract machine that these parts stand for. Nothing is kept true of them by the
+/// Contracts see the state of the abstract machine that these parts represent. Nothing is kept true of them by the
 /// struct itself: a change says by `IsOrderly` what it asks and what it leaves.
 #[derive(Drop)]
 pub struct Space<T: TypeSet, H: HandleTable> {

@@ -5,14 +5,14 @@ use ob_base::{Handle, Proc};
 use ob_core::{Bytes, Command, Place};
 use std::alloc::Global;
 
-/// The bytes of a word. Without memory there are none, and the step is told something else than its line says.
+/// The bytes of a word. Without memory there are none, and the step is answered otherwise than its line says.
 fn bytes_of(alloc: Global, word: &str) -> Bytes {
     let mut bytes = Vec::new(alloc);
     let _ = bytes.extend_from_slice(word.as_bytes());
     Bytes::new(bytes)
 }
 
-/// The place that a name tells.
+/// The place that a name says.
 fn place_of(alloc: Global, name: &str) -> Place {
     match name {
         "-" => Place::Unnamed,
@@ -23,7 +23,7 @@ fn place_of(alloc: Global, name: &str) -> Place {
     }
 }
 
-/// The attributes that a line tells.
+/// The attributes that a line says.
 fn attrs_of(line: &str) -> u32 {
     bits_of(word_of(line, 4))
 }
@@ -77,7 +77,7 @@ fn page<K>(handle: Handle, line: &str) -> Command<K> {
     }
 }
 
-/// What a line asks of a handle; none where it asks for nothing.
+/// The command that a line asks of a handle; none where it asks for nothing.
 fn on_handle<K>(handle: Handle, line: &str) -> Option<Command<K>> {
     match word_of(line, 1) {
         "close" => Some(Command::Close { handle }),

@@ -2,8 +2,8 @@
 
 use crate::commands::command_of;
 use crate::lines::{number_of, word_of};
-use ob_base::{Fault, Handle, Proc, Status};
-use ob_core::{Brought, Command, Core, Given, HandleTable, Referent, Reply, Started};
+use ob_base::{Fault, Handle, ObjId, Proc, Status};
+use ob_core::{Brought, Command, Core, Given, HandleTable, Referent, RemovedName, Reply, Started};
 use ob_plain::{Call, Recorder, Refusing};
 use ob_types::TypeSet;
 use std::alloc::Global;
@@ -23,7 +23,7 @@ impl<T: TypeSet> Listing for Refusing<Recorder<T>> {
     }
 }
 
-/// What a step came to.
+/// The outcome of a step.
 #[derive(Drop)]
 pub enum End {
     /// It was replied to.
@@ -45,7 +45,7 @@ struct Space<T: Listing, H: HandleTable> {
     core: Core<T, H>,
     /// The first and the other kind of lines.
     kinds: (T::Kind, T::Kind),
-    /// What the last step came to.
+    /// The outcome of the last step.
     end: End,
     /// The handle that each line's step was given at last, or 0.
     given: Vec<Handle>,
@@ -72,9 +72,11 @@ impl<T: Listing, H: HandleTable> Stage<T, H> {
     /// The opening state over a set, whose lines name these two kinds as the first and the other one. The only fault is out of memory, and then
     /// the set is dropped.
     pub fn new(alloc: Global, set: T, kinds: (T::Kind, T::Kind)) -> Result<Stage<T, H>, Fault> {
+        let mut core = Core::new(alloc, set)?;
+        core.list_removed();
         let space = Space {
             alloc,
-            core: Core::new(alloc, set)?,
+            core,
             kinds,
             end: End::Unmade,
             given: Vec::new(alloc),
@@ -82,7 +84,7 @@ impl<T: Listing, H: HandleTable> Stage<T, H> {
         Ok(Stage { space, parse: None })
     }
 
-    /// Gives the parse at hand up, and lets the namespace go.
+    /// Gives the parse at hand up, and drops the namespace.
     pub fn close(self) {
         let Stage { mut space, parse } = self;
         give_up(&mut space.core, parse);
@@ -176,7 +178,7 @@ impl<T: Listing, H: HandleTable> Stage<T, H> {
         let _ = self.space.given.push(handle);
     }
 
-    /// What the last step came to.
+    /// The outcome of the last step.
     pub fn end(&self) -> &End {
         &self.space.end
     }
@@ -211,6 +213,25 @@ impl<T: Listing, H: HandleTable> Stage<T, H> {
         (self.space.core.objects(), self.space.core.handles())
     }
 
+    /// How many names there are, and the removed ones, as objects and stamps.
+    pub fn names(&self) -> (usize, &[RemovedName]) {
+        (self.space.core.names(), self.space.core.removed())
+    }
+
+    /// The first object from an id on, with its name: its last byte, its stamp and its directory, each 0 where there is none.
+    pub fn first_from(&self, id: u32) -> (u64, u8, u64, u64) {
+        let Some(first) = self.space.core.first_from(ObjId(u64::from(id))) else {
+            return (0, 0, 0, 0);
+        };
+        match self.space.core.name_of(first) {
+            Some(name) => {
+                let last = name.name().last().copied().unwrap_or(0);
+                (first.0, last, name.stamp(), name.directory.0)
+            }
+            None => (first.0, 0, 0, 0),
+        }
+    }
+
     /// The calls of the set that there was room for, and how many are after them.
     pub fn calls(&self) -> (&[Call], u64) {
         self.space.core.set().calls()
@@ -226,7 +247,7 @@ impl<T: Listing, H: HandleTable> Stage<T, H> {
         self.space.core.holds(process, Handle(number_of(value)))
     }
 
-    /// What the handle that was given to a line leads to, a word and an id.
+    /// The object that the handle given to a line leads to: a word and an id.
     pub fn led_to(&self, process: Proc, line: &str) -> (&'static str, u64) {
         match self.space.core.referent(process, self.given_to(line)) {
             Some((id, Referent::Directory(_))) => ("directory", id.0),

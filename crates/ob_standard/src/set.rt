@@ -24,10 +24,10 @@ type Parts = Counting<Both<Plain, Both<DeviceSet, KeySet>>>;
 /// The kinds of the standard set: those of each of its parts. (this profile)
 pub type StandardKind = Either<PlainKind, Either<DeviceKind, KeyKind>>;
 
-/// What never changes of an object of the standard set. (this profile)
+/// The part of an object of the standard set that never changes. (this profile)
 pub type StandardFace = Either<PlainFace, Either<DeviceFace, KeyFace>>;
 
-/// What the procedures change of an object of the standard set. (this profile)
+/// The part of an object of the standard set that the procedures change. (this profile)
 pub type StandardInner = Either<PlainInner, Either<DeviceInner, KeyInner>>;
 
 /// The standard set: the plain types, devices with their files, and keys, counted. The names of its types

@@ -1,7 +1,7 @@
 //! The core over the standard set of types, and the opens of it that wait.
 //!
-//! Each is a type without parameters. Who stands on them is proved of a core without a look into the nine types of the
-//! set and what becomes of a value of each.
+//! Each is a type without parameters. A crate that uses them is proved without a look into the nine types of the set
+//! and what becomes of a value of each.
 #![tactic(auto)]
 
 mod standard_core;

@@ -83,7 +83,7 @@ impl StandardCore {
         run_command(&mut self.core, alloc, process, command)
     }
 
-    /// What there is now, and what the set has counted. Takes no memory. (this profile)
+    /// The counts of what there is now, and of what the set has counted. Takes no memory. (this profile)
     pub fn counts(&self) -> Totals
         ensures { result ≡ counts_of self.now }
     {

@@ -122,9 +122,9 @@ impl StandardWaits {
         drop_open(&mut core.core, &mut self.waits, ticket);
     }
 
-    /// Makes a step again that a history tells: a command is started, and an open that is pending is resumed or given up as
-    /// is told of its parse. An open that waits then is kept. It answers what the step does; only the value of a new handle
-    /// may be another one than the history has.
+    /// Makes a step of a history again: a command is started, and an open that is pending is resumed or given up as the
+    /// history says of its parse. An open that waits then is kept. It answers what the step does; only the value of a
+    /// new handle may be another one than the history has.
     ///
     /// The only fault is out of memory, and then other steps may have been made that give an open up; the parses that are
     /// kept are still awaited.
@@ -157,7 +157,7 @@ impl StandardWaits {
         give_all_up(&mut core.core, waits);
     }
 
-    /// Lets all parses go that are kept, for who has no core any more whose opens they could end. Takes no memory. (this
+    /// Drops all parses that are kept, for who has no core any more whose opens they could end. Takes no memory. (this
     /// profile)
     pub fn let_go(self) {
         let StandardWaits { waits } = self;

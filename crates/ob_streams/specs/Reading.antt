@@ -52,8 +52,8 @@ StopsReadingAfter limit had Memory old new = TakesAtMost old new (limit - had)
 StopsReadingAfter limit had (Write unwritten) old new = ⊥
 StopsReadingAfter limit had Mismatch old new = ⊥
 
--- how the reading of what is above the limit ends: it is told as too long, unless a read failed or memory
--- was wanting before
+-- how the reading of what is above the limit ends: it is reported as too long, unless a read failed or memory
+-- ran out before
 abbrev pub StopsLong : ShellFault → Type 0
 StopsLong TooLong = Unit {0}
 StopsLong (Read unread) = Unit {0}

@@ -1,4 +1,4 @@
--- What a writer holds when a write fails. Source: this profile.
+-- The bytes that a writer holds when a write fails. Source: this profile.
 use Rattle.std.specs.Prelude.{◌≡◌, ◌≢◌, ℕ, List, [], ◌++◌, Option}
 use Rattle.std.specs.Io.KnownBytes.{Appends}
 

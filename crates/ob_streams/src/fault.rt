@@ -11,8 +11,8 @@ use std::io;
 use std::io::ErrorKind;
 use thiserror::Error;
 
-/// Why the run of a script, or the check of a journal, ended before its end. What stands after one is
-/// said by the call that tells it. (this profile)
+/// Why the run of a script, or the check of a journal, ended before its end. The state after one is
+/// described at the call that reports it. (this profile)
 #[derive(PartialEq, Eq, Debug, Drop, Error)]
 #[error("{}", self.text())]
 pub enum ShellFault {
@@ -23,9 +23,9 @@ pub enum ShellFault {
     Write(Unwritten),
     /// The input is longer than its limit.
     TooLong,
-    /// Memory was wanted and there was none.
+    /// Memory ran out.
     Memory,
-    /// What the seats hold of their steps differs from the journal.
+    /// The receipts of the seats differ from the journal.
     Mismatch,
 }
 
@@ -60,7 +60,7 @@ impl From<io::Error> for Unread {
     }
 }
 
-/// What was not written is the fault `Write`, so that `?` passes it on.
+/// An unwritten output is the fault `Write`, so that `?` passes it on.
 impl From<Unwritten> for ShellFault {
     ghost from_gives = { λ unwritten fault. fault ≡ Write unwritten };
 

@@ -18,7 +18,7 @@ const CHUNK: usize = 4096;
 /// Never more than `SCRIPT_LIMIT + 1` bytes are taken of the reader, and each of its reads is made
 /// once: one that is interrupted is a fault as any other. So it returns whatever the reader does.
 /// The faults are `TooLong`, where the reader gave `SCRIPT_LIMIT + 1` bytes; `Read`, where a read
-/// failed; and `Memory`. After one, the bytes that were taken are lost, and the reader stands
+/// failed; and `Memory`. After one, the bytes that were taken are lost, and the reader is
 /// after them. (this profile)
 pub fn read_script<R: Read>(alloc: Global, reader: &mut R) -> Result<Vec<u8>, ShellFault>
     // At any reader.

@@ -1,4 +1,4 @@
--- What a script with workers plays: the steps of each seat, and their order in the journal.
+-- The effects of a script with workers: the steps of each seat, and their order in the journal.
 --
 -- Source: this profile.
 use Rattle.std.specs.Prelude.{◌≡◌, ℕ, ◌+◌, ◌≤◌, List, [], ◌∷◌, ◌++◌, length, map, take, drop}

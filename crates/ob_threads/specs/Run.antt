@@ -1,4 +1,5 @@
--- Runs of a script with workers, to the end of its lines or to where seats stop: the entries of each seat, and the end that is told.
+-- Runs of a script with workers, to the end of its lines or to where seats stop: the entries of each seat, and the end
+-- that is reported.
 --
 -- Source: this profile.
 use Rattle.std.specs.Prelude.{◌≡◌, ◌⊎◌, ◌+◌, ℕ, List, [], ◌++◌, length, map, All, Err, OnOk}
@@ -27,7 +28,8 @@ use Rattle.ob_threads.specs.Worked.{IsSeatRun}
 abbrev pub IsGiven : {P : Type 0} → (P → Known) → Known
 IsGiven gives fault = (last : _) × gives last fault
 
--- Each worker runs its part, beginning with these variables, by its own entries to its own end. One of these ends is told of them all.
+-- Each worker runs its part, beginning with these variables, by its own entries to its own end. One of these ends is
+-- reported for them all.
 pub record AreWorkersRun (known : Fault → Type 0) (parts : List Part) (words : Words) (theirs : List Entries) (ended : SeatOutcome) : Type 0 where
   pub runs : List (Entries × SeatOutcome)
   pub each : AllZip (λ part run. IsSeatRun known part words run.0 run.1) parts runs
@@ -46,7 +48,7 @@ pub record AreNotBegun {P : Type 0} (gives : P → Fault → Type 0) (before : P
   pub idle : All (λ entries. entries ≡ []) theirs
 
 -- Seat 0 plays its lines before the workers. Each worker runs its own, beginning with the variables that seat 0 then has, and seat 0 goes on with the lines
--- after the workers. Of the ends of both one is told.
+-- after the workers. Of the ends of both one is reported.
 pub record AreBegun (known : Fault → Type 0) (script : WorkerScript) (begun : Entries) (theirs : List Entries) (rest : Entries) (ended : SeatOutcome) : Type 0 where
   pub words : Words
   pub their_end : SeatOutcome

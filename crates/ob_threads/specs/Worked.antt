@@ -1,4 +1,4 @@
--- What becomes of a worker's lines.
+-- The outcome of a worker's lines.
 --
 -- Source: this profile.
 use Rattle.std.specs.Prelude.{◌≡◌, ◌<◌, ◌+◌, ◌^◌, ℕ, ◌++◌, length, Ok, Err}

@@ -1,4 +1,4 @@
--- What a run of a script with workers writes.
+-- The output of a run of a script with workers.
 --
 -- Source: this profile.
 use Rattle.std.specs.Prelude.{◌≡◌, ◌≢◌, ◌<◌, ◌⊎◌, ℕ, false, List, [], ◌∷◌, ◌++◌, length, Option, Result, Err, IfOk, IfErr, IfSome, IsErr, IsErrOf, codes}
@@ -35,13 +35,13 @@ pub record IsJournal (seats : ℕ) (journal : Entries) (text : List ℕ) : Type 
   pub whole : journal ≡ joined sealed ++ unsealed
   pub lines : text ≡ journal_lines standard.type_name seats (sealed ++ open_after sealed unsealed ∷ [])
 
--- the journal of a run of a script, of which a stop at this line is told, for this reason
+-- the journal of a run of a script, of which a stop at this line is reported, for this reason
 abbrev pub IsStoppedOutput : List ℕ → Stop → ℕ → List ℕ → Type 0
 IsStoppedOutput script why line text =
     (seats : ℕ) × (journal : Entries) × IsJournal seats journal text × IsRunTo (lines_of script) journal seats (Err (record { line = line; why = why }))
 
 -- The output of a script that ended so: the journal of its run, which is what the script plays where all its lines were run, and else what its seats ran
--- before they stopped; or the one line that tells which line of it is bad.
+-- before they stopped; or the one line that says which line of it is bad.
 abbrev pub IsOutput : List ℕ → ThreadsEnding → List ℕ → Type 0
 IsOutput script ending.Done text = (seats : ℕ) × (journal : Entries) × IsJournal seats journal text × IsPlayed (lines_of script) journal seats
 IsOutput script (ending.BadLine number) text = IsBadLine (lines_of script) number × (text ≡ output_line number (codes "not a script line"))
@@ -60,7 +60,8 @@ IsCutOff (fault.Read unread) old new text = ⊥
 IsCutOff fault.TooLong old new text = ⊥
 IsCutOff fault.Mismatch old new text = ⊥
 
--- What was written after a fault: if a write failed, or out of memory, a beginning of an output of the script; else nothing.
+-- The bytes that were written after a fault: if a write failed, or out of memory, a beginning of an output of the
+-- script; else nothing.
 abbrev pub WritesPart : ShellFault → Option (List ℕ) → Option (List ℕ) → List ℕ → Type 0
 WritesPart fault old new script = (new ≡ old) ⊎ ((text : List ℕ) × (end : ThreadsEnding) × IsOutput script end text × IsCutOff fault old new text)
 

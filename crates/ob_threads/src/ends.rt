@@ -10,7 +10,8 @@ use ob_seats::{Stop, Stopped};
 pub enum ThreadsEnding {
     /// Every line was run.
     Done,
-    /// The line of this number, from 1, is the first that is no line of a script with workers, or stands in a wrong place. No line was run.
+    /// The line of this number, from 1, is the first that is no line of a script with workers, or is in a wrong place.
+    /// No line was run.
     BadLine(u64),
     /// The line of this number, from 1, found no memory, so that its seat ran no later line: the least such line of any seat.
     NoMemoryAt(u64),

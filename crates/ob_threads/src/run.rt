@@ -50,7 +50,7 @@ pub fn run_threads<H: Threads + Wait + Sync, L: Ledger + Send + Sync, R: Read, W
     requires name { blank.name ≡ L.name }
     requires parts { blank.parts ≡ L.parts }
     requires whole { L.parts ≡ most_seats }
-    // What was written is an output of the script that ended so.
+    // The bytes that were written are an output of the script that ended so.
     ensures whole { IfOk result (λ ending. IfSome (R.remaining reader.old) (λ script.
         Writes (W.contents writer.old) (W.contents writer.new) script ending)) }
 
@@ -148,7 +148,7 @@ fn seats_of(parts: &WorkerScript<'_>) -> u32
     parts.workers.len() as u32 + 1
 }
 
-/// What a run of a script leaves: the segments of its journal, and how it ended.
+/// The results of a run of a script: the segments of its journal, and how it ended.
 #[derive(Drop)]
 struct Finished {
     sealed: Vec<Arc<Segment<StandardKind>>>,
@@ -233,7 +233,7 @@ fn play_shared<H: Threads + Wait + Sync, L: Ledger + Send + Sync>(
     }
 }
 
-/// What the threads of a script give back.
+/// The values that the threads of a script give back.
 #[derive(Drop)]
 struct Returned<L: Ledger> {
     /// All passes: those of the workers, and that of seat 0 after them.

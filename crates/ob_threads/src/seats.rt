@@ -18,7 +18,7 @@ use std::alloc::{AllocError, Global};
 use std::sync::Wait;
 use std::thread::Threads;
 
-/// What a run of all seats gives back: the passes `P`, that of seat 0 apart, and the end that is reported.
+/// The results of a run of all seats: the passes `P`, that of seat 0 apart, and the end that is reported.
 #[derive(Drop)]
 pub struct Ran<P> {
     /// The pass of seat 0.

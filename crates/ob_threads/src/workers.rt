@@ -17,7 +17,7 @@ use std::sync::Wait;
 use std::thread;
 use std::thread::Threads;
 
-/// What a worker is given: its pass, the words that it begins with, and its lines.
+/// The job of a worker: its pass, the words that it begins with, and its lines.
 #[derive(Drop)]
 pub(crate) struct Job<'a, C: Callers> {
     pub(crate) pass: C::Pass,
@@ -25,7 +25,7 @@ pub(crate) struct Job<'a, C: Callers> {
     pub(crate) part: Part<'a>,
 }
 
-/// What a worker gives back: its pass, and how its lines ended.
+/// The results of a worker: its pass, and how its lines ended.
 #[derive(Drop)]
 pub(crate) struct Worked<C: Callers> {
     pub(crate) pass: C::Pass,

@@ -1,4 +1,4 @@
-//! Which end is told of several.
+//! Which end is reported of several.
 
 ghost use Rattle.std.specs.Prelude.{[]};
 
@@ -70,7 +70,7 @@ impl Callers for Refusing {
     }
 }
 
-/// A script whose seats end so, and what is told: seats 0, 1 and 2, the line and why.
+/// A script whose seats end so, and the report: seats 0, 1 and 2, the line and why.
 type EndCase = (&'static [u8], [Stop; 3], u64, Stop);
 
 const M: Stop = Stop::Memory;
@@ -93,7 +93,7 @@ const ENDS: [EndCase; 7] = [
     (BEFORE, [R, M, M], 1, R),
 ];
 
-/// The end that is told of a script whose seats end so.
+/// The end that is reported of a script whose seats end so.
 fn told<H: Threads + Wait + Sync>(
     rt: &H,
     alloc: Global,

@@ -124,7 +124,7 @@ fn is_given<R: Clock>(rt: &R, signal: &AtomicBool) -> bool {
     false
 }
 
-/// What became of a meeting.
+/// The outcome of a meeting.
 #[derive(Drop)]
 struct Met {
     /// The workers met, and all seats ended for lack of memory, the first of them in line 2.

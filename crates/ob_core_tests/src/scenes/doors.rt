@@ -1,4 +1,4 @@
-//! What a set of types of its own is called for.
+//! The calls of a set of types of its own.
 
 /// Doors are of the first kind and can be made and opened; walls are of the other.
 pub(super) const DOORS: &str = r"# nothing is called at first

@@ -1,4 +1,4 @@
-//! What follows a set that refuses an open, wherever a handle is opened: no handle and no object.
+//! The results where a set refuses an open, wherever a handle is opened: no handle and no object.
 
 /// The set accepts two opens.
 pub(super) const TWO: &str = r"# a child gets no handle whose open is refused, and is there

@@ -1,4 +1,4 @@
-//! What the plain model answers to commands.
+//! The answers of the plain model to commands.
 
 use super::{Answer, Live, Model, Object};
 use crate::asks::{
@@ -32,7 +32,7 @@ impl Model {
         }
     }
 
-    // What a create, with the handle to a shadow where one is given, or an open of a kind is answered to a name.
+    // The answer for a name to a create, with the handle to a shadow where one is given, or to an open of a kind.
     fn named(
         &self,
         live: Live,
@@ -79,7 +79,7 @@ impl Model {
         }
     }
 
-    // An open of an object, which is told by a status.
+    // An open of an object, which is answered with a status.
     fn granted(&self, process: u32, object: Object, attrs: u32, status: Status) -> Answer {
         let (inherit, exclusive) = (attrs & INHERIT != 0, attrs & EXCLUSIVE != 0);
         if (exclusive && !object.is_exclusive) || (inherit && object.is_exclusive) {
@@ -91,7 +91,7 @@ impl Model {
         }
     }
 
-    // What is done with a handle.
+    // The answer to the use of a handle.
     fn used(&self, live: Live, value: u32, deed: Deed) -> Answer {
         let refusal = match deed {
             Deed::Duplicate { to, .. } if self.live(to).is_none() => Status::ProcessGone,
@@ -121,7 +121,7 @@ impl Model {
         }
     }
 
-    // What an open is answered after its parse.
+    // The answer to an open after its parse.
     pub(super) fn end_of(&self, waiting: Waiting) -> Answer {
         let Ask::Open { want, attrs, .. } = waiting.ask else {
             return Answer::Done;

@@ -12,7 +12,7 @@ const LOOKS: u32 = 33;
 // The opening state's letter of `??`, which is a process's own view at the beginning of an absolute text.
 const VIEW: u8 = b'?';
 
-// How a lookup looks: for a place where something can be made, through a link at the end, and without telling
+// How a lookup looks: for a place where something can be made, through a link at the end, and without distinguishing
 // capital letters from small ones.
 #[derive(Clone, Copy)]
 pub(super) struct Look {
@@ -21,7 +21,7 @@ pub(super) struct Look {
     pub(super) folds: bool,
 }
 
-// What a lookup finds at a component: a directory to go on in, a link to follow, with what follows it, or its end.
+// The step of a lookup at a component: a directory to go on in, a link to follow, with what follows it, or its end.
 #[derive(Clone, Copy)]
 enum Step<'a> {
     In(u32),
@@ -30,7 +30,7 @@ enum Step<'a> {
 }
 
 impl Model {
-    // What has its name in a directory under a letter: of several the first that was named.
+    // The object that has its name in a directory under a letter: of several the first that was named.
     fn entry(&self, directory: u32, letter: u8, folds: bool) -> Option<Object> {
         for object in &self.objects {
             if let Some(spot) = object.spot
@@ -43,8 +43,8 @@ impl Model {
         None
     }
 
-    // What is seen in a directory under a letter: what has its name there, or else, where more than own entries is
-    // asked for, in its shadow.
+    // The object that is seen in a directory under a letter: what has its name there, or else, where more than own
+    // entries is asked for, in its shadow.
     fn seen(&self, directory: u32, letter: u8, own: bool, folds: bool) -> Option<Object> {
         match self.entry(directory, letter, folds) {
             None if !own => self.entry(self.numbered(directory)?.shadow?, letter, folds),
@@ -52,7 +52,8 @@ impl Model {
         }
     }
 
-    // What a process finds by a name, where the handle to a shadow, if one is given, is judged after the root's.
+    // The object that a process finds by a name, where the handle to a shadow, if one is given, is judged after the
+    // root's.
     pub(super) fn found(
         &self,
         live: Live,
@@ -92,7 +93,7 @@ impl Model {
         Ok(Answer::Refused(Status::ReparseLimit))
     }
 
-    // What stands at the end of a text, or the first link in it that is followed.
+    // What is at the end of a text, or the first link in it that is followed.
     fn end<'a>(&self, live: Live, start: Option<u32>, text: &'a [u8], look: Look) -> Step<'a> {
         let is_view = start.is_none() && text.first() == Some(&VIEW);
         let mut at = match is_view {
@@ -113,8 +114,8 @@ impl Model {
         }
     }
 
-    // What a lookup finds in a directory under a letter, with a rest after it; what the directory hasn't is looked for in
-    // GLOBAL, where that is shared. A device parses the rest, and has a file for none and for one alone.
+    // The step of a lookup in a directory under a letter, with a rest after it; what the directory hasn't is looked for
+    // in GLOBAL, where that is shared. A device parses the rest, and has a file for none and for one alone.
     fn step<'a>(
         &self,
         at: u32,

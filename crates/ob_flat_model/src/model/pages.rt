@@ -79,7 +79,7 @@ impl Model {
     }
 }
 
-// How the name of an object is spelled, where it stands in a directory after a stamp.
+// How the name of an object is spelled, where it is in a directory after a stamp.
 fn shown(object: Object, directory: u32, stamp: u64) -> Option<&'static [u8]> {
     match object.spot {
         Some(spot) if spot.directory == directory && object.stamp > stamp => {
