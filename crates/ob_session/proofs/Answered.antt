@@ -24,8 +24,8 @@ other_answer number line outcome.NoMemory other = refl
 -- of no script line is the outcome `NoLine`
 no_line_form : (form : Option (Form (List ℕ))) (words words' : Words) (s s' : Space) → IsDone form words s outcome.NoLine words' s' → form ≡ None
 no_line_form None words words' s s' done = refl
-no_line_form (Some Nothing) words words' s s' (none, same) = cc
-no_line_form (Some Stat) words words' s s' (none, same) = cc
+no_line_form (Some Nothing) words words' s s' (none, same_words, same) = cc
+no_line_form (Some Stat) words words' s s' (none, same_words, same) = cc
 no_line_form (Some (Asks process request)) words words' s s' done = absurd done
 no_line_form (Some (Waits process pending)) words words' s s' done = absurd done
 

@@ -102,8 +102,9 @@ pub fn answer_next<R: BufRead, W: Write>(
     if !take_line(reader, line)? {
         return Ok(false);
     }
-    let outcome = perform_line(session, line.as_slice());
-    write_answer(writer, block, number, line.as_slice(), &outcome)?;
+    let text = line.as_slice();
+    let outcome = perform_line(session, text);
+    write_answer(writer, block, number, text, &outcome)?;
     Ok(true)
 }
 
@@ -156,11 +157,6 @@ fn gather_answer<W: Write>(
             }
             None => unreachable!(),
         },
-        LineOutcome::Idle
-        | LineOutcome::Counted(_)
-        | LineOutcome::Replied(_)
-        | LineOutcome::Pending
-        | LineOutcome::Told(_)
-        | LineOutcome::NoMemory => write_outcome(writer, block, number, outcome),
+        _ => write_outcome(writer, block, number, outcome),
     }
 }

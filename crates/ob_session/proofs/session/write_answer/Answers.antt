@@ -1,8 +1,7 @@
 -- What the block has is written behind what was.
-use Rattle.std.proofs.Common.{Result, Ok, Err, IfErr, subst, rules}
+use Rattle.std.proofs.Common.{Result, Ok, Err, IfErr, subst}
+use Rattle.std.specs.Io.KnownBytes.{Appends}
 use Rattle.ob_streams.specs.Writing.{AppendsFront}
-use Rattle.ob_shell.specs.Running.{outcome_text}
-use Rattle.ob_output.specs.Gathering.{Gathers}
 use Rattle.ob_output.proofs.Gathered.{gathers_out, gathers_out_front}
 use Rattle.ob_session.proofs.session.write_answer.Goals as goal
 
@@ -13,19 +12,16 @@ on_any_err P (Err e) h = h
 pub returns-in_err-write_out-clause-front : goal.returns-in_err-write_out-clause-front
 returns-in_err-write_out-clause-front g c =
     let old = g.W.Write.contents c.args.writer.now in
-    let mid = g.W.Write.contents c.write_outcome.new.writer in
-    let text = outcome_text c.args.number c.args.outcome.now in
-    let has = c.write_outcome.new.block.items in
+    let mid = g.W.Write.contents c.gather_answer.new.writer in
+    let answer = c.in_ok-gather_answer.ensures.ok in
     on_any_err _ c.from_residual-in_err-write_out.result
-    (gathers_out_front old mid (g.W.Write.contents c.write_out.new.writer) text has
-    (subst (λ l. Gathers old mid l text has) c.requires.empty c.in_ok-write_outcome.ensures.ok) (subst (AppendsFront mid (g.W.Write.contents c.write_out.new.writer)) c.as_slice.ensures.value c.in_err-write_out.ensures.front))
+    (answer.0, answer.1, gathers_out_front old mid (g.W.Write.contents c.write_out.new.writer) answer.0 c.gather_answer.new.block.items answer.2
+    (subst (AppendsFront mid (g.W.Write.contents c.write_out.new.writer)) c.as_slice.ensures.value c.in_err-write_out.ensures.front))
 
 pub returns-clause-ok : goal.returns-clause-ok
 returns-clause-ok g c =
     let old = g.W.Write.contents c.args.writer.now in
-    let mid = g.W.Write.contents c.write_outcome.new.writer in
-    let text = outcome_text c.args.number c.args.outcome.now in
-    let has = c.write_outcome.new.block.items in
-    gathers_out old mid (g.W.Write.contents c.write_out.new.writer) text has
-    (subst (λ l. Gathers old mid l text has) c.requires.empty c.in_ok-write_outcome.ensures.ok)
-    (search rules)
+    let mid = g.W.Write.contents c.gather_answer.new.writer in
+    let answer = c.in_ok-gather_answer.ensures.ok in
+    (answer.0, answer.1, gathers_out old mid (g.W.Write.contents c.write_out.new.writer) answer.0 c.gather_answer.new.block.items answer.2
+    (subst (Appends mid (g.W.Write.contents c.write_out.new.writer)) c.as_slice.ensures.value c.in_ok-write_out.ensures.ok))
