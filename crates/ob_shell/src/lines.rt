@@ -8,8 +8,8 @@ ghost use Rattle.ob_streams.specs.Writing.{AppendsFront};
 
 use ob_base::Status;
 use ob_output::{
-    LINE_ROOM, Totals, make_room, push_counts_line, push_status_front, push_status_line, push_text_front,
-    push_text_line,
+    LINE_ROOM, Totals, make_room, push_counts_line, push_status_front, push_status_line,
+    push_text_front, push_text_line,
 };
 use ob_streams::Unwritten;
 use std::io::Write;
