@@ -1,0 +1,4 @@
+pub mod Publications
+pub mod Rules
+pub mod Known
+pub mod Shown
