@@ -2,3 +2,5 @@ pub mod Publications
 pub mod Rules
 pub mod Known
 pub mod Shown
+pub mod Ahead
+pub mod Showing

@@ -1,7 +1,7 @@
 -- The copy that viewers read: how it follows the publications, and what holds of it when readers see it.
 --
 -- Source: this profile.
-use Rattle.std.specs.Prelude.{ℕ, ◌≡◌, List, length}
+use Rattle.std.specs.Prelude.{ℕ, ◌≡◌, List, fold, length}
 use Rattle.logbook.specs.Pages.{Book}
 use Rattle.ob_model.specs.declared.state.Row.{Row}
 use Rattle.ob_rows.specs.Changes.{after_change}
@@ -15,6 +15,10 @@ use Rattle.ob_published.specs.Publications.{published_rows, total_entries}
 abbrev pub stepped : Shown → Op → Shown
 stepped shown (Change change) = record shown { rows = after_change shown.rows change }
 stepped shown (Reached reach) = record shown { publications = reach.publications; entries = reach.entries; seen = reach.seen }
+
+-- and after several
+abbrev pub after_steps : Shown → List Op → Shown
+after_steps shown steps = fold stepped shown steps
 
 -- the copy has the rows after the publications that it knows, which are of the book and lead where publications
 -- lead; these are so many, and stand for so many entries

@@ -6,10 +6,12 @@ mod book;
 mod publication;
 mod published;
 mod rule;
+mod showing;
 mod shown;
 
 pub use book::{Add, Book, Law, Naming, Nothing, Opened};
 pub use publication::{Publication, publications_follow_one_another};
 pub use published::Published;
 pub use rule::{Of, Sees};
+pub use showing::Showing;
 pub use shown::{Op, Reach, Shown};

@@ -114,6 +114,9 @@ impl<J: Naming> Published<J> {
         ensures publications { result.publications ≡ length self.now }
         ensures entries { result.entries ≡ total_entries self.now }
         ensures seen { (result.seen.book ≡ J.book) × (result.seen.log ≡ self.now) }
+
+        // What holds of all publications that are made.
+        ensures leads { J.leads self.now }
     {
         Reach {
             publications: self.count,
@@ -136,18 +139,15 @@ impl<J: Naming> Published<J> {
             return false;
         }
         let mut seen = self.seen.again();
-        let mut offer: Offer<Publication, u64, Law, Nothing> = seen
-            .plain::<Nothing, Publication, Add>(publication);
+        let mut offer: Offer<Publication, u64, Law, Nothing> = seen.plain::<
+            Nothing,
+            Publication,
+            Add,
+        >(publication);
         let mut pen = seen.no_pen();
         let found = book
             .head
-            .compare_exchange::<Add, Nothing>(
-                count,
-                count + 1,
-                &mut seen,
-                &mut offer,
-                &mut pen,
-            );
+            .compare_exchange::<Add, Nothing>(count, count + 1, &mut seen, &mut offer, &mut pen);
         if found != count {
             return false;
         }

@@ -1,6 +1,7 @@
 -- Rows by strictly rising stamps: what is found under a stamp, what stays without it, and that what is found tells the rows.
-use Rattle.std.proofs.Common.{◌≡◌, ◌∙◌, ◌⊎◌, ℕ, ◌<◌, ◌≤◌, Bool, true, false, cond, not, ◌==◌, List, [], ◌∷◌, filter, find, All, Option, None, Some, refl, ap, sym, arith, inl, inr, eq-eqb}
+use Rattle.std.proofs.Common.{◌≡◌, ◌∙◌, ◌⊎◌, ℕ, ◌<◌, ◌≤◌, Bool, true, false, cond, not, ◌==◌, List, [], ◌∷◌, filter, find, All, Option, None, Some, refl, ap, sym, arith, inl, inr, eq-eqb, get_or, length, take}
 use Rattle.std.proofs.lemmas.Bool.{cases_lt, eqb-true, ne_eqb}
+use Rattle.std.proofs.lemmas.List.{get_or-take, get_or_default, length-take}
 use Rattle.std.proofs.lemmas.List.Elements.{All-nil, All-cons, All-head, All-tail, All-weaker}
 use Rattle.ob_model.proofs.Finds.{filter_all}
 use Rattle.ob_model.proofs.Sorted.{pairs_head, pairs_tail}
@@ -131,3 +132,12 @@ same_where_found (r ∷ rs) (s ∷ ss) r_rise s_rise same =
     go (inr above) (inr below) more =
         let is : r.stamp ≡ s.stamp = omega (arith, above, below) in
         ap (λ (x : Row). x ∷ rs) (head is) ∙ ap (λ l. s ∷ l) (more (tail is))
+
+-- ---- what is before a row
+
+pub below_before : (rows : List Row) (i : ℕ) (d : Row) → i < length rows → AreByStamp rows → All (λ r. r.stamp < (get_or rows i d).stamp) (take i rows)
+below_before rows i d within rising k e below =
+    let less : k < i = omega (arith, below, length-take i rows) in
+    let same : get_or (take i rows) k e ≡ get_or rows k e = get_or-take i rows k e less in
+    let other : get_or rows i e ≡ get_or rows i d = get_or_default rows i e d within in
+    omega (arith, ap (λ (r : Row). r.stamp) same, ap (λ (r : Row). r.stamp) other, rising k i e less within)

@@ -57,6 +57,21 @@ impl RowTable {
         }
     }
 
+    /// A table of rows by rising stamps, which are copied.
+    ///
+    /// The only error is out of memory.
+    pub fn from_rows(alloc: Global, rows: &[Row]) -> Result<RowTable, AllocError>
+        requires rising { AreByStamp rows.now }
+        ensures { IfOk result (λ table. table ≡ rows.now) }
+    {
+        let mut table = RowTable::new(alloc);
+        for row in rows {
+            let copy = copy_of(alloc, row)?;
+            table.add(copy)?;
+        }
+        Ok(table)
+    }
+
     /// How many rows there are. Takes no memory.
     pub fn len(&self) -> usize
         ensures count { result ≡ length self.now }

@@ -16,7 +16,7 @@ compare_exchange-found-requires g c =
       pen.0 ∙ of_book,
       offer.0,
       rw (ap (λ w. w.key) h, pen.1, offer.1, offer.3)
-      (adds_moves c.again-seen.result.log c.args.publication.now c.self.inside.count (ap (λ s. length s.log) seen ∙ sym c.self.invariant.counted)),
+          (adds_moves c.again-seen.result.log c.args.publication.now c.self.inside.count (ap (λ s. length s.log) seen ∙ sym c.self.invariant.counted)),
     )
 
 pub invariant_of-self : goal.invariant_of-self
