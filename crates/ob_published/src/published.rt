@@ -1,6 +1,6 @@
 //! What is known of the history of publications.
 
-ghost use Rattle.std.specs.Prelude.{◌≡◌, ◌++◌, ◌∷◌, ◌⊎◌, [], length, MatchBool};
+ghost use Rattle.std.specs.Prelude.{◌≡◌, ◌++◌, ◌∷◌, ◌⊎◌, [], length, nat_le, IsTrue, MatchBool};
 ghost use mathlib.Core.List.{IsPrefix};
 ghost use Rattle.ob_published.specs.Publications.{total_entries};
 ghost use Rattle.ob_published.specs.Shown.{IsShown};
@@ -92,6 +92,16 @@ impl<J: Naming> Published<J> {
             seen: self.seen.again(),
             of: PhantomData,
         }
+    }
+
+    /// Whether the other has as many publications, or more: then these are a prefix of it.
+    pub fn precedes(&self, other: &Published<J>) -> bool
+        ensures count { result ≡ nat_le (length self.now) (length other.now) }
+        ensures prefix { IsTrue result → IsPrefix self.now other.now }
+    {
+        let mut both = self.seen.again();
+        both.learn(&other.seen);
+        self.count <= other.count
     }
 
     /// The longer of two, of which the other is a prefix.
