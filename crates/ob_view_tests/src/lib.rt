@@ -1,6 +1,8 @@
-//! Tests of the rows that viewers read, by their public functions. The crate holds tests alone, since a crate with
+//! Tests of viewers and of the rows that they read, by their public functions. The crate holds tests alone, since a crate with
 //! tests is proved twice.
 #![tactic(auto)]
 
 #[cfg(test)]
 mod rows;
+#[cfg(test)]
+mod viewers;
