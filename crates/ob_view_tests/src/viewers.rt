@@ -5,15 +5,13 @@ ghost use Rattle.ob_published.specs.declared.publication.Publication.{Publicatio
 
 use ob_base::ObjId;
 use ob_model::{Bytes, Row};
-use ob_published::{Naming, Opened, Publication, Published, Showing};
+use ob_published::{Naming, Opened, Publication, Showing};
 use ob_rows::RowChange;
 use ob_view::Viewer;
 use std::alloc::{AllocError, Global};
 use std::collections::VecDeque;
 use std::marker::Brand;
-use std::process::Abort;
 use std::sync::Wait;
-use std::test::Fail;
 use std::thread::{Threads, join};
 
 const ROOT: ObjId = ObjId(1);
@@ -42,17 +40,16 @@ fn publication(alloc: Global, turn: u64) -> Result<Publication, AllocError> {
     })
 }
 
-// Publishes what a turn makes.
+// Publishes what a turn makes; how many entries are published then.
 fn publishes<J: Naming, R: Wait>(
     alloc: Global,
     showing: &mut Showing<J, &R>,
     turn: u64,
-) -> Result<Published<J>, AllocError>
+) -> Result<u64, AllocError>
     requires { (publications : List Made) → J.leads publications }
 {
-    let publication = publication(alloc, turn)?;
-    showing.record(publication)?;
-    showing.show()
+    showing.record(publication(alloc, turn)?)?;
+    Ok(showing.show()?.number())
 }
 
 // Publishes so many turns.
@@ -60,13 +57,26 @@ fn publishes_all<J: Naming, R: Wait>(
     alloc: Global,
     showing: &mut Showing<J, &R>,
     turns: u64,
-) -> Result<Published<J>, AllocError>
+) -> Result<(), AllocError>
     requires { (publications : List Made) → J.leads publications }
 {
     for turn in 0..turns {
         publishes(alloc, showing, turn)?;
     }
-    Ok(showing.published())
+    Ok(())
+}
+
+// Whether a lookup finds this.
+fn finds<J: Naming>(viewer: &mut Viewer<J>, fold: bool, object: Option<u64>, number: u64) -> bool {
+    match viewer.look_up(ROOT, b"Event", fold) {
+        Some((found, at)) => found.map(|object| object.0) == object && at == number,
+        None => false,
+    }
+}
+
+// Whether a lookup finds nothing to show.
+fn is_blind<J: Naming>(viewer: &mut Viewer<J>) -> bool {
+    viewer.look_up(ROOT, b"Event", false).is_none()
 }
 
 // Whether a lookup shows what is there after the entries that it tells of, and tells of no fewer than before; how many
@@ -81,80 +91,111 @@ fn looks<J: Naming>(viewer: &mut Viewer<J>, before: u64) -> Option<u64> {
 }
 
 // Looks up so many times; whether each time it showed what it had to.
-fn looks_often<J: Naming>(mut viewer: Viewer<J>, times: u64) -> (Viewer<J>, bool) {
+fn looks_often<J: Naming>(viewer: &mut Viewer<J>, times: u64) -> bool {
     let mut last = 0;
     for _ in 0..times {
-        let Some(number) = looks(&mut viewer, last) else {
-            return (viewer, false);
+        let Some(number) = looks(viewer, last) else {
+            return false;
         };
         last = number;
     }
-    (viewer, true)
+    true
+}
+
+// Whether a viewer sees a publication once it is shown.
+fn sees_shown<J: Naming, R: Wait>(
+    alloc: Global,
+    showing: &mut Showing<J, &R>,
+    viewer: &mut Viewer<J>,
+) -> Result<bool, AllocError>
+    requires { (publications : List Made) → J.leads publications }
+{
+    let before = finds(viewer, false, None, 0);
+    let number = publishes(alloc, showing, 0)?;
+    let after = finds(viewer, false, Some(0), 3) && finds(viewer, true, Some(0), 3);
+    Ok(before && number == 3 && after && showing.rows().len() == 1)
+}
+
+// Whether it doesn't see one that is recorded alone, and sees nothing else once it was told of it.
+fn waits_for_shown<J: Naming, R: Wait>(
+    alloc: Global,
+    showing: &mut Showing<J, &R>,
+    viewer: &mut Viewer<J>,
+) -> Result<bool, AllocError>
+    requires { (publications : List Made) → J.leads publications }
+{
+    showing.record(publication(alloc, 1)?)?;
+    let behind = showing.is_behind() && showing.rows().len() == 1;
+    let full = showing.record(publication(alloc, 2)?).is_err();
+    let as_before = finds(viewer, false, Some(0), 3);
+    viewer.told(&showing.published());
+    let blind = is_blind(viewer);
+    let number = showing.show()?.number();
+    let shown = number == 6 && !showing.is_behind() && showing.rows().is_empty();
+    Ok(behind && full && as_before && blind && shown && finds(viewer, true, None, 6))
 }
 
 // One viewer by turns with the writer.
-fn by_turns<J: Naming, R: Wait + Abort>(rt: &R, alloc: Global, opened: Opened) -> Result<(), Fail>
+fn by_turns<J: Naming, R: Wait>(rt: &R, alloc: Global, opened: Opened) -> Result<bool, AllocError>
     requires book { opened.seen.book ≡ J.book }
     requires opening { J.opening ≡ [] }
     requires leads { (publications : List Made) → J.leads publications }
 {
     let mut showing: Showing<J, &R> = Showing::open(alloc, rt, opened, &[], 1)?;
     let mut viewer = Viewer::new(showing.seat()?);
-    assert!(rt; viewer.look_up(ROOT, b"Event", false) == Some((None, 0)));
-    let published = publishes(alloc, &mut showing, 0)?;
-    assert!(rt; published.number() == 3 && published.count() == 1);
-    assert!(rt; viewer.look_up(ROOT, b"Event", false) == Some((Some(ObjId(0)), 3)));
-    assert!(rt; viewer.look_up(ROOT, b"EVENT", false) == Some((None, 3)));
-    let recorded = publication(alloc, 1)?;
-    showing.record(recorded)?;
-    assert!(rt; showing.is_behind() && showing.rows().len() == 1);
-    assert!(rt; showing.record(publication(alloc, 2)?).is_err());
-    assert!(rt; viewer.look_up(ROOT, b"Event", false) == Some((Some(ObjId(0)), 3)));
-    viewer.told(&showing.published());
-    assert!(rt; viewer.look_up(ROOT, b"Event", false) == None);
-    showing.show()?;
-    assert!(rt; !showing.is_behind() && showing.rows().is_empty());
-    assert!(rt; viewer.look_up(ROOT, b"Event", true) == Some((None, 6)));
-    assert!(rt; viewer.known().number() == 6);
-    Ok(())
+    let sees = sees_shown(alloc, &mut showing, &mut viewer)?;
+    Ok(sees && waits_for_shown(alloc, &mut showing, &mut viewer)?)
 }
 
 #[test]
-fn a_viewer_sees_what_is_shown(rt: HostRuntime) -> Result<(), Fail> {
-    by_turns::<Brand, _>(&rt, rt.alloc(), Opened::new())
+fn a_viewer_sees_what_is_shown(rt: HostRuntime) {
+    let seen = by_turns::<Brand, _>(&rt, rt.alloc(), Opened::new());
+    assert_eq!(rt; seen.ok(), Some(true));
 }
 
 // Two viewers beside the writer, each in a thread; then one is told of all that was published.
-fn beside<J: Naming + Send + Sync, R: Threads + Wait + Abort + Sync>(
+fn watched<J: Naming + Send + Sync, R: Threads + Wait + Sync>(
     rt: &R,
     alloc: Global,
-    opened: Opened,
-) -> Result<(), Fail>
-    requires book { opened.seen.book ≡ J.book }
-    requires opening { J.opening ≡ [] }
+    showing: &mut Showing<J, &R>,
+    first: &mut Viewer<J>,
+    second: &mut Viewer<J>,
+) -> bool
     requires leads { (publications : List Made) → J.leads publications }
 {
-    let mut showing: Showing<J, &R> = Showing::open(alloc, rt, opened, &[], 2)?;
-    let first = Viewer::new(showing.seat()?);
-    let second = Viewer::new(showing.seat()?);
-    let (published, ((mut first, one), (_second, two))) = join(
+    let (published, (one, two)) = join(
         rt,
-        || -> Result<Published<J>, AllocError>
+        || -> bool
             requires { (publications : List Made) → J.leads publications }
-        { publishes_all(alloc, &mut showing, 100) },
+        { publishes_all(alloc, showing, 100).is_ok() },
         || join(
             rt,
             || looks_often(first, 1_000),
             || looks_often(second, 1_000),
         ),
     );
-    assert!(rt; one && two);
-    first.told(&published?);
-    assert!(rt; first.look_up(ROOT, b"Event", false) == Some((None, 300)));
-    Ok(())
+    published && one && two
+}
+
+fn beside<J: Naming + Send + Sync, R: Threads + Wait + Sync>(
+    rt: &R,
+    alloc: Global,
+    opened: Opened,
+) -> Result<bool, AllocError>
+    requires book { opened.seen.book ≡ J.book }
+    requires opening { J.opening ≡ [] }
+    requires leads { (publications : List Made) → J.leads publications }
+{
+    let mut showing: Showing<J, &R> = Showing::open(alloc, rt, opened, &[], 2)?;
+    let mut first = Viewer::new(showing.seat()?);
+    let mut second = Viewer::new(showing.seat()?);
+    let right = watched(rt, alloc, &mut showing, &mut first, &mut second);
+    first.told(&showing.published());
+    Ok(right && finds(&mut first, false, None, 300))
 }
 
 #[test]
-fn viewers_beside_a_writer_never_go_back(rt: HostRuntime) -> Result<(), Fail> {
-    beside::<Brand, _>(&rt, rt.alloc(), Opened::new())
+fn viewers_beside_a_writer_never_go_back(rt: HostRuntime) {
+    let seen = beside::<Brand, _>(&rt, rt.alloc(), Opened::new());
+    assert_eq!(rt; seen.ok(), Some(true));
 }
