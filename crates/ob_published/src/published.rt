@@ -101,7 +101,7 @@ impl<J: Naming> Published<J> {
     {
         let mut both = self.seen.again();
         both.learn(&other.seen);
-        self.count <= other.count
+        other.count >= self.count
     }
 
     /// The longer of two, of which the other is a prefix.
@@ -161,9 +161,12 @@ impl<J: Naming> Published<J> {
         if found != count {
             return false;
         }
-        self.count = count + 1;
-        self.entries = entries;
-        self.seen = seen;
+        *self = Published {
+            count: count + 1,
+            entries,
+            seen,
+            of: PhantomData,
+        };
         true
     }
 }

@@ -34,7 +34,6 @@ pub struct Showing<J: Naming, R: Wait + Drop> {
     // Whether the last publication is still to be shown.
     behind: bool,
     writer: Writer<Shown, Op, (), Of<J>>,
-    alloc: Global,
     rt: R,
 }
 
@@ -60,7 +59,6 @@ impl<J: Naming, R: Wait + Drop> Drop for Showing<J, R> {
             left: _left,
             behind: _,
             writer,
-            alloc: _,
             rt,
         } = self;
         writer.take(&rt);
@@ -97,7 +95,6 @@ impl<J: Naming, R: Wait + Drop> Showing<J, R> {
             left: VecDeque::new(alloc),
             behind: false,
             writer,
-            alloc,
             rt,
         })
     }
