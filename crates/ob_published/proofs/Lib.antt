@@ -1,0 +1,4 @@
+pub mod Prefixes
+pub mod Follow
+pub mod Adding
+pub mod Steps

@@ -1,0 +1,6 @@
+pub mod Publications
+pub mod Rules
+pub mod Known
+pub mod Shown
+pub mod Ahead
+pub mod Showing

@@ -1,0 +1,17 @@
+//! What a namespace publishes to viewers: a history of publications that only grows, and a copy of the rows after the
+//! latest of them, which viewers read without a lock.
+#![tactic(auto)]
+
+mod book;
+mod publication;
+mod published;
+mod rule;
+mod showing;
+mod shown;
+
+pub use book::{Add, Book, Law, Naming, Nothing, Opened};
+pub use publication::{Publication, publications_follow_one_another};
+pub use published::Published;
+pub use rule::{Of, Sees};
+pub use showing::Showing;
+pub use shown::{Op, Reach, Shown};

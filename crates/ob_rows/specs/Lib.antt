@@ -1,0 +1,5 @@
+pub mod Rows
+pub mod Changes
+pub mod Hashes
+pub mod Stamped
+pub mod Index

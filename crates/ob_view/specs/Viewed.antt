@@ -1,0 +1,11 @@
+-- What a viewer is told of a component in a directory.
+--
+-- Source: this profile.
+use Rattle.std.specs.Prelude.{ℕ, Bool, List, Option}
+use Rattle.std.specs.Option.{option_map}
+use Rattle.ob_model.specs.declared.state.Row.{Row}
+use Rattle.ob_rows.specs.Rows.{found_among}
+
+-- the object that the component finds among these rows
+abbrev pub object_among : List Row → ℕ → List ℕ → Bool → Option ℕ
+object_among rows directory component fold = option_map (λ row. row.object) (found_among rows directory component fold)

@@ -1,0 +1,129 @@
+//! A viewer.
+
+ghost use Rattle.std.specs.Prelude.{◌≡◌, [], IfNone, IfSome};
+ghost use mathlib.Core.List.{IsPrefix};
+ghost use Rattle.ob_published.specs.Publications.{published_rows, total_entries};
+ghost use Rattle.ob_published.specs.Shown.{IsShown};
+ghost use Rattle.ob_view.specs.Viewed.{object_among};
+
+use left_right::reader::Reader;
+use ob_base::ObjId;
+use ob_published::{Naming, Of, Published, Sees, Shown};
+use std::marker::Model;
+
+/// A reader of the names of one namespace, as they were after some publication. A contract sees a `Viewer` as the
+/// longest list of publications that it knows of: it was told of them, or saw them. What it sees later begins with
+/// these.
+///
+/// A viewer sees a directory's own entries alone: it follows no link, no shadow and no device map.
+#[derive(Drop)]
+pub struct Viewer<J: Naming> {
+    // It is away only while a lookup reads.
+    reader: Option<Reader<Shown, (), Of<J>>>,
+    known: Published<J>,
+}
+
+impl<J: Naming> Model for Viewer<J> {
+    ghost use Rattle.std.specs.Prelude.{List};
+    ghost use Rattle.ob_published.specs.declared.publication.Publication.{Publication};
+
+    ghost Value = { List Publication };
+
+    ghost view = { λ viewer. viewer.known };
+}
+
+impl<J: Naming> Viewer<J> {
+    /// A viewer at a seat, which knows what came with the seat.
+    pub fn new(seat: (Reader<Shown, (), Of<J>>, Published<J>)) -> Viewer<J>
+        ensures { result ≡ seat.1 }
+    {
+        let (reader, known) = seat;
+        Viewer {
+            reader: Some(reader),
+            known,
+        }
+    }
+
+    /// What the viewer knows of.
+    pub fn known(&self) -> Published<J>
+        ensures { result ≡ self.now }
+    {
+        self.known.again()
+    }
+
+    /// Tells the viewer of publications. From now on it sees no fewer.
+    pub fn told(&mut self, published: &Published<J>)
+        ensures kept { IsPrefix self.old self.new }
+        ensures told { IsPrefix published.now self.new }
+    {
+        self.known = self.known.longer(published);
+    }
+
+    /// What a component, of any length and with any bytes, named in a directory after the latest publication that is
+    /// shown: the object of the entry with an equal name, with `fold` for equality without regard to case, and of several the
+    /// one that was inserted first; and the number of the last entry of the journal that is published. It takes
+    /// no lock and waits for nobody, and takes no memory.
+    ///
+    /// It is `None` where the copy that is shown is older than what the viewer knows of, or isn't shown any more; then
+    /// the viewer stays as it was.
+    ///
+    /// Source: Windows Internals, Object Manager: object directories; OBJECT_ATTRIBUTES structure
+    /// (Windows Driver Kit), OBJ_CASE_INSENSITIVE. Which of several matches is found is this profile.
+    pub fn look_up(
+        &mut self,
+        directory: ObjId,
+        component: &[u8],
+        fold: bool,
+    ) -> Option<(Option<ObjId>, u64)>
+        ensures later { IsPrefix self.old self.new }
+        ensures object { IfSome result (λ r. r.0
+            ≡ object_among (published_rows J.opening self.new) directory component.now fold) }
+        ensures number { IfSome result (λ r. r.1 ≡ total_entries self.new) }
+        ensures none { IfNone result (self.new ≡ self.old) }
+
+        // What holds of all publications that are made.
+        ensures leads { J.leads self.new }
+    {
+        // What is known tells what holds of it.
+        let _ = self.known.number();
+        let reader = self.reader.take()?;
+        match reader.enter_as::<Sees<J>>() {
+            Ok(reading) => {
+                let seen = see(&mut self.known, reading.get(), directory, component, fold);
+                self.reader = Some(reading.leave());
+                seen
+            }
+            Err(reader) => {
+                self.reader = Some(reader);
+                None
+            }
+        }
+    }
+}
+
+// What a component finds in the copy that is shown, unless this is older than what is known.
+fn see<J: Naming>(
+    known: &mut Published<J>,
+    shown: &Shown,
+    directory: ObjId,
+    component: &[u8],
+    fold: bool,
+) -> Option<(Option<ObjId>, u64)>
+    requires shown { IsShown J.book J.opening J.leads shown.now }
+    ensures later { IsPrefix known.old known.new }
+    ensures object { IfSome result (λ r. r.0
+        ≡ object_among (published_rows J.opening known.new) directory component.now fold) }
+    ensures number { IfSome result (λ r. r.1 ≡ total_entries known.new) }
+    ensures none { IfNone result (known.new ≡ known.old) }
+    ensures leads { J.leads known.new }
+{
+    let latest = Published::<J>::of_shown(shown);
+    if !known.precedes(&latest) {
+        let _ = known.number();
+        return None;
+    }
+    let number = latest.number();
+    *known = latest;
+    let found = shown.rows.find(directory, component, fold);
+    Some((found.map(|(_, object)| object), number))
+}
